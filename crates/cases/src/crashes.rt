@@ -1,7 +1,7 @@
 //! A disk of a space, which a case can make fail and crash, and what it then opens to.
 use crate::case::{Stop, number, verb};
 use crate::out::{Out, count, put_tally};
-use crate::shelves::node_on;
+use crate::shelves::state_on;
 use disk::{MemoryDisk, is_blank};
 use ids::Refusal;
 use std::alloc::Global;
@@ -51,8 +51,8 @@ fn opens_to(alloc: Global, left: Result<MemoryDisk, Refusal>, own: u8) -> usize 
     if is_blank(&mut disk) == Ok(true) {
         return 0;
     }
-    match node_on(alloc, disk) {
-        Ok(node) if node.state().own == own => 1,
+    match state_on(alloc, disk) {
+        Ok(state) if state.own == own => 1,
         Ok(_) => 2,
         Err(_) => 3,
     }

@@ -1,15 +1,20 @@
 //! A disk in memory, which a case can make fail and crash. A case sees what an opening finds after
 //! each of the crashes that are possible.
-use crate::case::{Stop, Subject, number, verb};
+use crate::case::{Line, Stop, Subject, number, take_all, verb};
 use crate::out::{Out, count, put_tally};
 use crate::shelves::{Bench, Held, node_behind, node_on};
 use disk::{MemoryDisk, is_blank};
 use ids::Refusal;
 use std::alloc::Global;
 
-/// A disk in memory, and the image that it may go back to.
+/// A case for a disk in memory.
+pub fn run(alloc: Global, lines: &[Line<'_>], out: &mut Out) -> Result<(), Stop> {
+    take_all(Disks::new(alloc), lines, out)
+}
+
+// A disk in memory, and the image that it may go back to.
 #[derive(Drop)]
-pub struct Disks {
+struct Disks {
     alloc: Global,
     bench: Bench<MemoryDisk>,
     // The image that was recorded as the old one.
@@ -17,8 +22,8 @@ pub struct Disks {
 }
 
 impl Disks {
-    /// No disk yet.
-    pub fn new(alloc: Global) -> Disks {
+    // No disk yet.
+    fn new(alloc: Global) -> Disks {
         Disks {
             alloc,
             bench: Bench::new(alloc),

@@ -22,5 +22,5 @@ pub use folders::disks_in;
 pub use lent::Lent;
 pub use out::Out;
 pub use parsing::{event_of, repeated};
-pub use shelves::node_on;
+pub use shelves::state_on;
 pub use sizes::{Size, blank_disks};

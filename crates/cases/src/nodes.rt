@@ -1,6 +1,6 @@
 //! One node: its events, its frames and its image. It may be created from any image, so a case
 //! reaches nodes that no short run does.
-use crate::case::{Stop, Subject, bytes_of, number, verb, word};
+use crate::case::{Line, Stop, Subject, bytes_of, number, take_all, verb, word};
 use crate::out::Out;
 use crate::parsing::{event_of, repeated};
 use ids::{NodeId, Refusal, Shape};
@@ -11,9 +11,14 @@ use node::Node;
 use replays::{Log, act};
 use std::alloc::Global;
 
+/// A case for one node.
+pub fn run(alloc: Global, lines: &[Line<'_>], out: &mut Out) -> Result<(), Stop> {
+    take_all(Nodes::new(alloc), lines, out)
+}
+
 /// The node of a case, once there is one, and the log of its events.
 #[derive(Drop)]
-pub struct Nodes {
+pub(crate) struct Nodes {
     pub(crate) alloc: Global,
     pub(crate) node: Option<Node>,
     pub(crate) log: Log,
@@ -21,7 +26,7 @@ pub struct Nodes {
 
 impl Nodes {
     /// No node yet.
-    pub fn new(alloc: Global) -> Nodes {
+    pub(crate) fn new(alloc: Global) -> Nodes {
         Nodes {
             alloc,
             node: None,

@@ -6,6 +6,7 @@ use crate::out::Out;
 use disk::{Area, Disk, DiskFault, Journal, MemoryDisk, Shelf, is_blank};
 use ids::Refusal;
 use image::Images;
+use model::Summary;
 use node::Node;
 use replays::{Log, LoggedImages};
 use std::alloc::Global;
@@ -13,7 +14,7 @@ use std::mem;
 
 /// A disk, by itself or with a shelf on it.
 #[derive(Drop)]
-pub enum Held<D: Disk> {
+pub(crate) enum Held<D: Disk> {
     Nothing,
     /// The disk by itself.
     Loose(D),
@@ -25,7 +26,7 @@ pub enum Held<D: Disk> {
 
 /// What a case about a disk holds.
 #[derive(Drop)]
-pub struct Bench<D: Disk> {
+pub(crate) struct Bench<D: Disk> {
     pub nodes: Nodes,
     pub held: Held<D>,
 }
@@ -183,15 +184,23 @@ impl<D: Disk + Drop> Subject for Bench<D> {
 }
 
 /// The node that the disk of a journal opens to.
-pub fn node_behind<D: Disk + Drop>(alloc: Global, disk: D) -> Result<Node, Refusal> {
+pub(crate) fn node_behind<D: Disk + Drop>(alloc: Global, disk: D) -> Result<Node, Refusal> {
     match Journal::<D, LoggedImages>::open(alloc, disk) {
         Ok((_journal, node)) => Ok(node),
         Err(refusal) => Err(refusal),
     }
 }
 
+/// The node that a disk opens to, in numbers.
+pub fn state_on<D: Disk + Drop>(alloc: Global, disk: D) -> Result<Summary, Refusal> {
+    let node = node_on(alloc, disk)?;
+    let state = node.state();
+    drop(node);
+    Ok(state)
+}
+
 /// The node that a disk opens to.
-pub fn node_on<D: Disk + Drop>(alloc: Global, disk: D) -> Result<Node, Refusal> {
+pub(crate) fn node_on<D: Disk + Drop>(alloc: Global, disk: D) -> Result<Node, Refusal> {
     match Shelf::open::<Images>(alloc, disk) {
         Ok((_shelf, node)) => Ok(node),
         Err(refusal) => Err(refusal),

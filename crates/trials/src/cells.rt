@@ -4,15 +4,14 @@ ghost use Rattle.model.specs.Steps.{is_own};
 ghost use Rattle.wire.specs.Readers.{IsSeatOf, IsWatchOf};
 
 use cases::{
-    Line, Out, Stop, Subject, blank_disks, event_of, node_on, number, read, repeated, take_all,
+    Line, Out, Stop, Subject, blank_disks, event_of, number, read, repeated, state_on, take_all,
     verb,
 };
 use cell::{Cell, Unopened};
 use disk::MemoryDisk;
 use ids::{Refusal, Shape};
 use lines::SummaryText;
-use model::{Answer, Event};
-use node::Node;
+use model::{Answer, Event, Summary};
 use std::alloc::Global;
 use wire::{Inbound, Outbound, Watch, Wire};
 
@@ -216,14 +215,11 @@ fn put_trace(seated: &Seated<'_>, out: &mut Out) {
 // The node, in numbers, that a crash now leaves on the cell's disk.
 fn put_crashed(alloc: Global, seated: &Seated<'_>, fill: u8, out: &mut Out) {
     match crashed(alloc, seated, fill) {
-        Ok(node) => {
-            out.show(&SummaryText(node.state()));
-            drop(node);
-        }
+        Ok(state) => out.show(&SummaryText(state)),
         Err(refusal) => out.refused(refusal),
     }
 }
 
-fn crashed(alloc: Global, seated: &Seated<'_>, fill: u8) -> Result<Node, Refusal> {
-    node_on(alloc, seated.cell.after_crash(fill)?)
+fn crashed(alloc: Global, seated: &Seated<'_>, fill: u8) -> Result<Summary, Refusal> {
+    state_on(alloc, seated.cell.after_crash(fill)?)
 }

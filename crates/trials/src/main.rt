@@ -19,9 +19,8 @@ mod turns;
 
 use crate::ends::Ends;
 use crate::spaces::Spaces;
-use cases::disks::Disks;
-use cases::nodes::{Nodes, shape_of};
-use cases::{Line, Out, Stop, arenas, files, read, read_lines, take_all, verb};
+use cases::nodes::shape_of;
+use cases::{Line, Out, Stop, arenas, disks, files, nodes, read, read_lines, take_all, verb};
 use std::alloc::Global;
 use std::fs::File;
 use std::io;
@@ -133,8 +132,8 @@ where
         + 'static,
 {
     match subject {
-        "node" => take_all(Nodes::new(alloc), lines, out),
-        "disk" => take_all(Disks::new(alloc), lines, out),
+        "node" => nodes::run(alloc, lines, out),
+        "disk" => disks::run(alloc, lines, out),
         "ends" => take_all(Ends::new(rt, alloc, lines), lines, out),
         "space" => take_all(Spaces::new(rt, alloc, lines), lines, out),
         "opening" => openings::run(rt, alloc, lines, out),
