@@ -1,5 +1,5 @@
-// Runs a case of tests/scripts, or of the subjects `node` and `bytes` of tests/trials, over the C
-// library, and prints what markring or trials must print. docs/FORMATS.md ("Scripts") and
+// Runs a case of tests/scripts, of tests/trials/node or of tests/bytes over the C library, and prints
+// what markring or trials must print; or, for bytes, how many are read. docs/FORMATS.md ("Scripts") and
 // tests/README.md say what the lines mean.
 //
 //     replay script|case FILE

@@ -2,6 +2,8 @@
 // run, cells are reopened, and the whole space crashes and continues from its stored images. Every
 // letter comes once and in order, and at the end no garbage is left.
 //
+// Before that, two threads send and receive frames through one mailbox. None is lost or comes twice.
+//
 //     threads NODES LETTERS CRASHES
 #define _POSIX_C_SOURCE 200809L
 #include "check.h"
@@ -258,6 +260,71 @@ static uint64_t live(void)
     return all;
 }
 
+// ## One mailbox
+
+enum { TRIES = 2000, TIMES = 3 };
+
+typedef struct user {
+    markring_cell cell;
+    unsigned long frames, wrong;
+    int sends;
+} user;
+
+// Tries many times to send the next frame, which acknowledges nothing, or to receive one.
+static void *use_mailbox(void *given)
+{
+    user *it = (user *)given;
+    for (int i = 0; i < TRIES; i++) {
+        markring_answer answer;
+        uint8_t sent = 7;
+        int status = it->sends ? markring_cell_send(&it->cell, 1, &sent)
+                               : markring_cell_receive(&it->cell, 0, &answer);
+        if (it->sends) {
+            it->wrong += status != MARKRING_OK || sent > 1;
+            it->frames += sent == 1;
+        } else {
+            it->wrong += status == MARKRING_OK ? answer.kind != MARKRING_ANSWER_DONE
+                                               : status != MARKRING_NOTHING;
+            it->frames += status == MARKRING_OK;
+        }
+        if (i % 16 == 0) {
+            sched_yield();
+        }
+    }
+    return NULL;
+}
+
+// All frames that were sent are received, except at most one that is left in the mailbox.
+static void one_mailbox(void)
+{
+    for (int times = 0; times < TIMES; times++) {
+        markring_space space = {0};
+        markring_answer answer;
+        pthread_t threads[2];
+        user users[2] = {{{0}, 0, 0, 1}, {{0}, 0, 0, 0}};
+        OK(markring_space_new(&space, 2, 1, 1, 0));
+        OK(open_space(&space));
+        for (uint8_t node = 0; node < 2; node++) {
+            OK(markring_space_cell(&space, node, &users[node].cell));
+        }
+        OK(markring_space_free(&space));
+        for (int i = 0; i < 2; i++) {
+            HOLDS(pthread_create(&threads[i], NULL, use_mailbox, &users[i]) == 0);
+        }
+        for (int i = 0; i < 2; i++) {
+            HOLDS(pthread_join(threads[i], NULL) == 0);
+            EQUAL(0, users[i].wrong);
+        }
+        int is_left = markring_cell_receive(&users[1].cell, 0, &answer) == MARKRING_OK;
+        EQUAL(users[0].frames, users[1].frames + (unsigned long)is_left);
+        HOLDS(users[0].frames > 0);
+        IS(MARKRING_NOTHING, markring_cell_receive(&users[1].cell, 0, &answer));
+        for (int i = 0; i < 2; i++) {
+            OK(markring_cell_free(&users[i].cell));
+        }
+    }
+}
+
 int main(int length, char **given)
 {
     uint64_t seed = 9;
@@ -267,6 +334,7 @@ int main(int length, char **given)
     nodes = (uint8_t)(length > 1 ? strtoul(given[1], NULL, 10) : 3);
     letters = length > 2 ? strtoul(given[2], NULL, 10) : 2000;
     unsigned long crashes = length > 3 ? strtoul(given[3], NULL, 10) : 5;
+    one_mailbox();
     make_space(0, &watch);
     for (unsigned long i = 0; i < crashes; i++) {
         run_threads(1, &seed, &watch);

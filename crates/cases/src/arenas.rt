@@ -1,6 +1,6 @@
 //! Values in an arena, which count how often one of them is dropped. So a case shows that each
 //! value is dropped once, also when the arena ends. No clause says that.
-use crate::case::{Line, Stop, number, verb};
+use crate::case::{CaseError, CaseLine, number, verb};
 use crate::out::Out;
 use arena::{Arena, ArenaError, Key, Slot, Slots};
 use std::alloc::Global;
@@ -20,7 +20,7 @@ impl Drop for Counted<'_> {
 
 /// A case for arenas: one of words, whose slots are named by commands, and arenas of values whose
 /// drops are counted.
-pub fn run(alloc: Global, lines: &[Line<'_>], out: &mut Out) -> Result<(), Stop> {
+pub fn run(alloc: Global, lines: &[CaseLine<'_>], out: &mut Out) -> Result<(), CaseError> {
     let mut arena = Arena::with_limit(alloc, 0);
     for line in lines {
         let words = out.at(line);
@@ -41,26 +41,26 @@ pub fn run(alloc: Global, lines: &[Line<'_>], out: &mut Out) -> Result<(), Stop>
 }
 
 // An arena of one slot, which holds the word with this generation.
-fn single(alloc: Global, generation: u64, word: u64) -> Result<Arena<u64>, Stop> {
+fn single(alloc: Global, generation: u64, word: u64) -> Result<Arena<u64>, CaseError> {
     let mut slots = Slots::new(alloc, 1);
     slots.push(Slot::Occupied(generation, word))?;
-    Arena::from_slots(1, slots, &[]).map_err(|_| Stop::Unknown)
+    Arena::from_slots(1, slots, &[]).map_err(|_| CaseError::Unknown)
 }
 
 // A command to the arena of words.
-fn on_words(arena: &mut Arena<u64>, words: &[&str], out: &mut Out) -> Result<(), Stop> {
+fn on_words(arena: &mut Arena<u64>, words: &[&str], out: &mut Out) -> Result<(), CaseError> {
     match verb(words) {
         "high" => out.show(&arena.high()),
         "insert" => put_inserted(arena.insert(number(words, 1)?), out),
         "key-at" => put_key(arena.key_at(number(words, 1)?), out),
         "remove" => put_word(arena.remove(key_of(words)?), out),
         "get" => put_word(arena.get(key_of(words)?).copied(), out),
-        _ => return Err(Stop::Unknown),
+        _ => return Err(CaseError::Unknown),
     }
     Ok(())
 }
 
-fn key_of(words: &[&str]) -> Result<Key, Stop> {
+fn key_of(words: &[&str]) -> Result<Key, CaseError> {
     Ok(Key {
         slot: number(words, 1)?,
         generation: number(words, 2)?,
@@ -90,7 +90,7 @@ fn put_word(word: Option<u64>, out: &mut Out) {
 
 // How often values were dropped: after this many are stored, after this many are removed, after
 // this many are stored again, and once the arena has ended.
-fn put_drops(alloc: Global, words: &[&str], out: &mut Out) -> Result<(), Stop> {
+fn put_drops(alloc: Global, words: &[&str], out: &mut Out) -> Result<(), CaseError> {
     let limit = number(words, 1)?;
     let counts = [number(words, 2)?, number(words, 3)?, number(words, 4)?];
     let drops = Cell::new(0);

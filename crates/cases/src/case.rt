@@ -7,28 +7,28 @@ use std::str::FromStr;
 
 /// Why a case ends early.
 #[derive(Clone, Copy)]
-pub enum Stop {
+pub enum CaseError {
     /// The line isn't a command, or is one that can't be done now.
     Unknown,
     /// The interpreter itself ran out of memory.
     Memory,
 }
 
-impl From<AllocError> for Stop {
-    fn from(_error: AllocError) -> Stop {
-        Stop::Memory
+impl From<AllocError> for CaseError {
+    fn from(_error: AllocError) -> CaseError {
+        CaseError::Memory
     }
 }
 
-impl<T: Drop> From<AllocFailed<T>> for Stop {
-    fn from(_error: AllocFailed<T>) -> Stop {
-        Stop::Memory
+impl<T: Drop> From<AllocFailed<T>> for CaseError {
+    fn from(_error: AllocFailed<T>) -> CaseError {
+        CaseError::Memory
     }
 }
 
 /// A line of a case, as its words.
 #[derive(Drop)]
-pub struct Line<'a> {
+pub struct CaseLine<'a> {
     /// The number of the line in the case, counted from 1.
     pub number: usize,
     pub words: Vec<&'a str>,
@@ -37,15 +37,15 @@ pub struct Line<'a> {
 /// What receives the commands of a case, one after another.
 pub trait Subject {
     /// Does what the words of a line say, and prints the outcome.
-    fn take(&mut self, words: &[&str], out: &mut Out) -> Result<(), Stop>;
+    fn take(&mut self, words: &[&str], out: &mut Out) -> Result<(), CaseError>;
 }
 
 /// Gives the subject all lines of a case, and drops it.
 pub fn take_all<S: Subject + Drop>(
     mut subject: S,
-    lines: &[Line<'_>],
+    lines: &[CaseLine<'_>],
     out: &mut Out,
-) -> Result<(), Stop> {
+) -> Result<(), CaseError> {
     for line in lines {
         subject.take(out.at(line), out)?;
     }
@@ -53,14 +53,14 @@ pub fn take_all<S: Subject + Drop>(
 }
 
 /// The lines of a case that contain words and aren't comments.
-pub fn read_lines<'a>(alloc: Global, text: &'a str) -> Result<Vec<Line<'a>>, AllocError> {
+pub fn read_lines<'a>(alloc: Global, text: &'a str) -> Result<Vec<CaseLine<'a>>, AllocError> {
     let mut lines = Vec::new(alloc);
     let mut number = 0usize;
     for line in text.split('\n') {
         number = number.saturating_add(1);
         let words = words_of(alloc, line)?;
         if !words.is_empty() {
-            lines.push(Line { number, words })?;
+            lines.push(CaseLine { number, words })?;
         }
     }
     Ok(lines)
@@ -81,13 +81,13 @@ fn words_of<'a>(alloc: Global, line: &'a str) -> Result<Vec<&'a str>, AllocError
 }
 
 /// The number that the word spells.
-pub fn read<T: FromStr>(word: &str) -> Result<T, Stop>
+pub fn read<T: FromStr>(word: &str) -> Result<T, CaseError>
 where
     T::Err: Drop,
 {
     match word.parse::<T>() {
         Ok(number) => Ok(number),
-        Err(_) => Err(Stop::Unknown),
+        Err(_) => Err(CaseError::Unknown),
     }
 }
 
@@ -100,15 +100,15 @@ pub fn verb<'a>(words: &[&'a str]) -> &'a str {
 }
 
 /// The word in this place of a line.
-pub fn word<'a>(words: &[&'a str], place: usize) -> Result<&'a str, Stop> {
+pub fn word<'a>(words: &[&'a str], place: usize) -> Result<&'a str, CaseError> {
     match words.get(place) {
         Some(word) => Ok(*word),
-        None => Err(Stop::Unknown),
+        None => Err(CaseError::Unknown),
     }
 }
 
 /// The number in this place of a line.
-pub fn number<T: FromStr>(words: &[&str], place: usize) -> Result<T, Stop>
+pub fn number<T: FromStr>(words: &[&str], place: usize) -> Result<T, CaseError>
 where
     T::Err: Drop,
 {
@@ -116,13 +116,13 @@ where
 }
 
 /// The bytes, spelled with two hexadecimal digits each; `-` means no bytes.
-pub fn bytes_of(alloc: Global, word: &str) -> Result<Vec<u8>, Stop> {
+pub fn bytes_of(alloc: Global, word: &str) -> Result<Vec<u8>, CaseError> {
     if word == "-" {
         return Ok(Vec::new(alloc));
     }
     match hex::decode(alloc, word) {
         Ok(bytes) => Ok(bytes),
-        Err(FromHexError::OutOfMemory) => Err(Stop::Memory),
-        Err(_) => Err(Stop::Unknown),
+        Err(FromHexError::OutOfMemory) => Err(CaseError::Memory),
+        Err(_) => Err(CaseError::Unknown),
     }
 }

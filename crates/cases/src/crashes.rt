@@ -1,25 +1,25 @@
 //! A disk of a space, which a case can make fail and crash, and what it then opens to.
-use crate::case::{Stop, number, verb};
+use crate::case::{CaseError, number, verb};
 use crate::out::{Out, count, put_tally};
-use crate::shelves::node_on;
+use crate::shelves::state_on;
 use disk::{MemoryDisk, is_blank};
 use ids::Refusal;
 use std::alloc::Global;
 
 /// Makes the disk fail or crash, as the words say: the verb, the disk's node and a number.
-pub fn change(disk: &mut MemoryDisk, words: &[&str], out: &mut Out) -> Result<(), Stop> {
+pub fn change(disk: &mut MemoryDisk, words: &[&str], out: &mut Out) -> Result<(), CaseError> {
     match verb(words) {
         "fail" => disk.fail_from(number(words, 2)?),
         "fail-once" => disk.fail_once(number(words, 2)?),
         "crash" => return crash(disk, number(words, 2)?, out),
-        _ => return Err(Stop::Unknown),
+        _ => return Err(CaseError::Unknown),
     }
     out.text("ok");
     Ok(())
 }
 
 // Replaces the disk with the one that a crash leaves.
-fn crash(disk: &mut MemoryDisk, fill: u8, out: &mut Out) -> Result<(), Stop> {
+fn crash(disk: &mut MemoryDisk, fill: u8, out: &mut Out) -> Result<(), CaseError> {
     match disk.after_crash(fill) {
         Ok(left) => {
             *disk = left;
@@ -51,8 +51,8 @@ fn opens_to(alloc: Global, left: Result<MemoryDisk, Refusal>, own: u8) -> usize 
     if is_blank(&mut disk) == Ok(true) {
         return 0;
     }
-    match node_on(alloc, disk) {
-        Ok(node) if node.state().own == own => 1,
+    match state_on(alloc, disk) {
+        Ok(state) if state.own == own => 1,
         Ok(_) => 2,
         Err(_) => 3,
     }

@@ -1,15 +1,20 @@
 //! A disk in memory, which a case can make fail and crash. A case sees what an opening finds after
 //! each of the crashes that are possible.
-use crate::case::{Stop, Subject, number, verb};
+use crate::case::{CaseError, CaseLine, Subject, number, take_all, verb};
 use crate::out::{Out, count, put_tally};
-use crate::shelves::{Bench, Held, node_behind, node_on};
+use crate::shelves::{Bench, Stored, node_behind, node_on};
 use disk::{MemoryDisk, is_blank};
 use ids::Refusal;
 use std::alloc::Global;
 
-/// A disk in memory, and the image that it may go back to.
+/// A case for a disk in memory.
+pub fn run(alloc: Global, lines: &[CaseLine<'_>], out: &mut Out) -> Result<(), CaseError> {
+    take_all(Disks::new(alloc), lines, out)
+}
+
+// A disk in memory, and the image that it may go back to.
 #[derive(Drop)]
-pub struct Disks {
+struct Disks {
     alloc: Global,
     bench: Bench<MemoryDisk>,
     // The image that was recorded as the old one.
@@ -17,8 +22,8 @@ pub struct Disks {
 }
 
 impl Disks {
-    /// No disk yet.
-    pub fn new(alloc: Global) -> Disks {
+    // No disk yet.
+    fn new(alloc: Global) -> Disks {
         Disks {
             alloc,
             bench: Bench::new(alloc),
@@ -27,9 +32,9 @@ impl Disks {
     }
 
     // The image of the node counts as the old one from now on.
-    fn note(&mut self, out: &mut Out) -> Result<(), Stop> {
+    fn note(&mut self, out: &mut Out) -> Result<(), CaseError> {
         let Some(node) = &self.bench.nodes.node else {
-            return Err(Stop::Unknown);
+            return Err(CaseError::Unknown);
         };
         match image::to_bytes(self.alloc, node) {
             Ok(bytes) => {
@@ -42,16 +47,16 @@ impl Disks {
     }
 
     // Replaces the disk with the one that a crash leaves.
-    fn crash(&mut self, fill: u8, out: &mut Out) -> Result<(), Stop> {
+    fn crash(&mut self, fill: u8, out: &mut Out) -> Result<(), CaseError> {
         let left = after_crash(&self.bench.held, fill)?;
         self.bench.hold(left, out);
         Ok(())
     }
 
     // For each byte with which a crash may fill what wasn't synced, what the disk then opens to.
-    fn crashes(&self, out: &mut Out) -> Result<(), Stop> {
+    fn crashes(&self, out: &mut Out) -> Result<(), CaseError> {
         let Some(node) = &self.bench.nodes.node else {
-            return Err(Stop::Unknown);
+            return Err(CaseError::Unknown);
         };
         let new = match image::to_bytes(self.alloc, node) {
             Ok(new) => new,
@@ -72,7 +77,7 @@ impl Disks {
 }
 
 impl Subject for Disks {
-    fn take(&mut self, words: &[&str], out: &mut Out) -> Result<(), Stop> {
+    fn take(&mut self, words: &[&str], out: &mut Out) -> Result<(), CaseError> {
         match verb(words) {
             "fresh" => self.bench.hold(Ok(MemoryDisk::new(self.alloc)), out),
             "crashes" => return self.crashes(out),
@@ -87,35 +92,38 @@ impl Subject for Disks {
 }
 
 // Makes the k-th call of the disk from now on fail, and no later one.
-fn fail_once(held: &mut Held<MemoryDisk>, k: u64, out: &mut Out) -> Result<(), Stop> {
+fn fail_once(held: &mut Stored<MemoryDisk>, k: u64, out: &mut Out) -> Result<(), CaseError> {
     match held {
-        Held::Loose(disk) => disk.fail_once(k),
-        Held::Shelved(shelf) => shelf.fail_once(k),
-        Held::Logged(journal) => journal.fail_once(k),
-        Held::Nothing => return Err(Stop::Unknown),
+        Stored::Loose(disk) => disk.fail_once(k),
+        Stored::Shelved(shelf) => shelf.fail_once(k),
+        Stored::Logged(journal) => journal.fail_once(k),
+        Stored::Nothing => return Err(CaseError::Unknown),
     }
     out.text("ok");
     Ok(())
 }
 
 // Makes the k-th call of the disk from now on and all later ones fail.
-fn fail(held: &mut Held<MemoryDisk>, k: u64, out: &mut Out) -> Result<(), Stop> {
+fn fail(held: &mut Stored<MemoryDisk>, k: u64, out: &mut Out) -> Result<(), CaseError> {
     match held {
-        Held::Loose(disk) => disk.fail_from(k),
-        Held::Shelved(shelf) => shelf.fail_from(k),
-        Held::Logged(journal) => journal.fail_from(k),
-        Held::Nothing => return Err(Stop::Unknown),
+        Stored::Loose(disk) => disk.fail_from(k),
+        Stored::Shelved(shelf) => shelf.fail_from(k),
+        Stored::Logged(journal) => journal.fail_from(k),
+        Stored::Nothing => return Err(CaseError::Unknown),
     }
     out.text("ok");
     Ok(())
 }
 
-fn after_crash(held: &Held<MemoryDisk>, fill: u8) -> Result<Result<MemoryDisk, Refusal>, Stop> {
+fn after_crash(
+    held: &Stored<MemoryDisk>,
+    fill: u8,
+) -> Result<Result<MemoryDisk, Refusal>, CaseError> {
     match held {
-        Held::Loose(disk) => Ok(disk.after_crash(fill)),
-        Held::Shelved(shelf) => Ok(shelf.after_crash(fill)),
-        Held::Logged(journal) => Ok(journal.after_crash(fill)),
-        Held::Nothing => Err(Stop::Unknown),
+        Stored::Loose(disk) => Ok(disk.after_crash(fill)),
+        Stored::Shelved(shelf) => Ok(shelf.after_crash(fill)),
+        Stored::Logged(journal) => Ok(journal.after_crash(fill)),
+        Stored::Nothing => Err(CaseError::Unknown),
     }
 }
 
@@ -153,9 +161,9 @@ fn found_on(
     Ok(Some(image?))
 }
 
-fn is_logged(held: &Held<MemoryDisk>) -> bool {
+fn is_logged(held: &Stored<MemoryDisk>) -> bool {
     match held {
-        Held::Logged(_) => true,
-        Held::Nothing | Held::Loose(_) | Held::Shelved(_) => false,
+        Stored::Logged(_) => true,
+        Stored::Nothing | Stored::Loose(_) | Stored::Shelved(_) => false,
     }
 }

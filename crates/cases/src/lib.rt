@@ -6,29 +6,21 @@
 
 pub mod arenas;
 mod case;
-pub mod collected;
 pub mod crashes;
-mod dice;
 pub mod disks;
-mod parsing;
 pub mod files;
 mod folders;
-mod found;
-pub mod frames;
 mod lent;
 pub mod nodes;
 mod out;
-mod reached;
+mod parsing;
 mod shelves;
 mod sizes;
 
-pub use case::{Line, Stop, Subject, number, read, read_lines, take_all, verb, word};
-pub use dice::{ASKED, Dice};
-pub use parsing::{event_of, repeated};
-pub use folders::{disks_in, nodes_in};
-pub use found::{Found, Noted, compare_letters};
+pub use case::{CaseError, CaseLine, Subject, number, read, read_lines, take_all, verb, word};
+pub use folders::disks_in;
 pub use lent::Lent;
 pub use out::Out;
-pub use reached::count_reached;
-pub use shelves::node_on;
+pub use parsing::{event_of, repeated};
+pub use shelves::state_on;
 pub use sizes::{Size, blank_disks};

@@ -1,8 +1,8 @@
 //! One node: its events, its frames and its image. It may be created from any image, so a case
 //! reaches nodes that no short run does.
-use crate::case::{Stop, Subject, bytes_of, number, verb, word};
-use crate::parsing::{event_of, repeated};
+use crate::case::{CaseError, CaseLine, Subject, bytes_of, number, take_all, verb, word};
 use crate::out::Out;
+use crate::parsing::{event_of, repeated};
 use ids::{NodeId, Refusal, Shape};
 use lines::SummaryText;
 use model::{Answer, Event};
@@ -11,18 +11,23 @@ use node::Node;
 use replays::{Log, act};
 use std::alloc::Global;
 
+/// A case for one node.
+pub fn run(alloc: Global, lines: &[CaseLine<'_>], out: &mut Out) -> Result<(), CaseError> {
+    take_all(NodeCase::new(alloc), lines, out)
+}
+
 /// The node of a case, once there is one, and the log of its events.
 #[derive(Drop)]
-pub struct Nodes {
+pub(crate) struct NodeCase {
     pub(crate) alloc: Global,
     pub(crate) node: Option<Node>,
     pub(crate) log: Log,
 }
 
-impl Nodes {
+impl NodeCase {
     /// No node yet.
-    pub fn new(alloc: Global) -> Nodes {
-        Nodes {
+    pub(crate) fn new(alloc: Global) -> NodeCase {
+        NodeCase {
             alloc,
             node: None,
             log: Log::new(alloc),
@@ -41,37 +46,37 @@ impl Nodes {
         }
     }
 
-    fn make(&mut self, words: &[&str], out: &mut Out) -> Result<(), Stop> {
+    fn make(&mut self, words: &[&str], out: &mut Out) -> Result<(), CaseError> {
         let shape = shape_of(words)?;
-        let own = NodeId::new(number(words, 4)?).ok_or(Stop::Unknown)?;
+        let own = NodeId::new(number(words, 4)?).ok_or(CaseError::Unknown)?;
         self.set(Node::new(self.alloc, shape, own), out);
         Ok(())
     }
 
-    fn read(&mut self, digits: &str, out: &mut Out) -> Result<(), Stop> {
+    fn read(&mut self, digits: &str, out: &mut Out) -> Result<(), CaseError> {
         let bytes = bytes_of(self.alloc, digits)?;
         self.set(image::from_bytes(self.alloc, &bytes), out);
         Ok(())
     }
 }
 
-impl Subject for Nodes {
-    fn take(&mut self, words: &[&str], out: &mut Out) -> Result<(), Stop> {
+impl Subject for NodeCase {
+    fn take(&mut self, words: &[&str], out: &mut Out) -> Result<(), CaseError> {
         match verb(words) {
             "new" => self.make(words, out),
             "image" => self.read(word(words, 1)?, out),
             _ => match &mut self.node {
                 Some(node) => on_node(self.alloc, node, &mut self.log, words, out),
-                None => Err(Stop::Unknown),
+                None => Err(CaseError::Unknown),
             },
         }
     }
 }
 
 /// The shape that the words after the first one say.
-pub fn shape_of(words: &[&str]) -> Result<Shape, Stop> {
+pub fn shape_of(words: &[&str]) -> Result<Shape, CaseError> {
     let (nodes, registers) = (number(words, 1)?, number(words, 2)?);
-    Shape::new(nodes, registers, number(words, 3)?).ok_or(Stop::Unknown)
+    Shape::new(nodes, registers, number(words, 3)?).ok_or(CaseError::Unknown)
 }
 
 // A command to a node.
@@ -81,10 +86,9 @@ fn on_node(
     log: &mut Log,
     words: &[&str],
     out: &mut Out,
-) -> Result<(), Stop> {
+) -> Result<(), CaseError> {
     match verb(words) {
         "bytes" => put_image(alloc, node, out),
-        "check" => out.done(check(alloc, node)),
         "state" => out.show(&SummaryText(node.state())),
         "kept" => {
             node.kept();
@@ -107,13 +111,13 @@ fn ask_frame(
     log: &mut Log,
     words: &[&str],
     out: &mut Out,
-) -> Result<(), Stop> {
+) -> Result<(), CaseError> {
     let frame = match verb(words) {
         "frame-at" => node.frame_at(number(words, 1)?, number(words, 2)?),
+        "ack-for" => node.ack_for(number(words, 1)?),
         "numbered" => node
             .core()
             .numbered_frame(number(words, 1)?, number(words, 2)?),
-        "ack-for" => node.ack_for(number(words, 1)?),
         _ => return take_event(alloc, node, log, words, out),
     };
     put_frame(alloc, frame, out);
@@ -126,7 +130,7 @@ fn take_event(
     log: &mut Log,
     words: &[&str],
     out: &mut Out,
-) -> Result<(), Stop> {
+) -> Result<(), CaseError> {
     if verb(words) == "repeat" {
         let (event, count) = repeated(alloc, words)?;
         out.answer(repeat(node, log, event, count));
@@ -153,26 +157,13 @@ fn repeat(node: &mut Node, log: &mut Log, event: Event, count: u64) -> Result<An
     Ok(last)
 }
 
-// Whether the node's image is read as a node with the same image; `BadImage` if it isn't.
-fn check(alloc: Global, node: &Node) -> Result<(), Refusal> {
-    let bytes = image::to_bytes(alloc, node)?;
-    let again = image::from_bytes(alloc, &bytes)?;
-    let spelled = image::to_bytes(alloc, &again);
-    drop(again);
-    if spelled?.as_slice() == bytes.as_slice() {
-        Ok(())
-    } else {
-        Err(Refusal::BadImage)
-    }
-}
-
-/// The node's image as bytes, or why there isn't one.
-pub fn put_image(alloc: Global, node: &Node, out: &mut Out) {
+// The node's image as bytes, or why there isn't one.
+fn put_image(alloc: Global, node: &Node, out: &mut Out) {
     out.spelled(image::to_bytes(alloc, node));
 }
 
-/// The frame's bytes, or `-` for no frame.
-pub fn put_frame(alloc: Global, frame: Option<Frame>, out: &mut Out) {
+// The frame's bytes, or `-` for no frame.
+fn put_frame(alloc: Global, frame: Option<Frame>, out: &mut Out) {
     match frame {
         Some(frame) => out.spelled(encode(alloc, &frame)),
         None => out.text("-"),

@@ -1,5 +1,5 @@
 //! What a case prints.
-use crate::case::Line;
+use crate::case::CaseLine;
 use ids::Refusal;
 use std::alloc::Global;
 use std::fmt::{Debug, Display};
@@ -26,7 +26,7 @@ impl Out {
     }
 
     /// From now on the answers are for this line, whose words these are.
-    pub fn at<'a>(&mut self, line: &'a Line<'a>) -> &'a [&'a str] {
+    pub fn at<'a>(&mut self, line: &'a CaseLine<'a>) -> &'a [&'a str] {
         self.line = line.number;
         line.words.as_slice()
     }
@@ -80,6 +80,13 @@ impl Out {
         match answered {
             Ok(answer) => self.debug(&answer),
             Err(refusal) => self.refused(refusal),
+        }
+    }
+
+    /// The lines of another one, after those so far.
+    pub fn add(&mut self, other: &Out) {
+        if other.failed || self.text.push_str(other.text.as_str()).is_err() {
+            self.failed = true;
         }
     }
 

@@ -1,11 +1,12 @@
 //! A disk, and a shelf or a journal on it that keeps the node of the case. The commands are the
 //! same for disks in memory and in files.
-use crate::case::{Stop, Subject, bytes_of, number, verb, word};
-use crate::nodes::Nodes;
+use crate::case::{CaseError, Subject, bytes_of, number, verb, word};
+use crate::nodes::NodeCase;
 use crate::out::Out;
 use disk::{Area, Disk, DiskFault, Journal, MemoryDisk, Shelf, is_blank};
 use ids::Refusal;
 use image::Images;
+use model::Summary;
 use node::Node;
 use replays::{Log, LoggedImages};
 use std::alloc::Global;
@@ -13,7 +14,7 @@ use std::mem;
 
 /// A disk, by itself or with a shelf on it.
 #[derive(Drop)]
-pub enum Held<D: Disk> {
+pub(crate) enum Stored<D: Disk> {
     Nothing,
     /// The disk by itself.
     Loose(D),
@@ -25,17 +26,17 @@ pub enum Held<D: Disk> {
 
 /// What a case about a disk holds.
 #[derive(Drop)]
-pub struct Bench<D: Disk> {
-    pub nodes: Nodes,
-    pub held: Held<D>,
+pub(crate) struct Bench<D: Disk> {
+    pub nodes: NodeCase,
+    pub held: Stored<D>,
 }
 
 impl<D: Disk + Drop> Bench<D> {
     /// Holds nothing, and has no node.
     pub fn new(alloc: Global) -> Bench<D> {
         Bench {
-            nodes: Nodes::new(alloc),
-            held: Held::Nothing,
+            nodes: NodeCase::new(alloc),
+            held: Stored::Nothing,
         }
     }
 
@@ -43,7 +44,7 @@ impl<D: Disk + Drop> Bench<D> {
     pub fn hold(&mut self, disk: Result<D, Refusal>, out: &mut Out) {
         match disk {
             Ok(disk) => {
-                self.held = Held::Loose(disk);
+                self.held = Stored::Loose(disk);
                 out.text("ok");
             }
             Err(refusal) => out.refused(refusal),
@@ -51,18 +52,18 @@ impl<D: Disk + Drop> Bench<D> {
     }
 
     // Takes out the disk that is held by itself; then nothing is held.
-    fn loose(&mut self) -> Result<D, Stop> {
-        match mem::replace(&mut self.held, Held::Nothing) {
-            Held::Loose(disk) => Ok(disk),
-            Held::Nothing | Held::Shelved(_) | Held::Logged(_) => Err(Stop::Unknown),
+    fn loose(&mut self) -> Result<D, CaseError> {
+        match mem::replace(&mut self.held, Stored::Nothing) {
+            Stored::Loose(disk) => Ok(disk),
+            Stored::Nothing | Stored::Shelved(_) | Stored::Logged(_) => Err(CaseError::Unknown),
         }
     }
 
     // Creates a shelf, once it is known that the disk has none.
-    fn create(&mut self, out: &mut Out) -> Result<(), Stop> {
+    fn create(&mut self, out: &mut Out) -> Result<(), CaseError> {
         let disk = self.loose()?;
         let Some(node) = &self.nodes.node else {
-            return Err(Stop::Unknown);
+            return Err(CaseError::Unknown);
         };
         let (held, refusal) = created(self.nodes.alloc, disk, node);
         self.held = held;
@@ -71,11 +72,11 @@ impl<D: Disk + Drop> Bench<D> {
     }
 
     // Opens a shelf. If the opening fails, the disk is dropped.
-    fn open(&mut self, out: &mut Out) -> Result<(), Stop> {
+    fn open(&mut self, out: &mut Out) -> Result<(), CaseError> {
         let disk = self.loose()?;
         match Shelf::open::<Images>(self.nodes.alloc, disk) {
             Ok((shelf, node)) => {
-                self.held = Held::Shelved(shelf);
+                self.held = Stored::Shelved(shelf);
                 self.nodes.set(Ok(node), out);
             }
             Err(refusal) => out.refused(refusal),
@@ -84,19 +85,19 @@ impl<D: Disk + Drop> Bench<D> {
     }
 
     // `journal create` or `journal open`
-    fn take_journal(&mut self, words: &[&str], out: &mut Out) -> Result<(), Stop> {
+    fn take_journal(&mut self, words: &[&str], out: &mut Out) -> Result<(), CaseError> {
         match word(words, 1)? {
             "create" => self.begin(out),
             "open" => self.restore(out),
-            _ => Err(Stop::Unknown),
+            _ => Err(CaseError::Unknown),
         }
     }
 
     // Creates a journal, once it is known that the disk has nothing.
-    fn begin(&mut self, out: &mut Out) -> Result<(), Stop> {
+    fn begin(&mut self, out: &mut Out) -> Result<(), CaseError> {
         let disk = self.loose()?;
         let Some(node) = &self.nodes.node else {
-            return Err(Stop::Unknown);
+            return Err(CaseError::Unknown);
         };
         let (held, refusal) = begun(self.nodes.alloc, disk, node);
         self.held = held;
@@ -106,11 +107,11 @@ impl<D: Disk + Drop> Bench<D> {
     }
 
     // Opens a journal. If the opening fails, the disk is dropped.
-    fn restore(&mut self, out: &mut Out) -> Result<(), Stop> {
+    fn restore(&mut self, out: &mut Out) -> Result<(), CaseError> {
         let disk = self.loose()?;
         match Journal::open(self.nodes.alloc, disk) {
             Ok((journal, node)) => {
-                self.held = Held::Logged(journal);
+                self.held = Stored::Logged(journal);
                 self.nodes.set(Ok(node), out);
             }
             Err(refusal) => out.refused(refusal),
@@ -119,38 +120,38 @@ impl<D: Disk + Drop> Bench<D> {
     }
 
     // Saves the node this many times, or until a save fails.
-    fn save(&mut self, count: u64, out: &mut Out) -> Result<(), Stop> {
+    fn save(&mut self, count: u64, out: &mut Out) -> Result<(), CaseError> {
         let Some(node) = &mut self.nodes.node else {
-            return Err(Stop::Unknown);
+            return Err(CaseError::Unknown);
         };
         match &mut self.held {
-            Held::Shelved(shelf) => out.done(save_often(shelf, node, count)),
-            Held::Logged(journal) => {
+            Stored::Shelved(shelf) => out.done(save_often(shelf, node, count)),
+            Stored::Logged(journal) => {
                 out.done(log_often(journal, node, &mut self.nodes.log, count));
             }
-            Held::Nothing | Held::Loose(_) => return Err(Stop::Unknown),
+            Stored::Nothing | Stored::Loose(_) => return Err(CaseError::Unknown),
         }
         Ok(())
     }
 
-    fn reopen(&mut self, out: &mut Out) -> Result<(), Stop> {
+    fn reopen(&mut self, out: &mut Out) -> Result<(), CaseError> {
         let found = match &mut self.held {
-            Held::Shelved(shelf) => shelf.reopen::<Images>(),
-            Held::Logged(journal) => journal.reopen(),
-            Held::Nothing | Held::Loose(_) => return Err(Stop::Unknown),
+            Stored::Shelved(shelf) => shelf.reopen::<Images>(),
+            Stored::Logged(journal) => journal.reopen(),
+            Stored::Nothing | Stored::Loose(_) => return Err(CaseError::Unknown),
         };
         self.nodes.set(found, out);
         Ok(())
     }
 
-    fn leave(&mut self, out: &mut Out) -> Result<(), Stop> {
-        drop(mem::replace(&mut self.held, Held::Nothing));
+    fn leave(&mut self, out: &mut Out) -> Result<(), CaseError> {
+        drop(mem::replace(&mut self.held, Stored::Nothing));
         out.text("ok");
         Ok(())
     }
 
     // `repeat COUNT save`, or an event that is repeated.
-    fn repeat(&mut self, words: &[&str], out: &mut Out) -> Result<(), Stop> {
+    fn repeat(&mut self, words: &[&str], out: &mut Out) -> Result<(), CaseError> {
         if word(words, 2)? == "save" {
             self.save(number(words, 1)?, out)
         } else {
@@ -158,16 +159,16 @@ impl<D: Disk + Drop> Bench<D> {
         }
     }
 
-    fn take_disk(&mut self, words: &[&str], out: &mut Out) -> Result<(), Stop> {
+    fn take_disk(&mut self, words: &[&str], out: &mut Out) -> Result<(), CaseError> {
         match &mut self.held {
-            Held::Loose(disk) => on_disk(self.nodes.alloc, disk, words, out),
-            Held::Nothing | Held::Shelved(_) | Held::Logged(_) => Err(Stop::Unknown),
+            Stored::Loose(disk) => on_disk(self.nodes.alloc, disk, words, out),
+            Stored::Nothing | Stored::Shelved(_) | Stored::Logged(_) => Err(CaseError::Unknown),
         }
     }
 }
 
 impl<D: Disk + Drop> Subject for Bench<D> {
-    fn take(&mut self, words: &[&str], out: &mut Out) -> Result<(), Stop> {
+    fn take(&mut self, words: &[&str], out: &mut Out) -> Result<(), CaseError> {
         match verb(words) {
             "create" => self.create(out),
             "journal" => self.take_journal(words, out),
@@ -183,15 +184,23 @@ impl<D: Disk + Drop> Subject for Bench<D> {
 }
 
 /// The node that the disk of a journal opens to.
-pub fn node_behind<D: Disk + Drop>(alloc: Global, disk: D) -> Result<Node, Refusal> {
+pub(crate) fn node_behind<D: Disk + Drop>(alloc: Global, disk: D) -> Result<Node, Refusal> {
     match Journal::<D, LoggedImages>::open(alloc, disk) {
         Ok((_journal, node)) => Ok(node),
         Err(refusal) => Err(refusal),
     }
 }
 
+/// The node that a disk opens to, in numbers.
+pub fn state_on<D: Disk + Drop>(alloc: Global, disk: D) -> Result<Summary, Refusal> {
+    let node = node_on(alloc, disk)?;
+    let state = node.state();
+    drop(node);
+    Ok(state)
+}
+
 /// The node that a disk opens to.
-pub fn node_on<D: Disk + Drop>(alloc: Global, disk: D) -> Result<Node, Refusal> {
+pub(crate) fn node_on<D: Disk + Drop>(alloc: Global, disk: D) -> Result<Node, Refusal> {
     match Shelf::open::<Images>(alloc, disk) {
         Ok((_shelf, node)) => Ok(node),
         Err(refusal) => Err(refusal),
@@ -204,14 +213,14 @@ fn created<D: Disk + Drop>(
     alloc: Global,
     mut disk: D,
     node: &Node,
-) -> (Held<D>, Result<(), Refusal>) {
+) -> (Stored<D>, Result<(), Refusal>) {
     match is_blank(&mut disk) {
         Ok(true) => match Shelf::create::<Images>(alloc, disk, node) {
-            Ok(shelf) => (Held::Shelved(shelf), Ok(())),
-            Err((disk, refusal)) => (Held::Loose(disk), Err(refusal)),
+            Ok(shelf) => (Stored::Shelved(shelf), Ok(())),
+            Err((disk, refusal)) => (Stored::Loose(disk), Err(refusal)),
         },
-        Ok(false) => (Held::Loose(disk), Err(Refusal::BadImage)),
-        Err(_) => (Held::Loose(disk), Err(Refusal::Disk)),
+        Ok(false) => (Stored::Loose(disk), Err(Refusal::BadImage)),
+        Err(_) => (Stored::Loose(disk), Err(Refusal::Disk)),
     }
 }
 
@@ -220,14 +229,14 @@ fn begun<D: Disk + Drop>(
     alloc: Global,
     mut disk: D,
     node: &Node,
-) -> (Held<D>, Result<(), Refusal>) {
+) -> (Stored<D>, Result<(), Refusal>) {
     match is_blank(&mut disk) {
         Ok(true) => match Journal::create(alloc, disk, node) {
-            Ok(journal) => (Held::Logged(journal), Ok(())),
-            Err((disk, refusal)) => (Held::Loose(disk), Err(refusal)),
+            Ok(journal) => (Stored::Logged(journal), Ok(())),
+            Err((disk, refusal)) => (Stored::Loose(disk), Err(refusal)),
         },
-        Ok(false) => (Held::Loose(disk), Err(Refusal::BadImage)),
-        Err(_) => (Held::Loose(disk), Err(Refusal::Disk)),
+        Ok(false) => (Stored::Loose(disk), Err(Refusal::BadImage)),
+        Err(_) => (Stored::Loose(disk), Err(Refusal::Disk)),
     }
 }
 
@@ -261,14 +270,14 @@ fn on_disk<D: Disk>(
     disk: &mut D,
     words: &[&str],
     out: &mut Out,
-) -> Result<(), Stop> {
+) -> Result<(), CaseError> {
     match word(words, 1)? {
         "sync" => out.done(disk.sync().map_err(refusal_of)),
         "blank" => out.answer(is_blank(disk).map_err(refusal_of)),
         "failures" => out.show(&disk.failures()),
         "read" => return read_from(alloc, disk, words, out),
         "write" => return write_to(alloc, disk, words, out),
-        _ => return Err(Stop::Unknown),
+        _ => return Err(CaseError::Unknown),
     }
     Ok(())
 }
@@ -279,7 +288,7 @@ fn read_from<D: Disk>(
     disk: &mut D,
     words: &[&str],
     out: &mut Out,
-) -> Result<(), Stop> {
+) -> Result<(), CaseError> {
     let area = area_of(word(words, 2)?)?;
     let mut into = vec![in alloc; 0; number(words, 4)?]?;
     put_read(disk, area, number(words, 3)?, &mut into, out);
@@ -292,7 +301,7 @@ fn write_to<D: Disk>(
     disk: &mut D,
     words: &[&str],
     out: &mut Out,
-) -> Result<(), Stop> {
+) -> Result<(), CaseError> {
     let area = area_of(word(words, 2)?)?;
     let bytes = bytes_of(alloc, word(words, 4)?)?;
     let done = write(disk, area, number(words, 3)?, &bytes)?;
@@ -300,13 +309,13 @@ fn write_to<D: Disk>(
     Ok(())
 }
 
-/// The area of a disk that the word names.
-pub fn area_of(word: &str) -> Result<Area, Stop> {
+// The area of a disk that the word names.
+fn area_of(word: &str) -> Result<Area, CaseError> {
     match word {
         "select" => Ok(Area::Select),
         "a" => Ok(Area::A),
         "b" => Ok(Area::B),
-        _ => Err(Stop::Unknown),
+        _ => Err(CaseError::Unknown),
     }
 }
 
@@ -328,11 +337,11 @@ fn write<D: Disk>(
     area: Area,
     at: usize,
     bytes: &[u8],
-) -> Result<Result<(), DiskFault>, Stop> {
+) -> Result<Result<(), DiskFault>, CaseError> {
     if at > 0 {
         match disk.read(area, at - 1, &mut [0; 1]) {
             Ok(1) => {}
-            Ok(_) => return Err(Stop::Unknown),
+            Ok(_) => return Err(CaseError::Unknown),
             Err(fault) => return Ok(Err(fault)),
         }
     }

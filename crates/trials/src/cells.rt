@@ -3,17 +3,15 @@ ghost use Rattle.std.specs.Prelude.{◌≡◌, true, All, IfOk};
 ghost use Rattle.model.specs.Steps.{is_own};
 ghost use Rattle.wire.specs.Readers.{IsSeatOf, IsWatchOf};
 
-use cases::nodes::{put_frame, put_image};
 use cases::{
-    Line, Out, Stop, Subject, blank_disks, event_of, node_on, number, read, repeated, take_all,
-    verb,
+    CaseError, CaseLine, Out, Subject, blank_disks, event_of, number, read, repeated, state_on,
+    take_all, verb,
 };
 use cell::{Cell, Unopened};
 use disk::MemoryDisk;
 use ids::{Refusal, Shape};
 use lines::SummaryText;
-use model::{Answer, Event};
-use node::Node;
+use model::{Answer, Event, Summary};
 use std::alloc::Global;
 use wire::{Inbound, Outbound, Watch, Wire};
 
@@ -117,59 +115,45 @@ fn seat_all<'a>(
 }
 
 /// A case for the cells of new nodes.
-pub fn run(alloc: Global, shape: Shape, lines: &[Line<'_>], out: &mut Out) -> Result<(), Stop> {
+pub fn run(
+    alloc: Global,
+    shape: Shape,
+    lines: &[CaseLine<'_>],
+    out: &mut Out,
+) -> Result<(), CaseError> {
     match on_wire(alloc, shape, lines, out) {
         Ok(taken) => taken,
-        Err(_) => Err(Stop::Memory),
+        Err(_) => Err(CaseError::Memory),
     }
 }
 
 fn on_wire(
     alloc: Global,
     shape: Shape,
-    lines: &[Line<'_>],
+    lines: &[CaseLine<'_>],
     out: &mut Out,
-) -> Result<Result<(), Stop>, Refusal> {
+) -> Result<Result<(), CaseError>, Refusal> {
     let (wire, cells, watch) = open_cells(alloc, shape)?;
     let cells = seat_all(alloc, &wire, cells)?;
-    let cells = Cells {
-        alloc,
-        wire: &wire,
-        watch,
-        cells,
-    };
-    Ok(take_all(cells, lines, out))
+    drop(watch);
+    Ok(take_all(Cells { alloc, cells }, lines, out))
 }
 
-// The cells of a case, and a watch that is never told anything.
+// The cells of a case.
 #[derive(Drop)]
 struct Cells<'a> {
     alloc: Global,
-    wire: &'a Wire,
-    watch: Watch,
     cells: Vec<Seated<'a>>,
-    ghost looks: { IsWatchOf wire.now watch },
-}
-
-impl Cells<'_> {
-    fn look(&mut self, out: &mut Out) {
-        let seen = self.wire.look(&mut self.watch);
-        out.show(&seen.number);
-    }
 }
 
 impl Subject for Cells<'_> {
-    fn take(&mut self, words: &[&str], out: &mut Out) -> Result<(), Stop> {
+    fn take(&mut self, words: &[&str], out: &mut Out) -> Result<(), CaseError> {
         let [first, words @ ..] = words else {
-            return Err(Stop::Unknown);
+            return Err(CaseError::Unknown);
         };
-        if *first == "look" {
-            self.look(out);
-            return Ok(());
-        }
         match self.cells.get_mut(read::<usize>(first)?) {
             Some(seated) => on_cell(self.alloc, seated, words, out),
-            None => Err(Stop::Unknown),
+            None => Err(CaseError::Unknown),
         }
     }
 }
@@ -180,7 +164,7 @@ fn on_cell(
     seated: &mut Seated<'_>,
     words: &[&str],
     out: &mut Out,
-) -> Result<(), Stop> {
+) -> Result<(), CaseError> {
     match verb(words) {
         "save" => out.done(seated.save()),
         "reopen" => out.done(seated.reopen()),
@@ -197,19 +181,16 @@ fn on_cell(
 }
 
 // A query of a cell.
-fn ask(alloc: Global, seated: &mut Seated<'_>, words: &[&str], out: &mut Out) -> Result<(), Stop> {
+fn ask(
+    alloc: Global,
+    seated: &mut Seated<'_>,
+    words: &[&str],
+    out: &mut Out,
+) -> Result<(), CaseError> {
     match verb(words) {
         "unsaved" => out.debug(&seated.is_unsaved()),
         "state" => out.show(&SummaryText(seated.cell.node().state())),
-        "bytes" => put_image(alloc, seated.cell.node(), out),
         "trace" => put_trace(seated, out),
-        "frame-at" => {
-            let frame = seated
-                .cell
-                .node()
-                .frame_at(number(words, 1)?, number(words, 2)?);
-            put_frame(alloc, frame, out);
-        }
         "crash" => put_crashed(alloc, seated, number(words, 1)?, out),
         _ => return act(alloc, seated, words, out),
     }
@@ -217,7 +198,12 @@ fn ask(alloc: Global, seated: &mut Seated<'_>, words: &[&str], out: &mut Out) ->
 }
 
 // Makes the cell's disk fail, or gives its node an event.
-fn act(alloc: Global, seated: &mut Seated<'_>, words: &[&str], out: &mut Out) -> Result<(), Stop> {
+fn act(
+    alloc: Global,
+    seated: &mut Seated<'_>,
+    words: &[&str],
+    out: &mut Out,
+) -> Result<(), CaseError> {
     match verb(words) {
         "fail" => seated.fail(number(words, 1)?),
         "fail-once" => seated.fail_once(number(words, 1)?),
@@ -244,14 +230,11 @@ fn put_trace(seated: &Seated<'_>, out: &mut Out) {
 // The node, in numbers, that a crash now leaves on the cell's disk.
 fn put_crashed(alloc: Global, seated: &Seated<'_>, fill: u8, out: &mut Out) {
     match crashed(alloc, seated, fill) {
-        Ok(node) => {
-            out.show(&SummaryText(node.state()));
-            drop(node);
-        }
+        Ok(state) => out.show(&SummaryText(state)),
         Err(refusal) => out.refused(refusal),
     }
 }
 
-fn crashed(alloc: Global, seated: &Seated<'_>, fill: u8) -> Result<Node, Refusal> {
-    node_on(alloc, seated.cell.after_crash(fill)?)
+fn crashed(alloc: Global, seated: &Seated<'_>, fill: u8) -> Result<Summary, Refusal> {
+    state_on(alloc, seated.cell.after_crash(fill)?)
 }

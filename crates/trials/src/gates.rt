@@ -1,8 +1,9 @@
-//! Gates of workers, which pause before each turn and may hold a worker up or end it. Pollers pause
-//! for the same time.
-use std::alloc::Global;
-use std::sync::atomic::{AtomicBool, Ordering};
-use std::sync::{Arc, Wait};
+//! Gates of workers, which pause before each turn and may hold a worker up or end it, as the case
+//! says. Pollers pause for the same time.
+use cases::{CaseError, number, verb, word};
+use std::alloc::{AllocError, Global};
+use std::sync::Wait;
+use std::sync::atomic::{AtomicBool, AtomicU64, Ordering};
 use std::thread;
 use std::time::{Clock, Duration};
 use workers::{Gate, Point, Stage};
@@ -10,9 +11,234 @@ use workers::{Gate, Point, Stage};
 // How many microseconds a worker pauses before each turn, and a poller before it looks again.
 const PAUSE: u64 = 200;
 
+// On average, a worker that ends at random does so at one in this many points.
+const POINTS: u64 = 400;
+
+// How many nodes a gate knows.
+const NODES: usize = 64;
+
+// How many microseconds a worker waits before it ends late.
+const LATE: u64 = 100_000;
+
 /// Sleeps as long as a worker pauses before each turn.
 pub(crate) fn pause<R: Clock>(rt: &R) {
     thread::sleep(rt, Duration::from_micros(PAUSE));
+}
+
+/// A gate that never holds a worker up.
+#[derive(Drop)]
+pub(crate) struct Open;
+
+impl Gate for Open {
+    fn at(&self, _point: Point) {}
+}
+
+// A stage of the turns of a node's worker. A node's workers are counted from 1.
+#[derive(Clone, Copy, PartialEq, Eq)]
+struct Place {
+    node: u8,
+    worker: u64,
+    stage: Stage,
+}
+
+// A worker waits at a place until some worker of a node has been at a stage; or, without these, until
+// the case lets it go on.
+#[derive(Clone, Copy)]
+struct Hold {
+    place: Place,
+    until: Option<(u8, Stage)>,
+}
+
+// A worker ends at a place in this turn.
+#[derive(Clone, Copy)]
+struct End {
+    place: Place,
+    turn: u32,
+}
+
+/// The places at which workers wait, and those at which they end.
+#[derive(Drop)]
+pub(crate) struct Rules {
+    holds: Vec<Hold>,
+    ends: Vec<End>,
+    // If it is there, workers also end at the pseudorandom points that it determines.
+    seed: Option<u64>,
+    // Whether a worker waits a while before it ends.
+    is_late: bool,
+}
+
+impl Rules {
+    /// No worker waits or ends.
+    pub(crate) fn new(alloc: Global) -> Rules {
+        Rules {
+            holds: Vec::new(alloc),
+            ends: Vec::new(alloc),
+            seed: None,
+            is_late: false,
+        }
+    }
+}
+
+/// The stage of a turn that the word names.
+pub(crate) fn stage_of(word: &str) -> Result<Stage, CaseError> {
+    match word {
+        "Start" => Ok(Stage::Start),
+        "TakenIn" => Ok(Stage::TakenIn),
+        "Collected" => Ok(Stage::Collected),
+        "Saved" => Ok(Stage::Saved),
+        "Sent" => Ok(Stage::Sent),
+        _ => Err(CaseError::Unknown),
+    }
+}
+
+// The place that the words after the first one name: `NODE WORKER STAGE`.
+fn place_of(words: &[&str]) -> Result<Place, CaseError> {
+    Ok(Place {
+        node: number(words, 1)?,
+        worker: number(words, 2)?,
+        stage: stage_of(word(words, 3)?)?,
+    })
+}
+
+/// Adds a rule, as the words say.
+pub(crate) fn rule(rules: &mut Rules, words: &[&str]) -> Result<(), CaseError> {
+    match verb(words) {
+        "random" => rules.seed = Some(number(words, 1)?),
+        "late" => rules.is_late = true,
+        "end" => rules.ends.push(End {
+            place: place_of(words)?,
+            turn: number(words, 4)?,
+        })?,
+        _ => {
+            let until = match words.get(5) {
+                Some(stage) => Some((number(words, 4)?, stage_of(stage)?)),
+                None => None,
+            };
+            let place = place_of(words)?;
+            rules.holds.push(Hold { place, until })?;
+        }
+    }
+    Ok(())
+}
+
+/// A gate that pauses before each turn, and then does what its rules say.
+#[derive(Drop)]
+pub(crate) struct Ruled<R> {
+    rt: R,
+    rules: Rules,
+    // How often it was asked whether a worker continues.
+    asked: AtomicU64,
+    // For each node, how many workers began, and how many ended that weren't counted yet.
+    begun: Vec<AtomicU64>,
+    ended: Vec<AtomicU64>,
+    // For each stage of each node, whether a worker was there.
+    seen: Vec<AtomicBool>,
+    may_go: AtomicBool,
+}
+
+// How many stages a turn has.
+const STAGES: usize = 5;
+
+// The place at which a gate records that a worker of this node was at this stage.
+fn index(node: u8, stage: Stage) -> usize {
+    let place = match stage {
+        Stage::Start => 0,
+        Stage::TakenIn => 1,
+        Stage::Collected => 2,
+        Stage::Saved => 3,
+        Stage::Sent => 4,
+    };
+    STAGES * usize::from(node) + place
+}
+
+// A pseudorandom number, the same one for each argument.
+fn mixed(number: u64) -> u64 {
+    let first = number.wrapping_mul(0x9E37_79B9_7F4A_7C15);
+    let second = (first ^ (first >> 30)).wrapping_mul(0xBF58_476D_1CE4_E5B9);
+    second ^ (second >> 27)
+}
+
+impl<R> Ruled<R> {
+    /// A gate with these rules.
+    pub(crate) fn new(rt: R, alloc: Global, rules: Rules) -> Result<Ruled<R>, AllocError>
+    where
+        R: Drop,
+    {
+        let mut begun = Vec::new(alloc);
+        let mut ended = Vec::new(alloc);
+        let mut seen = Vec::new(alloc);
+        for _ in 0..NODES {
+            begun.push(AtomicU64::new(0))?;
+            ended.push(AtomicU64::new(0))?;
+        }
+        for _ in 0..NODES * STAGES {
+            seen.push(AtomicBool::new(false))?;
+        }
+        Ok(Ruled {
+            rt,
+            rules,
+            asked: AtomicU64::new(0),
+            begun,
+            ended,
+            seen,
+            may_go: AtomicBool::new(false),
+        })
+    }
+
+    /// How many workers of this node it has ended since the last call that said so.
+    pub(crate) fn take_ended(&self, node: u8) -> u64 {
+        match self.ended.get(usize::from(node)) {
+            Some(ended) => ended.swap(0, Ordering::SeqCst),
+            None => 0,
+        }
+    }
+
+    /// From now on, workers that wait for the case may continue.
+    pub(crate) fn go(&self) {
+        self.may_go.store(true, Ordering::SeqCst);
+    }
+
+    // The flag that says whether a worker that waits may continue.
+    fn flag(&self, hold: Hold) -> &AtomicBool {
+        match hold.until {
+            Some((node, stage)) => match self.seen.get(index(node, stage)) {
+                Some(seen) => seen,
+                None => &self.may_go,
+            },
+            None => &self.may_go,
+        }
+    }
+
+    // The place of the node's present worker.
+    fn place(&self, point: Point) -> Place {
+        let Point { node, stage, .. } = point;
+        let worker = match self.begun.get(usize::from(node)) {
+            Some(begun) => begun.load(Ordering::SeqCst),
+            None => 0,
+        };
+        Place {
+            node,
+            worker,
+            stage,
+        }
+    }
+
+    // Whether the worker ends at this point.
+    fn ends(&self, point: Point) -> bool {
+        let place = self.place(point);
+        for end in &self.rules.ends {
+            if end.place == place && end.turn == point.turn {
+                return true;
+            }
+        }
+        match self.rules.seed {
+            Some(seed) => {
+                let number = self.asked.fetch_add(1, Ordering::SeqCst);
+                mixed((seed << 32) ^ number) % POINTS == 0
+            }
+            None => false,
+        }
+    }
 }
 
 // Waits until the flag is set.
@@ -25,80 +251,37 @@ fn await_flag<R: Clock + Wait>(rt: &R, flag: &AtomicBool) {
     }
 }
 
-/// A gate that never holds a worker up.
-#[derive(Drop)]
-pub(crate) struct Open;
-
-impl Gate for Open {
-    fn at(&self, _point: Point) {}
-}
-
-/// A gate that pauses before each turn. It may hold a node's worker at a stage: the other workers
-/// begin their turns once that one waits, and it continues when another one's turn is over. The
-/// gate may also end a worker at a point.
-#[derive(Drop)]
-pub(crate) struct Holds<R> {
-    rt: R,
-    held: Option<(u8, Stage)>,
-    end: Option<Point>,
-    waits: AtomicBool,
-    may_go: AtomicBool,
-}
-
-impl<R> Holds<R> {
-    /// From now on the worker that is held may continue.
-    pub(crate) fn let_go(&self) {
-        self.may_go.store(true, Ordering::SeqCst);
-    }
-}
-
-impl<R: Clock + Wait> Holds<R> {
-    fn hold(&self) {
-        self.waits.store(true, Ordering::SeqCst);
-        await_flag(&self.rt, &self.may_go);
-    }
-
-    // The worker that isn't held.
-    fn pass(&self, stage: Stage) {
-        match stage {
-            Stage::Start => await_flag(&self.rt, &self.waits),
-            Stage::Sent => self.let_go(),
-            _ => {}
-        }
-    }
-}
-
-impl<R: Clock + Wait> Gate for Holds<R> {
+impl<R: Clock + Wait> Gate for Ruled<R> {
     fn at(&self, point: Point) {
         if point.stage == Stage::Start {
             pause(&self.rt);
+            if point.turn == 1
+                && let Some(begun) = self.begun.get(usize::from(point.node))
+            {
+                begun.fetch_add(1, Ordering::SeqCst);
+            }
         }
-        match self.held {
-            Some((node, _)) if node != point.node => self.pass(point.stage),
-            Some((_, stage)) if stage == point.stage => self.hold(),
-            _ => {}
+        if let Some(seen) = self.seen.get(index(point.node, point.stage)) {
+            seen.store(true, Ordering::SeqCst);
+        }
+        let place = self.place(point);
+        for hold in &self.rules.holds {
+            if hold.place == place {
+                await_flag(&self.rt, self.flag(*hold));
+            }
         }
     }
 
     fn go_on(&self, point: Point) -> bool {
-        self.end != Some(point)
+        if !self.ends(point) {
+            return true;
+        }
+        if self.rules.is_late {
+            thread::sleep(&self.rt, Duration::from_micros(LATE));
+        }
+        if let Some(ended) = self.ended.get(usize::from(point.node)) {
+            ended.fetch_add(1, Ordering::SeqCst);
+        }
+        false
     }
-}
-
-/// A gate that holds this node's worker at this stage, and ends a worker at this point, if these
-/// are given.
-pub(crate) fn gate<R: Clone + Drop>(
-    rt: &R,
-    alloc: Global,
-    held: Option<(u8, Stage)>,
-    end: Option<Point>,
-) -> Option<Arc<Holds<R>>> {
-    let holds = Holds {
-        rt: rt.clone().ok()?,
-        held,
-        end,
-        waits: AtomicBool::new(false),
-        may_go: AtomicBool::new(false),
-    };
-    Arc::new(alloc, holds).ok()
 }

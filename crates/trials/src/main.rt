@@ -2,31 +2,27 @@
 //! it, whose answer is printed. `tests/README.md` lists the commands.
 #![tactic(auto)]
 
-mod apart;
 mod cells;
-mod ended;
-mod endings;
+mod ends;
 mod gates;
 mod mailboxes;
 mod names;
 mod once;
 mod openings;
-mod player;
-mod program;
+mod play;
 mod programs;
-mod quiet;
-mod revivals;
-mod revived;
 mod shared;
+mod sims;
 mod space;
 mod spaces;
-mod threads;
-mod turning;
 mod turns;
 
-use cases::disks::Disks;
-use cases::nodes::{Nodes, shape_of};
-use cases::{Line, Out, Stop, arenas, collected, files, frames, read, read_lines, take_all, verb};
+use crate::ends::Ends;
+use crate::spaces::Spaces;
+use cases::nodes::shape_of;
+use cases::{
+    CaseError, CaseLine, Out, arenas, disks, files, nodes, read, read_lines, take_all, verb,
+};
 use std::alloc::Global;
 use std::fs::File;
 use std::io;
@@ -71,11 +67,11 @@ where
     let mut out = Out::new(alloc);
     let status = match take_case(rt, alloc, lines.as_slice(), &mut out) {
         Ok(()) => 0,
-        Err(Stop::Unknown) => {
+        Err(CaseError::Unknown) => {
             out.unknown();
             UNREADABLE
         }
-        Err(Stop::Memory) => {
+        Err(CaseError::Memory) => {
             out.text("refused 1 Memory");
             FAILED
         }
@@ -85,7 +81,12 @@ where
 }
 
 // Does what the lines of a case say.
-fn take_case<R>(rt: &R, alloc: Global, lines: &[Line<'_>], out: &mut Out) -> Result<(), Stop>
+fn take_case<R>(
+    rt: &R,
+    alloc: Global,
+    lines: &[CaseLine<'_>],
+    out: &mut Out,
+) -> Result<(), CaseError>
 where
     R: Files<File = File>
         + Print
@@ -121,9 +122,9 @@ fn take_subject<R>(
     rt: &R,
     alloc: Global,
     subject: &str,
-    lines: &[Line<'_>],
+    lines: &[CaseLine<'_>],
     out: &mut Out,
-) -> Result<(), Stop>
+) -> Result<(), CaseError>
 where
     R: Files<File = File>
         + Print
@@ -138,34 +139,35 @@ where
         + 'static,
 {
     match subject {
-        "node" => take_all(Nodes::new(alloc), lines, out),
-        "disk" => take_all(Disks::new(alloc), lines, out),
+        "node" => nodes::run(alloc, lines, out),
+        "disk" => disks::run(alloc, lines, out),
+        "ends" => take_all(Ends::new(rt, alloc, lines), lines, out),
+        "space" => take_all(Spaces::new(rt, alloc, lines), lines, out),
         "opening" => openings::run(rt, alloc, lines, out),
         "files" => files::run(rt, lines, out),
         "wire" => mailboxes::run(alloc, lines, out),
         "arena" => arenas::run(alloc, lines, out),
-        "bytes" | "ends" | "lists" | "names" | "space" | "threads" | "turns" => {
+        "names" | "sim" | "turns" => {
             for line in lines {
                 take(rt, alloc, subject, out.at(line), out)?;
             }
             Ok(())
         }
-        _ => Err(Stop::Unknown),
+        _ => Err(CaseError::Unknown),
     }
 }
 
 // A command of a subject that keeps nothing from one line to the next.
-fn take<R>(rt: &R, alloc: Global, subject: &str, words: &[&str], out: &mut Out) -> Result<(), Stop>
-where
-    R: Files<File = File> + Clock + Threads + Wait + Clone + Send + Sync + Drop + 'static,
-{
+fn take<R: Wait>(
+    rt: &R,
+    alloc: Global,
+    subject: &str,
+    words: &[&str],
+    out: &mut Out,
+) -> Result<(), CaseError> {
     match subject {
-        "bytes" => frames::take(alloc, words, out),
-        "ends" => ended::take(rt, alloc, words, out),
-        "lists" => collected::take(alloc, words, out),
         "names" => names::take(words, out),
-        "space" => spaces::take(rt, alloc, words, out),
-        "threads" => threads::take(rt, alloc, words, out),
+        "sim" => sims::take(alloc, words, out),
         _ => turns::take(rt, alloc, words, out),
     }
 }

@@ -1,16 +1,16 @@
 //! The limit of cycles, and laws. A law does nothing when it is called.
-use cases::{Out, Stop, number, verb};
+use cases::{CaseError, Out, number, verb};
 use ids::Cycle;
 
 /// A command about cycles and laws.
-pub(crate) fn take(words: &[&str], out: &mut Out) -> Result<(), Stop> {
+pub(crate) fn take(words: &[&str], out: &mut Out) -> Result<(), CaseError> {
     match verb(words) {
         "cycle" => put(Cycle::new(number(words, 1)?), out),
         "laws" => {
             call_laws();
             out.text("ok");
         }
-        _ => return Err(Stop::Unknown),
+        _ => return Err(CaseError::Unknown),
     }
     Ok(())
 }

@@ -7,7 +7,7 @@ ghost use Rattle.model.specs.Steps.{is_own};
 
 use crate::spaces::config_of;
 use cases::crashes::{change, put_crashes};
-use cases::{Lent, Line, Out, Size, Stop, blank_disks, event_of, number, read, verb};
+use cases::{CaseError, CaseLine, Lent, Out, Size, blank_disks, event_of, number, read, verb};
 use cell::Naming;
 use disk::{Disk, MemoryDisk};
 use ids::Refusal;
@@ -32,9 +32,9 @@ struct Openings<'a, R> {
 pub(crate) fn run<R: Threads + Wait>(
     rt: &R,
     alloc: Global,
-    lines: &[Line<'_>],
+    lines: &[CaseLine<'_>],
     out: &mut Out,
-) -> Result<(), Stop> {
+) -> Result<(), CaseError> {
     let mut openings = Openings {
         rt,
         alloc,
@@ -48,7 +48,7 @@ pub(crate) fn run<R: Threads + Wait>(
 }
 
 impl<R: Threads + Wait> Openings<'_, R> {
-    fn take(&mut self, words: &[&str], out: &mut Out) -> Result<(), Stop> {
+    fn take(&mut self, words: &[&str], out: &mut Out) -> Result<(), CaseError> {
         match verb(words) {
             "fresh" => {
                 self.disks = blank_disks(self.alloc, number(words, 1)?)?;
@@ -81,9 +81,9 @@ impl<R: Threads + Wait> Openings<'_, R> {
     }
 
     // Opens a space, and gives a node an event and saves it.
-    fn act(&mut self, words: &[&str], out: &mut Out) -> Result<(), Stop> {
+    fn act(&mut self, words: &[&str], out: &mut Out) -> Result<(), CaseError> {
         let [_, node, words @ ..] = words else {
-            return Err(Stop::Unknown);
+            return Err(CaseError::Unknown);
         };
         let node = read(node)?;
         let event = event_of(self.alloc, words)?;
@@ -96,9 +96,9 @@ impl<R: Threads + Wait> Openings<'_, R> {
 
     // Opens a space, gives a node an event and saves it, and closes the space at once: the answer,
     // and whether the disks were given out.
-    fn once(&mut self, words: &[&str], out: &mut Out) -> Result<(), Stop> {
+    fn once(&mut self, words: &[&str], out: &mut Out) -> Result<(), CaseError> {
         let [_, node, words @ ..] = words else {
-            return Err(Stop::Unknown);
+            return Err(CaseError::Unknown);
         };
         let node = read(node)?;
         let event = event_of(self.alloc, words)?;
@@ -113,7 +113,7 @@ impl<R: Threads + Wait> Openings<'_, R> {
     }
 
     // Opens a space, in which a node sends another one some frames, and saves the receiver.
-    fn carry(&mut self, words: &[&str], out: &mut Out) -> Result<(), Stop> {
+    fn carry(&mut self, words: &[&str], out: &mut Out) -> Result<(), CaseError> {
         let from = number(words, 1)?;
         let to = number(words, 2)?;
         let count = number(words, 3)?;
@@ -125,7 +125,7 @@ impl<R: Threads + Wait> Openings<'_, R> {
     }
 
     // Copies the disk of a node; the number of the copy.
-    fn keep(&mut self, node: u8, out: &mut Out) -> Result<(), Stop> {
+    fn keep(&mut self, node: u8, out: &mut Out) -> Result<(), CaseError> {
         match disk_of(&mut self.disks, node)?.after_crash(0) {
             Ok(copy) => {
                 let place = self.copies.len();
@@ -138,9 +138,9 @@ impl<R: Threads + Wait> Openings<'_, R> {
     }
 
     // Replaces the disk of a node with a copy that was kept.
-    fn restore(&mut self, node: u8, place: usize, out: &mut Out) -> Result<(), Stop> {
+    fn restore(&mut self, node: u8, place: usize, out: &mut Out) -> Result<(), CaseError> {
         let Some(copy) = self.copies.get(place) else {
-            return Err(Stop::Unknown);
+            return Err(CaseError::Unknown);
         };
         match copy.after_crash(0) {
             Ok(disk) => {
@@ -153,10 +153,10 @@ impl<R: Threads + Wait> Openings<'_, R> {
     }
 }
 
-fn disk_of(held: &mut [MemoryDisk], node: u8) -> Result<&mut MemoryDisk, Stop> {
+fn disk_of(held: &mut [MemoryDisk], node: u8) -> Result<&mut MemoryDisk, CaseError> {
     match held.get_mut(usize::from(node)) {
         Some(disk) => Ok(disk),
-        None => Err(Stop::Unknown),
+        None => Err(CaseError::Unknown),
     }
 }
 

@@ -1,126 +1,157 @@
-//! Spaces in which each node has a program in its own thread, concurrent with its worker. The
-//! output is the same in each schedule in which no attempt is given up.
-ghost use Rattle.std.specs.Prelude.{◌≡◌, false, is_some};
+//! Programs of nodes that run concurrently, each with its lines in its own thread, and concurrently
+//! with the workers.
+ghost use Rattle.std.specs.Prelude.{◌≡◌, true};
+ghost use Rattle.model.specs.Steps.{is_own};
 
-use crate::gates::{Holds, gate, pause};
-use crate::program::{Program, Went, play_all};
-use crate::spaces::opened;
-use cases::Size;
+use crate::gates::pause;
+use cases::{CaseError, CaseLine, Out, event_of, number, read, verb};
 use cell::Shared;
 use disk::Disk;
+use ids::Refusal;
+use model::{Answer, Event};
 use std::alloc::{AllocError, Global};
-use std::sync::atomic::AtomicU64;
-use std::sync::{Arc, Wait};
+use std::sync::Wait;
+use std::thread;
 use std::thread::Threads;
 use std::time::Clock;
 use supervisor::Space;
+use workers::Station;
 
-// How often a program tries to begin a cycle, with a pause each time.
-const TRIES: u32 = 100_000;
+// The label of the answer to a Get. A letter of another program has a smaller one.
+const ASKED: u32 = u32::MAX;
 
-// The programs of a space.
-fn programs_of<'a, D: Disk + Drop>(
+// The register of the object whose word says what the program has accepted.
+const TAKEN: u16 = 1;
+
+/// The program of a node, and what it has printed.
+#[derive(Drop)]
+pub(crate) struct CellProgram<'a, S> {
+    station: &'a S,
+    node: u8,
+    out: Out,
+    done: Result<(), CaseError>,
+}
+
+impl<S: Station> CellProgram<'_, S> {
+    // Runs the lines of its node: `program N ..`.
+    fn run<R: Clock + Wait>(&mut self, rt: &R, alloc: Global, lines: &[CaseLine<'_>]) {
+        for line in lines {
+            let words = self.out.at(line);
+            let done = match words {
+                ["program", node, words @ ..] if read::<u8>(node).ok() == Some(self.node) => {
+                    on_station(rt, alloc, self.station, words, &mut self.out)
+                }
+                _ => Ok(()),
+            };
+            if done.is_err() {
+                self.done = done;
+                return;
+            }
+        }
+    }
+
+    /// Prints what it has printed.
+    pub(crate) fn put(&self, out: &mut Out) -> Result<(), CaseError> {
+        out.add(&self.out);
+        self.done
+    }
+}
+
+/// The programs of the nodes of a space.
+pub(crate) fn programs_of<D: Disk + Drop>(
     alloc: Global,
-    space: &'a Space<D>,
-    over: &'a AtomicU64,
+    space: &Space<D>,
     nodes: u8,
-    rounds: u32,
-) -> Result<Vec<Program<'a, Shared<D>>>, AllocError> {
+) -> Result<Vec<CellProgram<'_, Shared<D>>>, AllocError> {
     let mut programs = Vec::new(alloc);
     for node in 0..nodes {
-        if let Some(cell) = space.program(node) {
-            programs.push(Program::new(alloc, cell, over, node, nodes, rounds))?;
+        if let Some(station) = space.program(node) {
+            programs.push(CellProgram {
+                station,
+                node,
+                out: Out::new(alloc),
+                done: Ok(()),
+            })?;
         }
     }
     Ok(programs)
 }
 
-// What the programs of a space see, each in its own thread.
-fn play_in<R, D>(
+/// Runs these lines: each program, in its own thread, those of its node.
+pub(crate) fn play_all<R, S>(
     rt: &R,
     alloc: Global,
-    space: &Space<D>,
-    nodes: u8,
-    rounds: u32,
-) -> Result<Went, AllocError>
+    lines: &[CaseLine<'_>],
+    programs: &mut [CellProgram<'_, S>],
+)
 where
     R: Clock + Threads + Wait + Sync,
-    D: Disk + Send + Drop,
+    S: Station + Sync,
 {
-    let over = AtomicU64::new(0);
-    let mut programs = programs_of(alloc, space, &over, nodes, rounds)?;
-    play_all(rt, &mut programs, nodes);
-    let mut went = Went::new();
-    for program in &programs {
-        went.add(program);
-    }
-    drop(programs);
-    Ok(went)
+    let play = move |_place: usize, program: &mut CellProgram<'_, S>| {
+        program.run(rt, alloc, lines);
+    };
+    let threads = programs.len().max(1);
+    thread::for_each_mut(rt, programs, threads, &play);
 }
 
-// Begins a cycle once that is possible; whether it was.
-fn begin<R: Clock + Wait, D: Disk + Drop>(rt: &R, space: &Space<D>) -> bool {
-    for _ in 0..TRIES {
-        if space.begin(rt).is_ok() {
-            return true;
+/// What a program does, as the words say.
+pub(crate) fn on_station<R: Clock + Wait, S: Station>(
+    rt: &R,
+    alloc: Global,
+    station: &S,
+    words: &[&str],
+    out: &mut Out,
+) -> Result<(), CaseError> {
+    match verb(words) {
+        "pause" => pause(rt),
+        "take" => take_letters(rt, station, number(words, 1)?, number(words, 2)?, out),
+        "until" => match words {
+            [_, words @ ..] => act_until(rt, station, event_of(alloc, words)?, out),
+            _ => return Err(CaseError::Unknown),
+        },
+        _ => out.answer(station.act(rt, event_of(alloc, words)?)),
+    }
+    Ok(())
+}
+
+// Accepts at most this many letters into a register. The word of the object in register 1 becomes
+// the label of each, plus one, so that a restart shows which letters had been accepted.
+fn take_letters<R: Wait, S: Station>(
+    rt: &R,
+    station: &S,
+    register: u16,
+    count: u32,
+    out: &mut Out,
+) {
+    for _ in 0..count {
+        let answer = station.act(rt, Event::Accept { register });
+        let Ok(Answer::Letter(letter)) = answer else {
+            out.answer(answer);
+            return;
+        };
+        if letter.label != ASKED {
+            let taken = Event::SetWord {
+                object: TAKEN,
+                word: u64::from(letter.label) + 1,
+            };
+            let _ = station.act(rt, taken);
         }
-        pause(rt);
-    }
-    false
-}
-
-// Lets all programs play, and then begins three cycles. When the third begins, the first cycle that
-// began after all programs had finished has been swept everywhere.
-fn play_and_sweep<R, D>(
-    rt: &R,
-    alloc: Global,
-    space: &Space<D>,
-    nodes: u8,
-    rounds: u32,
-) -> Option<Went>
-where
-    R: Clock + Threads + Wait + Sync,
-    D: Disk + Send + Drop,
-{
-    let went = play_in(rt, alloc, space, nodes, rounds).ok()?;
-    if begin(rt, space) && begin(rt, space) && begin(rt, space) {
-        Some(went)
-    } else {
-        None
+        out.debug(&letter);
     }
 }
 
-// Starts the workers, and lets all programs play.
-fn start_and_play<R, D>(
-    rt: &R,
-    alloc: Global,
-    space: &mut Space<D>,
-    gate: Arc<Holds<R>>,
-    nodes: u8,
-    rounds: u32,
-) -> Option<Went>
-where
-    R: Clock + Threads + Wait + Clone + Send + Sync + Drop + 'static,
-    D: Disk + Send + Drop + 'static,
-    requires { is_some space.old.team ≡ false }
+// Repeats an event until there is a letter, a free slot, or no cycle under way.
+fn act_until<R: Clock + Wait, S: Station>(rt: &R, station: &S, event: Event, out: &mut Out)
+    requires { is_own event ≡ true }
 {
-    match space.start(rt, gate) {
-        Ok(()) => play_and_sweep(rt, alloc, space, nodes, rounds),
-        Err(_) => None,
+    for _ in rt.forever() {
+        match station.act(rt, event) {
+            Err(Refusal::NoLetter | Refusal::ArenaFull | Refusal::CycleRunning) => pause(rt),
+            answer => {
+                out.answer(answer);
+                return;
+            }
+        }
     }
-}
-
-/// The outcome of a space of this size whose programs play this many rounds, each in its own
-/// thread, concurrently with the workers.
-pub(crate) fn run_programs<R>(rt: &R, alloc: Global, size: Size, rounds: u32) -> Option<Went>
-where
-    R: Clock + Threads + Wait + Clone + Send + Sync + Drop + 'static,
-{
-    let gate = gate(rt, alloc, None, None)?;
-    let mut space = opened(alloc, size)?;
-    let went = start_and_play(rt, alloc, &mut space, gate, size.nodes, rounds);
-    let reports = space.close(rt);
-    let mut went = went?;
-    went.add_freed(&reports);
-    Some(went)
 }

@@ -6,9 +6,9 @@ ghost use Rattle.cell.specs.Names.{name_of, IsNamed};
 ghost use Rattle.wire.specs.Readers.{IsSeatOf, IsWatchOf};
 
 use crate::cells::open_cells;
-use cases::{Line, Out, Stop, Subject, event_of, number, read, take_all, verb};
+use cases::{CaseError, CaseLine, Out, Subject, event_of, number, read, take_all, verb};
 use cell::{Cell, Naming, SharedOn};
-use disk::MemoryDisk;
+use disk::{Disk, MemoryDisk};
 use ids::{Refusal, Shape};
 use std::alloc::Global;
 use std::marker::Brand;
@@ -29,9 +29,9 @@ struct Sharing<'a, W: Naming, R> {
 
 impl<W: Naming, R: Wait> Sharing<'_, W, R> {
     // Raises what the cell's node, as saved, counts as ended; the watch is told.
-    fn raise(&mut self, number: usize) -> Result<Result<(), Refusal>, Stop> {
+    fn raise(&mut self, number: usize) -> Result<Result<(), Refusal>, CaseError> {
         let Some(cell) = self.cells.get(number) else {
-            return Err(Stop::Unknown);
+            return Err(CaseError::Unknown);
         };
         match cell.raise(self.rt) {
             Ok(raised) => {
@@ -48,9 +48,9 @@ impl<W: Naming, R: Wait> Sharing<'_, W, R> {
     }
 
     // A command to the cell whose number comes first.
-    fn take_number(&mut self, words: &[&str], out: &mut Out) -> Result<(), Stop> {
+    fn take_number(&mut self, words: &[&str], out: &mut Out) -> Result<(), CaseError> {
         let [first, words @ ..] = words else {
-            return Err(Stop::Unknown);
+            return Err(CaseError::Unknown);
         };
         let place = read(first)?;
         if verb(words) == "raise" {
@@ -59,13 +59,13 @@ impl<W: Naming, R: Wait> Sharing<'_, W, R> {
         }
         match self.cells.get(place) {
             Some(cell) => on_cell(self.rt, self.alloc, cell, words, out),
-            None => Err(Stop::Unknown),
+            None => Err(CaseError::Unknown),
         }
     }
 }
 
 impl<W: Naming, R: Wait> Subject for Sharing<'_, W, R> {
-    fn take(&mut self, words: &[&str], out: &mut Out) -> Result<(), Stop> {
+    fn take(&mut self, words: &[&str], out: &mut Out) -> Result<(), CaseError> {
         match verb(words) {
             "look" => {
                 self.look(out);
@@ -76,14 +76,14 @@ impl<W: Naming, R: Wait> Subject for Sharing<'_, W, R> {
     }
 }
 
-// A command to a cell.
-fn on_cell<R: Wait, W: Naming>(
+/// A command to a cell.
+pub(crate) fn on_cell<R: Wait, D: Disk, W: Naming>(
     rt: &R,
     alloc: Global,
-    cell: &SharedOn<MemoryDisk, W>,
+    cell: &SharedOn<D, W>,
     words: &[&str],
     out: &mut Out,
-) -> Result<(), Stop> {
+) -> Result<(), CaseError> {
     match verb(words) {
         "save" => out.done(cell.save(rt)),
         "reopen" => out.done(cell.reopen(rt)),
@@ -150,12 +150,12 @@ pub fn run<R: Wait>(
     alloc: Global,
     shape: Shape,
     k: Option<u64>,
-    lines: &[Line<'_>],
+    lines: &[CaseLine<'_>],
     out: &mut Out,
-) -> Result<(), Stop> {
+) -> Result<(), CaseError> {
     match on_wire(rt, alloc, shape, k, lines, out) {
         Ok(taken) => taken,
-        Err(_) => Err(Stop::Memory),
+        Err(_) => Err(CaseError::Memory),
     }
 }
 
@@ -164,9 +164,9 @@ fn on_wire<R: Wait>(
     alloc: Global,
     shape: Shape,
     k: Option<u64>,
-    lines: &[Line<'_>],
+    lines: &[CaseLine<'_>],
     out: &mut Out,
-) -> Result<Result<(), Stop>, Refusal> {
+) -> Result<Result<(), CaseError>, Refusal> {
     let (wire, cells, watch) = open_cells(alloc, shape)?;
     let wire = Arc::new(alloc, wire)?;
     named::<Brand, R>(rt, alloc, wire, cells, watch, k, lines, out)
@@ -180,9 +180,9 @@ fn named<W: Naming, R: Wait>(
     cells: Vec<Cell<MemoryDisk>>,
     watch: Watch,
     k: Option<u64>,
-    lines: &[Line<'_>],
+    lines: &[CaseLine<'_>],
     out: &mut Out,
-) -> Result<Result<(), Stop>, Refusal>
+) -> Result<Result<(), CaseError>, Refusal>
     requires seats { All (λ c. IsSeatOf (arc_value wire) c.seat) cells.items }
     requires watch { IsWatchOf (arc_value wire) watch }
     requires name { W.wire ≡ Some (name_of (arc_value wire)) }

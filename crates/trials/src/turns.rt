@@ -1,8 +1,8 @@
 //! Turns of a worker on a station that records what it is asked and gives scripted answers. So the
 //! calls of a turn are seen in order. Runs of a worker are on a station that always answers the
 //! same.
-use crate::spaces::stage_of;
-use cases::{Out, Stop, number, verb, word};
+use crate::gates::stage_of;
+use cases::{CaseError, Out, number, verb, word};
 use ids::{Ref, Refusal};
 use model::{Answer, Event};
 use std::alloc::Global;
@@ -178,7 +178,7 @@ struct Ran {
 }
 
 // A worker's run on a busy station: `NODE NODES TURNS END STAGE`.
-fn run<R: Wait>(rt: &R, words: &[&str], stop: &workers::Stop) -> Result<Ran, Stop> {
+fn run<R: Wait>(rt: &R, words: &[&str], stop: &workers::Stop) -> Result<Ran, CaseError> {
     let busy = Busy {
         end: (number(words, 4)?, stage_of(word(words, 5)?)?),
         last: Cell::new(0),
@@ -194,7 +194,7 @@ fn run<R: Wait>(rt: &R, words: &[&str], stop: &workers::Stop) -> Result<Ran, Sto
 }
 
 // Records a turn: `NODE NODES SCANNED UNSAVED`.
-fn turn<R: Wait>(rt: &R, alloc: Global, words: &[&str], out: &mut Out) -> Result<(), Stop> {
+fn turn<R: Wait>(rt: &R, alloc: Global, words: &[&str], out: &mut Out) -> Result<(), CaseError> {
     let (node, nodes) = (number(words, 1)?, number(words, 2)?);
     let recorder = Recorder::new(alloc, number(words, 3)?, number(words, 4)?);
     drop(turn_node(rt, &recorder, &recorder, node, nodes, TURN));
@@ -209,7 +209,7 @@ pub(crate) fn take<R: Wait>(
     alloc: Global,
     words: &[&str],
     out: &mut Out,
-) -> Result<(), Stop> {
+) -> Result<(), CaseError> {
     let stop = workers::Stop::new();
     match verb(words) {
         "turn" => return turn(rt, alloc, words, out),
@@ -218,7 +218,7 @@ pub(crate) fn take<R: Wait>(
             stop.ask();
             out.debug(&run(rt, words, &stop)?);
         }
-        _ => return Err(Stop::Unknown),
+        _ => return Err(CaseError::Unknown),
     }
     Ok(())
 }

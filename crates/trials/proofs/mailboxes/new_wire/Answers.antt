@@ -1,11 +1,11 @@
-use Rattle.std.proofs.Common.{◌≡◌, List, length, sym, ap, ◌∙◌, subst, arith}
+use Rattle.std.proofs.Common.{◌≡◌, List, length, sym, ap, ◌∙◌, subst}
 use Rattle.std.proofs.lemmas.List.{length-map}
 use Rattle.node.specs.Keeping.{WholeNode}
 use Rattle.cell.specs.Opened.{cores}
 use Rattle.cell.proofs.Places.{mapped-from}
 use Rattle.model.specs.World.{new_world}
 use Rattle.wire.specs.Readers.{AreOpened}
-use Rattle.wire.proofs.NewWires.{new-opened, there}
+use Rattle.wire.proofs.NewWires.{new-opened}
 use Rattle.trials.proofs.Seating.{made-seated}
 use Rattle.trials.proofs.mailboxes.new_wire.Goals as goal
 
@@ -20,13 +20,5 @@ new-requires c =
     (let of = mapped-from (λ n. n.core) nodes k n there in
     of.2 ∙ ap (λ (m : WholeNode). m.core) (c.in_ok-nodes.ensures.new k of.0 of.1))))
 
-pub returns-clause-seats : goal.returns-clause-seats
-returns-clause-seats c = made-seated c.in_ok-wire.ensures.made
-
-pub returns-clause-watch : goal.returns-clause-watch
-returns-clause-watch c =
-    let made = c.in_ok-wire.ensures.made in
-    let one : length c.in_ok-wire.watches.items ≡ 1 = made.watch_count in
-    (made.each_watch 0 c.remove-watch.result
-    (there c.in_ok-wire.watches.items 0 c.remove-watch.result (omega arith)
-    c.remove-watch.ensures.value)).of
+pub returns : goal.returns
+returns c = made-seated c.in_ok-wire.ensures.made

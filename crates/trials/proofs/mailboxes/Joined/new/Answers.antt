@@ -4,7 +4,7 @@ use Rattle.trials.proofs.mailboxes.Joined.new.Goals as goal
 
 pub invariant_of-result : goal.invariant_of-result
 invariant_of-result c =
-    let seated = c.in_ok-wire.ensures.seats in
+    let seated = c.in_ok-wire.ensures in
     let two : c.in-Some.shape.nodes ≡ 2 = search rules in
     let many : length c.in_ok-wire.seats.items ≡ 2 = omega (arith, seated.count, two) in
     let first = seated.each 0 c.remove-first.result
@@ -18,5 +18,4 @@ invariant_of-result c =
       two = seated.nodes ∙ two;
       one = (first.of, first.node);
       other = (other.of, other.node);
-      looks = c.in_ok-wire.ensures.watch;
     }

@@ -1,0 +1,404 @@
+//! A space of a case: what its programs do, and its workers, which a gate may hold up and end.
+ghost use Rattle.std.specs.Prelude.{◌≡◌, false, is_some, IfOk};
+
+use crate::gates::{Open, Ruled, Rules, pause, rule};
+use crate::programs::{on_station, play_all, programs_of};
+use crate::shared::on_cell;
+use cases::{CaseError, CaseLine, Out, number, read, verb};
+use cell::Shared;
+use disk::Disk;
+use ids::Refusal;
+use std::alloc::Global;
+use std::sync::{Arc, Wait};
+use std::thread::Threads;
+use std::time::{Clock, Duration};
+use std::{mem, thread};
+use supervisor::{OpenFault, Space};
+use workers::{Report, turn_node};
+
+// More rounds of turns than it takes until nothing is in flight and a cycle has been swept
+// everywhere.
+const ROUNDS: u32 = 100_000;
+
+// More rounds without a message than a node needs to scan and sweep all its slots.
+const IDLE: u32 = 40;
+
+/// An open space, and whether its workers were started.
+#[derive(Drop)]
+struct Opened<D: Disk> {
+    space: Space<D>,
+    nodes: u8,
+    is_started: bool,
+    ghost started: { is_some space.team ≡ is_started },
+}
+
+impl<D: Disk + Send + Drop + 'static> Opened<D> {
+    // Starts the workers, if they weren't started before.
+    fn start<R>(&mut self, rt: &R, gate: Arc<Ruled<R>>) -> Result<Result<(), Refusal>, CaseError>
+    where
+        R: Clock + Threads + Wait + Clone + Send + Sync + Drop + 'static,
+    {
+        if self.is_started {
+            return Err(CaseError::Unknown);
+        }
+        match self.space.start(rt, gate) {
+            Ok(()) => {
+                self.is_started = true;
+                Ok(Ok(()))
+            }
+            Err(refusal) => Ok(Err(refusal)),
+        }
+    }
+
+    // Starts a new worker of a node once the old one has ended.
+    fn revive<R>(
+        &mut self,
+        rt: &R,
+        node: u8,
+        gate: Arc<Ruled<R>>,
+    ) -> Result<Result<(), Refusal>, CaseError>
+    where
+        R: Clock + Threads + Wait + Clone + Send + Sync + Drop + 'static,
+    {
+        if self.is_started {
+            Ok(self.space.revive(rt, node, gate))
+        } else {
+            Err(CaseError::Unknown)
+        }
+    }
+
+    // The cycle on the board.
+    fn look(&mut self, out: &mut Out) {
+        match self.space.watch() {
+            Some(mut watch) => out.show(&self.space.look(&mut watch).number),
+            None => out.text("no watch is left"),
+        }
+    }
+}
+
+/// The space of a case, once it is open; its gate, once its workers were started; and the rules of
+/// that gate before.
+#[derive(Drop)]
+pub(crate) struct Play<'a, R, D: Disk> {
+    rt: &'a R,
+    alloc: Global,
+    opened: Option<Opened<D>>,
+    gate: Option<Arc<Ruled<R>>>,
+    rules: Rules,
+    // The lines of the case, some of which are those of programs.
+    lines: &'a [CaseLine<'a>],
+}
+
+impl<'a, R, D> Play<'a, R, D>
+where
+    R: Clock + Threads + Wait + Clone + Send + Sync + Drop + 'static,
+    D: Disk + Send + Drop + 'static,
+{
+    /// No space yet.
+    pub(crate) fn new(rt: &'a R, alloc: Global, lines: &'a [CaseLine<'a>]) -> Play<'a, R, D> {
+        Play {
+            rt,
+            alloc,
+            opened: None,
+            gate: None,
+            rules: Rules::new(alloc),
+            lines,
+        }
+    }
+
+    /// Replaces the space, unless the new one wasn't opened.
+    pub(crate) fn set(&mut self, space: Result<Space<D>, OpenFault>, nodes: u8, out: &mut Out)
+        requires { IfOk space (λ s. is_some s.team ≡ false) }
+    {
+        match space {
+            Ok(space) => {
+                self.opened = Some(Opened {
+                    space,
+                    nodes,
+                    is_started: false,
+                });
+                self.gate = None;
+                out.text("ok");
+            }
+            Err(fault) => out.show(&fault),
+        }
+    }
+
+    /// Does what the words of a line say.
+    pub(crate) fn take(&mut self, words: &[&str], out: &mut Out) -> Result<(), CaseError> {
+        match verb(words) {
+            "hold" | "end" | "random" | "late" => {
+                rule(&mut self.rules, words)?;
+                out.text("ok");
+                Ok(())
+            }
+            "start" => self.start(out),
+            "revive" => self.revive(number(words, 1)?, out),
+            "close" | "reports" | "ends" => self.close(verb(words), out),
+            "leave" => self.leave(out),
+            "program" => Ok(()),
+            "together" => self.together(out),
+            "ended" | "ended-and-revive" | "holders" | "go" => self.ask_gate(words, out),
+            _ => match &mut self.opened {
+                Some(opened) => on_space(self.rt, self.alloc, opened, words, out),
+                None => Err(CaseError::Unknown),
+            },
+        }
+    }
+
+    // The gate. It is made with the rules so far if there isn't one.
+    fn gate(&mut self) -> Result<Arc<Ruled<R>>, Refusal> {
+        if let Some(gate) = &self.gate {
+            return Ok(gate.clone()?);
+        }
+        let rt = self.rt.clone()?;
+        let rules = mem::replace(&mut self.rules, Rules::new(self.alloc));
+        let gate = Arc::new(self.alloc, Ruled::new(rt, self.alloc, rules)?)?;
+        self.gate = Some(gate.clone()?);
+        Ok(gate)
+    }
+
+    fn start(&mut self, out: &mut Out) -> Result<(), CaseError> {
+        let gate = self.gate();
+        let Some(opened) = &mut self.opened else {
+            return Err(CaseError::Unknown);
+        };
+        match gate {
+            Ok(gate) => out.done(opened.start(self.rt, gate)?),
+            Err(refusal) => out.refused(refusal),
+        }
+        Ok(())
+    }
+
+    fn revive(&mut self, node: u8, out: &mut Out) -> Result<(), CaseError> {
+        let gate = self.gate();
+        let Some(opened) = &mut self.opened else {
+            return Err(CaseError::Unknown);
+        };
+        match gate {
+            Ok(gate) => out.done(opened.revive(self.rt, node, gate)?),
+            Err(refusal) => out.refused(refusal),
+        }
+        Ok(())
+    }
+
+    // A command to the gate: how many workers of a node it has ended since this was asked last, and
+    // whether the last one is to be revived; how many hold it; or that a worker may go on.
+    fn ask_gate(&mut self, words: &[&str], out: &mut Out) -> Result<(), CaseError> {
+        let Some(gate) = &self.gate else {
+            return Err(CaseError::Unknown);
+        };
+        match verb(words) {
+            "holders" => out.show(&Arc::strong_count(gate)),
+            "go" => {
+                gate.go();
+                out.text("ok");
+            }
+            "ended" => out.show(&gate.take_ended(number(words, 1)?)),
+            _ => {
+                let node = number(words, 1)?;
+                if gate.take_ended(node) > 0 {
+                    return self.revive(node, out);
+                }
+                out.text("-");
+            }
+        }
+        Ok(())
+    }
+
+    // Closes the space: how many reports there are; the reports; or the stages at which workers were
+    // ended, and then the nodes of all others.
+    fn close(&mut self, what: &str, out: &mut Out) -> Result<(), CaseError> {
+        let Some(opened) = self.opened.take() else {
+            return Err(CaseError::Unknown);
+        };
+        let reports = opened.space.close(self.rt);
+        self.gate = None;
+        if what == "close" {
+            out.show(&reports.len());
+            return Ok(());
+        }
+        if what == "ends" {
+            put_ends(&reports, out);
+        } else {
+            put_reports(&reports, out);
+        }
+        Ok(())
+    }
+
+    // Drops the space, and waits until no worker holds the gate.
+    fn leave(&mut self, out: &mut Out) -> Result<(), CaseError> {
+        drop(self.opened.take());
+        let Some(gate) = &self.gate else {
+            return Err(CaseError::Unknown);
+        };
+        for _ in self.rt.forever() {
+            if Arc::strong_count(gate) == 1 {
+                break;
+            }
+            pause(self.rt);
+        }
+        out.text("ok");
+        Ok(())
+    }
+
+    // The programs of the nodes do what the lines `program N ..` of the case say, each in its own
+    // thread. The answers are printed by node.
+    fn together(&mut self, out: &mut Out) -> Result<(), CaseError> {
+        let Some(opened) = &self.opened else {
+            return Err(CaseError::Unknown);
+        };
+        let mut programs = programs_of(self.alloc, &opened.space, opened.nodes)?;
+        play_all(self.rt, self.alloc, self.lines, &mut programs);
+        for program in &programs {
+            program.put(out)?;
+        }
+        drop(programs);
+        Ok(())
+    }
+}
+
+fn put_reports(reports: &[Report], out: &mut Out) {
+    for report in reports {
+        out.debug(report);
+    }
+}
+
+// The node and the stage of each worker that was ended, and then the node of each other one.
+fn put_ends(reports: &[Report], out: &mut Out) {
+    for report in reports {
+        if let Some(stage) = report.ended_at {
+            out.debug(&(report.node, stage));
+        }
+    }
+    for report in reports {
+        if report.ended_at.is_none() {
+            out.show(&report.node);
+        }
+    }
+}
+
+// A command to an open space.
+fn on_space<R, D>(
+    rt: &R,
+    alloc: Global,
+    opened: &mut Opened<D>,
+    words: &[&str],
+    out: &mut Out,
+) -> Result<(), CaseError>
+where
+    R: Clock + Threads + Wait,
+    D: Disk + Send + Drop + 'static,
+{
+    match verb(words) {
+        "look" => opened.look(out),
+        "over" => out.debug(&opened.space.all_ended()),
+        "wait" => {
+            await_end(rt, &opened.space);
+            out.text("ok");
+        }
+        "settle" => {
+            turn_all(rt, &opened.space, opened.nodes);
+            out.text("ok");
+        }
+        "sleep" => thread::sleep(rt, Duration::from_micros(number(words, 1)?)),
+        _ => return on_node(rt, alloc, opened, words, out),
+    }
+    Ok(())
+}
+
+// A command to the node whose number comes first.
+fn on_node<R, D>(
+    rt: &R,
+    alloc: Global,
+    opened: &Opened<D>,
+    words: &[&str],
+    out: &mut Out,
+) -> Result<(), CaseError>
+where
+    R: Clock + Wait,
+    D: Disk + Send + Drop + 'static,
+{
+    let [first, words @ ..] = words else {
+        return Err(CaseError::Unknown);
+    };
+    let node = read(first)?;
+    let Some(cell) = opened.space.program(node) else {
+        return Err(CaseError::Unknown);
+    };
+    match verb(words) {
+        "turn" => {
+            turn_often(rt, cell, node, opened.nodes, number(words, 1)?);
+            out.text("ok");
+        }
+        "trace" => put_trace(rt, cell, false, out),
+        "last" => put_trace(rt, cell, true, out),
+        "pause" | "take" | "until" => return on_station(rt, alloc, cell, words, out),
+        _ => return on_cell(rt, alloc, cell, words, out),
+    }
+    Ok(())
+}
+
+// The lines of the trace, or the last one alone.
+fn put_trace<R: Wait, D: Disk>(rt: &R, cell: &Shared<D>, is_last: bool, out: &mut Out) {
+    match cell.trace_lines(rt) {
+        Ok(lines) => {
+            let skipped = if is_last {
+                lines.len().saturating_sub(1)
+            } else {
+                0
+            };
+            for line in lines.iter().skip(skipped) {
+                out.text(line.as_str());
+            }
+        }
+        Err(refusal) => out.refused(refusal),
+    }
+}
+
+// Waits until no worker is left.
+fn await_end<R: Clock + Wait, D: Disk + Drop>(rt: &R, space: &Space<D>) {
+    for _ in rt.forever() {
+        if space.all_ended() {
+            return;
+        }
+        pause(rt);
+    }
+}
+
+// Takes this many turns of a node's worker on this thread.
+fn turn_often<R: Wait, D: Disk>(rt: &R, cell: &Shared<D>, node: u8, nodes: u8, turns: u32) {
+    for turn in 0..turns {
+        drop(turn_node(rt, cell, &Open, node, nodes, turn));
+    }
+}
+
+// Takes a turn for each node; how many messages were received.
+fn turn_each<R: Wait, D: Disk + Drop>(rt: &R, space: &Space<D>, nodes: u8) -> u32 {
+    let mut received = 0u32;
+    for node in 0..nodes {
+        if let Some(cell) = space.program(node) {
+            let turn = turn_node(rt, cell, &Open, node, nodes, 1);
+            received = received.saturating_add(u32::from(turn.received));
+            drop(turn);
+        }
+    }
+    received
+}
+
+// Takes turns for each node of a space without workers, one after another, until nothing is in
+// flight and nothing is left to do.
+fn turn_all<R: Wait, D: Disk + Drop>(rt: &R, space: &Space<D>, nodes: u8) {
+    let mut idle = 0u32;
+    for _ in 0..ROUNDS {
+        if idle >= IDLE {
+            return;
+        }
+        let received = turn_each(rt, space, nodes);
+        idle = if received == 0 {
+            idle.saturating_add(1)
+        } else {
+            0
+        };
+    }
+}
