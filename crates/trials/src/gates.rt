@@ -41,8 +41,8 @@ struct Place {
     stage: Stage,
 }
 
-// A worker waits at a place until some worker of a node has been at a stage; or, without these, until
-// the case lets it go on.
+// A worker waits at a place until some worker of a node has been at a stage; or, without these,
+// until the case lets it go on.
 #[derive(Clone, Copy)]
 struct Hold {
     place: Place,

@@ -206,8 +206,8 @@ where
         Ok(())
     }
 
-    // Closes the space: how many reports there are; the reports; or the stages at which workers were
-    // ended, and then the nodes of all others.
+    // Closes the space: how many reports there are; the reports; or the stages at which workers
+    // were ended, and then the nodes of all others.
     fn close(&mut self, what: &str, out: &mut Out) -> Result<(), CaseError> {
         let Some(opened) = self.opened.take() else {
             return Err(CaseError::Unknown);
