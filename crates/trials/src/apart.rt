@@ -100,7 +100,7 @@ fn run_cycle<R: Wait>(rt: &R, space: &mut Space<MemoryDisk>) -> Option<u64> {
 
 fn await_end<R: Clock>(rt: &R, space: &Space<MemoryDisk>) {
     for _ in 0..LOOKS.saturating_mul(3) {
-        if space.all_ended() {
+        if space.ended().is_some() {
             return;
         }
         thread::sleep(rt, Duration::from_millis(PAUSE));

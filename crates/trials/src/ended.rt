@@ -84,7 +84,9 @@ where
     fn revive(&mut self, node: u8) -> Result<(), Refusal> {
         let rt = self.rt;
         let gate = self.gate.clone()?;
-        self.space.revive(rt, node, gate)?;
+        if let Err(unrevived) = self.space.revive(rt, node, gate) {
+            return Err(unrevived.refusal());
+        }
         self.ends = self.ends.saturating_add(1);
         if let Some(cell) = self.space.program(node)
             && let Some(player) = self.players.get_mut(usize::from(node))

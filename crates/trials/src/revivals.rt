@@ -14,7 +14,7 @@ use std::sync::{Arc, Wait};
 use std::thread;
 use std::thread::Threads;
 use std::time::{Clock, Duration};
-use supervisor::Space;
+use supervisor::{Space, Unrevived};
 use workers::{Gate, Point, Stage};
 
 // The turn in which a worker ends, and how many microseconds it waits before it does.
@@ -123,7 +123,7 @@ where
         self.space.revive(self.rt, node, gate).ok()?;
         Some(Revived {
             ended: count_at(self.gate.ended.as_slice(), node),
-            all: self.space.all_ended(),
+            all: self.space.ended().is_some(),
         })
     }
 
@@ -175,9 +175,9 @@ where
 pub(crate) struct Failed {
     /// The answers of two attempts to start a worker again, each followed by that to an event of
     /// the node.
-    first: Result<(), Refusal>,
+    first: Result<(), Unrevived>,
     then: Result<Answer, Refusal>,
-    second: Result<(), Refusal>,
+    second: Result<(), Unrevived>,
     last: Result<Answer, Refusal>,
     /// How many reports there are of workers of the node.
     reports: usize,
@@ -216,9 +216,9 @@ where
         register: 0,
         places: 0,
     };
-    let first = space.revive(rt, 1, again);
+    let first = space.revive(rt, 1, again).map(|_| ());
     let then = space.program(1)?.act(rt, alloc_event);
-    let second = space.revive(rt, 1, gate);
+    let second = space.revive(rt, 1, gate).map(|_| ());
     let last = space.program(1)?.act(rt, alloc_event);
     let reports = space
         .close(rt)

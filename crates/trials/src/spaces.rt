@@ -60,7 +60,7 @@ where
 // Waits until no worker is left.
 fn await_end<R: Clock + Wait>(rt: &R, space: &Space<MemoryDisk>) {
     for _ in rt.forever() {
-        if space.all_ended() {
+        if space.ended().is_some() {
             return;
         }
         pause(rt);
@@ -143,7 +143,7 @@ where
     };
     let mut space = opened(alloc, size)?;
     let answer = space.start(rt, gate.clone().ok()?);
-    let ended = space.all_ended();
+    let ended = space.ended().is_some();
     let holders = Arc::strong_count(&gate);
     let reports = space.close(rt).len();
     Some(Started {
