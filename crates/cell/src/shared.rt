@@ -66,13 +66,13 @@ impl Naming for Brand {
 }
 
 /// Shows that a shared cell was reopened. Only [`SharedOn::reopen`] makes one.
-#[derive(Clone, Copy, Debug, PartialEq, Eq)]
+#[derive(Clone, Copy, Debug)]
 pub struct Reopened {
     _found: (),
 }
 
 /// Why a shared cell wasn't reopened, which left it closed. Only [`SharedOn::reopen`] makes one.
-#[derive(Clone, Copy, Debug, PartialEq, Eq)]
+#[derive(Clone, Copy, Debug)]
 pub struct Shut {
     refusal: Refusal,
 }

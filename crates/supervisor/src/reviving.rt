@@ -7,7 +7,7 @@ use ids::Refusal;
 
 /// Why a node wasn't revived, and what it is like then. If a restart succeeded or failed meanwhile,
 /// the value that shows it is here.
-#[derive(Clone, Copy, Debug, PartialEq, Eq)]
+#[derive(Clone, Copy, Debug)]
 pub enum Unrevived {
     /// There is no node of that number. Nothing changed.
     NoNode,
