@@ -56,4 +56,4 @@ pub use finding::find;
 pub use headline::{laws, laws_at_once};
 pub use joining::{join, open};
 pub use moments::survey;
-pub use shared::{Naming, Shared, SharedOn, Unnamed};
+pub use shared::{Naming, Reopened, Shared, SharedOn, Shut, Unnamed};

@@ -65,6 +65,27 @@ impl Naming for Brand {
     ghost begun = { false };
 }
 
+/// Shows that a shared cell was reopened. Only [`SharedOn::reopen`] makes one.
+#[derive(Clone, Copy, Debug)]
+pub struct Reopened {
+    _found: (),
+}
+
+/// Why a shared cell wasn't reopened, which left it closed. Only [`SharedOn::reopen`] makes one.
+#[derive(Clone, Copy, Debug)]
+pub struct Shut {
+    refusal: Refusal,
+}
+
+impl Shut {
+    /// The refusal of the reopening.
+    pub fn refusal(&self) -> Refusal
+        ensures { result ≡ self.now.refusal }
+    {
+        self.refusal
+    }
+}
+
 // A cell and its wire.
 #[derive(Drop)]
 struct Held<D: Disk, W: Naming> {
@@ -129,13 +150,17 @@ impl<D: Disk, W: Naming> Held<D, W> {
         cell.pump_out(wire, to)
     }
 
-    fn reopen(&mut self) -> Result<(), Refusal>
-        ensures others { IfErr result (λ e. (e ≡ refusal.Memory) ⊎ (e ≡ refusal.Disk)) }
+    fn reopen(&mut self) -> Result<Reopened, Shut>
+        ensures others { IfErr result (λ s. (s.refusal ≡ refusal.Memory)
+            ⊎ (s.refusal ≡ refusal.Disk)) }
         ensures ready { OnOk result (self.new.cell.is_open ≡ true) }
         ensures shut { OnErr result (self.new.cell.is_open ≡ false) }
     {
         let Held { cell, wire, .. } = self;
-        cell.reopen(wire)
+        match cell.reopen(wire) {
+            Ok(()) => Ok(Reopened { _found: () }),
+            Err(refusal) => Err(Shut { refusal }),
+        }
     }
 
     fn raise(&mut self) -> Result<Raised, Refusal>
@@ -221,9 +246,11 @@ impl<D: Disk, W: Naming> SharedOn<D, W> {
         self.held.lock(rt).pump_out(to)
     }
 
-    /// Loads the node that the disk holds; see [`Cell::reopen`].
-    pub fn reopen<R: Wait>(&self, rt: &R) -> Result<(), Refusal>
-        ensures others { IfErr result (λ e. (e ≡ refusal.Memory) ⊎ (e ≡ refusal.Disk)) }
+    /// Loads the node that the disk holds; see [`Cell::reopen`]. The cell is then open, or closed
+    /// if this fails.
+    pub fn reopen<R: Wait>(&self, rt: &R) -> Result<Reopened, Shut>
+        ensures others { IfErr result (λ s. (s.refusal ≡ refusal.Memory)
+            ⊎ (s.refusal ≡ refusal.Disk)) }
     {
         self.held.lock(rt).reopen()
     }

@@ -15,6 +15,7 @@ verdict-ends cycle (told.NoVerdict last) is = tt
 verdict-ends cycle told.Nothing is = absurd is
 verdict-ends cycle (told.Trace texts) is = absurd is
 verdict-ends cycle (told.Refused e) is = absurd is
+verdict-ends cycle (told.NotAccepted last) is = absurd is
 verdict-ends cycle told.NoCommand is = absurd is
 
 -- an outcome after others
@@ -38,6 +39,7 @@ status_after_le told.Nothing = omega arith
 status_after_le (told.Outcome o) = omega arith
 status_after_le (told.Trace texts) = omega arith
 status_after_le (told.Refused e) = omega arith
+status_after_le (told.NotAccepted last) = omega arith
 status_after_le (told.NoVerdict last) = omega arith
 status_after_le told.NoCommand = omega arith
 
@@ -85,6 +87,7 @@ goes_on told.Nothing ts P goes p = p
 goes_on (told.Outcome o) ts P goes p = p
 goes_on (told.Trace texts) ts P goes p = p
 goes_on (told.Refused e) ts P goes p = p
+goes_on (told.NotAccepted last) ts P goes p = p
 goes_on (told.NoVerdict last) ts P goes p = p
 
 ends_here : (t : Told) → t ≡ told.NoCommand → (P : Type 0) → GoesOn t [] P
@@ -97,6 +100,7 @@ last_told told.Nothing e = absurd cc
 last_told (told.Outcome o) e = absurd cc
 last_told (told.Trace texts) e = absurd cc
 last_told (told.Refused x) e = absurd cc
+last_told (told.NotAccepted last) e = absurd cc
 last_told (told.NoVerdict last) e = absurd cc
 
 -- an iteration: the line and its outcome

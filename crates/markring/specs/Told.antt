@@ -1,8 +1,9 @@
 -- What `run` prints for a line of its script, and the status of the line.
-use Rattle.std.specs.Prelude.{◌≡◌, ◌<◌, ℕ, ◌+◌, max, List, [], ◌∷◌, ◌++◌, codes, decimal, map, string_bytes, Option, Some, None, Result, Ok, Err}
+use Rattle.std.specs.Prelude.{◌≡◌, ◌≢◌, ◌<◌, ℕ, ◌+◌, max, List, [], ◌∷◌, ◌++◌, codes, decimal, map, string_bytes, Option, Some, None, Result, Ok, Err}
 use Rattle.std.specs.Io.KnownBytes.{Appends}
 use Rattle.std.specs.Str.Lines.{lines}
 use Rattle.ids.specs.declared.refusal.Refusal.{Refusal}
+use Rattle.ids.specs.declared.refusal.Refusal.TheVariants as refusal
 use Rattle.lines.specs.Grammar.{words_of}
 use Rattle.lines.specs.RunLines.{run_line_of}
 use Rattle.lines.specs.Text.{outcome_text, refused_text}
@@ -30,6 +31,7 @@ told_text number told.Nothing = []
 told_text number (told.Outcome o) = outcome_text o ++ (10 ∷ [])
 told_text number (told.Trace texts) = trace_text (map string_bytes texts.items)
 told_text number (told.Refused e) = refused_text e ++ (10 ∷ [])
+told_text number (told.NotAccepted last) = refused_text last.refusal ++ (10 ∷ [])
 told_text number (told.NoVerdict last) = codes "no verdict" ++ (10 ∷ [])
 told_text number told.NoCommand =
     codes "line " ++ (decimal number ++ (codes ": not a command" ++ (10 ∷ [])))
@@ -39,6 +41,7 @@ status_after told.Nothing = 0
 status_after (told.Outcome o) = 0
 status_after (told.Trace texts) = 0
 status_after (told.Refused e) = 1
+status_after (told.NotAccepted last) = 1
 status_after (told.NoVerdict last) = 1
 status_after told.NoCommand = 2
 
@@ -66,6 +69,12 @@ IsVerdict cycle (told.Outcome o) = o ≡ outcome.Answer (answer.Ended cycle)
 IsVerdict cycle (told.NoVerdict last) = last.cycle.number < cycle
 IsVerdict cycle t = ⊥
 
+-- an answer or a refusal; but that there is no letter only if all workers had ended before
+abbrev pub IsAwaited : Told → Type 0
+IsAwaited (told.Refused e) = e ≢ refusal.NoLetter
+IsAwaited (told.NotAccepted last) = Unit {0}
+IsAwaited t = IsAnswer t
+
 -- a trace or a refusal
 abbrev pub IsTrace : Told → Type 0
 IsTrace (told.Trace texts) = Unit {0}
@@ -79,7 +88,7 @@ IsToldOf (Some said.Blank) t = t ≡ told.Nothing
 IsToldOf (Some (said.Act node e)) t = IsAnswer t
 IsToldOf (Some (said.Restart node)) t = IsAnswer t
 IsToldOf (Some said.Cycle) t = IsEnd t
-IsToldOf (Some (said.Await node register)) t = IsAnswer t
+IsToldOf (Some (said.Await node register)) t = IsAwaited t
 IsToldOf (Some (said.Trace node)) t = IsTrace t
 
 -- a line has such an outcome, which is printed, and the status is that of the outcome

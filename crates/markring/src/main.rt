@@ -4,6 +4,7 @@
 
 ghost use Rattle.std.specs.Prelude.{◌≤◌, IfOk};
 
+mod asking;
 mod running;
 
 use commands::{Unread, decode, print_refusal, print_unread, read_file, read_text, sim};

@@ -5,14 +5,14 @@ ghost use Rattle.std.specs.Arc.{arc_value};
 ghost use Rattle.std.specs.Io.KnownBytes.{Appends};
 ghost use Rattle.ids.specs.declared.refusal.Refusal.TheVariants.{Memory};
 ghost use Rattle.lines.specs.Text.{refused_text};
-ghost use Rattle.model.specs.Steps.{is_own};
 ghost use Rattle.wire.specs.Readers.{IsWatchOf};
 ghost use Rattle.lines.specs.Grammar.{words_of};
 ghost use Rattle.lines.specs.RunLines.{run_line_of};
-ghost use Rattle.markring.specs.Told.{IsAnswer, IsEnd, IsToldOf, IsVerdict};
+ghost use Rattle.markring.specs.Told.{IsAnswer, IsAwaited, IsEnd, IsToldOf, IsVerdict};
 ghost use Rattle.markring.specs.Told.{PrintsLine, PrintsTold};
 ghost use Rattle.markring.specs.Told.{status_after, told_of, told_text, trace_text};
 
+use crate::asking::{LastRefusal, accept_last, act};
 use commands::next_line;
 use disk::{Disk, FileDisk, MemoryDisk};
 use ids::Refusal;
@@ -47,6 +47,8 @@ enum Told {
     /// The texts of a node's last calls.
     Trace(Vec<String>),
     Refused(Refusal),
+    /// All workers had ended, and a node then refused to accept a letter.
+    NotAccepted(LastRefusal),
     /// All workers had ended, and what the watch showed after that is an earlier cycle.
     NoVerdict(LastLook),
     /// The line is outside the grammar.
@@ -326,21 +328,6 @@ fn told_of(answered: Result<Answer, Refusal>) -> Told
     }
 }
 
-// Gives a node an event of its program.
-fn act<R: Wait, D: Disk + Drop>(
-    rt: &R,
-    space: &Space<D>,
-    node: u8,
-    event: Event,
-) -> Result<Answer, Refusal>
-    requires { is_own event ≡ true }
-{
-    match space.program(node) {
-        Some(program) => program.act(rt, event),
-        None => Err(Refusal::NoNode),
-    }
-}
-
 // The texts of a node's last calls.
 fn trace<R: Wait, D: Disk + Drop>(
     rt: &R,
@@ -399,24 +386,36 @@ fn verdict(last: LastLook, cycle: u64) -> Told
 }
 
 // Waits for a letter and accepts it. The call also ends if the event fails for another reason, or
-// if all workers have ended.
+// if there was no letter even after all workers had ended.
 fn await_letter<R: Clock + Wait, D: Disk + Drop>(
     rt: &R,
     space: &Space<D>,
     node: u8,
     register: u16,
 ) -> Told
-    ensures { IsAnswer result }
+    ensures { IsAwaited result }
 {
     for _ in rt.forever() {
-        let over = space.all_ended();
-        let answered = act(rt, space, node, Event::Accept { register });
-        if over || !matches!(answered, Err(Refusal::NoLetter)) {
-            return told_of(answered);
+        if let Some(ended) = space.ended() {
+            return told_last(accept_last(rt, space, node, register, ended));
+        }
+        match act(rt, space, node, Event::Accept { register }) {
+            Err(Refusal::NoLetter) => {}
+            answered => return told_of(answered),
         }
         thread::sleep(rt, Duration::from_micros(LOOK));
     }
     unreachable!()
+}
+
+// What the last try to accept a letter answered.
+fn told_last(answered: Result<Answer, LastRefusal>) -> Told
+    ensures { IsAwaited result }
+{
+    match answered {
+        Ok(answer) => Told::Outcome(Outcome::Answer(answer)),
+        Err(last) => Told::NotAccepted(last),
+    }
 }
 
 // Prints the outcome of the line of this number.
@@ -429,6 +428,7 @@ fn print_told<W: Write>(out: &mut W, number: usize, told: &Told) -> io::Result<(
         Told::Outcome(outcome) => writeln!(out, "{}", OutcomeText(*outcome))?,
         Told::Trace(texts) => print_texts(out, texts.as_slice())?,
         Told::Refused(refusal) => writeln!(out, "refused {refusal}")?,
+        Told::NotAccepted(last) => writeln!(out, "refused {}", last.refusal())?,
         Told::NoVerdict(_) => writeln!(out, "no verdict")?,
         Told::NoCommand => writeln!(out, "line {number}: not a command")?,
     }
@@ -455,7 +455,7 @@ fn status_after(told: &Told) -> u8
 {
     match told {
         Told::Nothing | Told::Outcome(_) | Told::Trace(_) => DONE,
-        Told::Refused(_) | Told::NoVerdict(_) => REFUSED,
+        Told::Refused(_) | Told::NotAccepted(_) | Told::NoVerdict(_) => REFUSED,
         Told::NoCommand => UNREADABLE,
     }
 }

@@ -98,15 +98,13 @@ one-more node before mid working reports same last =
     (IsPermutation-trans _ _ _ (IsPermutation-cons node before (mid ++ reports) same)
     (IsPermutation-sym _ _ (IsPermutation-middle mid node reports)))
 
--- what follows of a call that succeeded
-pub ok-then : {V E A B : Type 0} (r : Result V E) → OnOk r A → (A → B) → OnOk r B
-ok-then (Ok v) a then = then a
-ok-then (Err e) a then = tt
+-- what holds of a call that succeeded
+pub if-ok : {V E A : Type 0} (r : Result V E) (v : V) → r ≡ Ok v → OnOk r A → A
+if-ok {A = A} r v is h = subst (λ x. OnOk x A) is h
 
--- what follows of a call that failed
-pub err-then : {V E A B : Type 0} (r : Result V E) → OnErr r A → (A → B) → OnErr r B
-err-then (Ok v) a then = tt
-err-then (Err e) a then = then a
+-- what holds of a call that failed
+pub if-err : {V E A : Type 0} (r : Result V E) (e : E) → r ≡ Err e → OnErr r A → A
+if-err {A = A} r e is h = subst (λ x. OnErr x A) is h
 
 -- the same workers are left, so none of them is of this node
 pub others-still : (node : ℕ) (t u : Team) → u.workers ≡ t.workers → AreOthers node (working t)

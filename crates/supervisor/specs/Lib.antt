@@ -2,3 +2,4 @@ pub mod Opened
 pub mod Closing
 pub mod Teams
 pub mod Spaces
+pub mod Reviving

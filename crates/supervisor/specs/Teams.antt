@@ -1,5 +1,5 @@
 -- Workers and their reports, and room for them.
-use Rattle.std.specs.Prelude.{◌≡◌, ◌≢◌, ◌<◌, ◌≤◌, ◌⊎◌, ◌+◌, ℕ, List, [], ◌∷◌, ◌++◌, length, map, slice_get, vec_capacity, vec_len, Option, Some, None}
+use Rattle.std.specs.Prelude.{◌≡◌, ◌≢◌, ◌<◌, ◌≤◌, ◌+◌, ℕ, List, [], ◌∷◌, ◌++◌, length, map, slice_get, vec_capacity, vec_len, Option, Some, None}
 use Rattle.workers.specs.declared.stop.Ended.{Ended}
 use Rattle.supervisor.specs.declared.team.Team.{Team}
 
@@ -39,7 +39,3 @@ pub record IsAlone (node : ℕ) (workers : List ℕ) : Type 0 where
 abbrev pub AreOver : List ℕ → Option Ended → Type 0
 AreOver started None = started ≡ []
 AreOver started (Some found) = length started ≤ found.count
-
--- The same workers as before haven't been joined, or none of this node is left.
-abbrev pub AreLeftBy : ℕ → List ℕ → List ℕ → Type 0
-AreLeftBy node before after = (after ≡ before) ⊎ AreOthers node after

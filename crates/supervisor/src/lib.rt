@@ -4,11 +4,13 @@
 
 mod cells;
 mod closing;
+mod reviving;
 mod serving;
 mod space;
 mod team;
 
 pub use closing::{CloseFault, Closed, Unclosed};
+pub use reviving::Unrevived;
 pub use serving::{Program, Served};
 pub use settings::{Config, OpenFault};
 pub use space::{AllEnded, LastLook, Opened, Space, SpaceOn};

@@ -23,14 +23,17 @@ ghost use Rattle.cell.specs.Moments.{EachCell};
 ghost use Rattle.supervisor.specs.Closing.{IsBack, IsWhy};
 ghost use Rattle.supervisor.specs.Opened.{AreInPlace, AreSeats, AreWatches, IfUnopened};
 ghost use Rattle.supervisor.specs.Spaces.{Stay};
-ghost use Rattle.supervisor.specs.Teams.{AreLeftBy, AreOthers, AreOver, IsAlone};
+ghost use Rattle.supervisor.specs.Reviving.{IsLeftBy, refusal_of};
+ghost use Rattle.supervisor.specs.Teams.{AreOver, IsAlone};
 ghost use Rattle.supervisor.specs.Teams.{started_in, working_in};
 ghost use Rattle.supervisor.specs.declared.cells.TheConstants.{WATCHES};
+ghost use Rattle.supervisor.specs.declared.reviving.Unrevived.TheVariants as unrevived;
 
 use crate::cells::{open_alone, share_on};
 use crate::closing::{Closed, Unclosed, close_cells};
+use crate::reviving::Unrevived;
 use crate::team::{Team, TeamPlan};
-use cell::{Cell, Naming, SharedOn, Unnamed};
+use cell::{Cell, Naming, Reopened, SharedOn, Unnamed};
 use disk::Disk;
 use ids::{Cycle, Refusal};
 use model::{Answer, Event};
@@ -217,7 +220,10 @@ impl<D: Disk + Drop, W: Naming> SpaceOn<D, W> {
             → IfErr result (λ e. (e ≡ refusal.Memory) ⊎ (e ≡ refusal.Disk)) }
     {
         match self.program(node) {
-            Some(program) => program.reopen(rt),
+            Some(program) => match program.reopen(rt) {
+                Ok(_) => Ok(()),
+                Err(shut) => Err(shut.refusal()),
+            },
             None => Err(Refusal::NoNode),
         }
     }
@@ -261,14 +267,8 @@ impl<D: Disk + Drop, W: Naming> SpaceOn<D, W> {
         self.wire.look(watch)
     }
 
-    /// Whether no worker is left that could take a turn: all have ended, or none was started.
-    pub fn all_ended(&self) -> bool
-        ensures none { is_some self.now.team ≡ false → result ≡ true }
-    {
-        self.ended().is_some()
-    }
-
-    /// Shows that no worker is left that could take a turn, if that is so.
+    /// Shows that no worker is left that could take a turn, if that is so: all have ended, or none
+    /// was started.
     pub fn ended(&self) -> Option<AllEnded>
         ensures all { IfSome result (λ e. AreOver (started_in self.now.team) e.found) }
         ensures none { is_some self.now.team ≡ false → IsSome result }
@@ -370,11 +370,8 @@ impl<D: Disk + Send + Drop + 'static, W: Naming + Send + 'static> SpaceOn<D, W> 
     /// turns, which asks this gate. `revive` doesn't end the old worker: that ends when its gate
     /// ends it or its turns are over.
     ///
-    /// `NoNode` if there is no node of that number, and `Memory` if there is no room for the worker
-    /// or its report: these change nothing, and the old worker continues. `Disk` or `Memory` if the
-    /// restart fails: the node's cell is then closed until a restart succeeds. `Memory` also if the
-    /// new worker can't be started. After these, the old worker has ended, and there is no new one.
-    pub fn revive<R, G>(&mut self, rt: &R, node: u8, gate: Arc<G>) -> Result<(), Refusal>
+    /// [`Unrevived`] says why there is no new worker, and what that leaves.
+    pub fn revive<R, G>(&mut self, rt: &R, node: u8, gate: Arc<G>) -> Result<Reopened, Unrevived>
     where
         R: Threads + Wait + Clone + Send + Drop + 'static,
         G: Gate + Send + Sync + Drop + 'static,
@@ -384,25 +381,32 @@ impl<D: Disk + Send + Drop + 'static, W: Naming + Send + 'static> SpaceOn<D, W> 
         ensures alone { OnOk result (IsAlone node (working_in self.new.team)) }
         ensures none_begun { OnErr result
             (IsPermutation (started_in self.old.team) (started_in self.new.team)) }
-        ensures left { OnErr result
-            (AreLeftBy node (working_in self.old.team) (working_in self.new.team)) }
-        ensures ended { IsErrOf result refusal.Disk → AreOthers node (working_in self.new.team) }
+        ensures left { IfErr result
+            (IsLeftBy node (working_in self.old.team) (working_in self.new.team)) }
         ensures team { is_some self.new.team ≡ true }
-        ensures no_node { IsErrOf result refusal.NoNode ↔ (self.old.plan.nodes ≤ node) }
-        ensures others { node < self.old.plan.nodes
-            → IfErr result (λ e. (e ≡ refusal.Memory) ⊎ (e ≡ refusal.Disk)) }
+        ensures no_node { IsErrOf result unrevived.NoNode ↔ (self.old.plan.nodes ≤ node) }
+        ensures others { node < self.old.plan.nodes → IfErr result (λ u.
+            (refusal_of u ≡ refusal.Memory) ⊎ (refusal_of u ≡ refusal.Disk)) }
         ensures stays { Stay (self.old.plan, self.old.wire, self.old.cells, self.old.watches)
             (self.new.plan, self.new.wire, self.new.cells, self.new.watches) }
     {
         if node >= self.plan.nodes {
-            return Err(Refusal::NoNode);
+            return Err(Unrevived::NoNode);
         }
         let Some(team) = &mut self.team else {
             unreachable!()
         };
-        team.await_end(rt, node)?;
+        let Ok(()) = team.await_end(rt, node) else {
+            return Err(Unrevived::NoRoom);
+        };
         let cell = &self.cells[usize::from(node)];
-        cell.reopen(rt)?;
-        team.begin(rt, self.alloc, cell, &gate, node)
+        let reopened = match cell.reopen(rt) {
+            Ok(reopened) => reopened,
+            Err(shut) => return Err(Unrevived::Shut(shut)),
+        };
+        match team.begin(rt, self.alloc, cell, &gate, node) {
+            Ok(()) => Ok(reopened),
+            Err(_) => Err(Unrevived::NotStarted(reopened)),
+        }
     }
 }

@@ -60,10 +60,12 @@ impl<D: Disk + Send + Drop + 'static> Opened<D> {
     where
         R: Clock + Threads + Wait + Clone + Send + Sync + Drop + 'static,
     {
-        if self.is_started {
-            Ok(self.space.revive(rt, node, gate))
-        } else {
-            Err(CaseError::Unknown)
+        if !self.is_started {
+            return Err(CaseError::Unknown);
+        }
+        match self.space.revive(rt, node, gate) {
+            Ok(_) => Ok(Ok(())),
+            Err(unrevived) => Ok(Err(unrevived.refusal())),
         }
     }
 
@@ -292,7 +294,7 @@ where
 {
     match verb(words) {
         "look" => opened.look(out),
-        "over" => out.debug(&opened.space.all_ended()),
+        "over" => out.debug(&opened.space.ended().is_some()),
         "wait" => {
             await_end(rt, &opened.space);
             out.text("ok");
@@ -359,7 +361,7 @@ fn put_trace<R: Wait, D: Disk>(rt: &R, cell: &Shared<D>, is_last: bool, out: &mu
 // Waits until no worker is left.
 fn await_end<R: Clock + Wait, D: Disk + Drop>(rt: &R, space: &Space<D>) {
     for _ in rt.forever() {
-        if space.all_ended() {
+        if space.ended().is_some() {
             return;
         }
         pause(rt);

@@ -86,7 +86,10 @@ pub(crate) fn on_cell<R: Wait, D: Disk, W: Naming>(
 ) -> Result<(), CaseError> {
     match verb(words) {
         "save" => out.done(cell.save(rt)),
-        "reopen" => out.done(cell.reopen(rt)),
+        "reopen" => match cell.reopen(rt) {
+            Ok(_) => out.text("ok"),
+            Err(shut) => out.refused(shut.refusal()),
+        },
         "unsaved" => out.debug(&cell.unsaved(rt)),
         "send" => out.answer(cell.pump_out(rt, number(words, 1)?)),
         "receive" => out.answer(cell.pump_in(rt, number(words, 1)?)),
