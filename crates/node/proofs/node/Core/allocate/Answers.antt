@@ -1,10 +1,7 @@
-use Rattle.std.proofs.Common.{◌≡◌, ℕ, false, Ok, arith, subst, ◌∙◌}
-use Rattle.model.specs.declared.event.Answer.TheVariants as answer
-use Rattle.model.specs.declared.event.Event.TheVariants as event
+use Rattle.std.proofs.Common.{◌≡◌, ℕ, Ok, arith, subst, ◌∙◌}
 use Rattle.model.specs.Heaps.{heap_alloc}
-use Rattle.model.specs.View.{NodeView, Performed, view_act}
 use Rattle.node.specs.Inside.{view_of}
-use Rattle.node.proofs.Sound.{Allocates, alloc-answered, node-allocated, with_heap}
+use Rattle.node.proofs.Sound.{Allocates, alloc-answered, node-allocated}
 use Rattle.node.proofs.node.Core.allocate.Goals as goal
 
 pub invariant_of-self-2 : goal.invariant_of-self-2
@@ -24,12 +21,7 @@ invariant_of-self-2 c =
 pub returns : goal.returns
 returns c =
     let left = c.in_ok-reference.ensures in
-    subst
-    (λ (m : NodeView).
-    Performed false (Ok (answer.New c.in_ok-reference.reference)) m
-    (with_heap (view_of c.self.inside) c.alloc.new.self.heap)
-    (view_act m (event.Alloc c.args.register c.args.places)))
-    c.self.view_is
+    rw (← c.self.view_is)
     (record {
       performs = alloc-answered (view_of c.self.inside) c.args.register c.args.places
           (subst (λ (k : ℕ). heap_alloc k c.self.inside.own c.self.inside.phases.cycle

@@ -1,4 +1,4 @@
-use Rattle.std.proofs.Common.{◌≡◌, ℕ, ◌+◌, Option, ap, sym, ◌∙◌, subst}
+use Rattle.std.proofs.Common.{◌≡◌, ℕ, ◌+◌, Option, ap, ◌∙◌}
 use Rattle.model.specs.declared.balance.Balance.{Balance}
 use Rattle.model.specs.Counting.{balance_of, counted_down}
 use Rattle.model.specs.State.{got_from}
@@ -7,7 +7,6 @@ use Rattle.model.specs.View.{NodeView}
 use Rattle.link.specs.Links.{LinksView, taken_next_from}
 use Rattle.node.specs.Inside.{view_of}
 use Rattle.node.specs.Invariant.{links_of}
-use Rattle.node.specs.Taking.{IsSender}
 use Rattle.node.proofs.Balances.{balance-small}
 use Rattle.node.proofs.Nodes.{node-counted, rewired}
 use Rattle.node.proofs.node.Core.count_in.Goals as goal
@@ -33,7 +32,7 @@ invariant_of-self c =
     let n : NodeView = view_of c.self.inside in
     record {
       node = node-counted n c.args.from c.args.stamp c.args.body c.self.invariant.node
-          (subst (λ (m : NodeView). IsSender m.local c.args.from) (sym c.self.view_is) c.requires)
+          (rw (← c.self.view_is) at c.requires)
           (record {
             sound = c.take_next.ensures.sound;
             links = c.take_next.ensures.done;

@@ -1,12 +1,10 @@
-use Rattle.std.proofs.Common.{sym, subst}
-use Rattle.model.specs.References.{IsSendable}
-use Rattle.model.specs.View.{NodeView}
+use Rattle.std.proofs.Common.{sym}
 use Rattle.node.specs.Inside.{view_of}
 use Rattle.node.proofs.Messages.{numbered-sendable}
 use Rattle.node.proofs.node.Core.numbered_frame.Goals as goal
 
 pub frame-requires-clause-sendable : goal.frame-requires-clause-sendable
 frame-requires-clause-sendable c =
-    subst (λ (m : NodeView). IsSendable m.local.shape c.in_ok-message.message) c.self.view_is
+    rw (← c.self.view_is)
     (numbered-sendable (view_of c.self.inside) c.self.invariant.node c.args.to
     c.in_ok-message.message _ (sym c.in_ok-message.ensures.value))

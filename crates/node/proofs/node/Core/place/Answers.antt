@@ -8,7 +8,7 @@ use Rattle.node.proofs.node.Core.place.Goals as goal
 pub returns-clause-within : goal.returns-clause-within
 returns-clause-within c =
     let n : NodeView = view_of c.self.inside in
-    subst (λ (m : NodeView). IfAny (IsWithin m.local.shape) c.place.result) c.self.view_is
+    rw (← c.self.view_is)
     (subst (IfAny (IsWithin n.local.shape)) (sym c.place.ensures)
     (holds-place_of (IsWithin n.local.shape) n.local.heap c.args.object c.args.place
     c.self.invariant.node.references))

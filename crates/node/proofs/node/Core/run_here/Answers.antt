@@ -1,4 +1,4 @@
-use Rattle.std.proofs.Common.{ℕ, ◌++◌, cond, [], length, Ok, List, Err, ap, refl, sym, ◌∙◌, subst}
+use Rattle.std.proofs.Common.{ℕ, ◌++◌, cond, [], length, List, ap, refl, sym, ◌∙◌, subst}
 use Rattle.std.proofs.lemmas.Bool.{eqb-true}
 use Rattle.std.proofs.lemmas.Result.{err_from_is_err_and}
 use Rattle.std.specs.List.{AllByRecursion}
@@ -11,12 +11,12 @@ use Rattle.model.specs.View.{NodeView}
 use Rattle.safra.specs.Balances.{IsBounded}
 use Rattle.link.specs.Links.{IsLinks}
 use Rattle.barrier.specs.Asked.{IsRefused, all_appended}
-use Rattle.node.specs.Errands.{IsFit, Runs, errand_here, extra_ring, extra_sends, listed, with_extra}
+use Rattle.node.specs.Errands.{extra_ring, extra_sends, listed, with_extra}
 use Rattle.node.specs.Inside.{view_of}
 use Rattle.node.specs.Invariant.{links_of}
 use Rattle.node.proofs.Balances.{balance-small}
-use Rattle.node.proofs.Errands.{IsDone, Parts, Plan, Ready, here-idle, here-run, here-sends, here-stands, marked-small, met-within, nodes-inside, with_these}
-use Rattle.node.proofs.Events.{parts-same, with_parts}
+use Rattle.node.proofs.Errands.{IsDone, Parts, Plan, Ready, here-idle, here-run, here-sends, here-stands, marked-small, met-within, nodes-inside}
+use Rattle.node.proofs.Events.{parts-same}
 use Rattle.node.proofs.Runs.{runs-done}
 use Rattle.ids.specs.declared.names.Ref.{Ref}
 use Rattle.node.proofs.node.Core.run_here.Goals as goal
@@ -41,10 +41,7 @@ ready c =
     record {
       node = c.self.invariant.node;
       within =
-          subst
-          (λ (m : NodeView).
-          AllByRecursion (IsWithin m.local.shape) (filled c.args.references.now))
-          (sym c.self.view_is) c.requires.within;
+          rw (← c.self.view_is) at c.requires.within;
       marks = subst (λ (k : ℕ). IsLinks (all_appended (links_of n) (marks_for k marked)))
           c.cycle-cycle.ensures.value c.in_ok-marks.ensures.marked;
     }
@@ -52,19 +49,14 @@ ready c =
 within : (c : After-is_empty)
     → AllByRecursion (IsWithin (view_of c.self.inside).local.shape) (filled c.args.references.now)
 within c =
-    subst
-    (λ (m : NodeView). AllByRecursion (IsWithin m.local.shape) (filled c.args.references.now))
-    (sym c.self.view_is) c.requires.within
+    rw (← c.self.view_is) at c.requires.within
 
 -- ---- the goals
 
 pub returns-then-is_nothing : goal.returns-then-is_nothing
 returns-then-is_nothing c =
     let at = (goal.at.returns-then-is_nothing c).After-is_empty in
-    subst
-    (λ (m : NodeView). Runs (Ok tt)
-    (errand_here c.args.due (filled c.args.references.now) c.args.extra m.local) m m)
-    c.self.view_is
+    rw (← c.self.view_is)
     (runs-done (here-idle (plan at)
     (eqb-true _ 0 (sym c.is_empty.ensures ∙ c.if-is_empty.true))
     (sym c.is_nothing.ensures ∙ c.if-is_nothing.true)))
@@ -92,12 +84,7 @@ returns-in_err-marks c =
     c.cycle-cycle.ensures.value left.refused in
     let sends = here-sends (plan at) c.self.invariant.node.links.width in
     rw (r.1, r.2)
-    (subst
-    (λ (m : NodeView). Runs (Err c.in_err-marks.field-0.0)
-    (errand_here c.args.due (filled c.args.references.now) c.args.extra m.local) m
-    (with_parts n c.make_room.new.self.heap c.send_out.new.asked.keys n.local.phases n.local.ring
-    c.send_out.new.links))
-    c.self.view_is
+    (rw (← c.self.view_is)
     (record {
       done = tt;
       refused = subst (λ ms. IsRefused (links_of n) ms c.in_err-marks.field-0.0) sends told;
@@ -149,8 +136,7 @@ invariant_of-self-2 c =
       node =
           here-stands (plan at.After-is_empty) c.self.invariant.node (done at.After-count)
           (ready at.After-count-arg-1)
-          (subst (λ (m : NodeView). IsFit m.local.shape m.local.own c.args.extra)
-          (sym c.self.view_is) c.requires.extra)
+          (rw (← c.self.view_is) at c.requires.extra)
           c.in_ok-marks.ensures.sound;
       limit = c.mark.ensures.limit ∙ c.make_room.ensures.same.limit ∙ c.self.invariant.limit;
     }
@@ -159,9 +145,5 @@ pub returns : goal.returns
 returns c =
     let at = goal.at.returns c in
     let n : NodeView = view_of c.self.inside in
-    subst
-    (λ (m : NodeView). Runs (Ok tt)
-    (errand_here c.args.due (filled c.args.references.now) c.args.extra m.local) m
-    (with_these n (left at.After-count)))
-    c.self.view_is
+    rw (← c.self.view_is)
     (runs-done (here-run (plan at.After-is_empty) c.self.invariant.node (done at.After-count)))

@@ -1,4 +1,4 @@
-use Rattle.std.proofs.Common.{◌≡◌, ℕ, ◌<◌, ◌==◌, ◌++◌, true, false, cond, List, [], length, map, Ok, Err, ap, refl, sym, ◌∙◌, subst, arith}
+use Rattle.std.proofs.Common.{◌≡◌, ℕ, ◌<◌, ◌==◌, ◌++◌, true, false, cond, List, [], length, map, ap, refl, sym, ◌∙◌, subst, arith}
 use Rattle.std.proofs.lemmas.Bool.{ne_eqb}
 use Rattle.std.proofs.lemmas.Result.{err_from_is_err_and}
 use Rattle.std.specs.List.{AllByRecursion}
@@ -18,7 +18,7 @@ use Rattle.safra.specs.Balances.{IsBounded}
 use Rattle.safra.proofs.Bounds.{bounded_entered}
 use Rattle.link.specs.Links.{IsLinks}
 use Rattle.barrier.specs.Asked.{AreSent, IsRefused, all_appended}
-use Rattle.node.specs.Errands.{IsFit, IsRun, MayJoin, Runs, errand_here, extra_ring, extra_sends, listed, with_extra}
+use Rattle.node.specs.Errands.{IsRun, MayJoin, errand_here, extra_ring, extra_sends, listed, with_extra}
 use Rattle.node.specs.Inside.{view_of}
 use Rattle.node.specs.Invariant.{IsNode, links_of}
 use Rattle.node.proofs.Balances.{balance-small}
@@ -32,14 +32,11 @@ use Rattle.node.proofs.node.Core.run_joining.Goals.{After-make_room, After-count
 within : (c : After-make_room)
     → AllByRecursion (IsWithin (view_of c.self.inside).local.shape) (filled c.args.references.now)
 within c =
-    subst
-    (λ (m : NodeView). AllByRecursion (IsWithin m.local.shape) (filled c.args.references.now))
-    (sym c.self.view_is) c.requires.within
+    rw (← c.self.view_is) at c.requires.within
 
 may : (c : After-make_room) → MayJoin c.args.cycle (view_of c.self.inside).local.phases
 may c =
-    subst (λ (m : NodeView). MayJoin c.args.cycle m.local.phases) (sym c.self.view_is)
-    c.requires.joins
+    rw (← c.self.view_is) at c.requires.joins
 
 before : (c : After-make_room)
     → ((view_of c.self.inside).local.phases.ended == c.args.cycle) ≡ false
@@ -172,13 +169,7 @@ returns-in_err-asked c =
     ++ extra_sends n.local.own (length n.links) cycle c.args.extra))
     c.in_err-asked.field-0.0) left.refused in
     rw (r.1, r.2)
-    (subst
-    (λ (m : NodeView). Runs (Err c.in_err-asked.field-0.0)
-    (then (join m.local cycle)
-    (errand_here c.args.due (filled c.args.references.now) c.args.extra)) m
-    (with_parts n c.make_room.new.self.heap n.local.asked n.local.phases n.local.ring
-    c.send_joining.new.links))
-    c.self.view_is
+    (rw (← c.self.view_is)
     (record {
       done = tt;
       refused = λ other.
@@ -230,8 +221,7 @@ invariant_of-self-2 c =
           (sym c.join.ensures.done)
           (here-stands (plan here.After-count-arg-1) (stands here.After-count-arg-1)
           (done here.After-count) (ready here.After-count-arg-1)
-          (subst (λ (m : NodeView). IsFit m.local.shape m.local.own c.args.extra)
-          (sym c.self.view_is) c.requires.extra)
+          (rw (← c.self.view_is) at c.requires.extra)
           c.in_ok-asked.ensures.sound);
       limit = c.mark.ensures.limit ∙ c.shade_roots.ensures.limit
           ∙ c.make_room.ensures.same.limit ∙ c.self.invariant.limit;
@@ -258,10 +248,5 @@ returns c =
     (joining-run n cycle (before at) c.args.due c.args.references.now c.args.extra fit
     (here-run (plan here.After-count-arg-1) (stands here.After-count-arg-1)
     (done here.After-count))) in
-    subst
-    (λ (m : NodeView). Runs (Ok tt)
-    (then (join m.local cycle) (errand_here c.args.due rs c.args.extra)) m
-    (with_parts n c.mark.new.heap.heap c.in_ok-asked.field-0.asked.keys c.join.new.self c.count.new.ring
-    c.send_joining.new.links))
-    c.self.view_is
+    rw (← c.self.view_is)
     (record { done = run; refused = tt; unchanged = tt })

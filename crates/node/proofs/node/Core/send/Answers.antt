@@ -1,8 +1,7 @@
-use Rattle.std.proofs.Common.{◌≢◌, ℕ, ◌<◌, Option, ap, ◌∙◌, subst, sym}
+use Rattle.std.proofs.Common.{ℕ, Option, ap, ◌∙◌}
 use Rattle.model.specs.declared.balance.Balance.{Balance}
 use Rattle.model.specs.View.{NodeView}
-use Rattle.model.specs.References.{IsSendable}
-use Rattle.model.specs.Counting.{balance_of, counted_up, stamped}
+use Rattle.model.specs.Counting.{balance_of, counted_up}
 use Rattle.link.specs.Links.{appended_to}
 use Rattle.node.specs.Inside.{view_of}
 use Rattle.node.specs.Invariant.{links_of}
@@ -17,13 +16,11 @@ pub invariant_of-self-2 : goal.invariant_of-self-2
 invariant_of-self-2 c =
     let n : NodeView = view_of c.self.inside in
     let there =
-    subst (λ (m : NodeView). c.args.to < m.local.shape.nodes) (sym c.self.view_is)
-    c.requires.there in
+    rw (← c.self.view_is) at c.requires.there in
     let other =
-    subst (λ (m : NodeView). c.args.to ≢ m.local.own) (sym c.self.view_is) c.requires.other in
+    rw (← c.self.view_is) at c.requires.other in
     let sendable =
-    subst (λ (m : NodeView). IsSendable m.local.shape (stamped m.local c.args.body))
-    (sym c.self.view_is) c.requires.sendable in
+    rw (← c.self.view_is) at c.requires.sendable in
     let same = c.cycle-cycle.ensures.value in
     record {
       node = node-sent n c.args.to c.args.body c.self.invariant.node (there, other) sendable

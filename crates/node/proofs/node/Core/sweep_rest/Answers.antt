@@ -1,4 +1,4 @@
-use Rattle.std.proofs.Common.{◌-◌, ◌<◌, ap, ◌∙◌, subst, sym, arith}
+use Rattle.std.proofs.Common.{◌-◌, ap, ◌∙◌, arith}
 use Rattle.heap.specs.Heap.{HeapView}
 use Rattle.model.specs.View.{NodeView}
 use Rattle.node.specs.Inside.{view_of}
@@ -13,8 +13,7 @@ invariant_of-self c =
       node = node-swept {last = n.local.phases.cycle} {cursor = 0} c.cycle.result
           c.cursor-cursor.result (c.slots.result - c.cursor-cursor.result) c.self.invariant.node
           (record {
-            unfinished = subst (λ (m : NodeView). m.local.phases.swept < m.local.phases.ended)
-                (sym c.self.view_is) c.requires;
+            unfinished = rw (← c.self.view_is) at c.requires;
             heap = ap (λ (v : HeapView). v.heap) done;
           })
           (record {

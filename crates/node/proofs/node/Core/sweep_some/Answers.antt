@@ -1,4 +1,4 @@
-use Rattle.std.proofs.Common.{◌+◌, ◌<◌, ap, ◌∙◌, subst, sym, arith}
+use Rattle.std.proofs.Common.{◌+◌, ◌<◌, ap, ◌∙◌, arith}
 use Rattle.heap.specs.Heap.{HeapView}
 use Rattle.model.specs.Collecting.{unswept}
 use Rattle.model.specs.View.{NodeView}
@@ -9,7 +9,7 @@ use Rattle.node.proofs.node.Core.sweep_some.Goals.{After-cursor-cursor}
 
 some : (c : After-cursor-cursor) → c.args.count < unswept (view_of c.self.inside).local
 some c =
-    subst (λ (m : NodeView). c.args.count < unswept m.local) (sym c.self.view_is) c.requires.some
+    rw (← c.self.view_is) at c.requires.some
 
 pub invariant_of-self : goal.invariant_of-self
 invariant_of-self c =
@@ -21,8 +21,7 @@ invariant_of-self c =
           {cursor = n.local.phases.cursor + c.args.count} c.cycle.result c.cursor-cursor.result
           c.args.count c.self.invariant.node
           (record {
-            unfinished = subst (λ (m : NodeView). m.local.phases.swept < m.local.phases.ended)
-                (sym c.self.view_is) c.requires.unfinished;
+            unfinished = rw (← c.self.view_is) at c.requires.unfinished;
             heap = ap (λ (v : HeapView). v.heap) done;
           })
           (record {

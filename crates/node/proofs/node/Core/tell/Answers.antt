@@ -1,4 +1,4 @@
-use Rattle.std.proofs.Common.{◌≡◌, ℕ, true, false, length, map, Ok, Err, ap, ◌∙◌, refl, subst, sym}
+use Rattle.std.proofs.Common.{◌≡◌, ℕ, true, false, length, map, Ok, ap, ◌∙◌, refl, subst, sym}
 use Rattle.std.proofs.lemmas.Result.{err_from_is_err_and}
 use Rattle.model.specs.Counting.{announce, stamped}
 use Rattle.model.specs.References.{IsSendable}
@@ -29,10 +29,7 @@ returns-in_err-announce c =
     let left = c.in_err-announce.ensures in
     let r = err_from_is_err_and c.from_residual.result c.from_residual.ensures.1 in
     rw (r.1, r.2)
-    (subst
-    (λ (m : NodeView). RunsLast (Err c.in_err-announce.field-0.0) (announce c.args.body m.local) m
-    (rewired n c.announce.new.self n.local.ring))
-    c.self.view_is
+    (rw (← c.self.view_is)
     (record {
       runs = record {
         done = tt;
