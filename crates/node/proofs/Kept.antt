@@ -45,7 +45,8 @@ after-waiting : (P : ℕ → Data → Type 0) (es : Rings) (from : ℕ) (o : Opt
 after-waiting P es from None r h = h
 after-waiting P es from (Some d) (Ok a) h =
     of-set P es from _ h
-    (shifted-fills (λ place. P from) (λ place. P from) (λ place e is. is) (ring_of es from) (h from))
+    (shifted-fills (λ place. P from) (λ place. P from) (λ place e is. is) (ring_of es from)
+    (h from))
 after-waiting P es from (Some d) (Err Memory) h = h
 after-waiting P es from (Some d) (Err e) h =
     of-set P es from _ h (emptied-fills (λ place. P from) (ring_of es from) (h from))

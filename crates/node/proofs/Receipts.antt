@@ -41,8 +41,11 @@ within-mentioned shape (body.Put target place reference) within fit = (
   reference-within shape target (grind (arith, nat_tests, within)) (grind (arith, nat_tests, fit)),
   any-within shape reference (grind (arith, nat_tests, within)) (grind (arith, nat_tests, fit)),
 )
-within-mentioned shape (body.Get target place label) within fit =
-    (reference-within shape target (grind (arith, nat_tests, within)) (grind (arith, nat_tests, fit)), tt)
+within-mentioned shape (body.Get target place label) within fit = (
+  reference-within shape target (grind (arith, nat_tests, within))
+      (grind (arith, nat_tests, fit)),
+  tt,
+)
 within-mentioned shape b within fit = tt
 
 -- a message that passed the tests in its turn may be received

@@ -221,8 +221,8 @@ module _ (n : NodeView) where
         letters = (letters-are shape local.own heap.letters).1
             (all-each (IsFrom shape local.own) heap.letters no_letter
             (λ k inside. (
-              all-at (λ (l : Letter). IsOther shape local.own l.from) heap.letters no_letter k inside
-                  is.stocked.letters,
+              all-at (λ (l : Letter). IsOther shape local.own l.from) heap.letters no_letter k
+                  inside is.stocked.letters,
               is.references.letters k,
             )));
       };
@@ -273,7 +273,8 @@ module _ (n : NodeView) where
           registers = (any-each shape heap.registers).0 all.registers;
           letters = λ k.
               ⊎_elim {C = IfAny (IsWithin shape) (get_or heap.letters k no_letter).reference}
-              (λ inside. (all-at (IsFrom shape local.own) heap.letters no_letter k inside letters).1)
+              (λ inside.
+              (all-at (IsFrom shape local.own) heap.letters no_letter k inside letters).1)
               (λ past. rw (get_or_past heap.letters k no_letter past) tt)
               (cases_lt k (length heap.letters));
           places = λ k g o j e.
@@ -282,7 +283,8 @@ module _ (n : NodeView) where
         stocked = record {
           registers = made.registers;
           letters = all-map (IsFrom shape local.own)
-              (λ (l : Letter). IsOther shape local.own l.from) (λ l one. one.0) heap.letters letters;
+              (λ (l : Letter). IsOther shape local.own l.from) (λ l one. one.0) heap.letters
+              letters;
           slots = λ k.
               given-slot shape phases.cycle (slot_at heap k) (given k) (made.born k);
           grey = all-each (λ (k : ℕ). HasMarked phases.cycle (slot_at heap k)) heap.grey 0

@@ -34,7 +34,8 @@ busy c =
 now : (c : After-cycle-cycle) → c.cycle-cycle.result ≡ c.args.self.now.local.phases.cycle
 now c = c.cycle-cycle.ensures.value
 
-name : (c : After-cycle-cycle) → c.reference_at-scanned.result ≡ scanned_reference c.args.self.now.local
+name : (c : After-cycle-cycle)
+    → c.reference_at-scanned.result ≡ scanned_reference c.args.self.now.local
 name c =
     let n : NodeView = view_of c.self.inside in
     c.reference_at-scanned.ensures

@@ -41,7 +41,8 @@ returns-in_err-report-clause-performed c =
     let left = c.in_err-report.ensures in
     rw (p.1, p.2)
     (rest-refused c.args.self.now c.args.count (unfinished at.Else-has_swept)
-    (all at.Else-count-unswept) at.Else-count-unswept.unswept.ensures.inside left.refused left.last left.unchanged)
+    (all at.Else-count-unswept) at.Else-count-unswept.unswept.ensures.inside left.refused left.last
+    left.unchanged)
 
 pub returns-clause-performed : goal.returns-clause-performed
 returns-clause-performed c =
