@@ -2,3 +2,4 @@ pub mod Alone
 pub mod Ends
 pub mod Noting
 pub mod Quiet
+pub mod Stores

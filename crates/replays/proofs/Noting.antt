@@ -13,10 +13,9 @@ event_fits e wide = record { wide = wide; within = entry_within e }
 some_one : {x y : List ℕ} → ◌≡◌ {A = Option (List ℕ)} (Some x) (Some y) → x ≡ y
 some_one both = cc both
 
-pub lost : (old : Option (List ℕ)) {new : Option (List ℕ)} (e : Event) → Fits entry (entry_of e)
-    → new ≡ None → Noted old new e
-lost old e fits none = record {
-  fits = fits;
+pub lost : (old : Option (List ℕ)) {new : Option (List ℕ)} (e : Event) → new ≡ None
+    → Noted old new e
+lost old e none = record {
   more = λ bytes is.
       let both : ◌≡◌ {A = Option (List ℕ)} None (Some bytes) = sym none ∙ is in absurd cc;
 }
@@ -24,6 +23,5 @@ lost old e fits none = record {
 pub added : (old : Option (List ℕ)) (e : Event) (before after : List ℕ) → Fits entry (entry_of e)
     → old ≡ Some before → after ≡ before ++ entry.spell (entry_of e) → Noted old (Some after) e
 added old e before after fits was is = record {
-  fits = fits;
-  more = λ bytes same. (before, was, sym (some_one same) ∙ is);
+  more = λ bytes same. (fits, (before, was, sym (some_one same) ∙ is));
 }

@@ -2,3 +2,5 @@ pub mod Logs
 pub mod Noted
 pub mod Values
 pub mod Laws
+pub mod Plain
+pub mod Stores

@@ -13,6 +13,6 @@ IsLogged log first last = (bytes : List ℕ) → log ≡ Some bytes → Logged b
 
 -- the event was added to the log, or the log is lost
 pub record Noted (old new : Option (List ℕ)) (e : Event) : Type 0 where
-  pub fits : Fits entry (entry_of e)
   pub more : (bytes : List ℕ) → new ≡ Some bytes
-      → (before : List ℕ) × (old ≡ Some before) × (bytes ≡ before ++ entry.spell (entry_of e))
+      → Fits entry (entry_of e) × ((before : List ℕ) × (old ≡ Some before)
+      × (bytes ≡ before ++ entry.spell (entry_of e)))

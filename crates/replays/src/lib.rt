@@ -4,14 +4,21 @@
 //! [`Log`] collects the events, [`act`] performs one and notes it, and [`save`] adds them to the
 //! journal as a batch, or writes the image if the log was lost. Opening the journal performs the
 //! batches again: the node is then the one that was saved.
+//!
+//! A [`Store`] keeps a node: it is a shelf, which holds the image alone, or a journal.
 #![tactic(auto)]
 
 mod acting;
 mod log;
+mod place;
+mod plain;
 mod redoing;
 mod saving;
+mod store;
 
 pub use acting::{act, meant};
 pub use log::{GREATEST_LOG, Log};
+pub use place::{Place, Saves};
 pub use redoing::LoggedImages;
 pub use saving::save;
+pub use store::{Store, read_node};

@@ -1,6 +1,6 @@
 //! The events of a node since its last save, as bytes. A log that would become too long, or for
 //! which there is no memory, is lost; the node's next save then writes its image.
-ghost use Rattle.std.specs.Prelude.{◌≡◌, ◌≢◌, ◌≤◌, ◌+◌, ◌++◌, List, ℕ, [], length, None, OnOk, Some, IfErr};
+ghost use Rattle.std.specs.Prelude.{◌≡◌, ◌≢◌, ◌≤◌, ◌+◌, ◌++◌, List, ℕ, [], length, None, OnOk, Some, IfErr, true, false};
 ghost use Rattle.std.specs.Option.{option_map};
 ghost use Rattle.ids.specs.declared.refusal.Refusal.TheVariants.{Memory};
 ghost use Rattle.events.specs.Entries.{entry};
@@ -92,11 +92,11 @@ impl Log {
             → self.new ≡ Some (before ++ entry.spell (entry_of event.now))) }
         ensures refused { IfErr result (λ e. e ≡ Memory) }
     {
-        let mut piece = Piece::new();
-        add_event(&mut piece, event);
         let Some(bytes) = self.bytes.take() else {
             return Ok(());
         };
+        let mut piece = Piece::new();
+        add_event(&mut piece, event);
         if piece.as_slice().len() > GREATEST_LOG - bytes.len().min(GREATEST_LOG) {
             return Ok(());
         }
@@ -111,6 +111,18 @@ impl Log {
         ensures { self.new ≡ None }
     {
         self.bytes = None;
+    }
+
+    /// Begins a new log, after a save; or loses the log, if none is to be kept.
+    pub fn begin(&mut self, is_kept: bool)
+        ensures kept { is_kept ≡ true → self.new ≡ Some [] }
+        ensures lost { is_kept ≡ false → self.new ≡ None }
+    {
+        if is_kept {
+            self.clear();
+        } else {
+            self.lose();
+        }
     }
 
     /// Empties the log, also one that was lost. Call it after a save.

@@ -17,8 +17,8 @@ returns-then-not-is_quiet-clause-logged c first logged bytes is =
       acts = ap (view_act old.core) c.meant-meant.ensures ∙ c.in_ok-answer.ensures.performs;
       now = sym c.is_quiet.ensures ∙ c.if-not-is_quiet.true;
     } in
-    subst (λ l. Logged l first new.core) (sym more.2)
-    (logged_more e c.note-lost.ensures.noted.fits done (logged more.0 more.1))
+    subst (λ l. Logged l first new.core) (sym more.1.2)
+    (logged_more e more.0 done (logged more.1.0 more.1.1))
 
 pub returns-else-not-is_quiet-clause-logged : goal.returns-else-not-is_quiet-clause-logged
 returns-else-not-is_quiet-clause-logged c first logged bytes is =

@@ -8,18 +8,18 @@ use Rattle.replays.proofs.log.Log.note.Goals as goal
 
 pub returns-in_default-clause-noted : goal.returns-in_default-clause-noted
 returns-in_default-clause-noted c =
-    lost c.args.self.now c.args.event.now (event_fits c.args.event.now c.add_event.ensures.known)
+    lost c.args.self.now c.args.event.now
     (ap (option_map (λ (v : Vec ℕ Global). v.items)) c.take.ensures.after)
 
 pub returns-then-as_slice-min-clause-noted : goal.returns-then-as_slice-min-clause-noted
 returns-then-as_slice-min-clause-noted c =
-    lost c.args.self.now c.args.event.now (event_fits c.args.event.now c.add_event.ensures.known)
+    lost c.args.self.now c.args.event.now
     (ap (option_map (λ (v : Vec ℕ Global). v.items)) c.take.ensures.after)
 
 pub returns-in_err-extend_from_slice-clause-noted :
     goal.returns-in_err-extend_from_slice-clause-noted
 returns-in_err-extend_from_slice-clause-noted c =
-    lost c.args.self.now c.args.event.now (event_fits c.args.event.now c.add_event.ensures.known)
+    lost c.args.self.now c.args.event.now
     (ap (option_map (λ (v : Vec ℕ Global). v.items)) c.take.ensures.after)
 
 pub returns-clause-noted : goal.returns-clause-noted
