@@ -1,4 +1,4 @@
--- Nodes on their shelves, and a wire between them.
+-- Nodes in their stores, and a wire between them.
 use Rattle.std.specs.Prelude.{◌≡◌, ◌≢◌, ◌<◌, ℕ, [], List, ◌++◌, length, map, replicate, Some, slice_get}
 use Rattle.ids.specs.Limits.{Shaped}
 use Rattle.ids.specs.declared.limits.TheConstants.{GREATEST_IMAGE}

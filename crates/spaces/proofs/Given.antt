@@ -7,7 +7,7 @@ use Rattle.ids.specs.Limits.{Shaped}
 use Rattle.ids.specs.declared.limits.TheConstants.{GREATEST_IMAGE}
 use Rattle.ids.specs.declared.refusal.Refusal.{Refusal}
 use Rattle.ids.specs.declared.refusal.Refusal.TheVariants as refusal
-use Rattle.node.specs.Keeping.{WholeNode}
+use Rattle.node.specs.Keeping.{WholeNode, alone}
 use Rattle.image.specs.Nodes.{IsImageOf}
 use Rattle.image.specs.Wholes.{IsWholeOf}
 use Rattle.disk.specs.Areas.{Areas}
@@ -15,6 +15,7 @@ use Rattle.disk.specs.Memory.{held_by}
 use Rattle.disk.specs.Shelf.{record_of, recorded}
 use Rattle.disk.specs.declared.memory.MemoryDisk.{MemoryDisk}
 use Rattle.disk.proofs.Records.{recorded_holds}
+use Rattle.replays.proofs.Stores.{bare_read, keeps_read, keeps_some}
 use Rattle.cell.specs.Ages as ages
 use Rattle.cell.specs.Ages.{AreApart, AreRead}
 use Rattle.cell.specs.Opened.{AreBeside, HasAt, HoldsAnother, HoldsNone, IsCause, IsReadFrom}
@@ -72,9 +73,8 @@ begins : (shape : Shaped) (k : ℕ) (i : Image) (n : WholeNode) → IsShort i
     → IsReadFrom shape k (areas_in i) n → Begins shape k i n
 begins shape k None n short read = read.blank refl
 begins shape k (Some v) n short read =
-    let found = read.held (λ e. absurd cc) in
-    let same : found.0 ≡ v.items = some-is _ _ (sym found.1 ∙ opens v.items short) in
-    subst (λ (l : List ℕ). IsWholeOf l n) same found.2
+    bare_read n (areas_in (Some v)) false v.items refl refl (opens v.items short)
+    (read.held (λ e. absurd cc))
 
 pub all-begin : (shape : Shaped) (images : List Image) (disks : List MemoryDisk)
     (nodes : List WholeNode) → AreDisksOf images disks
@@ -100,14 +100,16 @@ two-ages shape images disks sender receiver are h = record {
 
 other-in : (shape : Shaped) (k : ℕ) (i : Image) → IsShort i → HoldsAnother shape k (areas_in i)
     → HoldsOther shape k i
-other-in shape k None short h = let none = h.opens.1 in absurd cc
+other-in shape k None short h = absurd (keeps_some (alone h.node) blank h.opens refl)
 other-in shape k (Some v) short h =
-    let same : h.opens.0 ≡ v.items = some-is _ _ (sym h.opens.1 ∙ opens v.items short) in
-    (h.node, subst (λ (l : List ℕ). IsImageOf l h.node) same h.opens.2, h.is_other)
+    let whole = bare_read (alone h.node) (areas_in (Some v)) false v.items refl refl
+    (opens v.items short) h.opens in
+    (h.node, whole.0, h.is_other)
 
 none-in : (i : Image) → HoldsNone (areas_in i) → HoldsNoImage i
 none-in None h = h.written refl
-none-in (Some v) h = λ n fits whole. h.none n (v.items, opens v.items fits, whole)
+none-in (Some v) h = λ n fits whole.
+    h.none n (keeps_read n (areas_in (Some v)) (v.items, opens v.items fits, whole))
 
 large-in : (shape : Shaped) (k : ℕ) (i : Image) → cells.IsTooLarge shape k (areas_in i)
     → IsTooLarge shape k i

@@ -16,7 +16,7 @@ use Rattle.disk.specs.Memory.{held_by, left_by}
 use Rattle.wire.specs.Readers.{known, outbox, seat_node, IsSame}
 use Rattle.wire.specs.Views.{raises}
 use Rattle.cell.specs.Cells.{GoesOn}
-use Rattle.cell.specs.Disks.{is_same_image, HoldsSaved, OpensToNode}
+use Rattle.cell.specs.Disks.{is_same_node, HoldsSaved, OpensToNode}
 use Rattle.cell.specs.Pumping.{PumpedIn}
 use Rattle.cell.specs.Sending.{frame_due, places_after, IsSent}
 use Rattle.wire.specs.declared.pumped.Inbound.{Inbound}
@@ -196,10 +196,10 @@ pub record ReopenedAs (old new : SeatedCell) (r : Result (Unit {0}) Refusal) : T
     trace = new.cell.trace;
   })
   pub knows : OnOk r (known new.cell.seat
-      ≡ events.reopened_by (is_same_image new.cell.node.core old.cell.saved)
+      ≡ events.reopened_by (is_same_node new.cell.node.core old.cell.saved)
       (known old.cell.seat))
   pub entered : OnOk r (events.Entered
-      (events.found_step (is_same_image new.cell.node.core old.cell.saved)
+      (events.found_step (is_same_node new.cell.node.core old.cell.saved)
       (known old.cell.seat).me) (known old.cell.seat) (known new.cell.seat))
   pub restarted : OnOk r (IsTrue old.cell.is_open
       ⊎ HoldsSaved (left_by old.cell.disk) old.cell.saved

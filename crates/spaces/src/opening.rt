@@ -15,6 +15,7 @@ use crate::watching::SeatedWatch;
 use cell::{Cell, Unopened, open};
 use disk::MemoryDisk;
 use ids::{GREATEST_IMAGE, Refusal, Shape};
+use replays::Saves;
 use std::alloc::Global;
 use std::sync::Arc;
 use values::Fault;
@@ -98,7 +99,7 @@ pub(crate) fn begin(
     ensures refused { IfErr result (IsWhy shape images.now) }
 {
     let disks = disks_of(alloc, images)?;
-    match open(alloc, shape, disks, watches) {
+    match open(alloc, shape, disks, watches, Saves::Images) {
         Ok(opened) => Ok(opened),
         Err(unopened) => Err(fault_of(unopened)),
     }

@@ -17,6 +17,7 @@ ghost use Rattle.supervisor.specs.declared.cells.TheConstants.{WATCHES};
 use cell::{Cell, Naming, SharedOn, Unopened};
 use disk::Disk;
 use ids::{Refusal, Shape};
+use replays::Saves;
 use settings::OpenFault;
 use std::alloc::Global;
 use std::sync::Arc;
@@ -94,7 +95,7 @@ pub(crate) fn open_alone<D: Disk + Drop>(
         (IfUnopened (IfAges (λ _ _. ⊥))) }
     ensures begun { IfOk result (λ r. HaveBegun r.1.items) }
 {
-    match cell::open(alloc, shape, disks, WATCHES) {
+    match cell::open(alloc, shape, disks, WATCHES, Saves::Images) {
         Ok(opened) => Ok(opened),
         Err(Unopened::Disks) => Err(OpenFault::Disks),
         Err(Unopened::Another { node }) => Err(OpenFault::Another { node }),

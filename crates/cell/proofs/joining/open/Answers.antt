@@ -4,7 +4,7 @@ use Rattle.std.proofs.lemmas.List.{length-map}
 use Rattle.std.proofs.lemmas.Option.{slice_get_within}
 use Rattle.std.proofs.lemmas.Result.{err_from_is_err_and}
 use Rattle.node.specs.Keeping.{WholeNode}
-use Rattle.image.proofs.Spelled.{kept_is}
+use Rattle.replays.proofs.Stores.{keeps_kept}
 use Rattle.cell.specs.Ages.{AreOfOneAge}
 use Rattle.cell.specs.Opened.{AreBeside, IsNodeOf, IsReadFrom, cores, world_of}
 use Rattle.cell.specs.Reached.{IsReached}
@@ -20,7 +20,7 @@ join-requires g c = λ κs within. (
   within,
   (
     opened c.args.shape _ c.in_ok-nodes.ensures.count
-        (found-kept (λ m s lies. kept_is lies.1.0 m.core lies.1.2.0) c.in_ok-nodes.ensures.found),
+        (found-kept (λ m s lies. keeps_kept m _ lies.1) c.in_ok-nodes.ensures.found),
     c.in_ok-nodes.ensures.found,
   ),
 )
@@ -38,7 +38,7 @@ returns-in-Ok-clause-shaped g c =
     subst (λ (l : List WholeNode).
     (k : ℕ) (n : WholeNode) → slice_get l k ≡ Some n → IsNodeOf c.args.shape k n.core)
     (sym c.in-Ok.ensures.nodes) (λ k n there.
-    let shelf = some_at c.in_ok-nodes.shelves.items k
+    let shelf = some_at c.in_ok-nodes.stores.items k
     (omega (arith, slice_get_within nodes k n there, found.same)) in
     (found.each k n shelf.0 there shelf.1).0)
 
