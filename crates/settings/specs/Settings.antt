@@ -1,27 +1,41 @@
 -- What a TOML document says about a space.
-use Rattle.std.specs.Prelude.{ℕ, ℤ, pos, ◌==◌, ◌&&◌, nat_le, suc, cond, List, Option, Some, None, codes, is_some, option_and_then, option_map, string_bytes}
+use Rattle.std.specs.Prelude.{ℕ, ℤ, pos, ◌==◌, ◌&&◌, nat_le, suc, cond, Bool, List, Option, Some, None, codes, is_some, option_and_then, option_map, string_bytes}
 use Rattle.ids.specs.Limits.{Shaped}
 use Rattle.ids.specs.declared.limits.TheConstants.{LEAST_NODES, GREATEST_NODES}
 use Rattle.ids.specs.declared.limits.TheConstants.{GREATEST_REGISTERS, GREATEST_SLOTS}
 use Rattle.toml.specs.Data.{Data, Members, no_members, member, as_integer, as_str, get_member}
 use Rattle.toml.specs.Parse.{parse_document}
+use Rattle.std.specs.Str.{bytes_eq}
+use Rattle.replays.specs.declared.place.Saves.{Saves}
+use Rattle.replays.specs.declared.place.Saves.TheVariants.{Events, Images}
 use Rattle.settings.specs.declared.config.Config.{Config}
 use Rattle.settings.specs.declared.config.Found.{Found}
 use Rattle.settings.specs.declared.config.TheConstants.{GREATEST_TURNS}
 
--- the sizes of a space, the most turns of a worker, and the folder of its disks
+-- the sizes of a space, the most turns of a worker, the folder of its disks, and how they save
 pub record Settings : Type 0 where
   pub shape : Shaped
   pub turns : ℕ
   pub folder : Option (List ℕ)
+  pub saves : Saves
 
 abbrev pub settings_of : Config → Settings
 settings_of c =
-    record { shape = c.shape; turns = c.turns; folder = option_map (λ s. string_bytes s) c.folder }
+    record {
+      shape = c.shape;
+      turns = c.turns;
+      folder = option_map (λ s. string_bytes s) c.folder;
+      saves = c.saves;
+    }
 
 abbrev pub found_settings : Found → Settings
 found_settings f =
-    record { shape = f.shape; turns = f.turns; folder = option_map (λ s. s.now) f.folder }
+    record {
+      shape = f.shape;
+      turns = f.turns;
+      folder = option_map (λ s. s.now) f.folder;
+      saves = f.saves;
+    }
 
 -- a number within these limits
 abbrev pub within : ℕ → ℕ → Option ℤ → Option ℕ
@@ -37,10 +51,25 @@ abbrev pub folder_in : Option Data → Option (Option (List ℕ))
 folder_in None = Some None
 folder_in (Some d) = option_map (λ s. Some s) (as_str d)
 
+-- the ways to save by their names
+abbrev pub named_saves : List ℕ → Option Saves
+named_saves name =
+    cond (bytes_eq name (codes "images")) (Some Images)
+    (cond (bytes_eq name (codes "events")) (Some Events) None)
+
+-- the way that a string names; images if nothing is said
+abbrev pub saves_in : Option Data → Option Saves
+saves_in None = Some Images
+saves_in (Some d) = option_and_then named_saves (as_str d)
+
 -- how many keys there are; each key occurs once in a table
 abbrev pub count_keys : Members → ℕ
 count_keys no_members = 0
 count_keys (member key d ms) = suc (count_keys ms)
+
+-- how many keys there are with a folder and a way to save, or without
+abbrev pub keys_with : Bool → Bool → ℕ
+keys_with folder saves = cond folder (cond saves 6 5) (cond saves 5 4)
 
 abbrev pub shape_at : Members → Option Shaped
 shape_at t =
@@ -50,12 +79,14 @@ shape_at t =
     (number_at (codes "registers") 1 GREATEST_REGISTERS t))
     (number_at (codes "nodes") LEAST_NODES GREATEST_NODES t)
 
--- the four required keys, the folder if it is there, and no other key
+-- the four required keys, the folder and the way to save if they are there, and no other key
 abbrev pub table_settings : Members → Option Settings
 table_settings t =
     option_and_then (λ shape. option_and_then (λ turns. option_and_then (λ folder.
-    cond (count_keys t == cond (is_some folder) 5 4)
-    (Some (record { shape = shape; turns = turns; folder = folder })) None)
+    option_and_then (λ saves.
+    cond (count_keys t == keys_with (is_some folder) (is_some (get_member (codes "saves") t)))
+    (Some (record { shape = shape; turns = turns; folder = folder; saves = saves })) None)
+    (saves_in (get_member (codes "saves") t)))
     (folder_in (get_member (codes "folder") t)))
     (number_at (codes "turns") 1 GREATEST_TURNS t))
     (shape_at t)

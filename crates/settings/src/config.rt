@@ -6,18 +6,19 @@ ghost use Rattle.toml.specs.Data.{as_integer, get_member};
 ghost use Rattle.toml.specs.View.{table_view, view};
 ghost use Rattle.settings.specs.Settings.{count_keys, found_settings, settings_of, folder_in};
 ghost use Rattle.settings.specs.Settings.{number_at, shape_at, table_settings, text_settings};
-ghost use Rattle.settings.specs.Settings.{within};
+ghost use Rattle.settings.specs.Settings.{keys_with, named_saves, saves_in, within};
 ghost use Rattle.settings.specs.declared.fault.OpenFault.TheVariants as fault;
 
 use crate::fault::OpenFault;
 use ids::{GREATEST_NODES, GREATEST_REGISTERS, GREATEST_SLOTS, LEAST_NODES, Shape};
+use replays::Saves;
 use std::alloc::Global;
 use toml::{Table, Value};
 
 /// The greatest number of turns that a worker may be given.
 pub const GREATEST_TURNS: u32 = 1_000_000;
 
-/// How many keys a configuration has, not counting `folder`.
+/// How many keys a configuration has, not counting `folder` and `saves`.
 const KEYS: usize = 4;
 
 /// How a space is to be opened and run.
@@ -29,6 +30,8 @@ pub struct Config {
     pub turns: u32,
     /// The folder in which each node has a folder for its disk; `None` for disks in memory.
     pub folder: Option<String>,
+    /// How the nodes are saved.
+    pub saves: Saves,
 }
 
 // The contents of a table.
@@ -37,12 +40,14 @@ struct Found<'a> {
     shape: Shape,
     turns: u32,
     folder: Option<&'a str>,
+    saves: Saves,
 }
 
 impl Config {
     /// Reads a TOML document that has these keys at its top level and no others: `nodes`, 2 to 64;
     /// `registers`, 1 to 256; `slots`, 1 to 1,048,576; `turns`, 1 to 1,000,000; and optionally
-    /// `folder`, a string.
+    /// `folder`, a string, and `saves`. The latter is `"images"`, also if it is absent, or
+    /// `"events"`.
     ///
     /// `Config` exactly if the text isn't such a document. `Memory` may come instead of either
     /// result.
@@ -85,6 +90,7 @@ fn config_in(alloc: Global, table: &Table) -> Result<Config, OpenFault>
         shape: found.shape,
         turns: found.turns,
         folder,
+        saves: found.saves,
     })
 }
 
@@ -95,22 +101,27 @@ fn found_in(table: &Table) -> Option<Found<'_>>
     let shape = shape_in(table)?;
     let turns = number_at(table, "turns", 1, GREATEST_TURNS)?;
     let folder = folder_in(value_at(table, "folder"))?;
-    if !has_keys(table, folder.is_some()) {
+    let named = value_at(table, "saves");
+    let saves = saves_in(named)?;
+    if !has_keys(table, folder.is_some(), named.is_some()) {
         return None;
     }
     Some(Found {
         shape,
         turns,
         folder,
+        saves,
     })
 }
 
-// Whether a table has as many keys as a configuration with a folder, or without.
-fn has_keys(table: &Table, with_folder: bool) -> bool
-    ensures { result ≡ (count_keys (table_view table.now) == cond with_folder 5 4) }
+// Whether a table has as many keys as a configuration with these two, or without.
+fn has_keys(table: &Table, with_folder: bool, with_saves: bool) -> bool
+    ensures { result ≡ (count_keys (table_view table.now)
+        == keys_with with_folder with_saves) }
 {
-    let keys = if with_folder { KEYS + 1 } else { KEYS };
-    count_in(table) == keys
+    let folders = if with_folder { 1 } else { 0 };
+    let ways = if with_saves { 1 } else { 0 };
+    count_in(table) == KEYS + folders + ways
 }
 
 fn count_in(table: &Table) -> usize
@@ -176,6 +187,26 @@ fn folder_in(value: Option<&Value>) -> Option<Option<&str>>
     match value {
         Some(value) => value.as_str().map(Some),
         None => Some(None),
+    }
+}
+
+// The way to save that the value names; without a value, images.
+fn saves_in(value: Option<&Value>) -> Option<Saves>
+    ensures { result ≡ saves_in (option_map (λ v. view v.now) value.entry) }
+{
+    let Some(value) = value else {
+        return Some(Saves::Images);
+    };
+    saves_named(value.as_str()?)
+}
+
+fn saves_named(name: &str) -> Option<Saves>
+    ensures { result ≡ named_saves name.now }
+{
+    match name {
+        "images" => Some(Saves::Images),
+        "events" => Some(Saves::Events),
+        _ => None,
     }
 }
 

@@ -77,6 +77,7 @@ pub(crate) fn open_alone<D: Disk + Drop>(
     alloc: Global,
     shape: Shape,
     disks: Vec<D>,
+    saves: Saves,
 ) -> Result<(Wire, Vec<Cell<D>>, Vec<Watch>), OpenFault>
     ensures disks { vec_len disks ≢ shape.nodes → IsErrOf result fault.Disks }
     ensures why { IfErr result
@@ -95,7 +96,7 @@ pub(crate) fn open_alone<D: Disk + Drop>(
         (IfUnopened (IfAges (λ _ _. ⊥))) }
     ensures begun { IfOk result (λ r. HaveBegun r.1.items) }
 {
-    match cell::open(alloc, shape, disks, WATCHES, Saves::Images) {
+    match cell::open(alloc, shape, disks, WATCHES, saves) {
         Ok(opened) => Ok(opened),
         Err(Unopened::Disks) => Err(OpenFault::Disks),
         Err(Unopened::Another { node }) => Err(OpenFault::Another { node }),

@@ -80,7 +80,7 @@ impl<D: Disk + Drop> Opened<D> {
             (IfUnopened (IfAges (λ _ _. ⊥))) }
     {
         let shape = config.shape;
-        let (wire, cells, watches) = open_alone(alloc, shape, disks)?;
+        let (wire, cells, watches) = open_alone(alloc, shape, disks, config.saves)?;
         Ok(Opened {
             alloc,
             plan: Plan {

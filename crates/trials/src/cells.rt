@@ -14,7 +14,6 @@ use ids::{Refusal, Shape};
 use lines::SummaryText;
 use model::{Answer, Event};
 use node::Node;
-use replays::Saves;
 use std::alloc::Global;
 use wire::{Inbound, Outbound, Watch, Wire};
 
