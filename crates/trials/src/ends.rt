@@ -3,7 +3,7 @@ ghost use Rattle.std.specs.Prelude.{◌≡◌, false, is_some, IfOk};
 
 use crate::play::Play;
 use crate::spaces::{MANY, config_of};
-use cases::{CaseError, CaseLine, Out, Size, Subject, disks_in, number, verb};
+use cases::{CaseError, CaseLine, Out, Size, disks_in, number, verb};
 use disk::FileDisk;
 use ids::Refusal;
 use std::alloc::Global;
@@ -16,7 +16,7 @@ use supervisor::{OpenFault, Space};
 
 /// A case for such a space.
 #[derive(Drop)]
-pub(crate) struct Ends<'a, R> {
+struct Ends<'a, R> {
     rt: &'a R,
     alloc: Global,
     play: Play<'a, R, FileDisk>,
@@ -27,7 +27,7 @@ where
     R: Files<File = File> + Clock + Threads + Wait + Clone + Send + Sync + Drop + 'static,
 {
     /// No space yet.
-    pub(crate) fn new(rt: &'a R, alloc: Global, lines: &'a [CaseLine<'a>]) -> Ends<'a, R> {
+    fn new(rt: &'a R, alloc: Global, lines: &'a [CaseLine<'a>]) -> Ends<'a, R> {
         Ends {
             rt,
             alloc,
@@ -47,12 +47,7 @@ where
         self.play.set(space, size.nodes, out);
         Ok(())
     }
-}
 
-impl<R> Subject for Ends<'_, R>
-where
-    R: Files<File = File> + Clock + Threads + Wait + Clone + Send + Sync + Drop + 'static,
-{
     fn take(&mut self, words: &[&str], out: &mut Out) -> Result<(), CaseError> {
         if verb(words) == "open" {
             self.open(words, out)
@@ -60,6 +55,23 @@ where
             self.play.take(words, out)
         }
     }
+}
+
+/// Does what the lines of a case say.
+pub(crate) fn run<R>(
+    rt: &R,
+    alloc: Global,
+    lines: &[CaseLine<'_>],
+    out: &mut Out,
+) -> Result<(), CaseError>
+where
+    R: Files<File = File> + Clock + Threads + Wait + Clone + Send + Sync + Drop + 'static,
+{
+    let mut ends = Ends::new(rt, alloc, lines);
+    for line in lines {
+        ends.take(out.at(line), out)?;
+    }
+    Ok(())
 }
 
 // A space of this size on the disks in this folder.

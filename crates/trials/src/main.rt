@@ -17,12 +17,8 @@ mod space;
 mod spaces;
 mod turns;
 
-use crate::ends::Ends;
-use crate::spaces::Spaces;
 use cases::nodes::shape_of;
-use cases::{
-    CaseError, CaseLine, Out, arenas, disks, files, nodes, read, read_lines, take_all, verb,
-};
+use cases::{CaseError, CaseLine, Out, arenas, disks, files, nodes, read, read_lines, verb};
 use std::alloc::Global;
 use std::fs::File;
 use std::io;
@@ -141,8 +137,8 @@ where
     match subject {
         "node" => nodes::run(alloc, lines, out),
         "disk" => disks::run(alloc, lines, out),
-        "ends" => take_all(Ends::new(rt, alloc, lines), lines, out),
-        "space" => take_all(Spaces::new(rt, alloc, lines), lines, out),
+        "ends" => ends::run(rt, alloc, lines, out),
+        "space" => spaces::run(rt, alloc, lines, out),
         "opening" => openings::run(rt, alloc, lines, out),
         "files" => files::run(rt, lines, out),
         "wire" => mailboxes::run(alloc, lines, out),

@@ -4,7 +4,7 @@ ghost use Rattle.std.specs.Prelude.{◌≡◌, false, is_some, IfOk};
 use crate::once::once;
 use crate::play::Play;
 use crate::space::meet;
-use cases::{CaseError, CaseLine, Out, Size, Subject, blank_disks, number, verb};
+use cases::{CaseError, CaseLine, Out, Size, blank_disks, number, verb};
 use disk::MemoryDisk;
 use std::alloc::Global;
 use std::sync::Wait;
@@ -52,7 +52,7 @@ fn opened(
 
 /// A case for such spaces.
 #[derive(Drop)]
-pub(crate) struct Spaces<'a, R> {
+struct Spaces<'a, R> {
     rt: &'a R,
     alloc: Global,
     failing: Option<Failing>,
@@ -64,7 +64,7 @@ where
     R: Clock + Threads + Wait + Clone + Send + Sync + Drop + 'static,
 {
     /// No space yet.
-    pub(crate) fn new(rt: &'a R, alloc: Global, lines: &'a [CaseLine<'a>]) -> Spaces<'a, R> {
+    fn new(rt: &'a R, alloc: Global, lines: &'a [CaseLine<'a>]) -> Spaces<'a, R> {
         Spaces {
             rt,
             alloc,
@@ -85,12 +85,8 @@ where
         self.play.set(space, size.nodes, out);
         Ok(())
     }
-}
 
-impl<R> Subject for Spaces<'_, R>
-where
-    R: Clock + Threads + Wait + Clone + Send + Sync + Drop + 'static,
-{
+    // (No method of `Subject`: what such a method sends to a thread isn't covered by its bounds.)
     fn take(&mut self, words: &[&str], out: &mut Out) -> Result<(), CaseError> {
         match verb(words) {
             "open" => self.open(words, out),
@@ -106,6 +102,23 @@ where
             _ => self.play.take(words, out),
         }
     }
+}
+
+/// Does what the lines of a case say.
+pub(crate) fn run<R>(
+    rt: &R,
+    alloc: Global,
+    lines: &[CaseLine<'_>],
+    out: &mut Out,
+) -> Result<(), CaseError>
+where
+    R: Clock + Threads + Wait + Clone + Send + Sync + Drop + 'static,
+{
+    let mut spaces = Spaces::new(rt, alloc, lines);
+    for line in lines {
+        spaces.take(out.at(line), out)?;
+    }
+    Ok(())
 }
 
 // Runs the code of docs/EMBEDDING.md in a space of two nodes.

@@ -80,7 +80,8 @@ impl Core {
         ensures { Performed false result self.old self.new
             (view_done self.old (handed_on self.old.local)) }
     {
-        let (ring, token) = self.forward();
+        let mut ring = self.ring;
+        let token = ring.forward();
         let previous = self.own - 1;
         self.send(previous, Body::Token(token))?;
         self.set_ring(ring);
@@ -95,8 +96,8 @@ impl Core {
         ensures { Performed false result self.old self.new
             (view_done self.old (judged self.old.local)) }
     {
-        let (ring, verdict) = self.verdict();
-        match verdict {
+        let mut ring = self.ring;
+        match ring.verdict() {
             Verdict::Ended => {
                 let cycle = self.cycle();
                 self.tell(Body::Ended)?;

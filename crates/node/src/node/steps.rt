@@ -1,23 +1,22 @@
 //! The steps of an event that can't fail. Each is one of the definitions, and keeps what holds of
 //! every node.
-ghost use Rattle.std.specs.Prelude.{◌≡◌, ◌≢◌, ◌==◌, ◌+◌, ◌<◌, ◌≤◌, ◌^◌, false, [], Some, None, is_some, length, nat_lt, IsTrue, IsSome, IfOk, OnOk};
+ghost use Rattle.std.specs.Prelude.{◌≡◌, ◌≢◌, ◌==◌, ◌+◌, ◌<◌, ◌≤◌, ◌^◌, false, [], Some, None, is_some, length, nat_lt, IsTrue, IfOk, OnOk};
 ghost use Rattle.ids.specs.declared.limits.TheConstants.{GREATEST_CYCLE};
 ghost use Rattle.model.specs.Checks.{guarded};
 ghost use Rattle.control.specs.Phases.{MayBegin, advanced, all_swept, with_ended, with_report};
-ghost use Rattle.model.specs.Collecting.{begin_tests, forwarded, unswept, whitened, without_token};
+ghost use Rattle.model.specs.Collecting.{begin_tests, unswept};
 ghost use Rattle.model.specs.Heaps.{load_tests, object_at, place_loaded, place_of, with_place, with_register};
 ghost use Rattle.model.specs.References.{IfAny, IsWithin};
 ghost use Rattle.model.specs.Shading.{is_calm};
 ghost use Rattle.model.specs.State.{got_from};
 ghost use Rattle.model.specs.Steps.{count_in};
-ghost use Rattle.safra.specs.Verdicts.{judged_ring, verdict_of};
 ghost use Rattle.node.specs.Cycles.{slots_swept};
 ghost use Rattle.node.specs.Taking.{IsSender};
 
 use super::Core;
 use ids::{Ref, Refusal};
 use msg::{Body, Token};
-use safra::{Ring, Verdict, balance_of};
+use safra::{Ring, balance_of};
 
 impl Core {
     /// The node's cycle.
@@ -63,30 +62,6 @@ impl Core {
         ensures { result ≡ is_some self.now.local.ring.token }
     {
         self.ring.token().is_some()
-    }
-
-    /// The token that the node passes on, and its part of the ring after that.
-    #[inline(always)]
-    pub(super) fn forward(&self) -> (Ring, Token)
-        requires { IsSome self.now.local.ring.token }
-        ensures ring { result.0 ≡ whitened (without_token self.now.local.ring) }
-        ensures token { result.1 ≡ forwarded self.now.local.ring }
-    {
-        let mut ring = self.ring;
-        let token = ring.forward();
-        (ring, token)
-    }
-
-    /// What node 0 finds by the token, and its part of the ring after that.
-    #[inline(always)]
-    pub(super) fn verdict(&self) -> (Ring, Verdict)
-        requires { IsSome self.now.local.ring.token }
-        ensures ring { result.0 ≡ judged_ring self.now.local.ring }
-        ensures verdict { result.1 ≡ verdict_of self.now.local.ring }
-    {
-        let mut ring = self.ring;
-        let verdict = ring.verdict();
-        (ring, verdict)
     }
 
     /// Whether a message of this stamp is from before the node's cycle. Its sender hadn't joined

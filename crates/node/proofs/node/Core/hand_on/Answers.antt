@@ -1,7 +1,7 @@
 use Rattle.std.proofs.Common.{◌≡◌, ◌-◌, false, Ok, Err, ap, subst}
 use Rattle.std.proofs.lemmas.Result.{err_from_is_err_and}
 use Rattle.model.specs.declared.event.Answer.TheVariants as answer
-use Rattle.model.specs.Collecting.{handed_on}
+use Rattle.model.specs.Collecting.{forwarded, handed_on, whitened, without_token}
 use Rattle.model.specs.Effects.{Effect, answers}
 use Rattle.model.specs.View.{NodeView, Performed, view_done}
 use Rattle.node.proofs.Events.{effect-performed, effect-refused}
@@ -13,15 +13,18 @@ use Rattle.node.proofs.node.Core.hand_on.Goals.{After-send}
 abbrev read : After-send → Effect
 read c =
     answers
-    (sends_token c.args.self.now.local (c.self.inside.own - 1) c.forward-ring.result.1
-    c.forward-ring.result.0)
-    (answer.Passed c.forward-ring.result.1)
+    (sends_token c.args.self.now.local (c.self.inside.own - 1) c.forward-token.result
+    c.forward-token.new.self)
+    (answer.Passed c.forward-token.result)
 
 is : (c : After-send) → read c ≡ handed_on c.args.self.now.local
 is c =
     handed-is c.args.self.now.local
     (ap (λ (m : NodeView). m.local.own - 1) c.self.view_is)
-    c.forward-ring.ensures.token c.forward-ring.ensures.ring
+    (subst (λ (m : NodeView). c.forward-token.result ≡ forwarded m.local.ring) c.self.view_is
+    c.forward-token.ensures.token)
+    (subst (λ (m : NodeView). c.forward-token.new.self ≡ whitened (without_token m.local.ring))
+    c.self.view_is c.forward-token.ensures.done)
 
 pub returns-in_err-send : goal.returns-in_err-send
 returns-in_err-send c =
@@ -41,7 +44,7 @@ returns c =
     let left = c.in_ok-send.ensures in
     let n : NodeView = c.args.self.now in
     subst
-    (λ (x : Effect). Performed false (Ok (answer.Passed c.forward-ring.result.1)) n
+    (λ (x : Effect). Performed false (Ok (answer.Passed c.forward-token.result)) n
     c.set_ring.new.self (view_done n x))
     (is at)
     (effect-performed (read at) (token-run _ _ _ left.fits left.done c.set_ring.ensures))

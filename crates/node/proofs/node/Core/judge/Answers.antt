@@ -2,6 +2,8 @@ use Rattle.std.proofs.Common.{◌≡◌, ◌-◌, ℕ, false, Ok, Err, ap, sym, 
 use Rattle.std.proofs.lemmas.Result.{err_from_is_err_and}
 use Rattle.msg.specs.declared.body.Body.TheVariants as body
 use Rattle.control.specs.Phases.{with_ended}
+use Rattle.safra.specs.declared.verdict.Verdict.TheVariants.{Ended, Probe}
+use Rattle.safra.specs.Verdicts.{judged_ring, verdict_of}
 use Rattle.model.specs.declared.event.Answer.TheVariants as answer
 use Rattle.model.specs.Collecting.{judged}
 use Rattle.model.specs.Counting.{announce}
@@ -22,15 +24,18 @@ abbrev ended : After-tell → Effect
 ended c =
     answers
     (record {
-      local = ended_local c.args.self.now.local c.verdict-ring.result.0;
+      local = ended_local c.args.self.now.local c.verdict.new.self;
       sends = (announce body.Ended c.args.self.now.local).sends;
     })
     (answer.Ended c.args.self.now.local.phases.cycle)
 
 ended-same : (c : After-tell) → ended c ≡ judged c.args.self.now.local
 ended-same c =
-    ended-is c.args.self.now.local c.verdict-ring.result.0 c.verdict-ring.ensures.ring
-    (sym c.verdict-ring.ensures.verdict ∙ c.in-Ended.is)
+    ended-is c.args.self.now.local c.verdict.new.self
+    (subst (λ (m : NodeView). c.verdict.new.self ≡ judged_ring m.local.ring) c.self.view_is
+    c.in-Ended.ensures.done)
+    (subst (λ (m : NodeView). verdict_of m.local.ring ≡ Ended) c.self.view_is
+    (sym c.in-Ended.ensures.verdict))
 
 pub returns-in_err-tell-in-Ended : goal.returns-in_err-tell-in-Ended
 returns-in_err-tell-in-Ended c =
@@ -53,14 +58,16 @@ told c =
 
 pub set_ring-requires-clause-earlier : goal.set_ring-requires-clause-earlier
 set_ring-requires-clause-earlier c =
-    ap (λ (r : Ring). r.earlier) c.verdict-ring.ensures.ring
+    ap (λ (r : Ring). r.earlier) c.in-Ended.ensures.done
+    ∙ ap (λ (m : NodeView). m.local.ring.earlier) c.self.view_is
     ∙ sym (ap (λ (p : LocalState). p.ring.earlier)
     (ap (λ (m : NodeView). m.local) c.in_ok-tell-in-Ended.ensures.runs.done.now
     ∙ told-local c.args.self.now.local body.Ended))
 
 pub set_ring-requires-clause-recent : goal.set_ring-requires-clause-recent
 set_ring-requires-clause-recent c =
-    ap (λ (r : Ring). r.recent) c.verdict-ring.ensures.ring
+    ap (λ (r : Ring). r.recent) c.in-Ended.ensures.done
+    ∙ ap (λ (m : NodeView). m.local.ring.recent) c.self.view_is
     ∙ sym (ap (λ (p : LocalState). p.ring.recent)
     (ap (λ (m : NodeView). m.local) c.in_ok-tell-in-Ended.ensures.runs.done.now
     ∙ told-local c.args.self.now.local body.Ended))
@@ -77,7 +84,7 @@ returns-in_ok-tell-in-Ended c =
     let at = goal.at.returns-in_ok-tell-in-Ended c in
     let n : NodeView = c.args.self.now in
     let is = told at.After-set_ring in
-    let run = run-then (λ (p : LocalState). ended_local p c.verdict-ring.result.0)
+    let run = run-then (λ (p : LocalState). ended_local p c.verdict.new.self)
     c.in_ok-tell-in-Ended.ensures.runs.done
     (c.end_marking.ensures
     ∙ ap (λ (m : NodeView). record m {
@@ -95,7 +102,7 @@ returns-in_ok-tell-in-Ended c =
     (subst
     (λ (p : LocalState). IsRun
     (record {
-      local = ended_local p c.verdict-ring.result.0;
+      local = ended_local p c.verdict.new.self;
       sends = (announce body.Ended n.local).sends;
     }) n c.end_marking.new.self)
     (told-local n.local body.Ended) run)))
@@ -106,15 +113,18 @@ abbrev again : After-send → Effect
 again c =
     answers
     (sends_token c.args.self.now.local (c.nodes-last.result - 1) c.in-Probe.token
-    c.verdict-ring.result.0)
+    c.verdict.new.self)
     answer.ProbeAgain
 
 again-same : (c : After-send) → again c ≡ judged c.args.self.now.local
 again-same c =
-    again-is c.args.self.now.local c.verdict-ring.result.0 c.verdict-ring.ensures.ring
+    again-is c.args.self.now.local c.verdict.new.self
+    (subst (λ (m : NodeView). c.verdict.new.self ≡ judged_ring m.local.ring) c.self.view_is
+    c.in-Probe.ensures.done)
     (ap (λ (k : ℕ). k - 1) c.nodes-last.ensures.value
     ∙ ap (λ (m : NodeView). m.local.shape.nodes - 1) c.self.view_is)
-    (sym c.verdict-ring.ensures.verdict ∙ c.in-Probe.is)
+    (subst (λ (m : NodeView). verdict_of m.local.ring ≡ Probe c.in-Probe.token) c.self.view_is
+    (sym c.in-Probe.ensures.verdict))
 
 pub returns-in_err-send-in-Probe : goal.returns-in_err-send-in-Probe
 returns-in_err-send-in-Probe c =
