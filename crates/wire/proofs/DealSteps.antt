@@ -32,24 +32,24 @@ module _ {S : Type 0} (bytes : S → List ℕ) (opening : World) where
 
   -- the dealer becomes `left`, and the new seat is `right`
   record Deal : Type 0 where
-      pub s : State S Known
-      pub h : Holds bytes opening s
-      pub id : ℕ
-      pub v : Known
-      pub left : Known
-      pub right : Known
-      pub at : get_elem? s.views id ≡ some v
-      pub was : v.role ≡ dealer
-      pub role : left.role ≡ dealer
-      pub no_dealer : right.role ≢ dealer
-      pub left_ok : DealerOk opening h.log (slice_index s.words (n * n + 1)) h.mail
-          (Seats s.views left right id) id left
-      pub right_ok : SeatOk opening h.log (slice_index s.words (n * n + 1))
-          (Seats s.views left right id) h.mail (length (set s.views id left)) right right.role
-      pub alone : right.role ≡ node → (k : ℕ) (u : Known) → get_elem? s.views k ≡ some u
-          → u.role ≡ node → u.me ≢ right.me
-      pub left_seen : Continues left.seen h.log
-      pub right_seen : Continues right.seen h.log
+    pub s : State S Known
+    pub h : Holds bytes opening s
+    pub id : ℕ
+    pub v : Known
+    pub left : Known
+    pub right : Known
+    pub at : get_elem? s.views id ≡ some v
+    pub was : v.role ≡ dealer
+    pub role : left.role ≡ dealer
+    pub no_dealer : right.role ≢ dealer
+    pub left_ok : DealerOk opening h.log (slice_index s.words (n * n + 1)) h.mail
+        (Seats s.views left right id) id left
+    pub right_ok : SeatOk opening h.log (slice_index s.words (n * n + 1))
+        (Seats s.views left right id) h.mail (length (set s.views id left)) right right.role
+    pub alone : right.role ≡ node → (k : ℕ) (u : Known) → get_elem? s.views k ≡ some u
+        → u.role ≡ node → u.me ≢ right.me
+    pub left_seen : Continues left.seen h.log
+    pub right_seen : Continues right.seen h.log
 
   -- which seats there are after a deal
   among : (s : State S Known) (id : ℕ) (left right : Known) (k : ℕ) (u : Known)
