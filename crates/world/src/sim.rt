@@ -90,7 +90,6 @@ impl Sim {
     ///
     /// Steps one after another are a run of the definitions, without those that fail with `Memory`
     /// or `ImageTooLarge`. In that run, a `Next` of a message that waits is its delivery.
-    #[inline(always)]
     pub fn step(&mut self, step: Step) -> Result<Outcome, Refusal>
         requires own { IsTrue (is_own_step step) }
         ensures { SteppedSpace result self.old self.new step }
