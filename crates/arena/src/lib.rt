@@ -149,8 +149,8 @@ impl<T> Arena<T> {
     /// of `free`.
     ///
     /// It fails only with [`ArenaError::Shape`]: if there are more slots than the limit, or a
-    /// generation is below [`FIRST_GENERATION`], or `free` doesn't list exactly the free slots, each
-    /// once. What it refuses is dropped.
+    /// generation is below [`FIRST_GENERATION`], or `free` doesn't list exactly the free slots,
+    /// each once. What it refuses is dropped.
     pub fn from_slots(limit: u32, slots: Slots<T>, free: &[u32]) -> Result<Self, ArenaError>
     where
         T: Drop,

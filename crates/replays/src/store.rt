@@ -1,5 +1,5 @@
-//! A store keeps a node on a shelf, each time as its image, or in a journal, as its events since the
-//! last save. Which of the two it is was chosen when the node was found or created.
+//! A store keeps a node on a shelf, each time as its image, or in a journal, as its events since
+//! the last save. Which of the two it is was chosen when the node was found or created.
 ghost use Rattle.std.specs.Prelude.{◌≡◌, ◌≢◌, ◌⊎◌, ◌↔◌, ◌<◌, ◌≤◌, [], length, true, false};
 ghost use Rattle.std.specs.Prelude.{IfErr, IfOk, IsErr, IsErrOf, IsTrue, MatchResult, OnOk};
 ghost use Rattle.ids.specs.declared.limits.TheConstants.{GREATEST_IMAGE};
