@@ -11,6 +11,7 @@ ghost use Rattle.std.specs.Prelude.{
   ◌↔◌,
   drop,
   length,
+  nat_lt,
   slice_index_or,
   IsSome,
   IfSome,
@@ -139,6 +140,14 @@ impl Phases {
         ensures { result ≡ self.now.swept }
     {
         self.swept
+    }
+
+    /// Whether a message of this stamp, the cycle that its sender was in, is from before the cycle
+    /// that the node joined last.
+    pub fn is_late(&self, stamp: u64) -> bool
+        ensures { result ≡ nat_lt stamp self.now.cycle }
+    {
+        stamp < self.cycle
     }
 
     /// The next slot to be swept; 0 while there is nothing to be swept.

@@ -69,7 +69,7 @@ impl Core {
     pub(super) fn is_late(&self, stamp: u64) -> bool
         ensures { result ≡ nat_lt stamp self.now.local.phases.cycle }
     {
-        stamp < self.phases.cycle()
+        self.phases.is_late(stamp)
     }
 
     /// What is in a place of an object of this node. `None` if the place is empty, or there is no
