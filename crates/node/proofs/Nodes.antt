@@ -11,7 +11,7 @@ use Rattle.msg.specs.declared.body.Body.{Body}
 use Rattle.msg.specs.declared.body.Message.{Message}
 use Rattle.control.specs.Phases.{IsPhases}
 use Rattle.model.specs.Counting.{balance_of, counted_down, counted_up, stamped}
-use Rattle.model.specs.State.{Heap, Ring, new_phases}
+use Rattle.model.specs.State.{Heap, Phases, Ring, new_phases}
 use Rattle.model.specs.Steps.{is_addressed}
 use Rattle.model.specs.View.{Link, NodeView, no_link, trimmed, all_kept, kept_to, new_view, is_other}
 use Rattle.model.specs.References.{HoldsOnly, IsWithin, IsSendable, no_message}
@@ -30,32 +30,45 @@ use Rattle.node.specs.Taking.{IsSender}
 use Rattle.node.proofs.Appended.{MaySend, linked-appended, numbers-appended, one-may, others-may}
 use Rattle.node.proofs.Balances.{balance-kept, balance-set, balance-trimmed}
 
--- only the heap changed, and it has no fewer slots
-pub node-heap : (n : NodeView) (h : Heap) → IsNode n → HoldsOnly (IsWithin n.local.shape) h
+-- a node with this heap and these phases
+abbrev pub with_swept : NodeView → Heap → Phases → NodeView
+with_swept n h phases = record n { local = record n.local { heap = h; phases = phases } }
+
+-- the phases of a node that has swept this cycle last, and whose cursor is here
+abbrev pub moved : ℕ → ℕ → Phases → Phases
+moved swept cursor p = record p { swept = swept; cursor = cursor }
+
+-- only the heap changed, and how far it is swept
+pub node-moved : (n : NodeView) (h : Heap) {swept cursor : ℕ} → IsNode n
+    → HoldsOnly (IsWithin n.local.shape) h
     → IsStocked n.local.shape n.local.own n.local.phases.cycle n.local.phases.ended h
-    → length n.local.heap.slots ≤ length h.slots
-    → IsNode (record n { local = record n.local { heap = h } })
-node-heap n h old all stocked more = record {
+    → IsPhases (moved swept cursor n.local.phases) → cursor ≤ length h.slots
+    → IsNode (with_swept n h (moved swept cursor n.local.phases))
+node-moved n h old all stocked sound inside = record {
   shape = old.shape;
   own = old.own;
   references = all;
   stocked = stocked;
   asked = old.asked;
   phases = record {
-    phases = old.phases.phases;
-    cursor = omega (arith, old.phases.cursor, more);
+    phases = sound;
+    cursor = inside;
     reports = old.phases.reports;
     heard = old.phases.heard;
   };
   token = old.token;
-  links = record {
-    width = old.links.width;
-    links = old.links.links;
-    messages = old.links.messages;
-    timely = old.links.timely;
-  };
+  links = old.links;
   balance = old.balance;
 }
+
+-- only the heap changed, and it has no fewer slots
+pub node-heap : (n : NodeView) (h : Heap) → IsNode n → HoldsOnly (IsWithin n.local.shape) h
+    → IsStocked n.local.shape n.local.own n.local.phases.cycle n.local.phases.ended h
+    → length n.local.heap.slots ≤ length h.slots
+    → IsNode (record n { local = record n.local { heap = h } })
+node-heap n h old all stocked more =
+    node-moved n h {swept = n.local.phases.swept} {cursor = n.local.phases.cursor} old all stocked
+    old.phases.phases (omega (arith, old.phases.cursor, more))
 
 -- the links and the ring changed
 abbrev pub rewired : NodeView → LinksView → Ring → NodeView

@@ -26,6 +26,7 @@ use Rattle.node.specs.Cycles.{reports, slots_swept}
 use Rattle.node.specs.Errands.{IsRun}
 use Rattle.node.specs.Invariant.{IsNode}
 use Rattle.node.proofs.Events.{effect-performed, effect-refused, past_tests, test_refused}
+use Rattle.node.proofs.Nodes.{moved, node-moved, with_swept}
 
 -- ---- the heap has as many slots as before
 
@@ -91,10 +92,6 @@ rest-is p count all inside =
     (eq-eqb (p.phases.cursor + unswept p) (length p.heap.slots) (omega (arith, inside)))
 
 -- ---- its answers
-
--- the node with this heap and these phases
-abbrev pub with_swept : NodeView → Heap → Phases → NodeView
-with_swept m h phases = record m { local = record m.local { heap = h; phases = phases } }
 
 abbrev swept_local : LocalState → ℕ → Phases → LocalState
 swept_local p k phases = record p { heap = (slots_swept k p).heap; phases = phases }
@@ -173,10 +170,6 @@ module _ (n : NodeView) (count : ℕ) where
 
 -- ---- what holds of every node holds afterwards
 
--- a sweep moves the cursor, and may end
-abbrev pub moved : ℕ → ℕ → Phases → Phases
-moved swept cursor p = record p { swept = swept; cursor = cursor }
-
 -- a node that sweeps knows its marking to have ended
 ended-here : (p : Phases) → IsPhases p → p.swept < p.ended → p.ended ≡ p.cycle
 ended-here p is unfinished = omega (arith, is.ended, is.cycle, unfinished)
@@ -204,26 +197,8 @@ node-swept {n = n} {h = h} {phases = phases} {last = last} {cursor = cursor} cyc
     let slots = some-slots cycle first count before in
     subst (λ (z : Phases). IsNode (with_swept n h z)) (sym m.is)
     (subst (λ (z : Heap). IsNode (with_swept n z (moved last cursor p))) (sym s.heap)
-    (record {
-      shape = old.shape;
-      own = old.own;
-      references = holds-sweep_some (IsWithin n.local.shape) cycle first count before
-          old.references;
-      stocked = stocked-swept n.local.shape n.local.own p.cycle p.ended cycle first count before
-          none old.stocked;
-      asked = old.asked;
-      phases = record {
-        phases = subst IsPhases m.is m.sound;
-        cursor = omega (arith, m.within, slots);
-        reports = old.phases.reports;
-        heard = old.phases.heard;
-      };
-      token = old.token;
-      links = record {
-        width = old.links.width;
-        links = old.links.links;
-        messages = old.links.messages;
-        timely = old.links.timely;
-      };
-      balance = old.balance;
-    }))
+    (node-moved n _ old
+    (holds-sweep_some (IsWithin n.local.shape) cycle first count before old.references)
+    (stocked-swept n.local.shape n.local.own p.cycle p.ended cycle first count before none
+    old.stocked)
+    (subst IsPhases m.is m.sound) (omega (arith, m.within, slots))))

@@ -146,7 +146,7 @@ impl Node {
         ensures { Handled self.old self.new (event.Data frame) result }
     {
         let taken = self.core.taken_from(frame.from);
-        let answer = self.core.perform(Event::Data(frame))?;
+        let answer = self.core.take_in(frame)?;
         keep(&mut self.early, taken, frame, answer);
         Ok(answer)
     }
@@ -156,9 +156,9 @@ impl Node {
         ensures { Handled self.old self.new (event.Next from) result }
     {
         let Some(frame) = front(&self.early, from) else {
-            return self.core.perform(Event::Next { from });
+            return self.core.next(from);
         };
-        match self.core.perform(Event::Data(frame)) {
+        match self.core.take_in(frame) {
             Ok(answer) => {
                 shift(&mut self.early, from);
                 Ok(answer)

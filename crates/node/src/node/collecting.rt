@@ -74,21 +74,23 @@ impl Core {
     }
 
     /// Passes the token on to the node before this one.
+    #[tactic(auto, unfolding(model::specs::Counting::append))]
     fn hand_on(&mut self) -> Result<Answer, Refusal>
         requires after_0 { 0 < self.old.local.own }
         requires token { IsSome self.old.local.ring.token }
         ensures { Performed false result self.old self.new
             (view_done self.old (handed_on self.old.local)) }
     {
-        let mut ring = self.ring;
+        let mut ring = self.ring();
         let token = ring.forward();
-        let previous = self.own - 1;
+        let previous = self.previous();
         self.send(previous, Body::Token(token))?;
         self.set_ring(ring);
         Ok(Answer::Passed(token))
     }
 
     /// Announces to all others that marking has ended, or starts another probe.
+    #[tactic(auto, using(crate::proofs::Passing::judging), unfolding(model::specs::Counting::append, model::specs::Counting::announce, model::specs::Collecting::probe, model::specs::Collecting::conclude))]
     fn judge(&mut self) -> Result<Answer, Refusal>
         requires first { self.old.local.own ≡ 0 }
         requires calm { is_calm self.old.local.heap ≡ true }
@@ -96,7 +98,7 @@ impl Core {
         ensures { Performed false result self.old self.new
             (view_done self.old (judged self.old.local)) }
     {
-        let mut ring = self.ring;
+        let mut ring = self.ring();
         match ring.verdict() {
             Verdict::Ended => {
                 let cycle = self.cycle();
@@ -106,7 +108,7 @@ impl Core {
                 Ok(Answer::Ended(cycle))
             }
             Verdict::Probe(token) => {
-                let last = self.shape.nodes() - 1;
+                let last = self.last();
                 self.send(last, Body::Token(token))?;
                 self.set_ring(ring);
                 Ok(Answer::ProbeAgain)

@@ -30,7 +30,6 @@ ghost use Rattle.node.specs.Errands.{
   Runs,
   RunsLast,
   errand,
-  errand_here,
   extra_ring,
   extra_sends,
   is_nothing,
@@ -90,29 +89,12 @@ impl Core {
         ensures { let w = errand cycle due (filled references.now) extra self.old.local in
             Runs result w self.old self.new }
     {
-        if cycle > self.phases.cycle() {
-            self.run_joining(cycle, due, references, extra)
-        } else {
-            self.run_here(due, references, extra)
-        }
-    }
-
-    /// The same for a node that joins no cycle.
-    #[inline(always)]
-    fn run_here(
-        &mut self,
-        due: bool,
-        references: &[Option<Ref>],
-        extra: Extra,
-    ) -> Result<(), Refusal>
-        requires within { AllByRecursion (IsWithin self.old.local.shape) (filled references.now) }
-        requires extra { IsFit self.old.local.shape self.old.local.own extra }
-        ensures { let w = errand_here due (filled references.now) extra self.old.local in
-            Runs result w self.old self.new }
-    {
         let own = self.own;
-        let cycle = self.phases.cycle();
-        let met = while_marking(cycle, self.phases.ended(), references);
+        let current = self.phases.cycle();
+        if cycle > current {
+            return self.run_joining(cycle, due, references, extra);
+        }
+        let met = while_marking(current, self.phases.ended(), references);
         if met.is_empty() && is_nothing(extra) {
             return Ok(());
         }
@@ -121,14 +103,14 @@ impl Core {
             &mut self.asked,
             &mut self.links,
             own,
-            cycle,
+            current,
             due,
             met,
             extra,
         )?;
         // From here on nothing can fail.
-        mark(&mut self.heap, own, cycle, met, extra);
-        count(&mut self.ring, cycle, marks, extra);
+        mark(&mut self.heap, own, current, met, extra);
+        count(&mut self.ring, current, marks, extra);
         Ok(())
     }
 
@@ -324,7 +306,10 @@ pub(super) fn mark(heap: &mut Heap, own: u8, cycle: u64, references: &[Option<Re
 {
     leave_list(heap, extra);
     heap.shade(own, cycle, references);
-    add_letter(heap, extra);
+    match extra {
+        Extra::Letter(letter) => heap.add_letter(letter),
+        Extra::Nothing | Extra::Scanned | Extra::Answer { .. } | Extra::Begins => {}
+    }
 }
 
 /// Takes the object that is scanned off the list of grey ones.
@@ -338,19 +323,6 @@ fn leave_list(heap: &mut Heap, extra: Extra)
     match extra {
         Extra::Scanned => heap.pop_grey(),
         Extra::Nothing | Extra::Letter(_) | Extra::Answer { .. } | Extra::Begins => {}
-    }
-}
-
-/// Adds the letter that came.
-#[inline(always)]
-fn add_letter(heap: &mut Heap, extra: Extra)
-    requires { letters_in extra ≤ heap.old.letter_room }
-    ensures heap { heap.new.heap ≡ with_extra extra heap.old.heap }
-    ensures limit { heap.new.limit ≡ heap.old.limit }
-{
-    match extra {
-        Extra::Letter(letter) => heap.add_letter(letter),
-        Extra::Nothing | Extra::Scanned | Extra::Answer { .. } | Extra::Begins => {}
     }
 }
 

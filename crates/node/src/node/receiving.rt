@@ -10,23 +10,14 @@ ghost use Rattle.node.specs.Taking.{IsTakable, followed};
 use super::Core;
 use super::errands::Extra;
 use ids::{Ref, Refusal};
-use model::{Answer, Letter};
+use model::Letter;
 use msg::{Body, Token};
 
 impl Core {
-    /// Receives a message that the node may receive, in its turn.
-    pub(super) fn take(&mut self, from: u8, stamp: u64, body: Body) -> Result<Answer, Refusal>
-        requires { IsTakable self.old.local from stamp body }
-        ensures { Performed true result self.old self.new (view_taken self.old from stamp body) }
-    {
-        self.receive(from, stamp, body)?;
-        self.count_in(from, stamp, body);
-        Ok(Answer::Received)
-    }
-
-    /// All of that before the message counts.
+    /// Receives a message that the node may receive, in its turn: all of that before the message
+    /// counts.
     #[inline(always)]
-    fn receive(&mut self, from: u8, stamp: u64, body: Body) -> Result<(), Refusal>
+    pub(super) fn receive(&mut self, from: u8, stamp: u64, body: Body) -> Result<(), Refusal>
         requires { IsTakable self.old.local from stamp body }
         ensures { Runs result (followed from stamp body self.old.local) self.old self.new }
     {

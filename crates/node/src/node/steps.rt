@@ -1,6 +1,6 @@
 //! The steps of an event that can't fail. Each is one of the definitions, and keeps what holds of
 //! every node.
-ghost use Rattle.std.specs.Prelude.{◌≡◌, ◌≢◌, ◌==◌, ◌+◌, ◌<◌, ◌≤◌, ◌^◌, false, [], Some, None, is_some, length, nat_lt, IsTrue, IfOk, OnOk};
+ghost use Rattle.std.specs.Prelude.{◌≡◌, ◌≢◌, ◌==◌, ◌+◌, ◌-◌, ◌<◌, ◌≤◌, ◌^◌, false, [], Some, None, is_some, length, nat_lt, IsTrue, IfOk, OnOk};
 ghost use Rattle.ids.specs.declared.limits.TheConstants.{GREATEST_CYCLE};
 ghost use Rattle.model.specs.Checks.{guarded};
 ghost use Rattle.control.specs.Phases.{MayBegin, advanced, all_swept, with_ended, with_report};
@@ -34,6 +34,27 @@ impl Core {
         ensures { result ≡ (self.now.local.own == 0) }
     {
         self.own == 0
+    }
+
+    /// The node before this one, which gets the token next. Node 0 has none.
+    pub(super) fn previous(&self) -> u8
+        requires { 0 < self.now.local.own }
+        ensures value { result ≡ self.now.local.own - 1 }
+        ensures there { result < self.now.local.shape.nodes }
+        ensures other { result ≢ self.now.local.own }
+        ensures within { self.now.local.phases.cycle ≤ GREATEST_CYCLE }
+    {
+        self.own - 1
+    }
+
+    /// The last node, which gets the token first.
+    pub(super) fn last(&self) -> u8
+        ensures value { result ≡ self.now.local.shape.nodes - 1 }
+        ensures there { result < self.now.local.shape.nodes }
+        ensures other { self.now.local.own ≡ 0 → result ≢ self.now.local.own }
+        ensures within { self.now.local.phases.cycle ≤ GREATEST_CYCLE }
+    {
+        self.shape.nodes() - 1
     }
 
     /// Tests whether node 0 may begin the next cycle.

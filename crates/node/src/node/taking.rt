@@ -44,7 +44,9 @@ impl Core {
         if !self.may_take(frame.from, frame.stamp, frame.body) {
             return Err(Refusal::WrongNode);
         }
-        self.take(frame.from, frame.stamp, frame.body)
+        self.receive(frame.from, frame.stamp, frame.body)?;
+        self.count_in(frame.from, frame.stamp, frame.body);
+        Ok(Answer::Received)
     }
 
     /// No message waits for its turn here.

@@ -1,4 +1,4 @@
-use Rattle.std.proofs.Common.{◌∙◌, ap, sym, refl, Ok, Some, None}
+use Rattle.std.proofs.Common.{◌∙◌, ap, sym, Ok, Some}
 use Rattle.model.specs.declared.event.Event.TheVariants as event
 use Rattle.node.specs.Keeping.{Rings, waiting}
 use Rattle.node.proofs.Held.{handled-kept, next-handled, emptied-kept}
@@ -6,27 +6,17 @@ use Rattle.node.proofs.keeping.Node.next.Goals as goal
 
 pub invariant_of-self : goal.invariant_of-self
 invariant_of-self c =
-    let none =
-    sym (ap (λ (es : Rings). waiting es c.args.from) c.deref.ensures.value)
-    ∙ sym c.front.ensures ∙ c.in_default.is in
-    handled-kept _ _ (event.Next c.args.from) c.perform.result
-    (next-handled c.self.inside.core c.perform.new.self c.self.inside.early.items
-    c.self.inside.early.items c.args.from None c.perform.result c.self.invariant none
-    c.perform.ensures.performed c.perform.ensures.memory_free refl)
-
-pub invariant_of-self-in-Ok : goal.invariant_of-self-in-Ok
-invariant_of-self-in-Ok c =
     let one =
     sym (ap (λ (es : Rings). waiting es c.args.from) c.deref.ensures.value)
     ∙ sym c.front.ensures ∙ c.in-Some.is in
     handled-kept _ _ (event.Next c.args.from) (Ok c.in-Ok.answer)
-    (next-handled c.self.inside.core c.perform-2.new.self c.self.inside.early.items
+    (next-handled c.self.inside.core c.take_in.new.self c.self.inside.early.items
     c.shift.new.early.items c.args.from (Some c.in-Some.frame) (Ok c.in-Ok.answer)
     c.self.invariant one c.in-Ok.ensures.performed c.in-Ok.ensures.memory_free
     c.shift.ensures)
 
 pub invariant_of-self-in-Err : goal.invariant_of-self-in-Err
 invariant_of-self-in-Err c =
-    emptied-kept c.self.inside.core c.perform-2.new.self c.self.inside.early.items
+    emptied-kept c.self.inside.core c.take_in.new.self c.self.inside.early.items
     c.drop_front.new.early.items c.args.from c.self.invariant c.in-Err.ensures.performed.unchanged
     c.drop_front.ensures

@@ -8,7 +8,7 @@ use Rattle.node.proofs.keeping.Node.take.Goals as goal
 pub invariant_of-self-2 : goal.invariant_of-self-2
 invariant_of-self-2 c =
     handled-kept (whole_of c.self.inside)
-    (record { core = c.perform.new.self; early = c.keep.new.early.items })
+    (record { core = c.take_in.new.self; early = c.keep.new.early.items })
     (event.Data c.args.frame) (Ok c.in_ok-answer.answer)
     (record {
       before = c.self.invariant;

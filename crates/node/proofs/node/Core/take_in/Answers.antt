@@ -1,4 +1,4 @@
-use Rattle.std.proofs.Common.{◌≡◌, ◌+◌, Ok, subst, sym, ap, ◌∙◌, true, arith}
+use Rattle.std.proofs.Common.{◌≡◌, ◌+◌, Err, Ok, subst, sym, ap, ◌∙◌, true, arith}
 use Rattle.model.specs.State.{got_from}
 use Rattle.model.specs.Steps.{is_addressed}
 use Rattle.model.specs.View.{NodeView, Performed}
@@ -8,6 +8,9 @@ use Rattle.link.specs.Receivers.{offered}
 use Rattle.node.specs.Inside.{view_of}
 use Rattle.link.proofs.OneLink.{offered-next}
 use Rattle.node.proofs.Receipts.{takable}
+use Rattle.node.proofs.Receiving.{run-sender, taken-performed, taken-refused}
+use Rattle.std.proofs.lemmas.Result.{err_from_is_err_and}
+use Rattle.model.specs.declared.event.Answer.TheVariants as answer
 use Rattle.node.proofs.node.Core.take_in.Goals as goal
 use Rattle.node.proofs.node.Core.take_in.Goals.{In-Next}
 
@@ -33,18 +36,41 @@ comes-next c asked =
 
 -- ---- the goals
 
-pub take-requires : goal.take-requires
-take-requires c =
+pub receive-requires : goal.receive-requires
+receive-requires c =
     let m : NodeView = c.args.self.now in
-    let at = (goal.at.take-requires c).In-Next in
+    let at = (goal.at.receive-requires c).In-Next in
     takable m.local c.args.frame (addressed at) (comes-next at c.offer.ensures)
     (sym c.may_take.ensures ∙ c.if-not-may_take.false)
+
+pub returns-in_err-receive-clause-performed : goal.returns-in_err-receive-clause-performed
+returns-in_err-receive-clause-performed c =
+    let m : NodeView = c.args.self.now in
+    let at = (goal.at.returns-in_err-receive-clause-performed c).In-Next in
+    let r = err_from_is_err_and c.from_residual-in_err-receive.result
+    c.from_residual-in_err-receive.ensures.1 in
+    rw (r.1, r.2)
+    (subst (Performed true (Err c.in_err-receive.field-0.0) m c.receive.new.self)
+    (sym (view-taken_in m c.args.frame (addressed at) (comes-next at c.offer.ensures)
+    (sym c.may_take.ensures ∙ c.if-not-may_take.false)))
+    (taken-refused m c.args.frame.from c.args.frame.stamp c.args.frame.body
+    c.in_err-receive.ensures))
+
+pub count_in-requires : goal.count_in-requires
+count_in-requires c =
+    let m : NodeView = c.args.self.now in
+    let at = (goal.at.count_in-requires c).In-Next in
+    let takes = takable m.local c.args.frame (addressed at) (comes-next at c.offer.ensures)
+    (sym c.may_take.ensures ∙ c.if-not-may_take.false) in
+    run-sender m c.args.frame.from c.args.frame.stamp c.args.frame.body
+    c.in_ok-receive.ensures.done takes.sender
 
 pub returns-clause-performed : goal.returns-clause-performed
 returns-clause-performed c =
     let m : NodeView = c.args.self.now in
     let at = (goal.at.returns-clause-performed c).In-Next in
-    subst (Performed true c.take.result m c.take.new.self)
+    subst (Performed true (Ok answer.Received) m c.count_in.new.self)
     (sym (view-taken_in m c.args.frame (addressed at) (comes-next at c.offer.ensures)
     (sym c.may_take.ensures ∙ c.if-not-may_take.false)))
-    c.take.ensures
+    (taken-performed m c.args.frame.from c.args.frame.stamp c.args.frame.body
+    c.in_ok-receive.ensures.done c.count_in.ensures)
