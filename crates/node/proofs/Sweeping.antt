@@ -209,8 +209,7 @@ node-swept {n = n} {h = h} {phases = phases} {last = last} {cursor = cursor} cyc
       own = old.own;
       references = holds-sweep_some (IsWithin n.local.shape) cycle first count before
           old.references;
-      stocked = stocked-swept n.local.shape n.local.own p.cycle p.ended cycle first count before
-          none old.stocked;
+      stocked = stocked-swept cycle first count before none old.stocked;
       asked = old.asked;
       phases = record {
         phases = subst IsPhases m.is m.sound;
