@@ -30,7 +30,7 @@ module _ (R : RattleType) (L : RowLaws R) where
       (said_shr_laws small tt) (values-laws b (k * type_size R + o) xs)
   block-laws null_ptr k xs n = said_shr_laws ffalse tt
 
-module _ {M : Type 1} {𝓤 : Ura M} (𝓛 : Logic 𝓤) (l : Lft) (R : RattleType) (L : Laws R)
+module _ {M : Type 1} {𝓤 : Ura M} (𝓛 : Logic 𝓤) (l : Lft) {R : RattleType} (L : Laws R)
     (inc : Incl l R.lives) where
   Lends-values : (b o : ℕ) (xs : List R.Denot)
       → Lends 𝓛 (row R full_share xs b o) (values_lent R b o xs) l

@@ -28,6 +28,15 @@ none : {X : Type 0} (xs : List X) → length xs ≡ 0 → xs ≡ []
 none [] e = refl
 none (x ∷ xs) e = absurd (omega arith)
 
+-- the number of an item: it is the r-th of the q-th chunk, if there are so many
+pub record IsAt (q r i : ℕ) : Type 0 where
+  pub is : i ≡ CHUNK * q + r
+  pub few : r < CHUNK
+
+-- the same in the chunks behind the first one
+later : {q r i : ℕ} → IsAt (suc q) r i → IsAt q r (i - CHUNK)
+later at = record { is = omega (arith, at.is); few = at.few }
+
 module _ {E : Type 0} where
   -- the chunk c with another item at r
   abbrev pub rewritten : Row E → ℕ → E → Row E
@@ -49,15 +58,16 @@ module _ {E : Type 0} where
       length-append c.items (flat cs) in
       omega (arith, chunk_there cs p.4 q r few (omega (arith, p.2)))
 
-  pub lies : (cs : List (Row E)) → IsPacked cs → (q r i : ℕ) → i ≡ CHUNK * q + r → r < CHUNK
-      → i < length (flat cs) → (c : Row E) → c ≡ get_or cs q c → Lies cs q r i c
-  lies [] p q r i at few below c is = absurd (omega arith)
-  lies (c₀ ∷ cs) p zero r i at few below c is =
+  pub lies : (cs : List (Row E)) → IsPacked cs → (q : ℕ) {r i : ℕ} {c : Row E} → IsAt q r i
+      → i < length (flat cs) → c ≡ get_or cs q c → Lies cs q r i c
+  lies [] p q at below is = absurd (omega arith)
+  lies (c₀ ∷ cs) p zero {r} {i} at below is =
       let both : length (c₀.items ++ flat cs) ≡ length c₀.items + length (flat cs) =
       length-append c₀.items (flat cs) in
-      let same : i ≡ r = omega arith in
+      let same : i ≡ r = omega (arith, at.is) in
       let here : i < length c₀.items =
-      within_first (length (flat cs)) (length c₀.items) i p.3 (omega arith) (omega arith) in
+      within_first (length (flat cs)) (length c₀.items) i p.3 (omega (arith, at.few))
+      (omega arith) in
       subst (λ (d : Row E). Lies (c₀ ∷ cs) zero r i d) (sym is)
       (subst (λ (j : ℕ). Lies (c₀ ∷ cs) zero j i c₀) same (record {
         within = here;
@@ -71,12 +81,12 @@ module _ {E : Type 0} where
           p.4,
         );
       }))
-  lies (c₀ ∷ cs) p (suc q) r i at few below c is =
+  lies (c₀ ∷ cs) p (suc q) {r} {i} at below is =
       let both : length (c₀.items ++ flat cs) ≡ length c₀.items + length (flat cs) =
       length-append c₀.items (flat cs) in
       let full : length c₀.items ≡ CHUNK = p.3 (omega (arith, p.2)) in
-      let past : CHUNK ≤ i = omega arith in
-      let rest = lies cs p.4 q r (i - CHUNK) (omega arith) few (omega arith) c is in
+      let past : CHUNK ≤ i = omega (arith, at.is) in
+      let rest = lies cs p.4 q (later at) (omega arith) is in
       record {
         within = rest.within;
         read = λ x e. rest.read x e
@@ -118,30 +128,31 @@ module _ {E : Type 0} where
       let full : length c.items ≡ CHUNK = p.3 (omega (arith, p.2)) in
       omega (arith, last_there cs p.4 q r (omega arith) some)
 
-  pub extends : (cs : List (Row E)) → IsPacked cs → (q r : ℕ) → length (flat cs) ≡ CHUNK * q + r
-      → 0 < r → r < CHUNK → (c : Row E) → c ≡ get_or cs q c → (x : E) → Extends cs q c x
-  extends [] p q r all some few c is x = absurd (omega arith)
-  extends (c₀ ∷ cs) p zero r all some few c is x =
+  pub extends : {r : ℕ} {c : Row E} (cs : List (Row E)) → IsPacked cs → (q : ℕ)
+      → IsAt q r (length (flat cs)) → 0 < r → c ≡ get_or cs q c → (x : E) → Extends cs q c x
+  extends [] p q at some is x = absurd (omega (arith, at.is))
+  extends (c₀ ∷ cs) p zero at some is x =
       let both : length (c₀.items ++ flat cs) ≡ length c₀.items + length (flat cs) =
       length-append c₀.items (flat cs) in
       let ends : length (flat cs) ≡ 0 =
-      none_after (length (flat cs)) (length c₀.items) p.3 (omega arith) in
+      none_after (length (flat cs)) (length c₀.items) p.3 (omega (arith, at.is, at.few)) in
       let long : length (c₀.items ++ x ∷ []) ≡ length c₀.items + 1 =
       length-append c₀.items (x ∷ []) in
       subst (λ (d : Row E). Extends (c₀ ∷ cs) zero d x) (sym is) (record {
-        room = omega (arith, p.0);
+        room = omega (arith, p.0, at.is, at.few);
         items = ap (λ (ys : List E). (c₀.items ++ x ∷ []) ++ ys) (none (flat cs) ends)
             ∙ append-nil (c₀.items ++ x ∷ [])
             ∙ ap (λ (ys : List E). ys ++ x ∷ [])
             (sym (ap (λ (ys : List E). c₀.items ++ ys) (none (flat cs) ends)
             ∙ append-nil c₀.items));
-        packed = (p.0, omega arith, omega arith, (λ more. absurd (omega arith)), p.4);
+        packed = (p.0, omega arith, omega (arith, at.is, at.few), (λ more. absurd (omega arith)), p.4);
       })
-  extends (c₀ ∷ cs) p (suc q) r all some few c is x =
+  extends (c₀ ∷ cs) p (suc q) at some is x =
       let both : length (c₀.items ++ flat cs) ≡ length c₀.items + length (flat cs) =
       length-append c₀.items (flat cs) in
       let full : length c₀.items ≡ CHUNK = p.3 (omega (arith, p.2)) in
-      let rest = extends cs p.4 q r (omega arith) some few c is x in
+      let behind : IsAt q _ (length (flat cs)) = record { is = omega (arith, at.is); few = at.few } in
+      let rest = extends cs p.4 q behind some is x in
       record {
         room = rest.room;
         items = ap (λ (ys : List E). c₀.items ++ ys) rest.items

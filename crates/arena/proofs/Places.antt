@@ -42,9 +42,9 @@ module _ (E : El) {M : Type 1} {𝓤 : Ura M} (𝓛 : Logic 𝓤) (b : ℕ) wher
   Row xs o = row (R E) full_share xs b o
 
   -- the first of these places of room
-  pub room-first : (n o at next-at : ℕ) → at ≡ o → next-at ≡ o + s
+  pub room-first : {at next-at : ℕ} (n o : ℕ) → at ≡ o → next-at ≡ o + s
       → ent 𝓤 (sem 𝓛 (Room (suc n) o)) (sep 𝓤 (sem 𝓛 (froom τ b at)) (sem 𝓛 (Room n next-at)))
-  room-first n o at next-at e f =
+  room-first {at} {next-at} n o e f =
       qed 𝓛 (‵ (Room (suc n) o) ∷ []) ∵ as_written ! (ty_array τ (suc n)) b o $
       use1 𝓛 (‵ (froom τ b o) ⊛ ‵ (froom (ty_array τ n) b (o + s))) (𝓛.laws.room_uncons τ n b o) $
       split ! $
@@ -85,15 +85,15 @@ module _ (E : El) {M : Type 1} {𝓤 : Ura M} (𝓛 : Logic 𝓤) (b : ℕ) wher
       move ! (1 ∷ 0 ∷ []) $
       by ! (row_glue E 𝓛 full_share xs (x ∷ []) b o)
 
-  pub lent-place : (κ : Lft) (xs : List (el_x E)) (i : ℕ) (d : el_x E) (o : ℕ) → i < length xs
+  pub lent-place : (κ : Lft) (xs : List (el_x E)) {i : ℕ} (d : el_x E) (o : ℕ) → i < length xs
       → ent 𝓤 (sem 𝓛 (values_lent (R E) b o xs κ))
       (sem 𝓛 (shared_of (R E) (get_or xs i d) b (place s o i) κ))
-  lent-place κ [] i d o lt = absurd (omega arith)
-  lent-place κ (x ∷ xs) zero d o lt =
+  lent-place κ [] d o lt = absurd (omega arith)
+  lent-place κ (x ∷ xs) {i = zero} d o lt =
       qed 𝓛 (‵ (values_lent (R E) b o (x ∷ xs) κ) ∷ []) ∵ fsplit ! $ keep ! (0 ∷ []) $ done !
-  lent-place κ (x ∷ xs) (suc i) d o lt =
+  lent-place κ (x ∷ xs) {i = suc i} d o lt =
       qed 𝓛 (‵ (values_lent (R E) b o (x ∷ xs) κ) ∷ []) ∵ fsplit ! $ keep ! (1 ∷ []) $
-      by ! (lent-place κ xs i d (o + s) (omega arith))
+      by ! (lent-place κ xs d (o + s) (omega arith))
 
 pub not-empty : {X : Type 0} (xs : List X) → 0 < length xs
     → (x : X) × ((ys : List X) × (xs ≡ x ∷ ys))

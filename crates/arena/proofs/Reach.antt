@@ -7,7 +7,7 @@ use Rattle.arena.specs.Chunked.{chunks_of, flat, IsPacked, IsPresent, HasRoom}
 use Rattle.arena.specs.declared.root.Root.{Root}
 use Rattle.arena.specs.declared.root.Root.TheVariants.{Absent, Present}
 use Rattle.arena.specs.declared.root.TheConstants.{CHUNK}
-use Rattle.arena.proofs.Packed.{rewritten, lies, chunk_there, last_there, extends, adds}
+use Rattle.arena.proofs.Packed.{IsAt, rewritten, lies, chunk_there, last_there, extends, adds}
 
 module _ {E : Type 0} where
   pub present : (root : Root E) → 0 < length (flat (chunks_of root)) → IsPresent root
@@ -44,8 +44,8 @@ module _ {E : Type 0} where
     at_item i below c is =
         let within : i < length (flat chunks.items) =
         subst (λ (xs : List E). i < length xs) (sym same) below in
-        let lie = lies chunks.items packed (i / CHUNK) (i % CHUNK) i (omega arith)
-        (omega arith) within c is in
+        let at : IsAt (i / CHUNK) (i % CHUNK) i = record { is = omega arith; few = omega arith } in
+        let lie = lies chunks.items packed (i / CHUNK) at within is in
         record {
           within = lie.within;
           read = λ x e. subst (λ (xs : List E). x ≡ get_or xs i x) same (lie.read x e);
@@ -71,8 +71,9 @@ module _ {E : Type 0} where
     in_last n long some c is x =
         let all : length (flat chunks.items) ≡ n = ap (λ (xs : List E). length xs) same
         ∙ sym long in
-        let last = extends chunks.items packed (n / CHUNK) (n % CHUNK) (omega arith) some
-        (omega arith) c is x in
+        let at : IsAt (n / CHUNK) (n % CHUNK) (length (flat chunks.items)) =
+        record { is = omega arith; few = omega arith } in
+        let last = extends chunks.items packed (n / CHUNK) at some is x in
         record {
           room = last.room;
           items = last.items
@@ -81,12 +82,12 @@ module _ {E : Type 0} where
         }
 
   -- a chunk is added behind the others, all of which are full
-  pub added : (root : Root E) {roomy : Root E} {chunks after : Row (Row E)}
+  pub added : (root : Root E) {roomy : Root E} {chunks after : Row (Row E)} {n : ℕ}
       → IsPacked (chunks_of root) → HasRoom roomy (chunks_of root) → roomy ≡ Present chunks
-      → (n : ℕ) → n ≡ length (flat (chunks_of root)) → n % CHUNK ≡ 0 → (x : E)
+      → n ≡ length (flat (chunks_of root)) → n % CHUNK ≡ 0 → (x : E)
       → after ≡ row (chunks.items ++ row (x ∷ []) CHUNK ∷ []) chunks.capacity
       → (flat after.items ≡ flat (chunks_of root) ++ x ∷ []) × IsPacked after.items
-  added root {roomy} {chunks} {after} sound has there n long all x is =
+  added root {roomy} {chunks} {after} {n} sound has there long all x is =
       let kept : chunks.items ≡ chunks_of root =
       (subst (λ (r : Root E). HasRoom r (chunks_of root)) there has).0 in
       let items : after.items ≡ chunks_of root ++ row (x ∷ []) CHUNK

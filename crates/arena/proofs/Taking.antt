@@ -19,12 +19,11 @@ module _ {T : Type 0} where
   some_of None o e is = absurd cc
   some_of (Some b) o e is = subst IsSome e refl
 
-  pub there : (es : List (Entry T)) (first vacant limit : ℕ) (key : Key) {e : Entry T}
-      (r : Option (Bor T))
-      → key.slot < length (map slot_of es) → e ≡ get_or es key.slot e
+  pub there : {es : List (Entry T)} {first vacant len limit : ℕ} {e : Entry T}
+      → IsLinked es first vacant len limit → (key : Key) (r : Option (Bor T)) → key.slot < length (map slot_of es) → e ≡ get_or es key.slot e
       → option_copied r ≡ value_of (slot_of e) key.generation → is_some r ≡ true
       → IsSome (get (arena_of es first vacant limit) key)
-  there es first vacant limit key {e} r within read found is =
+  there {es} {e = e} linked key r within read found is =
       let near : key.slot < length es = rw length-map at within in
       let at : get_or (map slot_of es) key.slot slot.Retired ≡ slot_of e =
       get_or-map slot_of es key.slot Retired

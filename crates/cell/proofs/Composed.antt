@@ -118,8 +118,8 @@ in-turn w reached from to number stamp body e there refused =
     subst
     (λ (k : ℕ). (e ≡ LinkSpent) ⊎ ((e ≡ OutOfOrder) × (k + WINDOW < number)))
     (sym (ap (λ (p : LocalState). got_from p from) (reached.by.current.each to).local))
-    (deliveries.refused-beyond reached.shape reached.limits reached.steps from to number y.stamp
-    y.body e found.1 (other-refusal (acknowledged end to) _ _ e like refused))
+    (deliveries.refused-beyond reached.shape reached.limits reached.steps from to found.1
+    (other-refusal (acknowledged end to) _ _ e like refused))
 
 pub received : (s : NodeState) (d : Data) (e : Refusal) → act s (event.Data d) ≡ Err e
     → receive s d.from d.to d.number d.stamp d.body ≡ Err e

@@ -356,8 +356,7 @@ module _ {D : Type 0} (wire : Wire) (start : List (CellView D)) where
           let new = turn.leads source.0 learner.0 c source.1 learner.1 there in
           let mine = h.rest at learner.0 learner.1 (let self : at ≤ at = omega arith in self) in
           leads-same _ _ h.middle new.log new.known
-          (between (known learner.0.seat) (known learner.0.seat).seen h.middle new.log
-          mine.0.opens mine.0.leads new.leads mine.1
+          (between mine.0.opens mine.0.leads new.leads mine.1
           (subst (λ (l : List Step). Continues l new.log) (h.end source.0 source.1 before)
           new.continues))
 

@@ -30,7 +30,7 @@ nothing_sound = record { takes = nothing_takes; again = λ u rest fits. refl }
 
 -- ---- what is made of a value
 
-module _ {A B : Type 0} (F : Format A) (G : Format B) (front : List ℕ) (make : A → B)
+module _ {A B : Type 0} {F : Format A} {G : Format B} (front : List ℕ) (make : A → B)
     (sound : IsSound F)
     (made : (a : A) → Fits F a → (G.spell (make a) ≡ front ++ F.spell a) × Fits G (make a)) where
   pub made_takes : (bytes : List ℕ) (x : B × List ℕ) → IsBytes bytes
@@ -58,7 +58,7 @@ pub mapped_sound : {A B : Type 0} (F : Format A) (make : A → B) (parts : B →
     → ((a : A) → Fits F a → parts (make a) ≡ a) → ((b : B) → make (parts b) ≡ b)
     → IsSound (mapped F make parts)
 mapped_sound {A = A} {B = B} F make parts sound back again = record {
-  takes = made_takes F (mapped F make parts) [] make sound (λ a fits.
+  takes = made_takes [] make sound (λ a fits.
       let same = back a fits in (
         ap F.spell same,
         record {
@@ -161,7 +161,7 @@ pub found : {A B : Type 0} (F : Format A) (G : Format B) (tag : ℕ) (make : A �
     → ((a : A) → F.IsWide a → G.IsWide (make a)) → ((a : A) → F.IsWithin a → G.IsWithin (make a))
     → IsFound G (tag, made_at F make)
 found F G tag make sound spelled wide within =
-    made_takes F G (tag ∷ []) make sound (λ a fits.
+    made_takes (tag ∷ []) make sound (λ a fits.
     (spelled a, record { wide = wide a fits.wide; within = within a fits.within }))
 
 -- one choice before the others

@@ -123,7 +123,7 @@ signed_takes : (bytes : List ℕ) (x : ℤ × List ℕ) → IsBytes bytes
     → made_at (number w64) (cast_signed w64) bytes ≡ Some x → Took signed8 bytes x
 unfolding signed8
 signed_takes =
-    made_takes (number w64) signed8 [] (cast_signed w64) (number_sound w64 wide64) (λ n fits. (
+    made_takes [] (cast_signed w64) (number_sound w64 wide64) (λ n fits. (
       ap (to_be_bytes w64) (of_z-to_z w64 n fits.wide),
       record { wide = sfits_to_z (record { fits = fits.wide }); within = tt },
     ))

@@ -15,10 +15,10 @@ use Rattle.codec.specs.Formats.{counted, whole_at}
 use Rattle.codec.specs.Readers.{left, with_rest, is_open, open_of, is_whole, whole_of, Takes, Reads}
 use Rattle.codec.specs.Readers.{enough, passing}
 
-pub number_taken : (n : ℕ) (old new : Reader) (bytes first rest : List ℕ) → left old ≡ Some bytes
+pub number_taken : {old new : Reader} {bytes first rest : List ℕ} (n : ℕ) → left old ≡ Some bytes
     → left new ≡ Some rest → n ≤ length bytes → first ≡ take n bytes → rest ≡ drop n bytes
     → Takes (number_at n) old new (Some (big_number n first))
-number_taken n old new bytes first rest old_is new_is there is_first is_rest =
+number_taken {bytes = bytes} n old_is new_is there is_first is_rest =
     let long : ltb (length bytes) n ≡ false = le-ltb _ _ there in
     record {
       is = rw (old_is, new_is, long, is_first, is_rest, big_from-take 0 n n bytes (omega arith)) refl;
@@ -192,9 +192,9 @@ module _ {A : Type 0} (F : Format A) where
     by None = refl
     by (Some x) = refl
 
-  pub one_more : (n k l : ℕ) (a b c : Reader) (xs : List A) (x : A) → ReadsFirst F a b xs k n
+  pub one_more : {n : ℕ} {a b c : Reader} {xs : List A} {x : A} (k l : ℕ) → ReadsFirst F a b xs k n
       → k ≡ suc l → Reads F b c x → ReadsFirst F a c (xs ++ x ∷ []) l n
-  one_more n k l a b c xs x before one took =
+  one_more {b = b} {c} {xs} {x} k l before one took =
       let step = after F.read (λ z. each_at F.read l z.1 >>= λ u. Some (z.0 ∷ u.0, u.1)) x
       (left b) (left c) took.is in
       record { is = sym (ap (with_front xs) step ∙ by (left c)) ∙ (rw one at before.is) } where
@@ -218,9 +218,9 @@ module _ {A : Type 0} (F : Format A) where
         last (Some rest) = ap (λ (ys : List A). Some (ys, rest)) (append-nil xs)
 
   -- one of them wasn't there
-  pub stopped : (n k : ℕ) (a b c : Reader) (xs : List A) → Takes (enough n) a b (Some tt)
+  pub stopped : {n k : ℕ} {a b c : Reader} {xs : List A} → Takes (enough n) a b (Some tt)
       → ReadsFirst F b c xs k n → is_open c ≡ false → Reads (many F n) a c xs
-  stopped n k a b c xs there took closed =
+  stopped {n} {k} {a} {b} {c} {xs} there took closed =
       record { is = each_of n a b there ∙ sym took.is ∙ by (left c) closed } where
         by : (q : Option (List ℕ)) → open_of q ≡ false
             → with_front xs (q >>= each_at F.read k) ≡ with_rest xs q
@@ -231,28 +231,31 @@ pub ruleset lists = (too_many, none_yet, one_more, all_of, stopped)
 
 -- ---- the whole
 
+-- what is read, and whether it is the whole
+whole_if : {A : Type 0} (read : codec.Reader A) (bytes : List ℕ) (o : Option A) (q : Option (List ℕ))
+    → read bytes ≡ (o >>= λ x. with_rest x q) → whole_of q ≡ true → whole_at read bytes ≡ o
+unfolding whole_at
+whole_if read bytes o None e h = absurd cc
+whole_if read bytes None (Some r) e h = rw e refl
+whole_if read bytes (Some x) (Some r) e h = rw (e, h) refl
+
+none_if : {A : Type 0} (read : codec.Reader A) (bytes : List ℕ) (o : Option A) (q : Option (List ℕ))
+    → read bytes ≡ (o >>= λ x. with_rest x q) → whole_of q ≡ false → whole_at read bytes ≡ None
+unfolding whole_at
+none_if read bytes None q e h = rw e refl
+none_if read bytes (Some x) None e h = rw e refl
+none_if read bytes (Some x) (Some r) e h = rw (e, h) refl
+
 module _ {A : Type 0} (read : codec.Reader A) (bytes : List ℕ) (a b : Reader) (o : Option A)
     (all : left a ≡ Some bytes) (took : Takes read a b o) where
   found : read bytes ≡ (o >>= λ x. with_rest x (left b))
   found = rw all at took.is
 
   pub all_read : is_whole b ≡ true → whole_at read bytes ≡ o
-  unfolding whole_at
-  all_read whole = by o (left b) found whole where
-    by : (p : Option A) (q : Option (List ℕ)) → read bytes ≡ (p >>= λ x. with_rest x q)
-        → whole_of q ≡ true → whole_at read bytes ≡ p
-    by p None e h = absurd cc
-    by None (Some r) e h = rw e refl
-    by (Some x) (Some r) e h = rw (e, h) refl
+  all_read whole = whole_if read bytes o (left b) found whole
 
   pub not_all_read : is_whole b ≡ false → whole_at read bytes ≡ None
-  unfolding whole_at
-  not_all_read whole = by o (left b) found whole where
-    by : (p : Option A) (q : Option (List ℕ)) → read bytes ≡ (p >>= λ x. with_rest x q)
-        → whole_of q ≡ false → whole_at read bytes ≡ None
-    by None q e h = rw e refl
-    by (Some x) None e h = rw e refl
-    by (Some x) (Some r) e h = rw (e, h) refl
+  not_all_read whole = none_if read bytes o (left b) found whole
 
 pub ruleset whole_taken = (all_read, not_all_read)
 

@@ -47,11 +47,11 @@ all_append P [] ys first second = second
 all_append P (x ∷ xs) ys first second = (first.0, all_append P xs ys first.1 second)
 
 -- the elements of ys after those of xs
-pub written_also : {A : Type 0} (spell : A → List ℕ) (P : A → Type 0) (xs ys : List A)
-    (a b c : Writer) → Writes a b (flat_map spell xs) (AllByRecursion P xs)
+pub written_also : {A : Type 0} {a b c : Writer} (spell : A → List ℕ) (P : A → Type 0)
+    (xs ys : List A) → Writes a b (flat_map spell xs) (AllByRecursion P xs)
     → Writes b c (flat_map spell ys) (AllByRecursion P ys)
     → Writes a c (flat_map spell (xs ++ ys)) (AllByRecursion P (xs ++ ys))
-written_also spell P xs ys a b c first second =
+written_also {c = c} spell P xs ys first second =
     let w = both first second in
     record {
       limit = w.limit;
@@ -76,16 +76,16 @@ alone spell P x a b w = record {
 }
 
 -- the element with the next number
-pub written_more : {A : Type 0} (spell : A → List ℕ) (P : A → Type 0) (xs : List A) (i : ℕ) (x : A)
-    → i < length xs → x ≡ get_or xs i x → (a b c : Writer)
+pub written_more : {A : Type 0} {x : A} {a b c : Writer} (spell : A → List ℕ) (P : A → Type 0)
+    (xs : List A) (i : ℕ) → i < length xs → x ≡ get_or xs i x
     → Writes a b (flat_map spell (take i xs)) (AllByRecursion P (take i xs))
     → Writes b c (spell x) (P x)
     → Writes a c (flat_map spell (take (i + 1) xs)) (AllByRecursion P (take (i + 1) xs))
-written_more {A = A} spell P xs i x within is a b c one two =
+written_more {A} {x} {a} {b} {c} spell P xs i within is one two =
     let taken : take i xs ++ x ∷ [] ≡ take (i + 1) xs =
     sym (take_more xs i x within ∙ ap (λ (y : A). take i xs ++ y ∷ []) (sym is)) in
     subst (λ (ys : List A). Writes a c (flat_map spell ys) (AllByRecursion P ys)) taken
-    (written_also spell P (take i xs) (x ∷ []) a b c one (alone spell P x b c two))
+    (written_also spell P (take i xs) (x ∷ []) one (alone spell P x b c two))
 
 -- a tag, and what follows it
 pub behind : {a b c : Writer} {n : ℕ} {y : List ℕ} {P Q : Type 0} → Writes a b (n ∷ []) P
@@ -98,11 +98,11 @@ pub first : {a b c : Writer} {n : ℕ} {y : List ℕ} {P Q : Type 0} → Writes 
 first one others = both one others
 
 -- a list of more values than are allowed
-pub uncounted : {A : Type 0} (spell : A → List ℕ) (P : A → Type 0) (xs : List A) (n : ℕ)
-    (a b : Writer) → IsBeyond n a b → n ≡ length xs → ((x : A) → 0 < length (spell x))
+pub uncounted : {A : Type 0} {n : ℕ} {a b : Writer} (spell : A → List ℕ) (P : A → Type 0)
+    (xs : List A) → IsBeyond n a b → n ≡ length xs → ((x : A) → 0 < length (spell x))
     → Writes a b (number4.spell (length xs) ++ flat_map spell xs)
     (number4.IsWide (length xs) × AllByRecursion P xs)
-uncounted spell P xs n a b is count long =
+uncounted spell P xs is count long =
     let sum = length-append (number4.spell (length xs)) (flat_map spell xs) in
     so (λ never. absurd never)
     (is.any (number4.spell (length xs) ++ flat_map spell xs)

@@ -362,14 +362,14 @@ turn-passes shape w m h inv between there turn =
     )
 
 -- a message is refused only if it is beyond the window, or if a number would be too great
-pub refused-beyond : (shape : Shaped) → IsShape shape → (steps : List Step)
-    (from to number stamp : ℕ) (b : Body) (e : Refusal)
+pub refused-beyond : {number stamp : ℕ} {b : Body} {e : Refusal} (shape : Shaped)
+    → IsShape shape → (steps : List Step) (from to : ℕ)
     → IsInNet (run (new_world shape) steps) (data_frame from to number stamp b)
     → receive (node_at (run (new_world shape) steps).current to) from to number stamp b ≡ Err e
     → (e ≡ LinkSpent)
     ⊎ ((e ≡ OutOfOrder)
     × (got_from (node_at (run (new_world shape) steps).current to).local from + WINDOW < number))
-refused-beyond shape within steps from to number stamp b e there refused =
+refused-beyond {number} {stamp} {b} {e} shape within steps from to there refused =
     let w : World = run (new_world shape) steps in
     let m : Delivery = record
     { from = from; to = to; number = number; message = record { stamp = stamp; body = b } } in
@@ -394,4 +394,4 @@ refused-beyond shape within steps from to number stamp b e there refused =
 pub none-refused-in-turn : NoneRefusedInTurn
 none-refused-in-turn shape within steps from to number stamp b e there refused =
     ⊎_elim inl (λ early. inr (early.0, let past = early.1 in omega (arith, past)))
-    (refused-beyond shape within steps from to number stamp b e there refused)
+    (refused-beyond shape within steps from to there refused)

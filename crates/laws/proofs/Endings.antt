@@ -199,11 +199,11 @@ module _ {shape : Shaped} {c d : Cut} {t : Token} (h : Ending shape c d t) where
   end-was from to place x flight = ⊎_elim {C = IsInFlight c from to place x}
       (λ before. before) (λ new. absurd new.1) (flew end-turn from to place x flight)
 
-  end-stamps : (from to place stamp : ℕ) (b : Body) → is_reference b ≡ true
+  end-stamps : {from to place stamp : ℕ} {b : Body} → is_reference b ≡ true
       → IsInFlight c from to place (record { stamp = stamp; body = b })
       → StampFits (phases_of c 0) stamp → StampFits (phases_of d 0) stamp
-  end-stamps from to place stamp b is flight (inl now) = inl (now ∙ sym (end-cycle 0))
-  end-stamps from to place stamp b is flight (inr before) =
+  end-stamps is flight (inl now) = inl (now ∙ sym (end-cycle 0))
+  end-stamps {from} {to} {place} {stamp} {b} is flight (inr before) =
       absurd (end-delivered from to place _ flight
       (reference-counts (cycle_of c 0) stamp b is
       ∙ lt-ltb stamp (cycle_of c 0) (let w = before.1 in omega (arith, w))))
@@ -221,11 +221,11 @@ module _ {shape : Shaped} {c d : Cut} {t : Token} (h : Ending shape c d t) where
   end-fits from to place stamp (body.Mark r) flight fits =
       absurd (end-delivered from to place _ flight (eq-eqb stamp (cycle_of c 0) fits.2))
   end-fits from to place stamp (body.Give label reference) flight fits =
-      end-stamps from to place stamp (body.Give label reference) refl flight fits
+      end-stamps refl flight fits
   end-fits from to place stamp (body.Put target slot reference) flight fits =
-      (fits.0, end-stamps from to place stamp (body.Put target slot reference) refl flight fits.1)
+      (fits.0, end-stamps refl flight fits.1)
   end-fits from to place stamp (body.Get target slot label) flight fits =
-      (fits.0, end-stamps from to place stamp (body.Get target slot label) refl flight fits.1)
+      (fits.0, end-stamps refl flight fits.1)
   end-fits from to place stamp body.Ended flight fits =
       absurd (let w = fits.1 in omega (arith, w, h.marking))
   end-fits from to place stamp body.Swept flight fits =

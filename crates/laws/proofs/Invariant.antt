@@ -131,18 +131,23 @@ BodyFits n ph from to s body.Swept =
     (to ≡ 0) × (from ≢ 0) × (s ≡ (ph 0).cycle) × ((ph from).swept ≡ (ph 0).cycle)
     × (get_or (ph 0).reports from 0 < (ph 0).cycle)
 
--- In each cycle, a node hears only once that marking has ended, and reports only once that it
--- swept.
+-- a body that a link carries at most once in a cycle
 abbrev pub is_single : Body → Bool
 is_single body.Ended = true
 is_single body.Swept = true
 is_single b = false
 
+-- In each cycle, a node hears only once that marking has ended, and reports only once that it
+-- swept.
+abbrev pub IsSaidOnce : Cut → Type 0
+IsSaidOnce c =
+    (from to k l : ℕ) (x y : Message) → IsInFlight c from to k x → IsInFlight c from to l y
+    → x.body ≡ y.body → is_single x.body ≡ true → k ≡ l
+
 pub record Messages (n : ℕ) (c : Cut) : Type 0 where
   pub fits : (from to place : ℕ) (x : Message) → IsInFlight c from to place x
       → BodyFits n (phases_of c) from to x.stamp x.body
-  pub once : (from to k l : ℕ) (x y : Message) → IsInFlight c from to k x
-      → IsInFlight c from to l y → x.body ≡ y.body → is_single x.body ≡ true → k ≡ l
+  pub once : IsSaidOnce c
 
 -- ---- references
 

@@ -24,7 +24,7 @@ use Rattle.laws.proofs.Inner.{roots-map}
 use Rattle.laws.proofs.Acting.{balance-joined, balance-apart, fresh-joined, fresh-apart}
 use Rattle.laws.proofs.Invariant.{phases_of, cycle_of, Marking, Resting, Safe, Holds, Covered, is_marked, is_asked, RootsAll, PlacesAll, Tidy, Phased, Messages, Cover, Flows, Tokens, Inv}
 use Rattle.laws.proofs.RingSteps.{token-back, token-on}
-use Rattle.laws.proofs.PhaseSteps.{fits-moved}
+use Rattle.laws.proofs.PhaseSteps.{SaidAlike, fits-moved}
 
 -- the node in the new cycle, with its registers and letters set aside
 abbrev pub entering : LocalState → ℕ → List ℕ → Option Token → LocalState
@@ -255,12 +255,12 @@ join-inv {shape = shape} {c = c} {d = d} {i = i} {grey = grey} h =
       };
       messages = record {
         fits = λ from to place x flight.
-            fits-moved shape.nodes (phases_of c) (phases_of d) from to x.stamp x.body
-            (record {
+            let alike : SaidAlike (phases_of c) (phases_of d) from to x.body = record {
               first = firsts;
               ended = λ _. ended to;
               swept = λ _. (swept from, ap (λ (z : Phases). get_or z.reports from 0) first);
-            })
+            } in
+            fits-moved shape.nodes x.stamp alike
             (h.inv.messages.fits from to place x (was from to place x flight));
         once = λ from to k l x y fx fy.
             h.inv.messages.once from to k l x y (was from to k x fx) (was from to l y fy);

@@ -145,19 +145,6 @@ module _ {shape : Shaped} {c : Cut} (cycle : ℕ) (inv : Inv shape c) (kept : Go
       sym (ap (λ (l : Letter). l.reference) (get_or_past ls k no_letter past)) ∙ e in cc))
       (cases_lt k (length ls))
 
-  -- an existing object was given out, so it was reachable if it is good
-  places-reached : (i k g : ℕ) (o : Object) → slot_at (c i).local.heap k ≡ Occupied g o
-      → FromHere c (own_reference (c i).local.own k g) → PlacesAll (FromHere c) o
-  places-reached i k g o there is j =
-      let own : (c i).local.own ≡ i = inv.base.own i (occupied-inside i k g o inv.base there) in
-      let here : slot_at (c (c i).local.own).local.heap k ≡ Occupied g o =
-      ap (λ (z : ℕ). slot_at (c z).local.heap k) own ∙ there in
-      option-holds (FromHere c) (get_or o.places j None) (λ r e.
-      ⊎_elim {C = FromHere c r}
-      (λ reached. inl (in_place (own_reference (c i).local.own k g) o j reached here e))
-      (λ never. absurd (never (occupied-past (c (c i).local.own).local.heap k g o here)))
-      is)
-
   part-here : (i : ℕ) → GoodPart (FromHere c) cycle (c i).local
   part-here i = record {
     heap = record {
@@ -165,7 +152,16 @@ module _ {shape : Shaped} {c : Cut} (cycle : ℕ) (inv : Inv shape c) (kept : Go
         registers = λ k. option-holds (FromHere c) _ (λ r e. inl (in_register i k e));
         letters = λ k. option-holds (FromHere c) _ (λ r e. inl (letter-reached i k r e));
       };
-      places = places-reached i;
+      -- an existing object was given out, so it was reachable if it is good
+      places = λ k g o there is j.
+          let own : (c i).local.own ≡ i = inv.base.own i (occupied-inside i k g o inv.base there) in
+          let here : slot_at (c (c i).local.own).local.heap k ≡ Occupied g o =
+          ap (λ (z : ℕ). slot_at (c z).local.heap k) own ∙ there in
+          option-holds (FromHere c) (get_or o.places j None) (λ r e.
+          ⊎_elim {C = FromHere c r}
+          (λ reached. inl (in_place (own_reference (c i).local.own k g) o j reached here e))
+          (λ never. absurd (never (occupied-past (c (c i).local.own).local.heap k g o here)))
+          is);
       marks = λ k g o there more.
           absurd (let w = (inv.tidy i).marks k g o there in let v = below i in
           omega (arith, w, v, more));
@@ -176,22 +172,18 @@ module _ {shape : Shaped} {c : Cut} (cycle : ℕ) (inv : Inv shape c) (kept : Go
     phase = (kept.part i).phase;
   }
 
-  -- Marks are of node 0's cycle
-  message-here : (from to place : ℕ) (x : Message) → IsInFlight c from to place x
-      → GoodMessage (FromHere c) cycle x
-  message-here from to place x flight = record {
-    carries = λ r a. inl (in_message from to place x flight a);
-    asks = λ r e there.
-        absurd (let fits : BodyFits shape.nodes (phases_of c) from to x.stamp (body.Mark r) =
-        subst (λ z. BodyFits shape.nodes (phases_of c) from to x.stamp z) e
-        (inv.messages.fits from to place x flight) in
-        let w = fits.2 in omega (arith, w, there, before));
-  }
-
   good-here : GoodCut (FromHere c) cycle c
   good-here = record {
     part = part-here;
-    messages = message-here;
+    -- Marks are of node 0's cycle
+    messages = λ from to place x flight. record {
+      carries = λ r a. inl (in_message from to place x flight a);
+      asks = λ r e there.
+          absurd (let fits : BodyFits shape.nodes (phases_of c) from to x.stamp (body.Mark r) =
+          subst (λ z. BodyFits shape.nodes (phases_of c) from to x.stamp z) e
+          (inv.messages.fits from to place x flight) in
+          let w = fits.2 in omega (arith, w, there, before));
+    };
     new = λ r never. inr never;
   }
 

@@ -22,7 +22,7 @@ use Rattle.laws.proofs.Turns.{Turn, at_turn, flew}
 use Rattle.laws.proofs.Rings.{RingStep, safra-turn}
 use Rattle.laws.proofs.Tallies.{bound-turn}
 use Rattle.laws.proofs.Acting.{all-from}
-use Rattle.laws.proofs.Invariant.{phases_of, cycle_of, Marking, Phased, StampFits, BodyFits, is_single, Tokens, IsBlack, Inv}
+use Rattle.laws.proofs.Invariant.{phases_of, cycle_of, Marking, Phased, StampFits, BodyFits, is_single, IsSaidOnce, Tokens, IsBlack, Inv}
 use Rattle.laws.proofs.Light.{is_idle, light-inv, Speaks, speaks-flows, Hears, hears-turn, hears-flows, hears-width, hears-within, hears-others, hears-marks}
 use Rattle.laws.proofs.RingSteps.{NoToken, tokens-same, token-back, token-on}
 
@@ -36,43 +36,41 @@ pub record SaidAlike (ph qh : ℕ → Phases) (from to : ℕ) (b : Body) : Type 
       → ((qh from).swept ≡ (ph from).swept)
       × (get_or (qh 0).reports from 0 ≡ get_or (ph 0).reports from 0)
 
-module _ (n : ℕ) (ph qh : ℕ → Phases) (from to s : ℕ) (b : Body)
-    (alike : SaidAlike ph qh from to b) where
-  first : ((qh 0).cycle ≡ (ph 0).cycle) × ((qh 0).ended ≡ (ph 0).ended)
-  first = alike.first
+pub fits-moved : {ph qh : ℕ → Phases} {from to : ℕ} {b : Body} (n s : ℕ)
+    → SaidAlike ph qh from to b → BodyFits n ph from to s b → BodyFits n qh from to s b
+fits-moved {ph} {qh} {from} {to} {b} n s alike = by b refl
+  where
+    first : ((qh 0).cycle ≡ (ph 0).cycle) × ((qh 0).ended ≡ (ph 0).ended)
+    first = alike.first
 
-  marking : Marking (ph 0) → Marking (qh 0)
-  marking m = omega (arith, m, first.0, first.1)
+    marking : Marking (ph 0) → Marking (qh 0)
+    marking m = omega (arith, m, first.0, first.1)
 
-  stamps : StampFits (ph 0) s → StampFits (qh 0) s
-  stamps (inl now) = inl (now ∙ sym first.0)
-  stamps (inr before) =
-      inr (marking before.0, before.1 ∙ sym first.0)
+    stamps : StampFits (ph 0) s → StampFits (qh 0) s
+    stamps (inl now) = inl (now ∙ sym first.0)
+    stamps (inr before) = inr (marking before.0, before.1 ∙ sym first.0)
 
-  by : (z : Body) → b ≡ z → BodyFits n ph from to s z → BodyFits n qh from to s z
-  by body.Begin e h = (h.0, (let w = h.1 in omega (arith, w, first.0)))
-  by (body.Token t) e h = (h.0, marking h.1, h.2 ∙ sym first.0)
-  by (body.Mark r) e h = (h.0, marking h.1, h.2 ∙ sym first.0)
-  by (body.Give label reference) e h = stamps h
-  by (body.Put target place reference) e h = (h.0, stamps h.1)
-  by (body.Get target place label) e h = (h.0, stamps h.1)
-  by body.Ended e h = (
-    h.0,
-    (let r = h.1 in omega (arith, r, first.0, first.1)),
-    h.2 ∙ sym first.0,
-    (let w = h.3 in omega (arith, w, alike.ended e, first.0)),
-  )
-  by body.Swept e h =
-      let same = alike.swept e in (
-        h.0,
-        h.1,
-        h.2 ∙ sym first.0,
-        same.0 ∙ h.3 ∙ sym first.0,
-        (let w = h.4 in omega (arith, w, same.1, first.0)),
-      )
-
-  pub fits-moved : BodyFits n ph from to s b → BodyFits n qh from to s b
-  fits-moved = by b refl
+    by : (z : Body) → b ≡ z → BodyFits n ph from to s z → BodyFits n qh from to s z
+    by body.Begin e h = (h.0, (let w = h.1 in omega (arith, w, first.0)))
+    by (body.Token t) e h = (h.0, marking h.1, h.2 ∙ sym first.0)
+    by (body.Mark r) e h = (h.0, marking h.1, h.2 ∙ sym first.0)
+    by (body.Give label reference) e h = stamps h
+    by (body.Put target place reference) e h = (h.0, stamps h.1)
+    by (body.Get target place label) e h = (h.0, stamps h.1)
+    by body.Ended e h = (
+      h.0,
+      (let r = h.1 in omega (arith, r, first.0, first.1)),
+      h.2 ∙ sym first.0,
+      (let w = h.3 in omega (arith, w, alike.ended e, first.0)),
+    )
+    by body.Swept e h =
+        let same = alike.swept e in (
+          h.0,
+          h.1,
+          h.2 ∙ sym first.0,
+          same.0 ∙ h.3 ∙ sym first.0,
+          (let w = h.4 in omega (arith, w, same.1, first.0)),
+        )
 
 -- ---- steps that move no token
 
@@ -282,10 +280,7 @@ module _ {shape : Shaped} {c d : Cut} {i : ℕ} {ms : List (ℕ × Message)}
       (h.fits to x new.1))
       (flew says-turn from to place x flight))
 
-  -- The premise is that what may be said only once in a cycle is said only once.
-  pub says-inv : ((from to k l : ℕ) (x y : Message) → IsInFlight d from to k x
-      → IsInFlight d from to l y → x.body ≡ y.body → is_single x.body ≡ true → k ≡ l)
-      → Inv shape d
+  pub says-inv : IsSaidOnce d → Inv shape d
   says-inv once = light-inv (record {
     inv = h.inv;
     inside = h.inside;
@@ -457,13 +452,12 @@ hear-inv {shape = shape} {c = c} {d = d} {i = i} {q = q} {j = j} {x = x} h =
         fits = λ from to place y flight.
             let before = was from to place y flight in
             let same = h.fits from to place y before flight.later in
-            fits-moved shape.nodes (phases_of c) (phases_of d) from to y.stamp y.body
-            (record {
+            let alike : SaidAlike (phases_of c) (phases_of d) from to y.body = record {
               first = (cycle0, h.ended);
               ended = same.0;
               swept = λ e. (swept from, same.1 e);
-            })
-            (inv.messages.fits from to place y before);
+            } in
+            fits-moved shape.nodes y.stamp alike (inv.messages.fits from to place y before);
         once = λ from to k l y z fy fz.
             inv.messages.once from to k l y z (was from to k y fy) (was from to l z fz);
       };

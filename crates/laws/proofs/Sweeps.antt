@@ -28,7 +28,7 @@ use Rattle.laws.proofs.Slots.{still-free}
 use Rattle.laws.proofs.Invariant.{phases_of, cycle_of, Marking, Resting, Joined, Safe, Holds, RootsAll, PlacesAll, IsFree, FreeSlots, Tidy, Phased, BodyFits, Inv}
 use Rattle.laws.proofs.Light.{is_idle, Speaks, speaks-flows}
 use Rattle.laws.proofs.RingSteps.{token-back, flew-one}
-use Rattle.laws.proofs.PhaseSteps.{fits-moved, Says, says-turn, says-inv}
+use Rattle.laws.proofs.PhaseSteps.{SaidAlike, fits-moved, Says, says-turn, says-inv}
 
 -- ---- a heap whose slots from one number up to another were swept
 
@@ -343,8 +343,7 @@ module _ {shape : Shaped} {c d : Cut} {i : ℕ} {h : Heap} {to swept cursor : �
   sweep-fits : (from k : ℕ) (x : Message) → BodyFits shape.nodes (phases_of c) from k x.stamp x.body
       → BodyFits shape.nodes (phases_of d) from k x.stamp x.body
   sweep-fits from k x fits =
-      fits-moved shape.nodes (phases_of c) (phases_of d) from k x.stamp x.body
-      (record {
+      let alike : SaidAlike (phases_of c) (phases_of d) from k x.body = record {
         first = (sweep-cycle 0, sweep-ends 0);
         ended = λ _. sweep-ends k;
         swept = λ e. (
@@ -358,8 +357,8 @@ module _ {shape : Shaped} {c d : Cut} {i : ℕ} {h : Heap} {to swept cursor : �
               (λ l _ _. refl) from refl,
           ap (λ (z : List ℕ). get_or z from 0) (sweep-reports 0),
         );
-      })
-      fits
+      } in
+      fits-moved shape.nodes x.stamp alike fits
 
   pub sweep-inv : Inv shape d
   sweep-inv = record {

@@ -115,7 +115,7 @@ append_to-other links (m ∷ ms) i others =
     ∙ get_or-set_other links m.0 i (appended (get_or links m.0 no_link) m.1) no_link
     (λ e. others.0 (sym e))
 
-module _ (own cycle : ℕ) (links : List Link) (got : List ℕ) (old : AreTimely own cycle links got)
+module _ {own cycle : ℕ} {links : List Link} {got : List ℕ} (old : AreTimely own cycle links got)
   where
     pub timely-appended : (ms : List (ℕ × Message))
         → AllByRecursion (λ (m : ℕ × Message). m.0 ≢ own) ms

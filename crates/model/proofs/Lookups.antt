@@ -3,10 +3,9 @@ use Rattle.std.proofs.Common.{◌≡◌, ℕ, zero, suc, ◌+◌, ◌<◌, List,
 use Rattle.std.specs.List.{AllByRecursion}
 use Rattle.std.proofs.lemmas.List.{take-append-drop}
 
--- A relation that holds at each index of two lists of one length still holds after a write to one
--- index of both.
+-- A relation that holds at an index of two lists of one length still holds after a write to one
+-- index of both, if it holds of the written elements in case this index was written.
 module _ {A B : Type 0} (P : A → B → Type 0) (d : A) (e : B) (x : A) (y : B) where
-  -- if it holds of the written elements in case this index was written
   pub both_set_if : (xs : List A) (ys : List B) (i : ℕ) → length xs ≡ length ys → (k : ℕ)
       → (i ≡ k → P x y) → P (get_or xs k d) (get_or ys k e)
       → P (get_or (set xs i x) k d) (get_or (set ys i y) k e)
@@ -18,12 +17,6 @@ module _ {A B : Type 0} (P : A → B → Type 0) (d : A) (e : B) (x : A) (y : B)
   both_set_if (a ∷ xs) (b ∷ ys) (suc i) w zero p h = h
   both_set_if (a ∷ xs) (b ∷ ys) (suc i) w (suc k) p h =
       both_set_if xs ys i (omega arith) k (λ q. p (ap suc q)) h
-
-  -- if it holds of the written elements, whichever index was written
-  pub both_set : (xs : List A) (ys : List B) (i : ℕ) → length xs ≡ length ys → P x y
-      → ((k : ℕ) → P (get_or xs k d) (get_or ys k e)) → (k : ℕ)
-      → P (get_or (set xs i x) k d) (get_or (set ys i y) k e)
-  both_set xs ys i w p h k = both_set_if xs ys i w k (λ _. p) (h k)
 
 -- two functions that agree at every index of two lists of one length give the same list
 pub maps_agree : {A B : Type 0} (f : A → ℕ) (g : B → ℕ) (xs : List A) (ys : List B) (d : A) (e : B)

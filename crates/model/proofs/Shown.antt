@@ -21,7 +21,7 @@ use Rattle.model.specs.Effects.{Effect, unchanged}
 use Rattle.model.specs.Steps.{checked, tests, made, fits, ack_of, is_addressed, is_repeat, is_early, may_take, receipt_tests, receipt, taken_in, act, after, is_shading, append_all}
 use Rattle.model.specs.View.{Link, NodeView, ShowsSent, Shows, link_to, IsTold, Follows, Performs, no_link, used, appended, append_to, ack_tests, trimmed, let_go, view_act, view_after, view_done}
 use Rattle.model.proofs.Checks.{guarded-ok, guarded-passes, guarded-pass, guarded-without, passed-parts, passed-both, guarded-passed}
-use Rattle.model.proofs.Lookups.{both_set, maps_agree}
+use Rattle.model.proofs.Lookups.{both_set_if, maps_agree}
 use Rattle.std.proofs.lemmas.List.{length-set, length-drop, drop-drop, drop-append-le, set-get_or}
 
 -- one more message on a link
@@ -44,8 +44,8 @@ shows_sends links sent (m ∷ ms) h =
     shows_sends (set links m.0 (appended (get_or links m.0 no_link) m.1))
     (set sent m.0 (get_or sent m.0 [] ++ m.1 ∷ [])) ms (record {
       width = length-set links m.0 _ ∙ h.width ∙ sym (length-set sent m.0 _);
-      each = both_set ShowsSent no_link [] _ _ links sent m.0 h.width
-          (shows_appended _ _ _ (h.each m.0)) h.each;
+      each = λ i. both_set_if ShowsSent no_link [] _ _ links sent m.0 h.width i
+          (λ _. shows_appended _ _ _ (h.each m.0)) (h.each i);
     })
 
 pub used_is : (l : Link) (sent : List Message) → ShowsSent l sent → used l ≡ length sent
@@ -94,8 +94,8 @@ shows_let_go links sent (Some a) h = record {
       → ShowsSent
       (get_or (set links a.from (trimmed (get_or links a.from no_link) a.number)) i no_link)
       (get_or z i [])) (set-get_or sent a.from [])
-      (both_set ShowsSent no_link [] _ _ links sent a.from h.width
-      (shows_trimmed _ _ a.number (h.each a.from)) h.each);
+      (λ i. both_set_if ShowsSent no_link [] _ _ links sent a.from h.width i
+      (λ _. shows_trimmed _ _ a.number (h.each a.from)) (h.each i));
 }
 
 -- the tests on the code's node: also those of an acknowledgement, which a state can't make
@@ -145,78 +145,70 @@ spent-told : (o : Option Ack) (e : Refusal) → e ≡ LinkSpent → IsTold o e
 spent-told None e h = tt
 spent-told (Some a) e h = λ beyond. let wrong : LinkSpent ≡ AckBeyond = sym h ∙ beyond in absurd cc
 
--- `Memory` replaces the same results on the state as on the code's node
-module _ (n : NodeView) (s : NodeState) (o : Option Ack) (links : List Link)
-    (ts f : List (Bool × Refusal)) (x : Effect) where
-  spent-heard : (r : Result Effect Refusal) → guarded (unheard ts n o f) x ≡ r
-      → IsOkOrSpent (view_after n links r) → IsOkOrSpent (after s (guarded (ts ++ f) x))
-  spent-heard (Ok y) h t =
-      subst (λ (z : Result (NodeState × Answer) Refusal). IsOkOrSpent z)
-      (sym
-      (ap (after s)
-      (guarded-pass (ts ++ f) x (passed-heard ts f n o (guarded-passes (unheard ts n o f) x y h)))))
-      tt
-  spent-heard (Err e) h t =
-      subst (λ (z : Result (NodeState × Answer) Refusal). IsOkOrSpent z)
-      (sym (ap (after s) (refused-heard ts f n o x e (spent-told o e t) h))) t
-
-  replaced-heard : (shading : Bool)
-      → IsReplaced shading (view_after n links (guarded (unheard ts n o f) x))
-      → IsReplaced shading (after s (guarded (ts ++ f) x))
-  replaced-heard false h =
-      let found = view-answered n links (guarded (unheard ts n o f) x) h in
-      let passed : AllPass (ts ++ f) =
-      passed-heard ts f n o (guarded-passes (unheard ts n o f) x found.0 found.1) in
-      subst (λ (z : Result (NodeState × Answer) Refusal). IsOk z)
-      (sym (ap (after s) (guarded-pass (ts ++ f) x passed))) refl
-  replaced-heard true h =
-      spent-heard (guarded (unheard ts n o f) x) refl h
-
 -- the tests, the numbers of messages and the effect are those of the state
-module _ (n : NodeView) (s : NodeState) (e : Event) (ts f : List (Bool × Refusal)) (x : Effect)
-  where
-    follows_effect : (new : NodeView) (r : Result Answer Refusal) → Shows n s
-        → Performs (is_shading e) r new
-        (view_after n (let_go n.links (ack_of e)) (guarded (unheard ts n (ack_of e) f) x))
-        → Follows e r new (after s (guarded (ts ++ f) x))
-    follows_effect new (Ok a) h p =
-        let found =
-        view-ok n new (let_go n.links (ack_of e)) (guarded (unheard ts n (ack_of e) f) x) a p in
-        let same : x ≡ found.0 = guarded-ok (unheard ts n (ack_of e) f) x found.0 found.1 in
-        let passed : AllPass (ts ++ f) =
-        passed-heard ts f n (ack_of e)
-        (guarded-passes (unheard ts n (ack_of e) f) x found.0 found.1) in
-        let all : ShowAll (append_to (let_go n.links (ack_of e)) x.sends)
-        (append_all s.sent x.sends) =
-        shows_sends (let_go n.links (ack_of e)) s.sent x.sends
-        (shows_let_go n.links s.sent (ack_of e) (record { width = h.width; each = h.links })) in
-        let shown : Shows
-        (record n { local = x.local; links = append_to (let_go n.links (ack_of e)) x.sends })
-        (record { local = x.local; sent = append_all s.sent x.sends }) =
-        record { local = refl; width = all.width; links = all.each } in (
-          record { local = x.local; sent = append_all s.sent x.sends },
-          ap (after s) (guarded-pass (ts ++ f) x passed)
-              ∙ ap
-              (λ (z : Answer). Ok (record { local = x.local; sent = append_all s.sent x.sends }, z))
-              (ap (λ (z : Effect). z.answer) same ∙ sym found.3),
-          subst
-              (λ (z : NodeView).
-              Shows z (record { local = x.local; sent = append_all s.sent x.sends }))
-              (ap (λ (z : Effect). record n {
-                local = z.local;
-                links = append_to (let_go n.links (ack_of e)) z.sends;
-              }) same ∙ sym found.2) shown,
-        )
-    follows_effect new (Err r) h p = λ told. (
-      (λ ne.
-          ap (after s)
-          (refused-heard ts f n (ack_of e) x r told
-          (view-err n (let_go n.links (ack_of e)) (guarded (unheard ts n (ack_of e) f) x) r
-          (p.0 ne)))),
-      (λ full.
-          replaced-heard n s (ack_of e) (let_go n.links (ack_of e)) ts f x (is_shading e)
-          (p.1 full)),
-    )
+module _ {n : NodeView} {s : NodeState} (h : Shows n s) (e : Event)
+    (ts f : List (Bool × Refusal)) (x : Effect) where
+  -- the links without what the event drops, and the tests on the code's node
+  abbrev left : List Link
+  left = let_go n.links (ack_of e)
+
+  abbrev all : List (Bool × Refusal)
+  all = unheard ts n (ack_of e) f
+
+  -- if these pass, so do those on the state
+  answers : (y : Effect) → guarded all x ≡ Ok y → after s (guarded (ts ++ f) x) ≡ after s (Ok x)
+  answers y is =
+      ap (after s)
+      (guarded-pass (ts ++ f) x (passed-heard ts f n (ack_of e) (guarded-passes all x y is)))
+
+  -- `Memory` replaces the same results on the state as on the code's node
+  spent-heard : (r : Result Effect Refusal) → guarded all x ≡ r
+      → IsOkOrSpent (view_after n left r) → IsOkOrSpent (after s (guarded (ts ++ f) x))
+  spent-heard (Ok y) is t =
+      subst (λ (z : Result (NodeState × Answer) Refusal). IsOkOrSpent z) (sym (answers y is)) tt
+  spent-heard (Err r) is t =
+      subst (λ (z : Result (NodeState × Answer) Refusal). IsOkOrSpent z)
+      (sym (ap (after s) (refused-heard ts f n (ack_of e) x r (spent-told (ack_of e) r t) is))) t
+
+  replaced-heard : (shading : Bool) → IsReplaced shading (view_after n left (guarded all x))
+      → IsReplaced shading (after s (guarded (ts ++ f) x))
+  replaced-heard false answered =
+      let found = view-answered n left (guarded all x) answered in
+      subst (λ (z : Result (NodeState × Answer) Refusal). IsOk z)
+      (sym (answers found.0 found.1)) refl
+  replaced-heard true t = spent-heard (guarded all x) refl t
+
+  follows_effect : (new : NodeView) (r : Result Answer Refusal)
+      → Performs (is_shading e) r new (view_after n left (guarded all x))
+      → Follows e r new (after s (guarded (ts ++ f) x))
+  follows_effect new (Ok a) p =
+      let found = view-ok n new left (guarded all x) a p in
+      let same : x ≡ found.0 = guarded-ok all x found.0 found.1 in
+      let links : ShowAll (append_to left x.sends) (append_all s.sent x.sends) =
+      shows_sends left s.sent x.sends
+      (shows_let_go n.links s.sent (ack_of e) (record { width = h.width; each = h.links })) in
+      let shown : Shows (record n { local = x.local; links = append_to left x.sends })
+      (record { local = x.local; sent = append_all s.sent x.sends }) =
+      record { local = refl; width = links.width; links = links.each } in (
+        record { local = x.local; sent = append_all s.sent x.sends },
+        answers found.0 found.1
+            ∙ ap
+            (λ (z : Answer). Ok (record { local = x.local; sent = append_all s.sent x.sends }, z))
+            (ap (λ (z : Effect). z.answer) same ∙ sym found.3),
+        subst
+            (λ (z : NodeView).
+            Shows z (record { local = x.local; sent = append_all s.sent x.sends }))
+            (ap (λ (z : Effect). record n {
+              local = z.local;
+              links = append_to left z.sends;
+            }) same ∙ sym found.2) shown,
+      )
+  follows_effect new (Err r) p = λ told. (
+    (λ ne.
+        ap (after s)
+        (refused-heard ts f n (ack_of e) x r told (view-err n left (guarded all x) r (p.0 ne)))),
+    (λ full. replaced-heard (is_shading e) (p.1 full)),
+  )
 
 -- A node's result for an event, and the node after it, follow the event on every state that the
 -- node shows.
@@ -240,9 +232,9 @@ act-shown n new e r p s h =
     (view_after n (let_go n.links (ack_of e))
     (checked (tests z e ++ ack_tests n (ack_of e)) (map used n.links)
     (made z (map used n.links) e)))) local p) in
-    follows_effect n s e (tests s.local e)
+    follows_effect h e (tests s.local e)
     ((fits (map length s.sent) (made s.local (map length s.sent) e).sends, LinkSpent) ∷ [])
-    (made s.local (map length s.sent) e) new r h ready
+    (made s.local (map length s.sent) e) new r ready
 
 -- a message that the node may receive in its turn
 pub view-taken_in : (n : NodeView) (d : Data) → is_addressed n.local d.from d.to ≡ true

@@ -87,7 +87,7 @@ stocked-new shape own = record {
   calm = λ _. refl;
 }
 
-module _ (shape : Shaped) (own cycle ended : ℕ) (h : Heap) (old : IsStocked shape own cycle ended h)
+module _ {shape : Shaped} {own cycle ended : ℕ} {h : Heap} (old : IsStocked shape own cycle ended h)
   where
     -- ---- registers and letters
 
@@ -277,9 +277,9 @@ module _ (shape : Shaped) (own cycle ended : ℕ) (h : Heap) (old : IsStocked sh
             (with_mark cycle x) x (eq-eqb r.generation r.generation refl))))
             refl
 
-        apart : (x : Object) → slot_at h r.slot ≡ Occupied r.generation x → x.mark ≢ cycle → (k : ℕ)
+        apart : {x : Object} → slot_at h r.slot ≡ Occupied r.generation x → x.mark ≢ cycle → (k : ℕ)
             → HasMarked cycle (slot_at h k) → eqb k r.slot ≡ false
-        apart x there white k marked =
+        apart there white k marked =
             ne_eqb k r.slot
             (λ (e : k ≡ r.slot).
             white (subst (HasMarked cycle) (ap (slot_at h) e ∙ there) marked))
@@ -300,7 +300,7 @@ module _ (shape : Shaped) (own cycle ended : ℕ) (h : Heap) (old : IsStocked sh
                   h.grey (r.slot ∷ []) base.grey (now-marked found.0 there, tt);
               once = distinct-push eqb h.grey r.slot old.once
                   (all-map (λ (k : ℕ). HasMarked cycle (slot_at h k)) (λ k. eqb k r.slot ≡ false)
-                  (apart found.0 there found.2) h.grey old.grey);
+                  (apart there found.2) h.grey old.grey);
               calm = λ done. absurd (opened done);
             }
 
@@ -338,14 +338,14 @@ module _ (shape : Shaped) (own cycle ended : ℕ) (h : Heap) (old : IsStocked sh
 
 -- ---- many objects turn grey
 
-pub stocked-greyed : (shape : Shaped) (own cycle ended : ℕ) (h : Heap) (rs : List Ref)
+pub stocked-greyed : {shape : Shaped} {own cycle ended : ℕ} (rs : List Ref) {h : Heap}
     → ended ≢ cycle → IsStocked shape own cycle ended h
     → IsStocked shape own cycle ended (make_all_grey own cycle h rs)
-stocked-greyed shape own cycle ended h [] opened old = old
-stocked-greyed shape own cycle ended h (r ∷ rs) opened old =
-    stocked-greyed shape own cycle ended (cond (r.node == own) (make_grey cycle h r) h) rs opened
+stocked-greyed [] opened old = old
+stocked-greyed {shape} {own} {cycle} {ended} (r ∷ rs) {h} opened old =
+    stocked-greyed rs opened
     (cond_both (r.node == own) (make_grey cycle h r) h (IsStocked shape own cycle ended)
-    (λ _. stocked-make_grey shape own cycle ended h old r opened)
+    (λ _. stocked-make_grey old r opened)
     (λ _. old))
 
 -- ---- slots are swept while no object is grey
@@ -359,7 +359,7 @@ vacated-sound cycle of (Occupied g o) garbage is =
     (λ _. let born = is.born in omega (arith, born))
 vacated-sound cycle of Retired garbage is = absurd cc
 
-module _ (shape : Shaped) (own cycle ended of : ℕ) where
+module _ {shape : Shaped} {own cycle ended : ℕ} (of : ℕ) where
   swept-one : (k : ℕ) (s : Sweeping) → s.heap.grey ≡ [] → IsStocked shape own cycle ended s.heap
       → IsStocked shape own cycle ended (sweep_one of k s).heap
       × ((sweep_one of k s).heap.grey ≡ [])

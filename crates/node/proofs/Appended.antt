@@ -71,7 +71,7 @@ linked-appended shape own cycle l ms h may links = record {
   width = length-append_to l.links ms ∙ h.width;
   links = links;
   messages = sendable-appended shape l.links ms may.sendable h.messages;
-  timely = timely-appended own cycle l.links l.got h.timely ms may.others may.stamps;
+  timely = timely-appended h.timely ms may.others may.stamps;
 }
 
 -- the same links of a node in a later cycle
@@ -81,7 +81,7 @@ linked-later {own = own} {cycle = cycle} {l = l} later more h = record {
   width = h.width;
   links = h.links;
   messages = h.messages;
-  timely = timely-later own cycle l.links l.got h.timely later more;
+  timely = timely-later h.timely later more;
 }
 
 pub numbers-appended : (shape : Shaped) (own cycle : ℕ) (l : LinksView) (ms : List (ℕ × Message))

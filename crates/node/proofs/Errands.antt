@@ -52,7 +52,7 @@ module _ (n : NodeView) (old : IsNode n) where
   node-listed extra.Scanned =
       node-heap n (without_last_grey n.local.heap) old
       (holds-without_last_grey (IsWithin n.local.shape) n.local.heap old.references)
-      (stocked-scanned _ _ _ _ n.local.heap old.stocked)
+      (stocked-scanned old.stocked)
       (le_refl (length n.local.heap.slots))
   node-listed extra.Nothing = old
   node-listed (extra.Letter l) = old
@@ -92,8 +92,7 @@ module _ (n : NodeView) (old : IsNode n) where
   node-extra (extra.Letter l) fit links =
       node-heap n _ old
       (holds-with_letter (IsWithin n.local.shape) n.local.heap l old.references fit.1)
-      (stocked-letter n.local.shape n.local.own n.local.phases.cycle n.local.phases.ended
-      n.local.heap old.stocked l fit.0)
+      (stocked-letter old.stocked l fit.0)
       (le_refl (length n.local.heap.slots))
   node-extra (extra.Answer to label reference) fit links =
       node-sent n to (body.Give label reference) old fit.0

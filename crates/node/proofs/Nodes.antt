@@ -127,8 +127,7 @@ module _ (n : NodeView) (old : IsNode n) where
         (sym (get_or-drop (number - link.base) link.unacknowledged k no_message))
         (old.links.messages from (number - link.base + k)))
         (old.links.messages i k);
-    timely = timely-trimmed n.local.own n.local.phases.cycle n.links n.local.got old.links.timely
-        from number other;
+    timely = timely-trimmed old.links.timely from number other;
   }
 
   linked-kept_peer : (peer sent received : ℕ) → peer ≢ n.local.own
@@ -143,8 +142,7 @@ module _ (n : NodeView) (old : IsNode n) where
         messages = λ i k.
             at_set (λ (z : Link). IsSendable n.local.shape (get_or z.unacknowledged k no_message))
             n.links peer i l no_link (old.links.messages peer k) (old.links.messages i k);
-        timely = timely-same n.local.own n.local.phases.cycle n.links n.local.got
-            old.links.timely peer l other refl;
+        timely = timely-same old.links.timely peer l other refl;
       }
 
   linked-kept : IsLinks (kept_links (links_of n))
@@ -155,7 +153,7 @@ module _ (n : NodeView) (old : IsNode n) where
     messages = λ i k.
         subst (λ (z : Link). IsSendable n.local.shape (get_or z.unacknowledged k no_message))
         (sym (get_or-map all_kept n.links i no_link)) (old.links.messages i k);
-    timely = timely-kept n.local.own n.local.phases.cycle n.links n.local.got old.links.timely;
+    timely = timely-kept old.links.timely;
   }
 
 -- ---- in the form of the code: the links after a call, and the ring
@@ -227,8 +225,7 @@ node-counted n from stamp b old sender w =
       width = old.links.width;
       links = links;
       messages = old.links.messages;
-      timely = timely-taken n.local.own n.local.phases.cycle n.links got old.links.timely from
-          (get_or got from 0 + 1) sender.other;
+      timely = timely-taken old.links.timely from (get_or got from 0 + 1) sender.other;
     })
     (bounded_more (most + 1) _ (counted_down k n.local.ring) (omega (arith, more))
     (bounded_down most k n.local.ring old.balance))

@@ -91,8 +91,7 @@ module _ (n : NodeView) (due : Bool) (rs : List Ref) (old : IsNode n)
         own = old.own;
         references = holds-make_all_grey (IsWithin p.shape) p.own p.phases.cycle p.heap rs
             old.references;
-        stocked = stocked-greyed p.shape p.own p.phases.cycle p.phases.ended p.heap rs
-            (open-apart p opened) old.stocked;
+        stocked = stocked-greyed rs (open-apart p opened) old.stocked;
         asked = asked-more p.shape p.own p.asked rs old.asked all;
         phases = record {
           phases = old.phases.phases;
@@ -133,8 +132,7 @@ node-entered n cycle old may phases =
       shape = old.shape;
       own = old.own;
       references = old.references;
-      stocked = stocked-later p.shape p.own p.phases.cycle p.phases.ended p.heap old.stocked cycle
-          p.phases.ended more (old.stocked.calm done);
+      stocked = stocked-later old.stocked cycle p.phases.ended more (old.stocked.calm done);
       asked = asked-none p.shape p.own;
       phases = record {
         phases = phases;

@@ -77,8 +77,7 @@ module _ (n : NodeView) (old : IsNode n) where
       (Some (new_reference p.own h))
       (holds-with_object (IsWithin p.shape) h at places old.references)
       (subst (IsWithin p.shape) (sym name) within))
-      (stocked-register p.shape p.own at p.phases.ended (with_object h o)
-      (stocked-object p.shape p.own at p.phases.ended h old.stocked places
+      (stocked-register (stocked-object old.stocked places
       (leb-true places GREATEST_PLACES passed.1.0))
       register (Some (new_reference p.own h)))
       (slots_with-more h.free h.slots o))
@@ -94,7 +93,7 @@ module _ (n : NodeView) (old : IsNode n) where
       let p = n.local in
       node-heap n (with_register p.heap register v) old
       (holds-with_register (IsWithin p.shape) p.heap register v old.references within)
-      (stocked-register p.shape p.own p.phases.cycle p.phases.ended p.heap old.stocked register v)
+      (stocked-register old.stocked register v)
       (le_refl (length p.heap.slots))
 
   pub node-copied : (register source : ℕ) (g : Heap)
@@ -123,8 +122,7 @@ module _ (n : NodeView) (old : IsNode n) where
       (node-heap n (letter_taken p.heap register) old
       (holds-with_register (IsWithin p.shape) h register (oldest_letter p.heap).reference
       (holds-letter_gone (IsWithin p.shape) p.heap old.references) (old.references.letters 0))
-      (stocked-register p.shape p.own p.phases.cycle p.phases.ended h
-      (stocked-letter_gone p.shape p.own p.phases.cycle p.phases.ended p.heap old.stocked) register
+      (stocked-register (stocked-letter_gone old.stocked) register
       (oldest_letter p.heap).reference)
       (le_refl (length p.heap.slots)))
 
@@ -136,7 +134,7 @@ module _ (n : NodeView) (old : IsNode n) where
       length-set p.heap.slots r.slot _ in
       node-heap n (with_place p.heap r place v) old
       (holds-with_place (IsWithin p.shape) p.heap r place v old.references within)
-      (stocked-place p.shape p.own p.phases.cycle p.phases.ended p.heap old.stocked r place v)
+      (stocked-place old.stocked r place v)
       (omega (arith, slots))
 
   pub node-stored : (object place register : ℕ) (g : Heap)
@@ -165,5 +163,5 @@ module _ (n : NodeView) (old : IsNode n) where
       tested (word_tests p.own p.heap object) _ g e
       (node-heap n (with_word p.heap r word) old
       (holds-with_word (IsWithin p.shape) p.heap r word old.references)
-      (stocked-word p.shape p.own p.phases.cycle p.phases.ended p.heap old.stocked r word)
+      (stocked-word old.stocked r word)
       (omega (arith, slots)))

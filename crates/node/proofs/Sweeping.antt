@@ -199,6 +199,5 @@ node-swept {n = n} {h = h} {phases = phases} {last = last} {cursor = cursor} cyc
     (subst (λ (z : Heap). IsNode (with_swept n z (moved last cursor p))) (sym s.heap)
     (node-moved n _ old
     (holds-sweep_some (IsWithin n.local.shape) cycle first count before old.references)
-    (stocked-swept n.local.shape n.local.own p.cycle p.ended cycle first count before none
-    old.stocked)
+    (stocked-swept cycle first count before none old.stocked)
     (subst IsPhases m.is m.sound) (omega (arith, m.within, slots))))

@@ -99,7 +99,7 @@ hunt-on {h = h} w budget more k room spends = ⊎_elim {C = Hunted h w budget}
     inr (record { known = k; marking = marking; room = room; spends = spends marking }))
     (cases_eq (phases_of (now w) 0).ended (cycle_of (now w) 0))
 
-module _ {h : Hunt} (rules : Rules h) (w : World) (budget : ℕ) (g : Going h w budget) where
+module _ {h : Hunt} (rules : Rules h) {w : World} {budget : ℕ} (g : Going h w budget) where
   abbrev n : ℕ
   n = h.shape.nodes
 
@@ -112,9 +112,9 @@ module _ {h : Hunt} (rules : Rules h) (w : World) (budget : ℕ) (g : Going h w 
   inv : Inv h.shape c
   inv = (reached-whole g.known.reached).inv
 
-  idle-known : (i : ℕ) (q : LocalState) (ms : List (ℕ × Message)) (most : ℕ)
+  idle-known : {i : ℕ} {q : LocalState} {ms : List (ℕ × Message)} (most : ℕ)
       → Idles h.shape w i q ms → load_sent weight ms ≤ most → Known h most v
-  idle-known i q ms most idle load = record {
+  idle-known {i} {q} {ms} most idle load = record {
     reached = idle.moved.reached;
     cycle = idle.cycle 0 ∙ g.known.cycle;
     keeps = rules.more (load_sent weight ms) most v load (rules.idle w i q ms g.known idle);
@@ -128,7 +128,7 @@ module _ {h : Hunt} (rules : Rules h) (w : World) (budget : ℕ) (g : Going h w 
         rest = budget - 1;
         less = omega (arith, g.spends.enough);
         then = hunt-on v (budget - 1) (rules.more 0 n v (omega arith))
-            (idle-known i q ms 0 idle (omega (arith, load)))
+            (idle-known 0 idle (omega (arith, load)))
             (room-after (budget + n + h.spare) (budget - 1 + n + h.spare) idle.moved.turn
             (omega (arith, g.spends.enough, few)) g.room)
             (λ _.
@@ -140,7 +140,7 @@ module _ {h : Hunt} (rules : Rules h) (w : World) (budget : ℕ) (g : Going h w 
         rest = 0;
         less = omega (arith, g.spends.enough);
         then = inl (record {
-          known = idle-known i q ms n idle load;
+          known = idle-known n idle load;
           ended = ended ∙ g.known.cycle;
           room = room-after (budget + n + h.spare) h.spare idle.moved.turn (omega (arith, few))
               g.room;
@@ -154,7 +154,7 @@ module _ {h : Hunt} (rules : Rules h) (w : World) (budget : ℕ) (g : Going h w 
       rules.receives w budget from to g l (inr ahead))
       (λ (here : (message_of l).stamp ≤ cycle_of c to).
       let t = token-there (message_of l).body token in
-      token-onward (token-comes w (h.left w) budget from to l g.marking g.spends t.0 t.1 here))
+      token-onward (token-comes l g.marking g.spends t.0 t.1 here))
       (cases_lt (cycle_of c to) (message_of l).stamp))
       (λ other. rules.receives w budget from to g l (inl other))
       (cases_Bool (is_token (message_of l).body))
@@ -195,7 +195,7 @@ pub hunted : {h : Hunt} (w : World) (budget : ℕ) → Rules h → Hunted h w bu
     → Reaches h.shape.nodes (Over h) budget w
 hunted {h = h} w budget rules start =
     searched (λ u most s. ⊎_elim {C = Over h u ⊎ Onward h.shape.nodes (Hunted h) u most}
-    (λ over. inl over) (λ going. inr (hunt-onward rules u most going)) s) w budget start
+    (λ over. inl over) (λ going. inr (hunt-onward rules going)) s) w budget start
 
 -- what a search keeps to: the cycle, the most work, and the numbers that links must keep
 pub record Aim : Type 0 where
@@ -233,7 +233,7 @@ marks-more a k l w le h = record {
   both = omega (arith, h.both, le);
 }
 
-module _ (a : Aim) (w : World) (budget : ℕ) (g : Going (marks a) w budget) where
+module _ (a : Aim) {w : World} {budget : ℕ} (g : Going (marks a) w budget) where
   abbrev count : ℕ
   count = a.shape.nodes
 
@@ -256,10 +256,10 @@ module _ (a : Aim) (w : World) (budget : ℕ) (g : Going (marks a) w budget) whe
       room-less old (budget + count + a.spare) (length ms) (omega (arith, few, enough, all)) g.room
 
   -- the work falls
-  fallen : (i : ℕ) (q : LocalState) (ms : List (ℕ × Message))
+  fallen : {i : ℕ} {q : LocalState} {ms : List (ℕ × Message)}
       → Moved a.shape w i q ms → Falls count old (now new) ms
       → Onward count (Hunted (marks a)) w budget
-  fallen i q ms m f =
+  fallen {ms = ms} m f =
       let k = g.known in
       let falls = product-falls count (work_left count (now new)) (work_left count old) (length ms)
       (omega (arith, several k.reached.limits)) f.work in
@@ -293,8 +293,7 @@ module _ (a : Aim) (w : World) (budget : ℕ) (g : Going (marks a) w budget) whe
       let moved = link-brought h
       (numbers-fit old to (effect_there h).sends
       (room-for from (effect_there h).sends h.sender few)) in
-      fallen to (effect_there h).local (effect_there h).sends moved
-      (took-falls (link-took h moved) either)
+      fallen moved (took-falls (link-took h moved) either)
 
   scan-onward : (i : ℕ) → i < count → next_move count old ≡ Do i event.Scan → is_grey old i ≡ true
       → Onward count (Hunted (marks a)) w budget
@@ -317,8 +316,7 @@ module _ (a : Aim) (w : World) (budget : ℕ) (g : Going (marks a) w budget) whe
         passed = (grey, tt);
         numbered = numbers-fit old i x.sends (room-for i x.sends inside few);
       }) in
-      fallen i x.local x.sends moved
-      (scan-falls old_inv inside (not-true _ grey) moved.turn stands.got)
+      fallen moved (scan-falls old_inv inside (not-true _ grey) moved.turn stands.got)
 
 marks-rules : (a : Aim) → Rules (marks a)
 marks-rules a = record {
@@ -331,8 +329,8 @@ marks-rules a = record {
       (let less : work_left a.shape.nodes (now (run w (next_steps a.shape.nodes w)))
       ≤ work_left a.shape.nodes (now w) = omega (arith, idle.work, load) in
       omega (arith, mul-le-mul_left a.shape.nodes less));
-  receives = λ w budget from to g h either. receive-falls a w budget g from to h either;
-  scans_one = λ w budget i g inside chosen grey. scan-onward a w budget g i inside chosen grey;
+  receives = λ w budget from to g h either. receive-falls a g from to h either;
+  scans_one = λ w budget i g inside chosen grey. scan-onward a g i inside chosen grey;
 }
 
 pub marking-ends : (a : Aim) (w : World) → Known (marks a) 0 w

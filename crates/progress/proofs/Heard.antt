@@ -303,11 +303,11 @@ module _ {shape : Shaped} {c d : Cut} {i : ℕ} (e : Event) (h : Owns shape c d 
   says : (to : ℕ) → taken d i to ≤ length (sent_to (c i) to)
   says to = omega (arith, h.inv.base.within i to, taken-same h.turn got i to)
 
-  before : x.local.phases.reports ≡ p.phases.reports → (j : ℕ) → 0 < j → j < shape.nodes
+  before : {j : ℕ} → x.local.phases.reports ≡ p.phases.reports → 0 < j → j < shape.nodes
       → get_or (phases_of d 0).reports j 0 < (phases_of d j).swept
       → (phases_of d j).swept ≡ (phases_of c j).swept
       → StandsAt d j 0 (swept_message (phases_of d j).swept)
-  before same j above inside less swept =
+  before {j} same above inside less swept =
       let reports : (phases_of d 0).reports ≡ (phases_of c 0).reports =
       at_turn (λ k s. s.local.phases.reports ≡ (phases_of c k).reports) h.turn same (λ k _. refl) 0
       in
@@ -352,7 +352,7 @@ module _ {shape : Shaped} {c d : Cut} {i : ℕ} (e : Event) (h : Owns shape c d 
     swept = λ j above inside less.
         ⊎_elim {C = StandsAt d j 0 (swept_message (phases_of d j).swept)}
         (λ same.
-        before reports j above inside less
+        before reports above inside less
         (at_turn (λ k s. s.local.phases.swept ≡ (phases_of c k).swept) h.turn same (λ k _. refl) j))
         (λ spoke. ⊎_elim {C = StandsAt d j 0 (swept_message (phases_of d j).swept)}
         (λ (here : j ≡ i).
@@ -365,7 +365,7 @@ module _ {shape : Shaped} {c d : Cut} {i : ℕ} (e : Event) (h : Owns shape c d 
         (omega (arith, h.inv.base.width i h.inside, h.inside))
         (says 0) (spoke (λ (e : i ≡ 0). omega (arith, e, here, above))))))
         (λ (other : j ≢ i).
-        before reports j above inside less
+        before reports above inside less
         (ap (λ (s : NodeState). s.local.phases.swept) (h.turn.becomes.others j other)))
         (cases_eq j i))
         swept;

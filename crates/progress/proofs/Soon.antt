@@ -374,55 +374,55 @@ module _ {shape : Shaped} {w : World} (s : Settled shape w) where
       Quiet b (c to).local (taken_in (c to).local from number stamp b).local
       (taken_in (c to).local from number stamp b).sends
 
+  -- A message to a node isn't counted, and what it carries is covered if it is of the cycle.
+  record IsCovered (to stamp : ℕ) (b : Body) : Type 0 where
+    inside : to < n
+    uncounted : is_counted (cycle_of c 0) (record { stamp = stamp; body = b }) ≡ false
+    covered : stamp ≡ cycle_of c 0 → AllByRecursion (Covered c) (carried b)
+
   -- a message with references is of the cycle
-  quiet-reference : (from to number stamp : ℕ) (b : Body) → to < n → is_reference b ≡ true
-      → StampFits (phases_of c 0) stamp
-      → is_counted (cycle_of c 0) (record { stamp = stamp; body = b }) ≡ false
-      → (stamp ≡ cycle_of c 0 → AllByRecursion (Covered c) (carried b))
+  quiet-reference : {to stamp : ℕ} {b : Body} (from number : ℕ) → IsCovered to stamp b
+      → is_reference b ≡ true → StampFits (phases_of c 0) stamp
       → ((target : Ref) (place label : ℕ) → b ≡ body.Get target place label
       → (target.node ≡ to) × (AllByRecursion (Covered c) (carried b) → Covered c target))
       → IsQuiet from to number stamp b
-  quiet-reference from to number stamp b inside is (inl now_so) uncounted covered target =
-      subst (λ (z : ℕ). IsQuiet from to number z b) (s.calm.joined to inside ∙ sym now_so)
+  quiet-reference {to} {stamp} {b} from number m is (inl now_so) target =
+      subst (λ (z : ℕ). IsQuiet from to number z b) (s.calm.joined to m.inside ∙ sym now_so)
       (reference-quiet from number b (c to).local is
       (record {
-        opened = opened to inside;
+        opened = opened to m.inside;
         quiet = all-map (Covered c)
             (λ r. wakes (c to).local.own (cycle_of c to) (c to).local.heap r ≡ false)
-            (covered-rests to inside) (carried b) (covered now_so);
+            (covered-rests to m.inside) (carried b) (m.covered now_so);
       })
       (λ r place label e.
-      let t = target r place label e in reads to place inside r t.0 (t.1 (covered now_so))))
-  quiet-reference from to number stamp b inside is (inr before) uncounted covered target =
+      let t = target r place label e in reads to place m.inside r t.0 (t.1 (m.covered now_so))))
+  quiet-reference {to} {stamp} {b} from number m is (inr before) target =
       absurd
-      (both_ways _ uncounted
+      (both_ways _ m.uncounted
       (reference-counts (cycle_of c 0) stamp b is
       ∙ lt-ltb stamp (cycle_of c 0) (omega (arith, before.1))))
 
-  quiet-body : (from to number stamp : ℕ) (b : Body) → to < n
+  quiet-body : {to stamp : ℕ} (from number : ℕ) (b : Body) → IsCovered to stamp b
       → BodyFits n (phases_of c) from to stamp b → is_token b ≡ false
-      → is_counted (cycle_of c 0) (record { stamp = stamp; body = b }) ≡ false
-      → (stamp ≡ cycle_of c 0 → AllByRecursion (Covered c) (carried b))
       → IsQuiet from to number stamp b
-  quiet-body from to number stamp body.Begin inside f plain uncounted covered =
-      begin-quiet (c to).local from number stamp
-      (omega (arith, f.1, s.calm.joined to inside))
-  quiet-body from to number stamp (body.Token t) inside f plain uncounted covered = absurd cc
-  quiet-body from to number stamp (body.Mark r) inside f plain uncounted covered =
-      absurd (both_ways _ uncounted (eq-eqb _ _ f.2))
-  quiet-body from to number stamp (body.Give label reference) inside f plain uncounted covered =
-      quiet-reference from to number stamp _ inside refl f uncounted covered (λ r p l e. absurd cc)
-  quiet-body from to number stamp (body.Put target place r) inside f plain uncounted covered =
-      quiet-reference from to number stamp _ inside refl f.1 uncounted covered
-      (λ _ p l e. absurd cc)
-  quiet-body from to number stamp (body.Get target place label) inside f plain uncounted covered =
-      quiet-reference from to number stamp _ inside refl f.1 uncounted covered
+  quiet-body {to} {stamp} from number body.Begin m f plain =
+      begin-quiet (c to).local from number stamp (omega (arith, f.1, s.calm.joined to m.inside))
+  quiet-body from number (body.Token t) m f plain = absurd cc
+  quiet-body from number (body.Mark r) m f plain =
+      absurd (both_ways _ m.uncounted (eq-eqb _ _ f.2))
+  quiet-body from number (body.Give label reference) m f plain =
+      quiet-reference from number m refl f (λ r p l e. absurd cc)
+  quiet-body from number (body.Put target place r) m f plain =
+      quiet-reference from number m refl f.1 (λ _ p l e. absurd cc)
+  quiet-body from number (body.Get target place label) m f plain =
+      quiet-reference from number m refl f.1
       (λ r p l e.
       (let same : target ≡ r = cc in
       (ap (λ (z : Ref). z.node) (sym same) ∙ f.0, λ all. subst (Covered c) same all.0)))
-  quiet-body from to number stamp body.Ended inside f plain uncounted covered =
+  quiet-body from number body.Ended m f plain =
       absurd (omega (arith, s.marking, f.1))
-  quiet-body from to number stamp body.Swept inside f plain uncounted covered =
+  quiet-body from number body.Swept m f plain =
       absurd (omega (arith, s.marking, f.3, inv.phased.swept from, inv.phased.first from))
 
   link-quiet : (from to : ℕ) (h : Link shape w from to) → is_token (message_of h).body ≡ false
@@ -430,10 +430,13 @@ module _ {shape : Shaped} {w : World} (s : Settled shape w) where
   link-quiet from to h plain =
       let x : Message = message_of h in
       let flight = (first-of h) in
-      quiet-body from to (taken c from to + 1) x.stamp x.body h.inside
+      let covered : IsCovered to x.stamp x.body = record {
+        inside = h.inside;
+        uncounted = s.calm.delivered from to (taken c from to) x flight;
+        covered = inv.cover.messages s.marking from to (taken c from to) x flight;
+      } in
+      quiet-body from (taken c from to + 1) x.body covered
       (inv.messages.fits from to (taken c from to) x flight) plain
-      (s.calm.delivered from to (taken c from to) x flight)
-      (inv.cover.messages s.marking from to (taken c from to) x flight)
 
 -- no token moves while another message is received
 token-stays : {shape : Shaped} {c d : Cut} {from to : ℕ} {x : Message} → Took shape c d from to x
@@ -461,10 +464,10 @@ soon shape cycle = record {
   Keeps = λ _ w. Calm shape.nodes cycle (now w);
 }
 
-receive-soon : (shape : Shaped) (cycle : ℕ) (w : World) (budget from to : ℕ)
+receive-soon : {w : World} {budget from to : ℕ} (shape : Shaped) (cycle : ℕ)
     → Going (soon shape cycle) w budget → (h : Link shape w from to)
     → is_token (message_of h).body ≡ false → Onward shape.nodes (Hunted (soon shape cycle)) w budget
-receive-soon shape cycle w budget from to g h plain =
+receive-soon {w} {budget} {from} {to} shape cycle g h plain =
     let m : ℕ = shape.nodes in
     let b : Cut = now w in
     let v : World = run w (next_steps m w) in
@@ -526,7 +529,7 @@ soon-rules shape cycle = record {
   less = λ w i q ms idle load. omega (arith, idle.flown, load);
   receives = λ w budget from to g h either. ⊎_elim
       {C = Onward shape.nodes (Hunted (soon shape cycle)) w budget}
-      (λ plain. receive-soon shape cycle w budget from to g h plain)
+      (λ plain. receive-soon shape cycle g h plain)
       (λ ahead.
       absurd
       (let l = stamp-latest (would-take h) in

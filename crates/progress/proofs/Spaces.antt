@@ -144,10 +144,10 @@ pub record Moved (shape : Shaped) (w : World) (i : ℕ) (q : LocalState) (ms : L
   pub reached : Reached shape (run w (next_steps shape.nodes w))
   pub turn : Turn (now w) (now (run w (next_steps shape.nodes w))) i q ms
 
-moved-by : {shape : Shaped} (w v : World) (m : Move) (i : ℕ) (q : LocalState)
-    (ms : List (ℕ × Message)) → Reached shape w → next_move shape.nodes (now w) ≡ m
+moved-by : {shape : Shaped} {w v : World} {m : Move} {i : ℕ} {q : LocalState}
+    {ms : List (ℕ × Message)} → Reached shape w → next_move shape.nodes (now w) ≡ m
     → Goes w (steps_of (now w) m) v → Turn (now w) (now v) i q ms → Moved shape w i q ms
-moved-by {shape = shape} w v m i q ms r is goes turn =
+moved-by {shape} {w} {v} {m} {i} {q} {ms} r is goes turn =
     let there : Goes w (next_steps shape.nodes w) v =
     subst (λ (z : Move). Goes w (steps_of (now w) z) v) (sym is) goes in
     record {
@@ -187,7 +187,7 @@ do-moved {shape = shape} w i e h =
     let t : NodeState = record { local = x.local; sent = append_all s.sent x.sends } in
     let v : World = record w { current = set w.current i t } in
     let inside : i < length w.current = omega (arith, reached-count h.reached, h.inside) in
-    moved-by w v (Do i e) i x.local x.sends h.reached h.chosen
+    moved-by h.reached h.chosen
     (goes-one w v (step.Act i e) (outcome.Answer x.answer)
     (act-step w i e t x.answer inside h.own (acts-so s e h.passed h.numbered)) h.collectors)
     (record {
@@ -203,13 +203,13 @@ pub save-step : (w : World) (i : ℕ) → i < length w.current
 unfolding take_step
 save-step w i inside = cond-true (is_node w i) _ _ (lt-ltb i (length w.current) inside)
 
-deliver-step : (w : World) (from to number : ℕ) (x : Message) (t : NodeState) (a : Answer)
+deliver-step : {x : Message} {t : NodeState} {a : Answer} (w : World) (from to number : ℕ)
     → from < length w.current → to < length w.current → released w from to number ≡ Some x
     → receive (node_at w.current to) from to number x.stamp x.body ≡ Ok (t, a)
     → take_step w (step.Deliver from to number)
     ≡ Ok (record w { current = set w.current to t }, outcome.Answer a)
 unfolding take_step
-deliver-step w from to number x t a f g there answered =
+deliver-step w from to number f g there answered =
     cond-true (is_node w from && is_node w to) _ _
     (and_from _ _ (lt-ltb from _ f) (lt-ltb to _ g))
     ∙ ap (delivery w from to number) there
@@ -329,10 +329,9 @@ module _ {shape : Shaped} {w : World} {from to : ℕ} (h : Link shape w from to)
       record { inv = (reached-whole h.reached).inv; inside = h.inside; flight = first-of } in
       let delivered : take_step w2 (step.Deliver from to number)
       ≡ Ok (w3, outcome.Answer effect_there.answer) =
-      deliver-step w2 from to number message_of then_there effect_there.answer
-      (inside from h.sender) (inside to h.inside) there
+      deliver-step w2 from to number (inside from h.sender) (inside to h.inside) there
       (receives-so from to message_of arrival link-apart fit) in
-      moved-by w w3 (Bring from to) to effect_there.local effect_there.sends h.reached h.chosen
+      moved-by h.reached h.chosen
       (goes-then (step.Save from ∷ step.Save to ∷ [])
       (step.Hand from to ∷ step.Deliver from to number ∷ []) saves
       (goes-then (step.Hand from to ∷ []) (step.Deliver from to number ∷ [])

@@ -79,7 +79,7 @@ reported-by (x ∷ xs) cycle all =
     (all (suc i) (omega arith)
     (let k : suc i < length (x ∷ xs) = omega (arith, below) in k))))
 
-module _ (a : Aim) (w : World) (budget : ℕ) (g : Clearing a w budget) where
+module _ {a : Aim} {w : World} {budget : ℕ} (g : Clearing a w budget) where
   abbrev n : ℕ
   n = a.shape.nodes
 
@@ -97,18 +97,18 @@ module _ (a : Aim) (w : World) (budget : ℕ) (g : Clearing a w budget) where
 
   -- ---- a message is received
 
-  no-token : (b : Body) (from to place stamp : ℕ)
+  no-token : {from to place stamp : ℕ} (b : Body)
       → IsInFlight c from to place (record { stamp = stamp; body = b }) → is_token b ≡ false
-  no-token (body.Token t) from to place stamp flight =
+  no-token {from} {to} {place} {stamp} (body.Token t) flight =
       absurd (whole.inv.tokens.rest t (on_way from to place) resting
       (is_sent from to place stamp flight))
-  no-token b from to place stamp flight = refl
+  no-token b flight = refl
 
   receive-clearing : (from to : ℕ) → Link a.shape w from to → Onward n (Clearing a) w budget
   receive-clearing from to h =
       let x : Message = message_of h in
       let plain : is_token x.body ≡ false =
-      no-token x.body from to (taken c from to) x.stamp (first-of h) in
+      no-token x.body (first-of h) in
       let few : length (effect_there h).sends + 1 ≤ work_left n c =
       omega (arith, (took-falls (would-take h) (inl plain)).work) in
       let moved = link-brought h
@@ -261,7 +261,7 @@ clearing-search a w budget g = by (next_move a.shape.nodes (now w)) refl (chosen
     by : (m : Move) → next_move a.shape.nodes (now w) ≡ m → Chosen a.shape.nodes (now w) m
         → Cleared a w ⊎ Onward a.shape.nodes (Clearing a) w budget
     by m is (brings from to f t waiting) =
-        inr (receive-clearing a w budget g from to (record {
+        inr (receive-clearing g from to (record {
           reached = g.reached;
           chosen = is;
           sender = f;
@@ -271,8 +271,8 @@ clearing-search a w budget g = by (next_move a.shape.nodes (now w)) refl (chosen
     by m is (scans i inside opened grey) = shut opened
     by m is (passes i inside still opened calm has) = shut opened
     by m is (sweeps i inside still closed unswept) =
-        inr (sweep-clearing a w budget g i inside still is unswept)
-    by m is (begins still closed all) = inl (all-cleared a w budget g is still all)
+        inr (sweep-clearing g i inside still is unswept)
+    by m is (begins still closed all) = inl (all-cleared g is still all)
 
 -- the aim after the end of marking: the messages that say so, and that nodes have swept, count too
 abbrev pub cleared_aim : Aim → ℕ → Aim

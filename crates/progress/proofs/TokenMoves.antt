@@ -88,7 +88,7 @@ idles-by {w = w} {i = i} {q = q} moved change cycle heap uncounted =
 
 -- ---- the token comes in
 
-module _ {shape : Shaped} (w : World) (left budget from to : ℕ) (h : Link shape w from to)
+module _ {shape : Shaped} {w : World} {left budget from to : ℕ} (h : Link shape w from to)
     (marking : Marking (phases_of (now w) 0)) (s : Budget shape.nodes (now w) left budget) where
   abbrev n : ℕ
   n = shape.nodes
@@ -216,7 +216,7 @@ module _ {shape : Shaped} {w : World} {left budget i : ℕ} (h : Passes shape w 
       idles-by moved (event-change m h.inside moved.turn got cycle) cycle heap uncounted
 
   -- the token is sent on
-  module _ (t : ℕ) (u : Token)
+  module _ {t : ℕ} {u : Token}
       (local : (passed p).local ≡ record p { ring = whitened (without_token p.ring) })
       (sends : (passed p).sends ≡ (t, stamped p (body.Token u)) ∷ []) where
     abbrev whiter : LocalState
@@ -274,14 +274,14 @@ module _ {shape : Shaped} {w : World} {left budget i : ℕ} (h : Passes shape w 
       by : Passing p (passed p) → TokenMove shape w left budget
       by (sends_on t u (inl why) local sends) =
           let below : i ≡ suc t = omega (arith, own, why.0, why.1) in
-          sent-move t u local sends here.stage (omega (arith, below, h.inside))
-          (handed-stage holder (sent-moved t u local sends).turn below why.2 here.stage here.is)
+          sent-move local sends here.stage (omega (arith, below, h.inside))
+          (handed-stage holder (sent-moved local sends).turn below why.2 here.stage here.is)
           (omega (arith, below))
       by (sends_on t u (inr why) local sends) =
           let zero_is : i ≡ 0 = sym own ∙ why.0 in
           let last : suc t ≡ m = omega (arith, nodes, why.2, h.inside) in
           let next =
-          probed-stage holder (sent-moved t u local sends).turn zero_is why.3 last here.stage
+          probed-stage holder (sent-moved local sends).turn zero_is why.3 last here.stage
           here.is
           (λ e.
           both_ways _ why.1
@@ -291,7 +291,7 @@ module _ {shape : Shaped} {w : World} {left budget i : ℕ} (h : Passes shape w 
           let rounds : suc z * (2 * m) ≡ here.stage * (2 * m) =
           ap (λ (y : ℕ). y * (2 * m)) next.1 in
           let one : suc z * (2 * m) ≡ z * (2 * m) + 2 * m = suc-mul z (2 * m) in
-          sent-move t u local sends z (omega (arith, last)) next.2
+          sent-move local sends z (omega (arith, last)) next.2
           (omega (arith, rounds, one, zero_is, last))
       by (concludes first local sends) =
           let zero_is : i ≡ 0 = sym own ∙ first in

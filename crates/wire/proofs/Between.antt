@@ -140,10 +140,10 @@ none-between i first more last same =
     none-long (events_of i more)
     (let none : length (events_of i more) ≡ 0 = omega (arith, long, whole, part) in none)
 
-pub between : (v : Known) (first middle last : List Step) → IsOpening v.opening
+pub between : {v : Known} {first middle last : List Step} → IsOpening v.opening
     → LeadsTo v first → LeadsTo v last → Continues first middle → Continues middle last
     → LeadsTo v middle
-between v first middle last opens early late begins ends =
+between {v} {first} opens early late begins ends =
     let none : events_of v.me begins.0 ≡ [] =
     none-between v.me first begins.0 ends.0
     (ap (events_of v.me) (sym (ends.1 ∙ ap (λ (l : List Step). l ++ ends.0) begins.1))

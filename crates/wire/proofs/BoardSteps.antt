@@ -12,7 +12,7 @@ use Rattle.wire.specs.Rule.{nodes_of, ended_of, WatchOk, SeatOk, Holds}
 use Rattle.wire.specs.Plays.{HasEnded, raised, looked}
 use Rattle.wire.proofs.Stays.{Standing, noted, node-of, same-log, none-more}
 
-module _ {S : Type 0} (bytes : S → List ℕ) (opening : World) where
+module _ {S : Type 0} {bytes : S → List ℕ} {opening : World} where
   abbrev n : ℕ
   n = nodes_of opening
 
@@ -30,7 +30,7 @@ module _ {S : Type 0} (bytes : S → List ℕ) (opening : World) where
       let r : ℕ = slice_index s.words (n * n + 1) in
       let words : List ℕ = set s.words (n * n + 1) (max r k) in
       let long : length s.words ≡ n * n + 2 = h.wide in
-      let ok = node-of bytes opening here role in
+      let ok = node-of here role in
       let same = get_or-set_same s.words (n * n + 1) (max r k) 0 (omega arith) in
       let saved : k ≤ ended_of (run opening h.log) =
       subst (λ (p : Pair). k ≤ p.saved.local.phases.ended)
@@ -38,11 +38,11 @@ module _ {S : Type 0} (bytes : S → List ℕ) (opening : World) where
         raises k v,
         keeps,
         tt,
-        noted bytes opening here (raises k v) h.log words (record {
+        noted here (raises k v) h.log words (record {
           alike = record { role = refl; me = refl };
           filling = refl;
           emptying = refl;
-          extends = same-log opening h.log v;
+          extends = same-log;
           wide = length-set s.words (n * n + 1) (max r k);
           boxes = λ m below. get_or-set_other s.words (n * n + 1) m (max r k) 0 (omega arith);
           events = h.events;
@@ -53,8 +53,7 @@ module _ {S : Type 0} (bytes : S → List ℕ) (opening : World) where
               (max-le h.fits within);
           higher = subst (λ (z : ℕ). r ≤ z) (sym same) (le-max_left r k);
           shown = λ other. absurd (other role first);
-          visits = none-more bytes opening here (raises k v) (record { role = refl; me = refl })
-              refl;
+          visits = none-more (record { role = refl; me = refl }) refl;
           mine = subst
               (SeatOk opening h.log (slice_index words (n * n + 1)) (set s.views id (raises k v))
               h.mail id (raises k v))
@@ -101,11 +100,11 @@ module _ {S : Type 0} (bytes : S → List ℕ) (opening : World) where
             Holds bytes opening
             (record { words = ws; homes = s.homes; views = set s.views id (marks r v) }))
             (sym (set-get_or s.words (n * n + 1) 0))
-            (noted bytes opening here (marks r v) h.log s.words (record {
+            (noted here (marks r v) h.log s.words (record {
               alike = record { role = refl; me = refl };
               filling = refl;
               emptying = refl;
-              extends = same-log opening h.log v;
+              extends = same-log;
               wide = refl;
               boxes = λ m below. refl;
               events = h.events;
@@ -114,8 +113,7 @@ module _ {S : Type 0} (bytes : S → List ℕ) (opening : World) where
               fits = h.fits;
               higher = le_refl r;
               shown = λ _. refl;
-              visits = none-more bytes opening here (marks r v)
-                  (record { role = refl; me = refl }) refl;
+              visits = none-more (record { role = refl; me = refl }) refl;
               mine = subst
                   (SeatOk opening h.log r (set s.views id (marks r v)) h.mail id (marks r v))
                   (sym role)

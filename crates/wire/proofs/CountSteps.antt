@@ -19,7 +19,7 @@ use Rattle.wire.proofs.Supplying.{led}
 counted : (l r : ℕ) → r ≡ l % 2 ^ 64 → (r + 1) % 2 ^ 64 ≡ (l + 1) % 2 ^ 64
 counted l r is = omega arith
 
-module _ {S : Type 0} (bytes : S → List ℕ) (opening : World) where
+module _ {S : Type 0} {bytes : S → List ℕ} {opening : World} where
   abbrev n : ℕ
   n = nodes_of opening
 
@@ -41,7 +41,7 @@ module _ {S : Type 0} (bytes : S → List ℕ) (opening : World) where
     v = p.view
 
     ok : NodeOk opening h.log (slice_index s.words (n * n + 1)) h.mail id v
-    ok = node-of bytes opening p role
+    ok = node-of p role
 
     long : length (run opening h.log).current ≡ n
     long = count opening h.log h.opens
@@ -104,7 +104,7 @@ module _ {S : Type 0} (bytes : S → List ℕ) (opening : World) where
         let wide : length s.words ≡ n * n + 2 = h.wide in
         let words : List ℕ = set s.words (n * n) x in
         let board = get_or-set_other s.words (n * n) (n * n + 1) x 0 (omega arith) in
-        noted bytes opening p (ticks e q v) (h.log ++ e ∷ []) words (record {
+        noted p (ticks e q v) (h.log ++ e ∷ []) words (record {
           alike = record { role = refl; me = refl };
           filling = refl;
           emptying = refl;
@@ -127,8 +127,7 @@ module _ {S : Type 0} (bytes : S → List ℕ) (opening : World) where
           fits = subst (λ (z : ℕ). z ≤ GREATEST_CYCLE) (sym board) h.fits;
           higher = subst (λ (z : ℕ). get_or s.words (n * n + 1) 0 ≤ z) (sym board) (le_refl _);
           shown = λ _. board;
-          visits = none-more bytes opening p (ticks e q v) (record { role = refl; me = refl })
-              refl;
+          visits = none-more (record { role = refl; me = refl }) refl;
           mine = subst
               (SeatOk opening (h.log ++ e ∷ []) (slice_index words (n * n + 1))
               (set s.views id (ticks e q v)) h.mail id (ticks e q v))
@@ -155,7 +154,7 @@ module _ {S : Type 0} (bytes : S → List ℕ) (opening : World) where
         keeps,
         tt,
         kept,
-        (refl, refl, enters here role e q event, (kept.log, led bytes opening after role)),
+        (refl, refl, enters here role e q event, (kept.log, led after role)),
       )
 
   pub ticks_allowed : {slots c : ℕ} (id : ℕ) (me : Sat) (e : Step) (q : Pair) → c ≡ n * n

@@ -23,7 +23,7 @@ at-end (x ∷ xs) a b zero e = inl e
 at-end (x ∷ xs) a b (suc j) e =
     ⊎_elim (λ t. inl t) (λ t. inr (ap suc t.0, t.1)) (at-end xs a b j e)
 
-module _ {S : Type 0} (bytes : S → List ℕ) (opening : World) where
+module _ {S : Type 0} {bytes : S → List ℕ} {opening : World} where
   abbrev n : ℕ
   n = nodes_of opening
 
@@ -120,19 +120,19 @@ module _ {S : Type 0} (bytes : S → List ℕ) (opening : World) where
     content-kept m (filling_by j) c = (c.0, kept-node j c.0 c.1 c.2, c.2, c.3, c.4)
     content-kept m (emptying_by j f) c = (c.0, kept-node j c.0 c.1 c.2, c.2, c.3, c.4)
 
-    seat-kept : (j : ℕ) (u : Known) → j ≢ id → get_elem? s.views j ≡ some u → (r : Role)
+    seat-kept : {j : ℕ} {u : Known} → j ≢ id → get_elem? s.views j ≡ some u → (r : Role)
         → u.role ≡ r
         → SeatOk opening h.log (slice_index s.words (n * n + 1)) s.views h.mail j u r
         → SeatOk opening h.log (slice_index s.words (n * n + 1)) (Seats s.views left right id)
         h.mail j u r
-    seat-kept j u apart e dealer is ok =
+    seat-kept {j} {u} apart e dealer is ok =
         absurd (apart ((dealer-of s h id t.v t.at t.was).alone j u e is))
-    seat-kept j u apart e node is ok = ok
-    seat-kept j u apart e watch is ok = ok
+    seat-kept apart e node is ok = ok
+    seat-kept apart e watch is ok = ok
 
-    new-apart : (k : ℕ) (x u : Known) → get_elem? (set s.views id left) k ≡ some x → right ≡ u
+    new-apart : {x u : Known} (k : ℕ) → get_elem? (set s.views id left) k ≡ some x → right ≡ u
         → x.role ≡ node → u.role ≡ node → x.me ≡ u.me → ⊥
-    new-apart k x u e is rx ru me =
+    new-apart {x} k e is rx ru me =
         t.alone (ap (λ (y : Known). y.role) is ∙ ru) k x (old-node k x e rx) rx
         (me ∙ ap (λ (y : Known). y.me) (sym is))
 
@@ -144,10 +144,10 @@ module _ {S : Type 0} (bytes : S → List ℕ) (opening : World) where
         (λ a. ⊎_elim
         (λ b. h.one j k x u (old-node j x a rx) (old-node k u b ru) rx ru me)
         (λ (b : (k ≡ length (set s.views id left)) × (right ≡ u)).
-        absurd (new-apart j x u a b.1 rx ru me))
+        absurd (new-apart j a b.1 rx ru me))
         (at-end (set s.views id left) right u k eu))
         (λ (a : (j ≡ length (set s.views id left)) × (right ≡ x)). ⊎_elim
-        (λ b. absurd (new-apart k u x b a.1 ru rx (sym me)))
+        (λ b. absurd (new-apart k b a.1 ru rx (sym me)))
         (λ (b : (k ≡ length (set s.views id left)) × (right ≡ u)). a.0 ∙ sym b.0)
         (at-end (set s.views id left) right u k eu))
         (at-end (set s.views id left) right x j ex)
@@ -165,7 +165,7 @@ module _ {S : Type 0} (bytes : S → List ℕ) (opening : World) where
         (subst (SeatOk opening h.log (slice_index s.words (n * n + 1)) (Seats s.views left right id)
         h.mail id left) (sym t.role) t.left_ok))
         (λ (is : (j ≢ id) × (get_elem? s.views j ≡ some u)).
-        seat-kept j u is.0 is.1 u.role refl (h.each_seat j u is.1))
+        seat-kept is.0 is.1 u.role refl (h.each_seat j u is.1))
         (at_set s.views id j left u a))
         (λ (is : (j ≡ length (set s.views id left)) × (right ≡ u)).
         subst (λ (x : ℕ × Known). SeatOk opening h.log (slice_index s.words (n * n + 1))
@@ -417,8 +417,7 @@ module _ {S : Type 0} (bytes : S → List ℕ) (opening : World) where
   pub note_splits : (id : ℕ) (v : Known) → v.role ≡ node
       → Splits (Holds bytes opening) id v v (note_of v)
   note_splits id v role s h at =
-      let ok = node-of bytes opening
-      (record { state = s; holds = h; id = id; view = v; at = at }) role in
+      let ok = node-of (record { state = s; holds = h; id = id; view = v; at = at }) role in
       watch-after
       (record {
         state = s;

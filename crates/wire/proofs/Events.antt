@@ -117,7 +117,7 @@ record Stands (w : World) (i : ℕ) (p : Pair) : Type 0 where
   pub below : i < length w.current
   pub pair_is : pair_at w i ≡ p
 
-module _ (w : World) (i : ℕ) (p : Pair) (stands : Stands w i p) (q : Pair) where
+module _ {w : World} {i : ℕ} {p : Pair} (stands : Stands w i p) {q : Pair} where
   -- the node's current state is now t
   moved-local : (s : Step) (t : NodeState) (o : Outcome) → node_of s ≡ i
       → take_step w s ≡ Ok (record w { current = set w.current i t }, o)
@@ -191,12 +191,12 @@ module _ (w : World) (i : ℕ) (p : Pair) (stands : Stands w i p) (q : Pair) whe
       event
       (λ k. record { current = q.current; saved = same k })
 
-  delivered-local : (from number : ℕ) (x : Message) (a : Answer) → from < length w.current
+  delivered-local : {from number : ℕ} (x : Message) (a : Answer) → from < length w.current
       → released w from i number ≡ Some x → q.saved ≡ p.saved
       → (receive p.current from i number x.stamp x.body ≡ Ok (q.current, a)) × IsEventful a
       → IsLocal w (step.Deliver from i number) i q
   unfolding take_step
-  delivered-local from number x a there taken same received =
+  delivered-local {from} {number} x a there taken same received =
       moved-local (step.Deliver from i number) q.current (outcome.Answer a) refl
       (cond-true _ _ _
       (and_from _ _ (lt-ltb from (length w.current) there)
@@ -224,17 +224,17 @@ pub happens-local : (w : World) (v : Known) (s : Step) (q : Pair) → Knows w v 
     → IsLocal w s v.me q
 happens-local w v (step.Act i e) q h t =
     subst (λ (n : ℕ). IsLocal w (step.Act n e) v.me q) (sym t.0)
-    (acted-local w v.me v.pair (stands-of w v h) q e t.3.0 t.1 t.2 t.3.1 t.3.2)
+    (acted-local (stands-of w v h) e t.3.0 t.1 t.2 t.3.1 t.3.2)
 happens-local w v (step.Save i) q h t =
     subst (λ (n : ℕ). IsLocal w (step.Save n) v.me q) (sym t.0)
-    (saved-local w v.me v.pair (stands-of w v h) q h.wide t.1)
+    (saved-local (stands-of w v h) h.wide t.1)
 happens-local w v (step.Restart i) q h t =
     subst (λ (n : ℕ). IsLocal w (step.Restart n) v.me q) (sym t.0)
-    (restarted-local w v.me v.pair (stands-of w v h) q t.1)
+    (restarted-local (stands-of w v h) t.1)
 happens-local w v (step.Deliver from to number) q h t =
     let x : Message = t.3.0 in
     subst (λ (n : ℕ). IsLocal w (step.Deliver from n number) v.me q) (sym t.0)
-    (delivered-local w v.me v.pair (stands-of w v h) q from number x t.3.1
+    (delivered-local (stands-of w v h) x t.3.1
     (subst (λ (n : ℕ). from < n) h.nodes t.1)
     (∥∥₁_elim t.3.2 (hlevel props)
     (λ taken. h.released taken.0 (data_frame from v.me number x.stamp x.body) taken.1)) t.2

@@ -16,7 +16,7 @@ use Rattle.wire.proofs.Stays.{Standing, node-of}
 use Rattle.wire.proofs.Supplying.{led}
 use Rattle.wire.proofs.MailSteps.{missed, claim-hit, take-hit, post-done, clear-done}
 
-module _ {S : Type 0} (bytes : S → List ℕ) (opening : World) where
+module _ {S : Type 0} {bytes : S → List ℕ} {opening : World} where
   abbrev n : ℕ
   n = nodes_of opening
 
@@ -44,7 +44,7 @@ module _ {S : Type 0} (bytes : S → List ℕ) (opening : World) where
       let told = claimed (step slots m 0 3 none) me r in
       exchanged r 0 3 (Goes s m id me told)
       (λ hit.
-      let c = claim-hit bytes opening here role m below me_is hit me.1 in (
+      let c = claim-hit here role m below me_is hit me.1 in (
         claims m place me.0,
         takes m c.0,
         c.1,
@@ -55,7 +55,7 @@ module _ {S : Type 0} (bytes : S → List ℕ) (opening : World) where
         notes m place r me.0,
         keeps,
         tt,
-        missed bytes opening here role m r below refl,
+        missed here role m r below refl,
         ((λ hit. absurd (miss hit)), (λ _. (place, refl, refl))),
       ))
 
@@ -69,10 +69,10 @@ module _ {S : Type 0} (bytes : S → List ℕ) (opening : World) where
       let r : ℕ = get_or s.words m 0 in
       let place : ℕ = length (h.mail.visits m) in
       let told = took bytes (step slots m 1 2 none) me r in
-      let mine = node-of bytes opening here role in
+      let mine = node-of here role in
       exchanged r 1 2 (Goes s m id me told)
       (λ hit.
-      let c = take-hit bytes opening here role m below me_is hit me.1 in
+      let c = take-hit here role m below me_is hit me.1 in
       let w : Known = takes_in m place c.0 me.0 in
       let after : Standing bytes opening =
       record { state = _; holds = c.3; id = id; view = w; at = set-at s.views id w me.0 at } in (
@@ -96,7 +96,7 @@ module _ {S : Type 0} (bytes : S → List ℕ) (opening : World) where
                 own = mine.events_are;
               },
               (c.1, refl, c.5, c.4),
-              (c.3.log, led bytes opening after role),
+              (c.3.log, led after role),
             ),
           )),
           (λ miss. absurd (miss hit)),
@@ -106,7 +106,7 @@ module _ {S : Type 0} (bytes : S → List ℕ) (opening : World) where
         notes m place r me.0,
         keeps,
         tt,
-        missed bytes opening here role m r below refl,
+        missed here role m r below refl,
         ((λ hit. absurd (miss hit)), (λ _. (place, refl, refl))),
       ))
 
@@ -119,7 +119,7 @@ module _ {S : Type 0} (bytes : S → List ℕ) (opening : World) where
       let here : Standing bytes opening =
       record { state = s; holds = h; id = id; view = me.0; at = at } in
       let place : ℕ = length (h.mail.visits m) in
-      let d = post-done bytes opening here role m filling x (rest me.1) owns in (
+      let d = post-done here role m filling x (rest me.1) owns in (
         posts m place owns.0 me.0,
         gives,
         tt,
@@ -138,7 +138,7 @@ module _ {S : Type 0} (bytes : S → List ℕ) (opening : World) where
       let here : Standing bytes opening =
       record { state = s; holds = h; id = id; view = me.0; at = at } in
       let place : ℕ = length (h.mail.visits m) in
-      let d = clear-done bytes opening here role m f emptying x (rest me.1) in (
+      let d = clear-done here role m f emptying x (rest me.1) in (
         clears m place me.0,
         gives,
         tt,

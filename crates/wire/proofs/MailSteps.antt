@@ -44,7 +44,7 @@ sender-is i saved (ack_frame from to number) rel = rel.0
 only-one : (id j k : ℕ) → k ≡ suc id → j ≢ id → k ≢ suc j
 only-one id j k is apart e = let same : j ≡ id = omega arith in apart same
 
-module _ {S : Type 0} (bytes : S → List ℕ) (opening : World) where
+module _ {S : Type 0} {bytes : S → List ℕ} {opening : World} where
   abbrev n : ℕ
   n = nodes_of opening
 
@@ -68,7 +68,7 @@ module _ {S : Type 0} (bytes : S → List ℕ) (opening : World) where
     v = p.view
 
     ok : NodeOk opening h.log (slice_index s.words (n * n + 1)) h.mail id v
-    ok = node-of bytes opening p role
+    ok = node-of p role
 
     -- a mailbox that the seat is neither filling nor emptying
     fresh : (m : ℕ) → holder (h.mail.boxes m) ≢ suc id → IsFresh m v
@@ -86,8 +86,8 @@ module _ {S : Type 0} (bytes : S → List ℕ) (opening : World) where
         → Holds bytes opening (stepped s m r id [] (notes m (place m) r v) keeps)
     missed m r below is =
         let w : Known = notes m (place m) r v in
-        let visits : Visits bytes opening p w h.mail.boxes =
-        one-more bytes opening p w h.mail.boxes m
+        let visits : Visits p w h.mail.boxes =
+        one-more p w h.mail.boxes m
         (record {
           found = r;
           left = r;
@@ -103,11 +103,11 @@ module _ {S : Type 0} (bytes : S → List ℕ) (opening : World) where
         (λ (ws : List ℕ).
         Holds bytes opening (record { words = ws; homes = s.homes; views = set s.views id w }))
         (sym (set-get_or s.words m 0) ∙ ap (set s.words m) (sym is))
-        (noted bytes opening p w h.log s.words (record {
+        (noted p w h.log s.words (record {
           alike = record { role = refl; me = refl };
           filling = refl;
           emptying = refl;
-          extends = same-log opening h.log v;
+          extends = same-log;
           wide = refl;
           boxes = λ k inside. refl;
           events = h.events;
@@ -152,7 +152,7 @@ module _ {S : Type 0} (bytes : S → List ℕ) (opening : World) where
         λ j e. (let never : 0 ≡ suc j = sym (ap holder is) ∙ e in omega arith) in (
           lies.0,
           lies.1,
-          moved bytes opening p (claims m (place m) v) m 3 (filling_by id) (record {
+          moved p (claims m (place m) v) m 3 (filling_by id) (record {
             home = none;
             below = below;
             role = role;
@@ -203,7 +203,7 @@ module _ {S : Type 0} (bytes : S → List ℕ) (opening : World) where
           f,
           lies.0.0,
           lies.0.1,
-          moved bytes opening p (takes_in m (place m) f v) m 2 (emptying_by id f) (record {
+          moved p (takes_in m (place m) f v) m 2 (emptying_by id f) (record {
             home = none;
             below = below;
             role = role;
@@ -272,7 +272,7 @@ module _ {S : Type 0} (bytes : S → List ℕ) (opening : World) where
         (subst (λ (k : ℕ). receiver f < k) (sym long)
         (subst (λ (k : ℕ). k < n) (sym to_is) (mod-lt m pos)))
         owns.3 in (
-          moved bytes opening p (posts m (place m) f v) m 1 (full f) (record {
+          moved p (posts m (place m) f v) m 1 (full f) (record {
             home = some x;
             below = mine.0;
             role = role;
@@ -320,7 +320,7 @@ module _ {S : Type 0} (bytes : S → List ℕ) (opening : World) where
         × (has m v.filling ≡ false)
     clear-done m f emptying x c =
         let mine = ok.empties m f emptying in (
-          moved bytes opening p (clears m (place m) v) m 0 empty (record {
+          moved p (clears m (place m) v) m 0 empty (record {
             home = some x;
             below = mine.0;
             role = role;

@@ -16,7 +16,7 @@ use Rattle.wire.specs.Rule.{nodes_of, ended_of, events_of, Box, Mail, filling_by
 use Rattle.wire.proofs.Boxes.{put, at_put, put-here, put-other, holder}
 use Rattle.wire.proofs.Stays.{IsSeat, IsLike, Apart, Standing, Visits, same-log, turned, box-stays, node-of, one-more}
 
-module _ {S : Type 0} (bytes : S → List ℕ) (opening : World) where
+module _ {S : Type 0} {bytes : S → List ℕ} {opening : World} where
   abbrev n : ℕ
   n = nodes_of opening
 
@@ -60,11 +60,11 @@ module _ {S : Type 0} (bytes : S → List ℕ) (opening : World) where
       (t : Move p w m x b) where
     was-node : NodeOk opening p.holds.log (slice_index p.state.words (n * n + 1)) p.holds.mail p.id
         p.view
-    was-node = node-of bytes opening p t.role
+    was-node = node-of p t.role
 
-    visits : Visits bytes opening p w (put p.holds.mail.boxes m b)
+    visits : Visits p w (put p.holds.mail.boxes m b)
     visits =
-        one-more bytes opening p w (put p.holds.mail.boxes m b) m
+        one-more p w (put p.holds.mail.boxes m b) m
         (record {
           found = t.found;
           left = x;
@@ -154,11 +154,11 @@ module _ {S : Type 0} (bytes : S → List ℕ) (opening : World) where
         λ k apart. get_or-set_other p.state.words m k x 0 apart in
         let count = other (n * n) (omega arith) in
         let board = other (n * n + 1) (omega arith) in
-        turned bytes opening p w (set p.state.words m x) homes (record {
+        turned {p = p} {w = w} (record {
           alike = t.seat.alike;
           log = p.holds.log;
           mail = then;
-          extends = same-log opening p.holds.log p.view;
+          extends = same-log;
           apart = subst (λ (z : ℕ). Apart n (slice_index p.state.words (n * n + 1)) z p.holds.mail
               then p.view) (sym board)
               (then-apart (slice_index p.state.words (n * n + 1)));
@@ -182,10 +182,10 @@ module _ {S : Type 0} (bytes : S → List ℕ) (opening : World) where
                 shows = get_or-set_same p.state.words m x 0 (omega arith) ∙ t.shows;
                 content = t.content;
               })
-              (λ apart _. box-stays bytes opening p w p.holds.log (set p.state.words m x) homes k (record {
+              (λ apart _. box-stays {p = p} {w = w} {homes = homes} (record {
                 below = k_below;
                 alike = t.seat.alike;
-                extends = same-log opening p.holds.log p.view;
+                extends = same-log;
                 word = other k apart;
                 home = set_else p.state.homes m k t.home apart;
                 like = t.like k apart;

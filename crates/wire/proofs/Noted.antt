@@ -16,7 +16,7 @@ use Rattle.wire.proofs.Stays.{Standing, noted, node-of, none-more, same-log}
 use Rattle.wire.proofs.Supplying.{led}
 use Rattle.std.specs.Prelude.{◌+◌, slice_index, set}
 
-module _ {S : Type 0} (bytes : S → List ℕ) (opening : World) where
+module _ {S : Type 0} {bytes : S → List ℕ} {opening : World} where
   abbrev n : ℕ
   n = nodes_of opening
 
@@ -30,12 +30,12 @@ module _ {S : Type 0} (bytes : S → List ℕ) (opening : World) where
   learnt p role seen begins =
       let h = p.holds in
       let w : Known = learns seen p.view in
-      let ok = node-of bytes opening p role in
-      noted bytes opening p w h.log p.state.words (record {
+      let ok = node-of p role in
+      noted p w h.log p.state.words (record {
         alike = record { role = refl; me = refl };
         filling = refl;
         emptying = refl;
-        extends = same-log opening h.log p.view;
+        extends = same-log;
         wide = refl;
         boxes = λ m below. refl;
         events = h.events;
@@ -44,7 +44,7 @@ module _ {S : Type 0} (bytes : S → List ℕ) (opening : World) where
         fits = h.fits;
         higher = le_refl _;
         shown = λ _. refl;
-        visits = none-more bytes opening p w (record { role = refl; me = refl }) refl;
+        visits = none-more (record { role = refl; me = refl }) refl;
         mine = subst
             (SeatOk opening h.log (slice_index p.state.words (n * n + 1))
             (set p.state.views p.id w) h.mail p.id w)
@@ -93,7 +93,7 @@ module _ {S : Type 0} (bytes : S → List ℕ) (opening : World) where
       let v : Known = me.0 in
       let here : Standing bytes opening =
       record { state = s; holds = h; id = id; view = v; at = at } in
-      let ok = node-of bytes opening here role in (
+      let ok = node-of here role in (
         learns h.log v,
         keeps,
         tt,
@@ -108,7 +108,7 @@ module _ {S : Type 0} (bytes : S → List ℕ) (opening : World) where
             log = h.log;
             known = refl;
             opens = subst IsOpening (sym ok.opening_is) h.opens;
-            leads = led bytes opening here role;
+            leads = led here role;
             continues = h.learned id v at;
           },
           refl,

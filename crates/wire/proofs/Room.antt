@@ -8,7 +8,9 @@ use Rattle.std.proofs.lemmas.Map.Steps.{length-le_from_distinct_below}
 use native.Mathlib.Decide.{ℕ_discrete}
 use mathlib.Core.Logic.{dite}
 use Rattle.wire.specs.Lists.{has, once}
-use Rattle.wire.specs.Seated.{IsOwnBox}
+use Rattle.atomic_table.specs.Table.{Me}
+use Rattle.wire.specs.Views.{Known}
+use Rattle.wire.specs.Seated.{IsOwnBox, Sits}
 use Rattle.wire.proofs.Lists.{has-here, has-more}
 use Rattle.wire.proofs.Sitting.{once-parts, once-more}
 
@@ -108,17 +110,17 @@ module _ (f : ℕ → ℕ) where
       (or_cases (eqb q (f x)) (list_any (eqb q) (map f xs)) e)
 
 -- there are few enough that there is room for one more
-pub room-for : (me n at : ℕ) (xs : List ℕ) → once xs ≡ true → has at xs ≡ false → me < n
-    → IsOwnBox me n at → ((k : ℕ) → has k xs ≡ true → IsOwnBox me n k) → length xs < 2 * n
-room-for me n at xs single gone inside its own =
-    let pos : 0 < n = omega (arith, inside) in
+pub room-for : {S : Type 0} {bytes : S → List ℕ} {me n : ℕ} {xs : List ℕ} {m : Me S Known}
+    (at : ℕ) → Sits bytes me n xs m → has at xs ≡ false → IsOwnBox me n at → length xs < 2 * n
+room-for {me = me} {n} {xs} at sits gone its =
+    let pos : 0 < n = omega (arith, sits.within) in
     let all : (k : ℕ) → has k (at ∷ xs) ≡ true → IsOwnBox me n k =
     λ k there. dite (ℕ_discrete k at)
     (λ is. subst (IsOwnBox me n) (sym is) its)
-    (λ apart. own k (sym (has-more at k xs apart) ∙ there)) in
+    (λ apart. sits.own k (sym (has-more at k xs apart) ∙ there)) in
     let most : length (map (lane me n) (at ∷ xs)) ≤ n + n =
     length-le_from_distinct_below (map (lane me n) (at ∷ xs)) (n + n)
-    (distinct (lane me n) (at ∷ xs) (once-more at xs gone single)
+    (distinct (lane me n) (at ∷ xs) (once-more at xs gone sits.single)
     (λ k j first second. lane-one me n k j pos (all k first) (all j second)))
     (λ q e. let k = given-by (lane me n) q (at ∷ xs) e in
     subst (λ (z : ℕ). z < n + n) k.2 (lane-below me n k.0 pos (all k.0 k.1).0)) in

@@ -73,8 +73,8 @@ pub record Extends (opening : World) (log log' : List Step) (v : Known) : Type 0
       × (events_of i log' ≡ events_of i log)
   pub more : Continues log log'
 
-pub same-log : (opening : World) (log : List Step) (v : Known) → Extends opening log log v
-same-log opening log v = record {
+pub same-log : {opening : World} {log : List Step} {v : Known} → Extends opening log log v
+same-log = record {
   net = λ f h. h;
   others = λ i apart. (refl, refl);
   more = continues-itself log;
@@ -106,7 +106,7 @@ pub record Standing {S : Type 0} (bytes : S → List ℕ) (opening : World) : Ty
   pub view : Known
   pub at : get_elem? state.views id ≡ some view
 
-module _ {S : Type 0} (bytes : S → List ℕ) (opening : World) where
+module _ {S : Type 0} {bytes : S → List ℕ} {opening : World} where
   abbrev n : ℕ
   n = nodes_of opening
 
@@ -162,13 +162,13 @@ module _ {S : Type 0} (bytes : S → List ℕ) (opening : World) where
         let a = was j x ex in let b = was k u eu in
         one j k a.0 b.0 a.1 b.1 (a.2 ∙ rx) (b.2 ∙ ru) (a.3 ∙ me ∙ sym b.3)
 
-    dealer-stays : (log : List Step) (board : ℕ) (mail : Mail) (j : ℕ) (u : Known)
+    dealer-stays : {log : List Step} {board : ℕ} {mail : Mail} {j : ℕ} {u : Known}
         → Extends opening p.holds.log log p.view
         → Apart n (slice_index p.state.words (n * n + 1)) board p.holds.mail mail p.view
         → DealerOk opening p.holds.log (slice_index p.state.words (n * n + 1)) p.holds.mail
         p.state.views j u
         → DealerOk opening log board mail (after p w) j u
-    dealer-stays log board mail j u extends apart h = record {
+    dealer-stays {u = u} extends apart h = record {
       nodes_is = h.nodes_is;
       opening_is = h.opening_is;
       earlier = λ k x e r. let a = was k x e in
@@ -216,16 +216,15 @@ module _ {S : Type 0} (bytes : S → List ℕ) (opening : World) where
     pub no_dealer : p.view.role ≢ dealer
     pub seen : Continues w.seen log
 
-  module _ (p : Standing bytes opening) (w : Known) (words : List ℕ)
-      (homes : Homes S) (t : Turn p w words homes) where
+  module _ {p : Standing bytes opening} {w : Known} {words : List ℕ} {homes : Homes S}
+      (t : Turn p w words homes) where
     theirs-stay : (j : ℕ) (u : Known) → j ≢ p.id → get_elem? p.state.views j ≡ some u → (r : Role)
         → u.role ≡ r
         → SeatOk opening p.holds.log (slice_index p.state.words (n * n + 1)) p.state.views
         p.holds.mail j u r
         → SeatOk opening t.log (slice_index words (n * n + 1)) (after p w) t.mail j u r
     theirs-stay j u apart at dealer is ok =
-        dealer-stays p w t.alike t.log (slice_index words (n * n + 1)) t.mail j u t.extends t.apart
-        ok
+        dealer-stays p w t.alike t.extends t.apart ok
     theirs-stay j u apart at node is ok =
         let other : (i : ℕ) → u.me ≡ i → p.view.role ≡ node → p.view.me ≢ i =
         λ i me r e. apart (p.holds.one j p.id u p.view at p.at is r (me ∙ sym e)) in
@@ -296,8 +295,8 @@ module _ {S : Type 0} (bytes : S → List ℕ) (opening : World) where
     pub home : get_elem? homes m ≡ get_elem? p.state.homes m
     pub like : IsLike m p.view w
 
-  module _ (p : Standing bytes opening) (w : Known) (log : List Step) (words : List ℕ)
-      (homes : Homes S) (m : ℕ) (l : Leaves p w log words homes m) where
+  module _ {p : Standing bytes opening} {w : Known} {log : List Step} {words : List ℕ}
+      {homes : Homes S} {m : ℕ} (l : Leaves p w log words homes m) where
     content-stays : (b : Box)
         → Content bytes n (run opening p.holds.log) p.state.homes p.state.views m b
         → Content bytes n (run opening log) homes (after p w) m b
@@ -362,9 +361,9 @@ module _ {S : Type 0} (bytes : S → List ℕ) (opening : World) where
         → by_node w.me (all m) ≡ on_box m w.visits
 
   -- the step is on no mailbox
-  abbrev pub none-more : (p : Standing bytes opening) (w : Known) → IsAlike p.view w
+  abbrev pub none-more : {p : Standing bytes opening} {w : Known} → IsAlike p.view w
       → w.visits ≡ p.view.visits → Visits p w p.holds.mail.boxes
-  none-more p w alike same = record {
+  none-more {p} {w} alike same = record {
     all = p.holds.mail.visits;
     each = p.holds.visits;
     taken = λ m below k x e. still-there p w alike x.node (p.holds.visitors m below k x e);
@@ -405,7 +404,7 @@ module _ {S : Type 0} (bytes : S → List ℕ) (opening : World) where
         (λ i xs. i < n * n → AreVisits i (face (boxes i)) 0 0 xs) k
         (λ _.
         subst (λ (z : ℕ). AreVisits m z 0 0 (before m ++ last ∷ [])) t.is
-        (visits-push m (face (p.holds.mail.boxes m)) last (before m) 0 0
+        (visits-push last (before m) 0 0
         (p.holds.visits m t.below) refl (omega arith) t.was))
         (λ apart inside.
         subst (λ (z : ℕ). AreVisits k z 0 0 (before k)) (sym (t.same k apart))
@@ -489,7 +488,7 @@ module _ {S : Type 0} (bytes : S → List ℕ) (opening : World) where
       (words : List ℕ) → Note p w log words
       → Holds bytes opening (record { words = words; homes = p.state.homes; views = after p w })
   noted p w log words t =
-      turned p w words p.state.homes (record {
+      turned {p = p} {w = w} {words = words} (record {
         alike = t.alike;
         log = log;
         mail = record p.holds.mail { visits = t.visits.all };
@@ -510,7 +509,7 @@ module _ {S : Type 0} (bytes : S → List ℕ) (opening : World) where
         board = t.board;
         fits = t.fits;
         higher = t.higher;
-        each = λ m below. box-stays p w log words p.state.homes m (record {
+        each = λ m below. box-stays {p = p} {w = w} {homes = p.state.homes} (record {
           below = below;
           alike = t.alike;
           extends = t.extends;

@@ -10,10 +10,10 @@ use Rattle.wire.specs.Rule.{AreEvents}
 use Rattle.wire.specs.Plays.{IsSupplied, LeadsTo}
 use Rattle.wire.proofs.Stays.{Standing, node-of}
 
-pub led : {S : Type 0} (bytes : S → List ℕ) (opening : World) (p : Standing bytes opening)
+pub led : {S : Type 0} {bytes : S → List ℕ} {opening : World} (p : Standing bytes opening)
     → p.view.role ≡ node → LeadsTo p.view p.holds.log
-led bytes opening p role =
-    let ok = node-of bytes opening p role in
+led p role =
+    let ok = node-of p role in
     let log : List Step = p.holds.log in
     record {
       events = subst (λ (o : World). AreEvents o log) (sym ok.opening_is) p.holds.events;

@@ -91,22 +91,22 @@ module _ {X : Type 0} where
 
 -- ---- Steps on a mailbox
 
-placed : (m word : ℕ) (xs : List Visit) (place first : ℕ) (k : ℕ) (x : Visit)
+placed : {x : Visit} (m word : ℕ) (xs : List Visit) (place first k : ℕ)
     → AreVisits m word place first xs → slice_get xs k ≡ Some x → x.place ≡ place + k
-placed m word [] place first k x h e = absurd cc
-placed m word (y ∷ ys) place first zero x h e =
+placed m word [] place first k h e = absurd cc
+placed {x} m word (y ∷ ys) place first zero h e =
     let is : y ≡ x = cc in
     let same : x.place ≡ place = ap (λ (z : Visit). z.place) (sym is) ∙ h.1 in
     omega (arith, same)
-placed m word (y ∷ ys) place first (suc k) x h e =
-    let later = placed m word ys (suc place) y.left k x h.3 e in omega (arith, later)
+placed m word (y ∷ ys) place first (suc k) h e =
+    let later = placed m word ys (suc place) y.left k h.3 e in omega (arith, later)
 
-last-one : (m before after : ℕ) (e : Visit) (xs : List Visit) (place first : ℕ)
+last-one : {before after : ℕ} (m : ℕ) (e : Visit) (xs : List Visit) (place first : ℕ)
     → AreVisits m before place first xs → AreVisits m after place first (xs ++ e ∷ [])
     → (e.found ≡ before) × (e.left ≡ after)
-last-one m before after e [] place first h g = (g.2 ∙ h, g.3)
-last-one m before after e (x ∷ xs) place first h g =
-    last-one m before after e xs (suc place) x.left h.3 g.3
+last-one m e [] place first h g = (g.2 ∙ h, g.3)
+last-one m e (x ∷ xs) place first h g =
+    last-one m e xs (suc place) x.left h.3 g.3
 
 -- a seat's step on a mailbox, between two states of the wire
 record Telling {S : Type 0} (bytes : S → List ℕ) (opening : World) : Type 0 where
@@ -118,7 +118,7 @@ record Telling {S : Type 0} (bytes : S → List ℕ) (opening : World) : Type 0 
   pub left : ℕ
   pub tells : Tells bytes opening s t box place found left
 
-module _ {S : Type 0} (bytes : S → List ℕ) (opening : World) (it : Telling bytes opening) where
+module _ {S : Type 0} {bytes : S → List ℕ} {opening : World} (it : Telling bytes opening) where
   abbrev s : State S Known
   s = it.s
 
@@ -157,9 +157,9 @@ module _ {S : Type 0} (bytes : S → List ℕ) (opening : World) (it : Telling b
   -- the seat's own steps, and those of another seat
   mine : by_node h.old.me news ≡ by_node h.old.me olds ++ last ∷ []
   mine =
-      let old = node-of bytes opening
+      let old = node-of
       (record { state = s; holds = h.before; id = h.seat; view = h.old; at = h.at }) h.was_node in
-      let new = node-of bytes opening
+      let new = node-of
       (record { state = t; holds = h.after; id = h.seat; view = h.new; at = now-at }) h.is_node in
       ap (λ (i : ℕ). by_node i news) (sym h.same) ∙ new.visited box h.inside
       ∙ ap (on_box box) h.visits
@@ -172,9 +172,9 @@ module _ {S : Type 0} (bytes : S → List ℕ) (opening : World) (it : Telling b
       let now : get_elem? t.views j ≡ some u =
       subst (λ (vs : List Known). get_elem? vs j ≡ some u) (sym h.stepped)
       (set_else s.views h.seat j h.new apart ∙ at) in
-      let old = node-of bytes opening
+      let old = node-of
       (record { state = s; holds = h.before; id = j; view = u; at = at }) role in
-      let new = node-of bytes opening
+      let new = node-of
       (record { state = t; holds = h.after; id = j; view = u; at = now }) role in
       new.visited box h.inside ∙ sym (old.visited box h.inside)
 
@@ -206,8 +206,8 @@ module _ {S : Type 0} (bytes : S → List ℕ) (opening : World) (it : Telling b
       ))
       own) in
       let now = among (λ y. y.node == x.node) news there.0 x there.1 in
-      let first = placed box _ olds 0 0 k x (h.before.visits box h.inside) e in
-      let second = placed box _ news 0 0 now.0 x (h.after.visits box h.inside) now.1 in
+      let first = placed box _ olds 0 0 k (h.before.visits box h.inside) e in
+      let second = placed box _ news 0 0 now.0 (h.after.visits box h.inside) now.1 in
       subst (λ (i : ℕ). slice_get news i ≡ Some x)
       (let same : now.0 ≡ k = omega (arith, first, second) in same) now.1
 
@@ -261,7 +261,7 @@ module _ {S : Type 0} (bytes : S → List ℕ) (opening : World) (it : Telling b
 
   told : (found ≡ slice_index s.words box) × (left ≡ slice_index t.words box)
   told =
-      let ends = last-one box _ _ last olds 0 0 (h.before.visits box h.inside)
+      let ends = last-one box last olds 0 0 (h.before.visits box h.inside)
       (subst (AreVisits box (face (h.after.mail.boxes box)) 0 0) one-more
       (h.after.visits box h.inside)) in (
         ends.0 ∙ sym (h.before.each_box box h.inside).shows,
@@ -270,7 +270,7 @@ module _ {S : Type 0} (bytes : S → List ℕ) (opening : World) (it : Telling b
 
 pub visits-true : {S : Type 0} (bytes : S → List ℕ) → VisitsAreTrue bytes
 visits-true bytes opening s t box place found left h =
-    told bytes opening (record {
+    told (record {
       s = s;
       t = t;
       box = box;

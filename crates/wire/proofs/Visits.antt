@@ -26,16 +26,16 @@ module _ {X : Type 0} (p : X → Bool) where
   filter-none (x ∷ xs) none =
       cond-false _ _ _ (none 0 x refl) ∙ filter-none xs (λ k y e. none (suc k) y e)
 
-pub visits-push : (m word : ℕ) (e : Visit) (xs : List Visit) (place first : ℕ)
+pub visits-push : {m word : ℕ} (e : Visit) (xs : List Visit) (place first : ℕ)
     → AreVisits m word place first xs → e.box ≡ m → e.place ≡ place + length xs
     → e.found ≡ word → AreVisits m e.left place first (xs ++ e ∷ [])
-visits-push m word e [] place first h box at found =
+visits-push e [] place first h box at found =
     (box, (let here : e.place ≡ place = omega (arith, at) in here), found ∙ sym h, refl)
-visits-push m word e (x ∷ xs) place first h box at found = (
+visits-push e (x ∷ xs) place first h box at found = (
   h.0,
   h.1,
   h.2,
-  visits-push m word e xs (suc place) x.left h.3 box
+  visits-push e xs (suc place) x.left h.3 box
       (let later : e.place ≡ suc place + length xs = omega (arith, at) in later)
       found,
 )

@@ -130,11 +130,11 @@ module _ {sites : List SiteView} {w : World} (h : ShowsWorld sites w) where
       ∙ ap (λ k. first n (λ i. has_sign (sign.Unswept k) (c i).local))
       (is ∙ ap (λ (p : LocalState). p.phases.cycle) (local-shown 0))
 
-  pub sweep-shown : (i cycle slots : ℕ) → is_open (local_at sites 0) ≡ false
+  pub sweep-shown : {i cycle slots : ℕ} → is_open (local_at sites 0) ≡ false
       → cycle ≡ (local_at sites 0).phases.cycle → i ≡ first_with sites (sign.Unswept cycle) → i < n
       → slots ≡ length (local_at sites i).heap.slots
       → Do i (event.Sweep slots) ≡ own_move n c
-  sweep-shown i cycle slots shut here is less all =
+  sweep-shown {i} {cycle} {slots} shut here is less all =
       let same : i ≡ first n (is_unswept c) = is ∙ unswept-shown cycle here in
       let size : slots ≡ length (c i).local.heap.slots =
       all ∙ ap (λ (p : LocalState). length p.heap.slots) (local-shown i) in

@@ -123,32 +123,39 @@ item-is steps place s all less item =
     subst (λ (z : Step). is_collectors z ≡ true) (sym item)
     (all-at (λ z. is_collectors z ≡ true) steps place s all less)
 
-pub taken-more : (w : World) (old new : SpaceView) (steps : List Step) (place : ℕ) (s : Step)
-    (o : Outcome) → place < length steps → s ≡ get_or steps place s → is_collectors s ≡ true
-    → ShowsSpace old (run w (take place steps)) → FollowsSpace (Ok o) old new s
-    → ShowsSpace new (run w (take (place + 1) steps))
-taken-more w old new steps place s o less item is shown follows =
+-- The steps of the list before this place were taken, and led to the space `old`. The step in this
+-- place, which is next, is the collector's.
+pub record IsAtStep (w : World) (old : SpaceView) (steps : List Step) (place : ℕ) (s : Step)
+    : Type 0 where
+  pub less : place < length steps
+  pub item : s ≡ get_or steps place s
+  pub own : is_collectors s ≡ true
+  pub shown : ShowsSpace old (run w (take place steps))
+
+pub taken-more : {w : World} {old : SpaceView} {steps : List Step} {place : ℕ} {s : Step}
+    (new : SpaceView) (o : Outcome) → IsAtStep w old steps place s
+    → FollowsSpace (Ok o) old new s → ShowsSpace new (run w (take (place + 1) steps))
+taken-more {w} {old} {steps} {place} {s} new o h follows =
     let v : World = run w (take place steps) in
     let f : FollowsStep ShowsSpace v s (Ok o) new =
-    subst (λ (z : Step). FollowsStep ShowsSpace v z (Ok o) new) (met-same old.early s is)
-    (follows v shown) in
+    subst (λ (z : Step). FollowsStep ShowsSpace v z (Ok o) new) (met-same old.early s h.own)
+    (follows v h.shown) in
     subst (ShowsSpace new)
     (sym
     (ap (run w)
-    (take_more steps place s less ∙ ap (λ (z : Step). take place steps ++ z ∷ []) (sym item))
+    (take_more steps place s h.less ∙ ap (λ (z : Step). take place steps ++ z ∷ []) (sym h.item))
     ∙ run-append w (take place steps) (s ∷ [])
     ∙ ap (world_after v) f.1))
     f.2
 
-pub broken : (w : World) (old new : SpaceView) (steps : List Step) (place : ℕ) (s : Step)
-    (e : Refusal) → place < length steps → s ≡ get_or steps place s → is_collectors s ≡ true
-    → ShowsSpace old (run w (take place steps)) → FollowsSpace (Err e) old new s
-    → BreaksOff e w new steps
-broken w old new steps place s e less item is shown follows =
+pub broken : {w : World} {old : SpaceView} {steps : List Step} {place : ℕ} {s : Step}
+    (new : SpaceView) (e : Refusal) → IsAtStep w old steps place s
+    → FollowsSpace (Err e) old new s → BreaksOff e w new steps
+broken {w} {old} {steps} {place} {s} new e h follows =
     let v : World = run w (take place steps) in
     let f : FollowsStep ShowsSpace v s (Err e) new =
-    subst (λ (z : Step). FollowsStep ShowsSpace v z (Err e) new) (met-same old.early s is)
-    (follows v shown) in
+    subst (λ (z : Step). FollowsStep ShowsSpace v z (Err e) new) (met-same old.early s h.own)
+    (follows v h.shown) in
     record {
       done = take place steps;
       rest = drop place steps;
@@ -164,7 +171,8 @@ broken w old new steps place s e less item is shown follows =
           front) in
           let ok : IsOk (outcome_of (take_step v s)) =
           (subst (λ (z : List Step). AllByRecursion IsOk (outcomes v z))
-          (drop_more steps place s less ∙ ap (λ (z : Step). z ∷ drop (place + 1) steps) (sym item))
+          (drop_more steps place s h.less
+          ∙ ap (λ (z : Step). z ∷ drop (place + 1) steps) (sym h.item))
           back).0 in
           of-code v s e new f ok;
     }
@@ -339,19 +347,19 @@ after-cycle result old new cycle is plays w shown =
     subst (λ (k : ℕ). PlaysUntil result (length old.sites) (k + 1) w new)
     (is ∙ ap (λ (p : LocalState). p.phases.cycle) (local-shown shown.world 0)) (plays w shown)
 
-pub finishes : (result : Result ℕ Refusal) (old new : SpaceView)
+pub finishes : {old : SpaceView} (result : Result ℕ Refusal) (new : SpaceView)
     → PlaysTo result old new current_cycle → (shape : Shaped) → IsShape shape
     → (steps : List Step) → ShowsSpace old (run (new_world shape) steps)
     → CanFinish shape.nodes (run (new_world shape) steps)
     → IfOk result (λ k. k ≤ cycle_moves shape.nodes (now (run (new_world shape) steps)))
     × IfErr result IsOfCode
-finishes (Ok k) old new plays shape limits steps shown room =
+finishes (Ok k) new plays shape limits steps shown room =
     let w : World = run (new_world shape) steps in
     let c = cycle-can-end shape limits steps room in
     let h : Collects shape.nodes (current_cycle w) k w new =
     subst (λ (z : ℕ). Collects z (current_cycle w) k w new) (shape-width shape steps shown) (plays w shown) in
     (few-moves h c c.then, tt)
-finishes (Err e) old new plays shape limits steps shown room =
+finishes (Err e) new plays shape limits steps shown room =
     let w : World = run (new_world shape) steps in
     let c = cycle-can-end shape limits steps room in
     let h : StopsShort shape.nodes (current_cycle w) e w new =
@@ -359,13 +367,13 @@ finishes (Err e) old new plays shape limits steps shown room =
     in
     (tt, code-fails h c (omega (arith, room 0 0, limits.least_nodes)) c.then)
 
-pub collects : (result : Result ℕ Refusal) (old new : SpaceView)
+pub collects : {old : SpaceView} (result : Result ℕ Refusal) (new : SpaceView)
     → PlaysTo result old new (λ w. current_cycle w + 1) → (shape : Shaped) → IsShape shape
     → (steps : List Step) → ShowsSpace old (run (new_world shape) steps)
     → CanCollect shape.nodes (run (new_world shape) steps)
     → IfOk result (λ k. HasCollected shape.nodes k (run (new_world shape) steps))
     × IfErr result IsOfCode
-collects (Ok k) old new plays shape limits steps shown can =
+collects (Ok k) new plays shape limits steps shown can =
     let w : World = run (new_world shape) steps in
     let c = garbage-can-go shape limits steps can.cycle can.room in
     let h : Collects shape.nodes (current_cycle w + 1) k w new =
@@ -378,7 +386,7 @@ collects (Ok k) old new plays shape limits steps shown can =
       },
       tt,
     )
-collects (Err e) old new plays shape limits steps shown can =
+collects (Err e) new plays shape limits steps shown can =
     let w : World = run (new_world shape) steps in
     let c = garbage-can-go shape limits steps can.cycle can.room in
     let h : StopsShort shape.nodes (current_cycle w + 1) e w new =

@@ -45,14 +45,14 @@ one-goes w s (Err e) new f taken ok =
     subst (λ z. IsOk (outcome_of z)) refused ok in
     cc)
 
-all-go : (w : World) (old : SpaceView) (ks : List Call) (ss : List Step) → ShowsSpace old w
+all-go : (ks : List Call) (ss : List Step) {w : World} {old : SpaceView} → ShowsSpace old w
     → AreCalls old ks → map step_of ks ≡ ss → AllByRecursion (λ s. is_collectors s ≡ true) ss
     → AllByRecursion IsOk (outcomes w ss) → AllByRecursion (λ c. is_taken c.result ≡ true) ks
     → AllByRecursion (λ c. IsOk c.result) ks × ShowsSpace (space_after old ks) (run w ss)
-all-go w old [] [] shown calls same are oks taken = (tt, shown)
-all-go w old [] (s ∷ ss) shown calls same are oks taken = absurd cc
-all-go w old (k ∷ ks) [] shown calls same are oks taken = absurd cc
-all-go w old (k ∷ ks) (s ∷ ss) shown calls same are oks taken =
+all-go [] [] shown calls same are oks taken = (tt, shown)
+all-go [] (s ∷ ss) shown calls same are oks taken = absurd cc
+all-go (k ∷ ks) [] shown calls same are oks taken = absurd cc
+all-go (k ∷ ks) (s ∷ ss) {w} {old} shown calls same are oks taken =
     let this : k.step ≡ s = cc in
     let rest : map step_of ks ≡ ss = cc in
     let met : step_met old.early k.step ≡ s = ap (step_met old.early) this ∙ met-same old.early s are.0
@@ -61,9 +61,9 @@ all-go w old (k ∷ ks) (s ∷ ss) shown calls same are oks taken =
     one-goes w s k.result k.space
     (subst (λ (z : Step). FollowsStep ShowsSpace w z k.result k.space) met (calls.0 w shown))
     taken.0 oks.0 in
-    let later = all-go (happens w s) k.space ks ss goes.shown calls.1 rest are.1 oks.1 taken.1 in
+    let later = all-go ks ss goes.shown calls.1 rest are.1 oks.1 taken.1 in
     ((goes.ok, later.0), later.1)
 
 pub played-is-answered : PlayedIsAnswered
 played-is-answered n k w old calls shown are plays same taken =
-    all-go w old calls (played n k w) shown are same plays.collectors plays.answered taken
+    all-go calls (played n k w) shown are same plays.collectors plays.answered taken

@@ -87,11 +87,6 @@ AreFrames i j sent frames = (k : ℕ) → IsFrameOf i j k (slice_get sent k) (sl
 
 -- also after more messages were appended
 module _ (was now : List Message) (grown : Grows was now) where
-  frame-grows : (i j k : ℕ) (x : Option Message) (bytes : List ℕ) → slice_get was k ≡ x
-      → IsFrameOf i j k x (Some bytes) → IsFrameOf i j k (slice_get now k) (Some bytes)
-  frame-grows i j k None bytes is h = absurd h
-  frame-grows i j k (Some x) bytes is h = rw (slice_get-grows was now k x grown is) h
-
   saved-frames : {n : NodeView} {j : ℕ} {before after : List (List ℕ)} → IsStaged n j before after
       → ShowsSent (link_to n j) now → AreFrames n.local.own j was before
       → AreFrames n.local.own j now after
@@ -103,8 +98,7 @@ module _ (was now : List Message) (grown : Grows was now) where
       (λ (less : k < length before).
       let there = slice_get-get_or before k [] less in
       let front = slice_get-take after (length before) k (rw frames.old less) in
-      rw (front, frames.old, there)
-      (frame-grows own j k (slice_get was k) (get_or before k []) refl (rw there at (old k))))
+      rw (front, frames.old, there) (still (slice_get was k) refl (rw there at (old k))))
       (⊎_elim
       (λ (less : k < length after) (above : length before ≤ k).
       rw (message-shown _ now k shown (le_trans frames.kept above)) at (frames.new k above less))
@@ -112,6 +106,12 @@ module _ (was now : List Message) (grown : Grows was now) where
       rw (slice_get_past after k past, slice_get_past now k (le_trans long past)) tt)
       (cases_lt k (length after)))
       (cases_lt k (length before))
+    where
+      still : (x : Option Message) → slice_get was k ≡ x
+          → IsFrameOf n.local.own j k x (Some (get_or before k []))
+          → IsFrameOf n.local.own j k (slice_get now k) (Some (get_or before k []))
+      still None is h = absurd h
+      still (Some x) is h = rw (slice_get-grows was now k x grown is) h
 
 -- ---- the space as a whole
 
@@ -136,7 +136,7 @@ changes seen named less read = record {
 }
 
 -- what holds of the element written, and of all others
-module _ {A : Type 0} (P : ℕ → A → Type 0) (xs : List A) (i : ℕ) (x d : A)
+module _ {A : Type 0} (P : ℕ → A → Type 0) (xs : List A) {i : ℕ} (x d : A)
     (less : i < length xs) where
   at_each : P i x → (k : ℕ) → (k ≢ i → P k (get_or xs k d)) → P k (get_or (set xs i x) k d)
   at_each here k there =
@@ -166,7 +166,7 @@ module _ {n m : List SiteView} {i : ℕ} {q p : SiteView} (c : Changes n m i q p
     grown = grown;
     each = λ k.
         rw c.new
-        (at_each (ShowsSite v) n i p no_site c.within here k (λ other. there k other (h.each k)));
+        (at_each (ShowsSite v) n p no_site c.within here k (λ other. there k other (h.each k)));
   }
 
   -- one node's current state changes
@@ -208,7 +208,7 @@ module _ {n m : List SiteView} {i : ℕ} {q p : SiteView} (c : Changes n m i q p
       omega (arith, acks, node.links.links.acks k, local) in
       let more : (k j : ℕ) → acknowledged w k j ≤ acknowledged v k j = λ k j.
       at_each (λ a (x : NodeState). got_from (node_at w.saved a).local k ≤ got_from x.local k)
-      w.saved i t no_node less (heard k) j (λ _. le_refl _) in
+      w.saved t no_node less (heard k) j (λ _. le_refl _) in
       let here = node-saved (acknowledged w i) (acknowledged v i) q.current old.current (more i) in
       shows-changed w v h refl (grown-by w v s o h.grown stepped)
       (record {

@@ -6,18 +6,16 @@ use Rattle.arena.proofs.Arena.take.Goals as goal
 pub overflow_sub-self : goal.overflow_sub-self
 overflow_sub-self g c =
     let within = rw (← c.self.view_is) at c.requires in
-    let some = there _ c.self.inside.first c.self.inside.vacant c.self.inside.entries.capacity
-    c.args.key c.value.result within c.get_mut-entry.ensures.value c.value.ensures
-    c.if-is_none.ensures in
+    let some = there c.self.invariant c.args.key c.value.result within
+    c.get_mut-entry.ensures.value c.value.ensures c.if-is_none.ensures in
     counted c.args.key c.self.invariant some
 
 pub invariant_of-self-then-key-eq-GREATEST_GENERATION :
     goal.invariant_of-self-then-key-eq-GREATEST_GENERATION
 invariant_of-self-then-key-eq-GREATEST_GENERATION g c =
     let within = rw (← c.self.view_is) at c.requires in
-    let some = there _ c.self.inside.first c.self.inside.vacant c.self.inside.entries.capacity
-    c.args.key c.value.result within c.get_mut-entry.ensures.value c.value.ensures
-    c.if-is_none.ensures in
+    let some = there c.self.invariant c.args.key c.value.result within
+    c.get_mut-entry.ensures.value c.value.ensures c.if-is_none.ensures in
     let r = retires c.self.invariant c.args.key some c.if-key-eq-GREATEST_GENERATION.true in
     rw c.retire.ensures.done r.linked
 
@@ -25,18 +23,16 @@ pub returns-then-key-eq-GREATEST_GENERATION-clause-done :
     goal.returns-then-key-eq-GREATEST_GENERATION-clause-done
 returns-then-key-eq-GREATEST_GENERATION-clause-done g c =
     let within = rw (← c.self.view_is) at c.requires in
-    let some = there _ c.self.inside.first c.self.inside.vacant c.self.inside.entries.capacity
-    c.args.key c.value.result within c.get_mut-entry.ensures.value c.value.ensures
-    c.if-is_none.ensures in
+    let some = there c.self.invariant c.args.key c.value.result within
+    c.get_mut-entry.ensures.value c.value.ensures c.if-is_none.ensures in
     let r = retires c.self.invariant c.args.key some c.if-key-eq-GREATEST_GENERATION.true in
     rw (← c.self.view_is, c.retire.ensures.done) (r.done ∙ goes _ c.args.key some)
 
 pub overflow_add-self : goal.overflow_add-self
 overflow_add-self g c =
     let within = rw (← c.self.view_is) at c.requires in
-    let some = there _ c.self.inside.first c.self.inside.vacant c.self.inside.entries.capacity
-    c.args.key c.value.result within c.get_mut-entry.ensures.value c.value.ensures
-    c.if-is_none.ensures in
+    let some = there c.self.invariant c.args.key c.value.result within
+    c.get_mut-entry.ensures.value c.value.ensures c.if-is_none.ensures in
     let f = frees c.self.invariant c.args.key some c.if-key-eq-GREATEST_GENERATION.false in
     let below : c.self.inside.vacant + 1 < 2 ^ 32 = vacant_fits f.linked in
     omega arith
@@ -44,17 +40,15 @@ overflow_add-self g c =
 pub invariant_of-self-2 : goal.invariant_of-self-2
 invariant_of-self-2 g c =
     let within = rw (← c.self.view_is) at c.requires in
-    let some = there _ c.self.inside.first c.self.inside.vacant c.self.inside.entries.capacity
-    c.args.key c.value.result within c.get_mut-entry.ensures.value c.value.ensures
-    c.if-is_none.ensures in
+    let some = there c.self.invariant c.args.key c.value.result within
+    c.get_mut-entry.ensures.value c.value.ensures c.if-is_none.ensures in
     let f = frees c.self.invariant c.args.key some c.if-key-eq-GREATEST_GENERATION.false in
     rw c.free-value.ensures.done f.linked
 
 pub returns-clause-done : goal.returns-clause-done
 returns-clause-done g c =
     let within = rw (← c.self.view_is) at c.requires in
-    let some = there _ c.self.inside.first c.self.inside.vacant c.self.inside.entries.capacity
-    c.args.key c.value.result within c.get_mut-entry.ensures.value c.value.ensures
-    c.if-is_none.ensures in
+    let some = there c.self.invariant c.args.key c.value.result within
+    c.get_mut-entry.ensures.value c.value.ensures c.if-is_none.ensures in
     let f = frees c.self.invariant c.args.key some c.if-key-eq-GREATEST_GENERATION.false in
     rw (← c.self.view_is, c.free-value.ensures.done) (f.done ∙ goes _ c.args.key some)

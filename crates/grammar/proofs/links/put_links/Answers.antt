@@ -20,8 +20,7 @@ loop-to-preserved c =
     let before = remove (take to (stored_links v.links v.got)) own in
     subst (PutsAll (link_format Second) c.args.out.now c.put_other.new.out) (sym more)
     (written_also (link_format Second).spell (link_format Second).IsWide before _
-    c.args.out.now c.loop-to.out
-    c.put_other.new.out c.loop-to.invariant c.put_other.ensures)
+    c.loop-to.invariant c.put_other.ensures)
 
 pub returns : goal.returns
 returns c =

@@ -5,5 +5,5 @@ use Rattle.grammar.proofs.links.put_messages.Goals as goal
 
 pub returns-else-count : goal.returns-else-count
 returns-else-count c =
-    uncounted _ _ _ _ _ _ (c.count.ensures.over c.if-count.false) c.message_count-count.ensures.value
+    uncounted _ _ _ (c.count.ensures.over c.if-count.false) c.message_count-count.ensures.value
     (message_long Second)

@@ -4,4 +4,4 @@ use Rattle.grammar.proofs.lists.put_counted.Goals as goal
 
 pub returns-else-count : goal.returns-else-count
 returns-else-count g c =
-    uncounted _ _ _ _ _ _ (c.count.ensures.over c.if-count.false) refl g.met.T.Writable.long
+    uncounted _ _ _ (c.count.ensures.over c.if-count.false) refl g.met.T.Writable.long

@@ -20,6 +20,6 @@ loop-done-preserved c =
     record {
       within = omega (arith, c.min-end.ensures);
       written = subst (λ (ys : List (Option Ref)). PutsAll F c.args.out.now c.put_few.new.out ys) more
-          (written_also F.spell F.IsWide (take done xs) _ c.args.out.now c.loop-done.out
-          c.put_few.new.out c.loop-done.invariant.written c.put_few.ensures);
+          (written_also F.spell F.IsWide (take done xs) _ c.loop-done.invariant.written
+          c.put_few.ensures);
     }

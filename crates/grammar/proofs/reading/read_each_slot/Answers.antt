@@ -10,9 +10,8 @@ loop-slot-preserved c =
     let l = c.args.count - (c.loop-slot._slot + 1) in
     record {
       read = rw c.in_ok-push.ensures.done
-          (one_more (slot_format c.args.version) c.args.count k l c.require.new.self
-          c.loop-slot.ahead c.read_slot.new.reader c.loop-slot.slots.items c.in_ok-read_slot.field-0
-          c.loop-slot.invariant.read (omega arith) c.in_ok-read_slot.ensures.value);
+          (one_more (slot_format c.args.version) k l c.loop-slot.invariant.read (omega arith)
+          c.in_ok-read_slot.ensures.value);
       count = grind (arith, common_steps);
       most = rw c.in_ok-push.ensures.done c.loop-slot.invariant.most;
     }

@@ -5,5 +5,5 @@ use Rattle.grammar.proofs.slots.put_letters.Goals as goal
 
 pub returns-else-count : goal.returns-else-count
 returns-else-count c =
-    uncounted _ _ _ _ _ _ (c.count.ensures.over c.if-count.false) c.letters.ensures
+    uncounted _ _ _ (c.count.ensures.over c.if-count.false) c.letters.ensures
     (letter_long Second)

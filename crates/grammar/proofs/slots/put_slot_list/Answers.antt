@@ -16,9 +16,8 @@ loop-slot-preserved c =
     let k = c.loop-slot.slot in
     let within : k < length slots = omega (arith, c.slots-slot-end.ensures, c.loop-slot-test.true) in
     written_more (slot_format Second).spell (slot_format Second).IsWide (map stored_slot slots) k
-    (slot_read c.slot.result) (omega (arith, within, length-map slots stored_slot))
-    (slot_there slots k _ within c.slot.ensures) _ c.loop-slot.out c.put_slot.new.out
-    c.loop-slot.invariant c.put_slot.ensures
+    (omega (arith, within, length-map slots stored_slot))
+    (slot_there slots k _ within c.slot.ensures) c.loop-slot.invariant c.put_slot.ensures
 
 pub returns : goal.returns
 returns c =

@@ -11,7 +11,7 @@ new-requires c =
     c.as_slice.ensures.value ∙ c.in_ok-words.ensures.items_if_clones_equal (λ y e. e) in
     let square = ap (λ (k : ℕ). k * k) (sym c.requires.nodes.0) in
     let long = c.in_ok-slots.ensures ∙ square in
-    starts _ c.args.opening.now.world c.as_slice.result.now c.in_ok-slots.slots.items
+    starts c.as_slice.result.now c.in_ok-slots.slots.items
     c.requires.opens
     (ap length is ∙ length-replicate (n * n + 2) 0 ∙ ap (λ (k : ℕ). k + 2) square)
     (λ k. ap (λ (l : List ℕ). get_or l k 0) is ∙ get_or-replicate_any (n * n + 2) k 0)

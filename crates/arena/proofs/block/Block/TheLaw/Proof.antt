@@ -20,4 +20,4 @@ shares R L =
     (copy_shared RawPtr-field RawPtr-copy, tt)
     (λ M 𝓤 𝓛 d p.
     let within = Incl-trans (meet_⊑_left (R.lives ++ []) _) (meet_⊑_left R.lives []) in
-    Lends-block 𝓛 (block.the_row R).lives R L within d.start d.emptied d.values d.unused)
+    Lends-block 𝓛 (block.the_row R).lives L within d.start d.emptied d.values d.unused)

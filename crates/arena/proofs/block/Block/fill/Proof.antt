@@ -87,7 +87,7 @@ fill_spec 𝓤 𝓛 𝓜 𝓡 wired T L =
     rewrite ! 0 (λ (j : ℕ). ‵ (room_of (R E) j b ((k + length xs) * s + o))) more refl $
     use1 𝓛 (‵ (froom (elτ E) b (count * s + o)) ⊛ ‵
     (room_of (R E) m b ((k + length (xs ++ x ∷ [])) * s + o)))
-    (room-first E 𝓛 b m ((k + length xs) * s + o) (count * s + o) _ here after_it) $
+    (room-first E 𝓛 b m ((k + length xs) * s + o) here after_it) $
     split ! $
     first ! $ blocks ! $
     sets ! (of_opd ! (load ! (through ! refl (fld ! refl (stop !)))

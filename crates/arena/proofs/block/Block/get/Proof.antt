@@ -83,7 +83,7 @@ get_spec 𝓤 𝓛 𝓜 𝓡 wired T L =
     let far : index * s < 2 ^ 64 =
     omega (arith, times_below index (k + length xs + n) s (2 ^ 63) (omega (arith, lt)) small) in
     use1 𝓛 (‵ (shared_of (R E) x b (place s from index) κ))
-    (lent-place E 𝓛 b κ xs index some_value from lt) $
+    (lent-place E 𝓛 b κ xs some_value from lt) $
     rewrite ! 0 (λ (j : ℕ). ‵ (shared_of (R E) x b j κ)) (sym here) refl $ hide ! $
     move ! (1 ∷ 2 ∷ []) $
     looks ! tt (Fields E) (fields-open E 𝓛) (d.start, tt) rb ro (λ q' vs. move ! (1 ∷ []) $

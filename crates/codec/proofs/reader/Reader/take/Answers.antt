@@ -6,5 +6,5 @@ use Rattle.codec.proofs.reader.Reader.take.Goals as goal
 pub returns-in-Some-clause-value : goal.returns-in-Some-clause-value
 returns-in-Some-clause-value c =
     let before : left c.args.self.now ≡ Some c.in-Some.bytes.now = search rules in
-    number_taken c.args.count _ _ _ _ _ before refl c.if-count-bytes.true c.split_at.ensures.front
+    number_taken c.args.count before refl c.if-count-bytes.true c.split_at.ensures.front
     c.split_at.ensures.back

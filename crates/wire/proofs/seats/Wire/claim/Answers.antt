@@ -17,7 +17,7 @@ compare_exchange-found-requires c =
     (c.requires.wire.1 ∙ sym w.opening) refl in (
       c.requires.wire.0,
       in-words box.below w.opening w.words,
-      claims_allowed _ w.table.shared.key.world s.seat.id s.seat.me box.below
+      claims_allowed s.seat.id s.seat.me box.below
           (a-node _ s.sits.role) (sym s.sits.me_is ∙ box.sender),
     )
 
@@ -29,9 +29,8 @@ hold-requires c =
     let to = c.from.result in
     let box = box-of {k = s.nodes} {m = at} s.node to s.nodes s.sits.within to_is refl refl in
     let told = c.compare_exchange-found.ensures.2.0 c.if-found-ne-EMPTY.false in
-    let few = room-for s.node s.nodes at s.held.items s.sits.single
-    (s.sits.minded at ∙ fresh-minds at s.seat.me.0 told.4) s.sits.within
-    (own-from s.node to s.nodes at box) s.sits.own in
+    let few = room-for at s.sits (s.sits.minded at ∙ fresh-minds at s.seat.me.0 told.4)
+    (own-from s.node to s.nodes at box) in
     let room = s.room in
     let long : vec_len s.held ≡ length s.held.items = search rules in
     omega (arith, few, room, long)

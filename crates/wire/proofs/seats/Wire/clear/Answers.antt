@@ -26,7 +26,7 @@ store-requires c =
     let front = ap (λ m. m.1) now.3 in (
       now.0 ∙ c.bring.ensures.same.0 ∙ c.requires.wire.0,
       in-words box.below w.opening w.words,
-      clears_allowed _ w.table.shared.key.world c.exchange-bytes.new.seat.id
+      clears_allowed c.exchange-bytes.new.seat.id
           c.exchange-bytes.new.seat.me c.new.result c.requires.taken.2.0
           (ap (λ (v : Known). v.role) view_is ∙ a-node _ s.sits.role)
           (ap (λ (v : Known). found at v.emptying) view_is

@@ -14,7 +14,7 @@ join_seat-requires g c =
       c.args.note.empty,
       subst (λ (k : ℕ). 0 < k) (sym w.words)
           (let less : 0 < w.nodes * w.nodes + 2 = omega arith in less),
-      note_joins _ w.table.shared.key.world s.seat.id c.args.note.seat.id s.seat.me.0
+      note_joins s.seat.id c.args.note.seat.id s.seat.me.0
           c.args.note.seat.me.0 g.N.Noting.view (a-node _ s.sits.role) c.requires.view,
     )
 

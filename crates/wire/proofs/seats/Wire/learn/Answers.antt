@@ -13,7 +13,7 @@ load-requires c =
       c.heed.ensures.same.0 ∙ c.requires.wire.0,
       subst (λ (k : ℕ). w.nodes * w.nodes < k) (sym w.words)
           (let less : w.nodes * w.nodes < w.nodes * w.nodes + 2 = omega arith in less),
-      learns_allowed _ w.table.shared.key.world s.seat.id (w.nodes * w.nodes) s.seat.me
+      learns_allowed s.seat.id (w.nodes * w.nodes) s.seat.me
           (a-node _ s.sits.role),
     )
 

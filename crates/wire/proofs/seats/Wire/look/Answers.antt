@@ -15,7 +15,7 @@ load-number-requires c =
       c.requires.wire.0,
       subst (λ (k : ℕ). w.nodes * w.nodes + 1 < k) (sym w.words)
           (let less : w.nodes * w.nodes + 1 < w.nodes * w.nodes + 2 = omega arith in less),
-      looks_allowed _ w.table.shared.key.world x.seat.id x.seat.me
+      looks_allowed x.seat.id x.seat.me
           (ap (λ (k : ℕ). k * k + 1) (sym w.opening)) (a-watch _ x.watches),
     )
 

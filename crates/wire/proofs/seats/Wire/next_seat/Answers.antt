@@ -10,7 +10,7 @@ split_seat-seat-requires c =
       c.requires.dealer.0,
       subst (λ (k : ℕ). 0 < k) (sym w.words)
           (let less : 0 < w.nodes * w.nodes + 2 = omega arith in less),
-      next_splits _ w.table.shared.key.world c.args.dealer.now.id c.args.dealer.now.me.0
+      next_splits c.args.dealer.now.id c.args.dealer.now.me.0
           (ap (λ (v : Known). v.role) is)
           (subst (λ (v : Known). v.me < v.nodes) (sym is)
           (subst (λ (k : ℕ). c.args.node < k) (sym w.opening) c.requires.node)),

@@ -9,6 +9,6 @@ split_seat-seat-requires c =
       c.requires.0,
       subst (λ (k : ℕ). 0 < k) (sym w.words)
           (let less : 0 < w.nodes * w.nodes + 2 = omega arith in less),
-      watch_splits _ w.table.shared.key.world c.args.dealer.now.id c.args.dealer.now.me.0
+      watch_splits c.args.dealer.now.id c.args.dealer.now.me.0
           (ap (λ (v : Known). v.role) c.requires.1),
     )

@@ -11,7 +11,7 @@ split_seat-seat-requires c =
       c.requires.wire.0,
       subst (λ (k : ℕ). 0 < k) (sym w.words)
           (let less : 0 < w.nodes * w.nodes + 2 = omega arith in less),
-      note_splits _ w.table.shared.key.world s.seat.id s.seat.me.0 (a-node _ s.sits.role),
+      note_splits s.seat.id s.seat.me.0 (a-node _ s.sits.role),
     )
 
 pub invariant_of-seat-clause-supplied : goal.invariant_of-seat-clause-supplied

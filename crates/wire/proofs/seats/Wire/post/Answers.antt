@@ -25,7 +25,7 @@ store-requires c =
     let front = ap (λ m. m.1) now.3 in (
       now.0 ∙ c.bring.ensures.same.0 ∙ c.requires.wire.0,
       in-words box.below w.opening w.words,
-      posts_allowed _ w.table.shared.key.world c.exchange-emptied.new.seat.id
+      posts_allowed c.exchange-emptied.new.seat.id
           c.exchange-emptied.new.seat.me c.args.bytes
           (ap (λ (v : Known). v.role) view_is ∙ a-node _ s.sits.role)
           (ap (λ (v : Known). has at v.filling) view_is

@@ -12,7 +12,7 @@ fetch_max-requires c =
       c.requires.wire.0,
       subst (λ (k : ℕ). w.nodes * w.nodes + 1 < k) (sym w.words)
           (let less : w.nodes * w.nodes + 1 < w.nodes * w.nodes + 2 = omega arith in less),
-      raises_allowed _ w.table.shared.key.world s.seat.id c.args.cycle.number s.seat.me
+      raises_allowed s.seat.id c.args.cycle.number s.seat.me
           (ap (λ (k : ℕ). k * k + 1) (sym w.opening)) (a-node _ s.sits.role)
           (sym s.sits.me_is ∙ c.requires.first) c.requires.ended
           (leb-true c.args.cycle.number _ c.args.cycle.fits),

@@ -10,7 +10,7 @@ fetch_add-requires g c =
       c.requires.wire.0,
       subst (λ (k : ℕ). w.nodes * w.nodes < k) (sym w.words)
           (let less : w.nodes * w.nodes < w.nodes * w.nodes + 2 = omega arith in less),
-      ticks_allowed _ w.table.shared.key.world s.seat.id s.seat.me g.H.Happening.event
+      ticks_allowed s.seat.id s.seat.me g.H.Happening.event
           g.H.Happening.pair (ap (λ (k : ℕ). k * k) (sym w.opening)) (a-node _ s.sits.role)
           c.requires.event,
     )

@@ -11,7 +11,7 @@ returns-clause-plays c =
 
 pub returns-clause-ends : goal.returns-clause-ends
 returns-clause-ends c =
-    finishes c.play_until.result c.args.self.now c.play_until.new.self
+    finishes c.play_until.result c.play_until.new.self
     (from-cycle c.play_until.result c.args.self.now c.play_until.new.self c.cycle-cycle.result
     (c.cycle-cycle.ensures.value ∙ ap (λ (p : Phases). p.cycle) c.phases.ensures.value)
     c.play_until.ensures)

@@ -10,7 +10,7 @@ returns-then-unswept-count-clause-is c = λ w shown.
     let ended = c.ended.ensures ∙ ap (λ (p : Phases). p.ended) c.phases-phases.ensures.value in
     let cycle = c.cycle.ensures.value ∙ ap (λ (p : Phases). p.cycle) c.phases-phases.ensures.value in
     let again = c.cycle-2.ensures.value ∙ ap (λ (p : Phases). p.cycle) c.phases-phases.ensures.value in
-    sweep-shown shown.world c.first-unswept.result c.cycle-2.result c.slots-slots.result
+    sweep-shown shown.world
     (shut (local_at c.args.self.now.sites 0) c.ended.result c.cycle.result ended cycle
     c.if-ended-cycle.false)
     again c.first-unswept.ensures
