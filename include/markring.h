@@ -16,8 +16,9 @@
 //
 // A handle (markring_node, markring_space, markring_cell, markring_watch) is a struct of one
 // pointer, which the caller keeps. It is empty or full. Initialise it as empty, with {0}. A call
-// whose name ends in `new` or `from_image`, and markring_space_cell and markring_space_watch, fill
-// an empty handle; a call whose name ends in `free` frees what it holds and leaves it empty.
+// whose name ends in `new`, `from_image` or `from_batches`, and markring_space_cell and
+// markring_space_watch, fill an empty handle; a call whose name ends in `free` frees what it holds
+// and leaves it empty.
 //
 // # What a caller owes
 //
@@ -114,14 +115,17 @@ enum markring_status {
     MARKRING_BAD_ARGUMENT = 104,
     // An image is of another node or of a space of another shape.
     MARKRING_WRONG_DISKS = 105,
-    // The mark isn't that of the last image.
+    // The mark isn't that of the last image or batch.
     MARKRING_WRONG_MARK = 106,
     // As many messages on the link as the node's limit allows aren't acknowledged.
     MARKRING_CONGESTED = 107,
     // There is no such frame, message, cell or the like. This is no error.
     MARKRING_NOTHING = 108,
     // The images of two nodes aren't of one moment.
-    MARKRING_AGES = 109
+    MARKRING_AGES = 109,
+    // There is no log of the events since the last image or batch, or that isn't kept yet: take an
+    // image.
+    MARKRING_NO_LOG = 110
 };
 
 // The handles. Initialise them with {0}.
@@ -436,28 +440,72 @@ int markring_node_frames(markring_node *node, uint8_t to, uint64_t after, uint8_
 // MARKRING_IMAGE_TOO_LARGE.
 int markring_node_image_size(markring_node *node, size_t *size);
 
-// Writes the node's image. `*mark` is its mark: 1 for the first image of this handle since it was
-// filled, then 2, and so on. With any other status there is no new mark.
+// Writes the node's image. `*mark` is its mark: 1 for the first image or batch of this handle since
+// it was filled, then 2, and so on. With any other status there is no new mark.
 // MARKRING_IMAGE_TOO_LARGE; MARKRING_SHORT_BUFFER.
 int markring_node_image(markring_node *node, uint8_t *buffer, size_t length, size_t *needed,
     uint64_t *mark);
 
-// Says that the image with this mark is stored. What that image holds counts as saved. It takes no
-// memory. To say it twice of the same image changes nothing.
-// MARKRING_WRONG_MARK: it isn't the mark of the last image, or there was no image.
+// Says that the image or batch with this mark is stored. What it holds counts as saved. It takes no
+// memory. To say it twice of the same mark changes nothing.
+// MARKRING_WRONG_MARK: it isn't the mark of the last image or batch, or there was neither.
 int markring_node_kept(markring_node *node, uint64_t mark);
 
 // Counts everything as saved, though no image is stored. For a space that ends with its process,
 // and so for a heap that needs no disk: it takes no time for what the node holds. After it, open
 // the node only from an image that was taken later; an older one would bring back objects that
-// other nodes have freed, and lose others. It takes no memory.
+// other nodes have freed, and lose others. So a log is lost. It takes no memory.
 int markring_node_release(markring_node *node);
 
 // Makes the node of an image. All that it sent and received counts as saved. `limit` is as for
 // markring_node_new; no image holds it.
-// MARKRING_IN_USE: the handle isn't empty. MARKRING_BAD_IMAGE.
+// MARKRING_IN_USE: the handle isn't empty. MARKRING_BAD_IMAGE: also for an image of a node with a
+// log.
 int markring_node_from_image(markring_node *node, const uint8_t *bytes, size_t length,
     uint64_t limit);
+
+// ## Batches
+//
+// An image costs what the node holds, a batch what happened since the last save. To save a node by
+// batches: begin a log; take an image, store it, and call markring_node_kept. From then on take a
+// batch, store it behind the image and the batches before it, and call markring_node_kept with its
+// mark. What the batch holds then counts as saved, as with an image. Events may happen in between;
+// the next batch holds them. An image may be taken at any time. The batches after it follow it, and
+// the image and batches before it are of no use once it is stored. After a crash, continue with
+// markring_node_from_batches from the last image that was stored and the batches stored behind it.
+
+// Begins a log of the node's events, or ends it if `on` is 0. It has the events since the last
+// image or batch, so it is of use from the next image on. If there is one already, to begin it
+// changes nothing. Each event takes 1 to 48 bytes of memory, until the next image or batch.
+//
+// The log is lost if an allocation for it fails, if it would become longer than 1,048,576 bytes,
+// and by markring_node_release; no event fails because of that. A new one begins at the next image.
+// While a node has a log, its image is of another version: markring_node_from_batches reads it, and
+// markring_node_from_image, or a space, doesn't.
+int markring_node_log(markring_node *node, uint8_t on);
+
+// The number of bytes of the next batch. It takes no memory.
+// MARKRING_NO_LOG: as for markring_node_batch.
+int markring_node_batch_size(markring_node *node, size_t *size);
+
+// Writes the events since the last image or batch, as a batch. `*mark` is its mark; see
+// markring_node_image. With any other status there is no new mark, and the log is as it was.
+// MARKRING_NO_LOG: there is no log or it is lost; or what the last image or batch holds doesn't
+// count as saved; or there was neither since the handle was filled, unless it was filled by
+// markring_node_from_batches and an image of a node with a log. Take an image.
+// MARKRING_SHORT_BUFFER.
+int markring_node_batch(markring_node *node, uint8_t *buffer, size_t length, size_t *needed,
+    uint64_t *mark);
+
+// Makes the node of an image, with the batches that were stored behind it, one after another and in
+// their order; none if `batches_length` is 0. It is the node that the last of them was taken of.
+// All that it sent and received counts as saved, and it has a log: the next batch may be stored
+// behind these. The image may also be that of a node without a log. Then there must be no batches,
+// and the next save is an image. `limit` is as for markring_node_new.
+// MARKRING_IN_USE: the handle isn't empty. MARKRING_BAD_IMAGE: the bytes aren't an image, or not
+// whole batches that follow it.
+int markring_node_from_batches(markring_node *node, const uint8_t *image, size_t image_length,
+    const uint8_t *batches, size_t batches_length, uint64_t limit);
 
 // ## Reading
 //
@@ -474,9 +522,9 @@ int markring_node_link(markring_node *node, uint8_t peer, markring_link *link);
 // MARKRING_NO_REGISTER. MARKRING_NOTHING: the register is empty.
 int markring_node_register(markring_node *node, uint16_t reg, markring_ref *reference);
 
-// `*flag` is 1 if an event has changed the node since the image that was kept last, or since the
-// last markring_node_release, or, if there was neither, since the handle was filled; else 0. An
-// acknowledgement, a repeat and an early message change nothing in this sense.
+// `*flag` is 1 if an event has changed the node since the image or batch that was kept last, or
+// since the last markring_node_release, or, if there was neither, since the handle was filled; else
+// 0. An acknowledgement, a repeat and an early message change nothing in this sense.
 int markring_node_unsaved(markring_node *node, uint8_t *flag);
 
 // The number of the message from the node `from` that was early and is the next one now, which
@@ -794,6 +842,7 @@ static inline const char *markring_status_text(int status)
     case MARKRING_CONGESTED: return "Congested";
     case MARKRING_NOTHING: return "Nothing";
     case MARKRING_AGES: return "Ages";
+    case MARKRING_NO_LOG: return "NoLog";
     default: return "unknown";
     }
 }

@@ -1,2 +1,5 @@
+pub mod Batches
+pub mod Behind
+pub mod Logs
 pub mod Packs
 pub mod Short

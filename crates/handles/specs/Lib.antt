@@ -1,4 +1,6 @@
+pub mod Batches
 pub mod Frames
 pub mod Images
+pub mod Logs
 pub mod Lone
 pub mod Reads

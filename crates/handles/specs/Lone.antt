@@ -1,5 +1,5 @@
 -- A node whose caller moves its frames and stores its images: what the calls do.
-use Rattle.std.specs.Prelude.{◌≡◌, ◌≢◌, ℕ, ◌<◌, ◌≤◌, Bool, true, false, cond, ◌==◌, ◌||◌, ◌⊎◌, nat_le, length, List, Option, Some, None, Result, Ok, Err, IfErr, IfOk, OnErr, IsTrue, slice_get}
+use Rattle.std.specs.Prelude.{◌≡◌, ◌≢◌, ℕ, ◌<◌, ◌≤◌, Bool, true, false, cond, ◌==◌, ◌||◌, ◌⊎◌, nat_le, length, List, [], Option, Some, None, Result, Ok, Err, IfErr, IfOk, OnErr, IsTrue, slice_get}
 use Rattle.ids.specs.Limits.{Shaped, IsShape}
 use Rattle.ids.specs.declared.names.Ref.{Ref}
 use Rattle.ids.specs.declared.refusal.Refusal.{Refusal}
@@ -20,11 +20,12 @@ use Rattle.node.specs.Keeping.{WholeNode, alone, early_after, met, new_whole}
 use Rattle.image.specs.Nodes.{IsImageOf}
 use Rattle.values.specs.declared.fault.Fault.{Fault}
 use Rattle.values.specs.declared.fault.Fault.TheVariants as fault
+use Rattle.handles.specs.Logs.{KeepsLog}
 use Rattle.handles.specs.declared.lone.LoneNode.{LoneNode}
 
 -- ---- Making one
 
--- no image was taken, and nothing is unsaved
+-- no image was taken, nothing is unsaved, and no log is kept
 abbrev pub lone : WholeNode → ℕ → LoneNode
 lone n limit = record {
   node = n;
@@ -33,6 +34,9 @@ lone n limit = record {
   counts = None;
   is_changed = false;
   is_unsaved = false;
+  logs = false;
+  log = Some [];
+  is_kept = false;
 }
 
 -- a new node, or the reason why there isn't one: the first that applies
@@ -106,14 +110,17 @@ abbrev pub counted : Result Answer Refusal → Bool
 counted (Ok a) = is_counted a
 counted (Err e) = false
 
--- The event was given to the node, which is changed if the event was answered and counts.
+-- The event was given to the node, which is changed if the event was answered and counts. The log,
+-- if there is one, leads to the node still; or it is lost.
 pub record Gave (old new : LoneNode) (e : Event) (r : Result Answer Refusal) : Type 0 where
   pub acts : Acts old.node new.node e r
   pub stays : new ≡ record old {
     node = new.node;
     is_changed = old.is_changed || counted r;
     is_unsaved = old.is_unsaved || counted r;
+    log = new.log;
   }
+  pub logs : KeepsLog old new
 
 -- The node was given the event, or the link is congested.
 abbrev pub Given : Bool → LoneNode → LoneNode → Event → Result Answer Fault → Type 0
@@ -131,7 +138,8 @@ NodeActs e old new r = Given (is_congested old e) old new e r
 -- an acknowledgement was given to the node; it changes no state
 pub record Heard (old new : LoneNode) (a : Ack) (r : Result Answer Refusal) : Type 0 where
   pub acts : Acts old.node new.node (event.Ack a) r
-  pub stays : new ≡ record old { node = new.node }
+  pub stays : new ≡ record old { node = new.node; log = new.log }
+  pub logs : KeepsLog old new
 
 abbrev pub Acknowledged : LoneNode → LoneNode → Ack → Result Answer Fault → Type 0
 Acknowledged old new a (Ok x) = Heard old new a (Ok x)

@@ -16,4 +16,5 @@ mod packing;
 
 pub use lone::LoneNode;
 pub use lone::reading::{link_of, register_of};
+pub use lone::reopening::stored_once;
 pub use nodes::NodeHandle;

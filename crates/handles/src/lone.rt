@@ -4,9 +4,12 @@ ghost use Rattle.msg.specs.Frames.{plain};
 ghost use Rattle.handles.specs.Lone.{Acknowledged, Given, Made, Read, TookIn, is_congested, is_counted};
 ghost use Rattle.handles.specs.Lone.{lone, receiver_of, unacknowledged};
 
+mod batches;
 mod frames;
 mod images;
+mod logging;
 pub(crate) mod reading;
+pub(crate) mod reopening;
 
 use ids::{NodeId, Ref, Refusal, Shape};
 use image::from_bytes;
@@ -14,6 +17,7 @@ pub(crate) use images::Counts;
 use model::{Answer, Event};
 use msg::{Ack, Data, Frame, decode};
 use node::Node;
+use replays::Log;
 use std::alloc::Global;
 use values::Fault;
 
@@ -24,14 +28,20 @@ pub struct LoneNode {
     // How many of the messages to another node may be unacknowledged for the program to send it
     // another one; 0 if any number.
     limit: u64,
-    // The mark of the last image, which is the number of images, and what that image holds of the
-    // links; none if there was no image.
+    // The mark of the last image or batch, which is the number of both, and what that holds of the
+    // links; none if there was neither.
     mark: u64,
     counts: Option<Vec<Counts>>,
-    // Whether an event changed the node since the last image, and since the last one that was kept;
-    // in both cases, since the last release if that came later.
+    // Whether an event changed the node since the last image or batch, and since the last one that
+    // was kept; in both cases, since the last release if that came later.
     is_changed: bool,
     is_unsaved: bool,
+    // Whether a log is to be kept, and the log of the events since the last image or batch. If none
+    // is to be kept, what it holds means nothing.
+    logs: bool,
+    log: Log,
+    // Whether what the last image or batch holds counts as saved.
+    is_kept: bool,
 }
 
 // Whether an answer is that of an event that changes the node. Reading a word changes nothing, nor
@@ -57,8 +67,8 @@ fn is_counted(answer: &Answer) -> bool
 }
 
 impl LoneNode {
-    // A node of which no image was taken, with nothing unsaved.
-    fn of(node: Node, limit: u64) -> LoneNode
+    // A node of which no image was taken, with nothing unsaved, that keeps no log.
+    fn of(alloc: Global, node: Node, limit: u64) -> LoneNode
         ensures { result ≡ lone node limit }
     {
         LoneNode {
@@ -68,6 +78,9 @@ impl LoneNode {
             counts: None,
             is_changed: false,
             is_unsaved: false,
+            logs: false,
+            log: Log::new(alloc),
+            is_kept: false,
         }
     }
 
@@ -87,15 +100,16 @@ impl LoneNode {
         let shape = Shape::new(nodes, registers, slots).ok_or(Fault::BadArgument)?;
         let own = NodeId::new(own).ok_or(Fault::Refused(Refusal::NoNode))?;
         let node = Node::new(alloc, shape, own)?;
-        Ok(LoneNode::of(node, limit))
+        Ok(LoneNode::of(alloc, node, limit))
     }
 
-    /// The node of an image. Fails with `BadImage` if the bytes are no image, and with `Memory`.
+    /// The node of an image. Fails with `BadImage` if the bytes are no image, or one of a node that
+    /// kept a log, and with `Memory`.
     pub fn read(alloc: Global, bytes: &[u8], limit: u64) -> Result<LoneNode, Fault>
         ensures { Read bytes.now limit result }
     {
         let node = from_bytes(alloc, bytes)?;
-        Ok(LoneNode::of(node, limit))
+        Ok(LoneNode::of(alloc, node, limit))
     }
 
     // The number of unacknowledged messages to a node.
@@ -158,6 +172,9 @@ impl LoneNode {
     fn perform(&mut self, event: Event) -> Result<Answer, Fault>
         ensures { Given false self.old self.new event result }
     {
+        if self.logs {
+            return self.perform_noting(event);
+        }
         let answer = self.node.act(event)?;
         let changes = is_counted(&answer);
         self.is_changed = self.is_changed || changes;
@@ -169,6 +186,9 @@ impl LoneNode {
     fn acknowledge(&mut self, ack: Ack) -> Result<Answer, Fault>
         ensures { Acknowledged self.old self.new ack result }
     {
+        if self.logs {
+            return self.acknowledge_noting(ack);
+        }
         let answer = self.node.act(Event::Ack(ack))?;
         Ok(answer)
     }

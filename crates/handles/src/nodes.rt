@@ -8,7 +8,8 @@ ghost use Rattle.node.specs.Summaries.{summary_of};
 ghost use Rattle.values.specs.Faults.{Filled, Freed, Through, empty, read};
 ghost use Rattle.values.specs.Bytes.{WroteIf};
 ghost use Rattle.handles.specs.Frames.{HandlePacks, ack_bytes, frame_bytes};
-ghost use Rattle.handles.specs.Images.{HandleImaged, Kept, Released, SizedSame};
+ghost use Rattle.handles.specs.Batches.{HandleBatched, Reopened, batch_of, size_of};
+ghost use Rattle.handles.specs.Images.{HandleImaged, Kept, Logs, Released, SizedSame};
 ghost use Rattle.handles.specs.Lone.{Made, NodeActs, Read, TookIn};
 ghost use Rattle.handles.specs.Reads.{link_of, register_of, waiting_number};
 
@@ -111,6 +112,25 @@ impl NodeHandle {
     {
         self.test_empty(alloc)?;
         let node = LoneNode::read(alloc, bytes, limit)?;
+        let full = Box::new(alloc, node)?;
+        self.put(alloc, full);
+        Ok(())
+    }
+
+    /// Fills an empty handle with the node of an image and of the batches that follow it; see
+    /// [`LoneNode::reopen`]. Fails with `InUse` before that.
+    pub fn fill_reopened(
+        &mut self,
+        alloc: Global,
+        image: &[u8],
+        batches: &[u8],
+        limit: u64,
+    ) -> Result<(), Fault>
+        ensures { Filled (Reopened image.now batches.now limit) self.old.held self.new.held
+            result }
+    {
+        self.test_empty(alloc)?;
+        let node = LoneNode::reopen(alloc, image, batches, limit)?;
         let full = Box::new(alloc, node)?;
         self.put(alloc, full);
         Ok(())
@@ -309,7 +329,50 @@ impl NodeHandle {
         mark
     }
 
-    /// Counts as saved what the image with this mark holds; see [`LoneNode::kept`].
+    /// Keeps a log of the node's events from the next image on, or no more; see [`LoneNode::log`].
+    pub fn log(&mut self, alloc: Global, on: bool) -> Result<(), Fault>
+        ensures { Through (Logs on) self.old.held self.new.held result }
+    {
+        let Some(mut node) = self.take(alloc) else {
+            return Err(Fault::NoHandle);
+        };
+        node.log(on);
+        self.put(alloc, node);
+        Ok(())
+    }
+
+    /// The number of bytes of the next batch; see [`LoneNode::batch_size`].
+    pub fn batch_size(&mut self, alloc: Global) -> Result<usize, Fault>
+        ensures same { self.new.held ≡ self.old.held }
+        ensures value { result ≡ read (λ n. size_of (batch_of n)) self.old.held }
+    {
+        let Some(node) = self.take(alloc) else {
+            return Err(Fault::NoHandle);
+        };
+        let size = node.batch_size();
+        self.put(alloc, node);
+        size
+    }
+
+    /// Writes the events since the last image or batch; see [`LoneNode::batch`].
+    pub fn batch(
+        &mut self,
+        alloc: Global,
+        buffer: &mut [u8],
+        needed: &mut usize,
+    ) -> Result<u64, Fault>
+        ensures { HandleBatched self.old.held self.new.held result buffer.old buffer.new needed.old
+            needed.new }
+    {
+        let Some(mut node) = self.take(alloc) else {
+            return Err(Fault::NoHandle);
+        };
+        let mark = node.batch(alloc, buffer, needed);
+        self.put(alloc, node);
+        mark
+    }
+
+    /// Counts as saved what the image or batch with this mark holds; see [`LoneNode::kept`].
     pub fn kept(&mut self, alloc: Global, mark: u64) -> Result<(), Fault>
         ensures { Through (Kept mark) self.old.held self.new.held result }
     {
@@ -320,6 +383,7 @@ impl NodeHandle {
         self.put(alloc, node);
         kept
     }
+
     /// Counts everything as saved, without an image; see [`LoneNode::release`].
     pub fn release(&mut self, alloc: Global) -> Result<(), Fault>
         ensures { Through Released self.old.held self.new.held result }

@@ -1,5 +1,5 @@
 //! Nodes, except for their events one by one.
-ghost use Rattle.std.specs.Prelude.{◌≡◌, Ok};
+ghost use Rattle.std.specs.Prelude.{◌≡◌, ◌==◌, not, Ok};
 ghost use Rattle.node.specs.Summaries.{summary_of};
 ghost use Rattle.values.specs.Faults.{read, status, written};
 ghost use Rattle.values.specs.Fields.{bit, event_of, reference_fields, state_fields};
@@ -7,7 +7,8 @@ ghost use Rattle.handles.specs.Lone.{Made, Read, TookIn};
 ghost use Rattle.values.specs.Bytes.{WroteIf};
 ghost use Rattle.values.specs.Faults.{Filled, Freed, Through};
 ghost use Rattle.handles.specs.Frames.{HandlePacks, ack_bytes, frame_bytes};
-ghost use Rattle.handles.specs.Images.{HandleImaged, Kept, Released, SizedSame};
+ghost use Rattle.handles.specs.Batches.{HandleBatched, Reopened, batch_of, size_of};
+ghost use Rattle.handles.specs.Images.{HandleImaged, Kept, Logs, Released, SizedSame};
 ghost use Rattle.handles.specs.Reads.{link_of, register_of, waiting_number};
 ghost use Rattle.markring_c.specs.Calls.{Answered, Finished, Finishes, NodeActed, Numbered};
 
@@ -83,6 +84,21 @@ pub extern "C" fn markring_node_from_image(
     ensures { Finished (Filled (Read bytes.now limit)) node.old.held node.new.held result }
 {
     status(node.fill_read(alloc, bytes, limit))
+}
+
+/// Makes the node of an image and of the batches that follow it.
+#[unsafe(no_mangle)]
+pub extern "C" fn markring_node_from_batches(
+    alloc: Global,
+    node: &mut NodeHandle,
+    image: &[u8],
+    batches: &[u8],
+    limit: u64,
+) -> i32
+    ensures { Finished (Filled (Reopened image.now batches.now limit)) node.old.held node.new.held
+        result }
+{
+    status(node.fill_reopened(alloc, image, batches, limit))
 }
 
 /// The node in numbers.
@@ -251,7 +267,45 @@ pub extern "C" fn markring_node_image(
     written(node.image(alloc, buffer, needed), mark)
 }
 
-/// Counts as saved what the image with this mark holds.
+/// Keeps a log of the node's events from the next image on, or no more.
+#[unsafe(no_mangle)]
+pub extern "C" fn markring_node_log(alloc: Global, node: &mut NodeHandle, on: u8) -> i32
+    ensures { Finished (Through (Logs (not (on == 0)))) node.old.held node.new.held result }
+{
+    status(node.log(alloc, on != 0))
+}
+
+/// The number of bytes of the next batch.
+#[unsafe(no_mangle)]
+pub extern "C" fn markring_node_batch_size(
+    alloc: Global,
+    node: &mut NodeHandle,
+    size: &mut usize,
+) -> i32
+    ensures same { node.new.held ≡ node.old.held }
+    ensures status { result ≡ status (read (λ n. size_of (batch_of n)) node.old.held) }
+    ensures value { size.new
+        ≡ written (λ x. x) (read (λ n. size_of (batch_of n)) node.old.held) size.old }
+{
+    written(node.batch_size(alloc), size)
+}
+
+/// Writes the events since the last image or batch, as a batch.
+#[unsafe(no_mangle)]
+pub extern "C" fn markring_node_batch(
+    alloc: Global,
+    node: &mut NodeHandle,
+    buffer: &mut [u8],
+    needed: &mut usize,
+    mark: &mut u64,
+) -> i32
+    ensures { Numbered (λ r. HandleBatched node.old.held node.new.held r buffer.old buffer.new
+        needed.old needed.new) result mark.old mark.new }
+{
+    written(node.batch(alloc, buffer, needed), mark)
+}
+
+/// Counts as saved what the image or batch with this mark holds.
 #[unsafe(no_mangle)]
 pub extern "C" fn markring_node_kept(alloc: Global, node: &mut NodeHandle, mark: u64) -> i32
     ensures { Finished (Through (Kept mark)) node.old.held node.new.held result }

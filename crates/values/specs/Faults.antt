@@ -19,6 +19,7 @@ status_of fault.WrongMark = pos 106
 status_of fault.Congested = pos 107
 status_of fault.Nothing = pos 108
 status_of (fault.Ages sender receiver) = pos 109
+status_of fault.NoLog = pos 110
 
 -- a refusal is a fault, and an answer stays one
 abbrev pub as_fault : {A : Type 0} → Result A Refusal → Result A Fault

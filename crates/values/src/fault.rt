@@ -26,7 +26,7 @@ pub enum Fault {
     BadArgument,
     /// An image is of another node or of a space of another shape.
     WrongDisks,
-    /// The mark isn't that of the last image.
+    /// The mark isn't that of the last image or batch.
     WrongMark,
     /// As many messages on the link as the limit allows aren't acknowledged.
     Congested,
@@ -39,6 +39,8 @@ pub enum Fault {
         /// The number of the node that they are for.
         receiver: u8,
     },
+    /// There is no log of the events since the last image or batch.
+    NoLog,
 }
 
 impl Fault {
@@ -57,6 +59,7 @@ impl Fault {
             Fault::Congested => 107,
             Fault::Nothing => 108,
             Fault::Ages { .. } => 109,
+            Fault::NoLog => 110,
         }
     }
 }

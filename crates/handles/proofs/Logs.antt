@@ -1,0 +1,150 @@
+-- What becomes of a log.
+use Rattle.std.proofs.Common.{◌≡◌, ℕ, zero, suc, ◌≤◌, ◌<◌, Bool, true, false, cond, List, [], ◌∷◌, ◌++◌, length, get_or, Option, Some, None, Ok, refl, ap, sym, ◌∙◌, subst, arith}
+use Rattle.std.specs.Global.{Vec}
+use Rattle.std.proofs.Common.{length-append}
+use Rattle.std.proofs.Math.ListN.{get_or-map}
+use Rattle.model.specs.declared.event.Event.{Event}
+use Rattle.model.specs.declared.event.Answer.{Answer}
+use Rattle.model.specs.View.{NodeView, all_kept, kept_of, kept_view, link_to, no_link, used, view_act}
+use Rattle.node.specs.Keeping.{WholeNode}
+use Rattle.replays.specs.Logs.{IsDone, Logged, is_quiet}
+use Rattle.replays.specs.Noted.{Noted}
+use Rattle.replays.proofs.Ends.{logged_more, logged_none}
+use Rattle.handles.specs.declared.lone.images.Counts.{Counts}
+use Rattle.handles.specs.Images.{after_kept, counted, counts_below, counts_of, keeps, keeps_below}
+use Rattle.handles.specs.Logs.{AreSaved, IsBehind, KeepsLog, Led, LedIf, LogsFrom, begun, no_counts}
+use Rattle.handles.specs.declared.lone.LoneNode.{LoneNode}
+use Rattle.handles.proofs.Behind.{also, behind_all, behind_kept}
+
+-- a log that isn't kept says nothing
+pub if_kept : {first n m : NodeView} {counts others : Option (Vec Counts)} (logs : Bool)
+    (old new : Option (List ℕ)) → (LedIf old first n counts → LedIf new first m others)
+    → LedIf (cond logs old None) first n counts → LedIf (cond logs new None) first m others
+if_kept true old new f = f
+if_kept false old new f led bytes is = absurd cc
+
+-- ---- an event
+
+saved_still : (counts : Option (Vec Counts)) (n m : NodeView)
+    → ((i : ℕ) → (link_to m i).kept ≡ (link_to n i).kept) → AreSaved counts n → AreSaved counts m
+saved_still None n m same saved = tt
+saved_still (Some counts) n m same saved = λ peer. omega (arith, same peer, saved peer)
+
+-- an event is done and noted
+pub led_noted : (first n new : NodeView) (counts : Option (Vec Counts)) (e : Event) (a : Answer)
+    (log log' : Option (List ℕ)) → view_act n e ≡ Ok (new, a) → is_quiet a ≡ false
+    → Noted log log' e → LedIf log first n counts → LedIf log' first new counts
+led_noted first n new counts e a log log' acts now noted led bytes is =
+    let more = noted.more bytes is in
+    let was = led more.1.0 more.1.1 in
+    let next = also n new was.last e a was.behind acts in
+    let done : IsDone was.last e next.after =
+    record { answer = a; acts = next.acts; now = now } in
+    record {
+      last = next.after;
+      logged = subst (λ l. Logged l first next.after) (sym more.1.2)
+          (logged_more e more.0 done was.logged);
+      behind = next.behind;
+      saved = saved_still counts was.last next.after next.kept was.saved;
+    }
+
+-- ---- more counts as saved
+
+keeps_behind : (counts : List Counts) (k : ℕ) (n : WholeNode) (last : NodeView)
+    → ((peer : ℕ) → (get_or counts peer no_counts).sent ≤ (link_to last peer).kept)
+    → IsBehind n.core last → IsBehind (keeps_below counts k n).core last
+keeps_behind counts zero n last saved behind = behind
+keeps_behind counts (suc peer) n last saved behind =
+    behind_kept (keeps_below counts peer n).core last peer (get_or counts peer no_counts).sent
+    (get_or counts peer no_counts).received (saved peer)
+    (keeps_behind counts peer n last saved behind)
+
+pub kept_logs : (n : LoneNode) (counts : Option (Vec Counts)) (same : Bool) → n.counts ≡ counts
+    → KeepsLog n (after_kept counts same n)
+kept_logs n None same is first led = led
+kept_logs n (Some counts) false is first led = led
+kept_logs n (Some counts) true is first led bytes log = kept_led (led bytes log)
+  where
+    kept_led : Led bytes first n.node.core n.counts
+        → Led bytes first (keeps counts.items n.node).core n.counts
+    unfolding keeps
+    kept_led was = record {
+      last = was.last;
+      logged = was.logged;
+      behind = keeps_behind counts.items (length n.node.core.links) n.node was.last
+          (subst (λ c. AreSaved c was.last) is was.saved) was.behind;
+      saved = was.saved;
+    }
+
+-- ---- a log that begins
+
+-- the element that is appended, if that is the one
+at_push_if : {A : Type 0} (P : A → Type 0) (xs : List A) (k : ℕ) (x d : A) → (k ≡ length xs → P x)
+    → P d → P (get_or xs k d) → P (get_or (xs ++ x ∷ []) k d)
+at_push_if P [] zero x d p q h = p refl
+at_push_if P [] (suc k) x d p q h = q
+at_push_if P (a ∷ xs) zero x d p q h = h
+at_push_if P (a ∷ xs) (suc k) x d p q h = at_push_if P xs k x d (λ e. p (ap suc e)) q h
+
+counts-length : (n : NodeView) (k : ℕ) → length (counts_below n k) ≡ k
+counts-length n zero = refl
+counts-length n (suc k) =
+    omega (
+      arith,
+      length-append (counts_below n k) (counted n k ∷ []),
+      counts-length n k,
+    )
+
+sent-at : (n : NodeView) (k peer : ℕ)
+    → (get_or (counts_below n k) peer no_counts).sent ≤ used (link_to n peer)
+sent-at n zero peer = omega arith
+sent-at n (suc k) peer =
+    at_push_if (λ (c : Counts). c.sent ≤ used (link_to n peer)) (counts_below n k) peer
+    (counted n k) no_counts
+    (λ is.
+    let here : peer ≡ k = is ∙ counts-length n k in
+    subst (λ j. used (link_to n k) ≤ used (link_to n j)) (sym here) (omega arith))
+    (omega arith) (sent-at n k peer)
+
+pub counts_saved : (n : NodeView) (counts : List Counts) → counts ≡ counts_of n → (peer : ℕ)
+    → (get_or counts peer no_counts).sent ≤ (link_to (kept_view n) peer).kept
+unfolding counts_of
+counts_saved n counts is peer =
+    subst
+    (λ (l : List Counts). (get_or l peer no_counts).sent ≤ (link_to (kept_view n) peer).kept)
+    (sym is)
+    (omega (
+      arith,
+      sent-at n (length n.links) peer,
+      ap kept_of (get_or-map all_kept n.links peer no_link),
+    ))
+
+some_one : {x y : List ℕ} → ◌≡◌ {A = Option (List ℕ)} (Some x) (Some y) → x ≡ y
+some_one both = cc both
+
+-- a log begins at a node, once an image or a batch of it was taken
+pub begun_led : (n : NodeView) (counts : Vec Counts) → counts.items ≡ counts_of n
+    → ((i : ℕ) → (link_to n i).kept ≤ used (link_to n i))
+    → LedIf (Some []) (kept_view n) n (Some counts)
+begun_led n counts is within bytes log = record {
+  last = kept_view n;
+  logged = subst (λ l. Logged l (kept_view n) (kept_view n)) (some_one log)
+      (logged_none (kept_view n));
+  behind = behind_all n within;
+  saved = counts_saved n counts.items is;
+}
+
+pub begun_if : (logs : Bool) (n : NodeView) (counts : Vec Counts) → counts.items ≡ counts_of n
+    → ((i : ℕ) → (link_to n i).kept ≤ used (link_to n i))
+    → LedIf (cond logs (begun logs) None) (kept_view n) n (Some counts)
+begun_if true n counts is within = begun_led n counts is within
+begun_if false n counts is within = λ bytes log. absurd cc
+
+-- a log begins at a node that was taken back
+pub fresh_led : (n : NodeView) → LedIf (Some []) n n None
+fresh_led n bytes log = record {
+  last = n;
+  logged = subst (λ l. Logged l n n) (some_one log) (logged_none n);
+  behind = record { same = refl; less = λ i. omega arith };
+  saved = tt;
+}
