@@ -9,7 +9,7 @@ use cases::{
 };
 use cell::{Cell, Unopened};
 use disk::MemoryDisk;
-use ids::{Refusal, Shape};
+use ids::{Refusal, Saves, Shape};
 use lines::SummaryText;
 use model::{Answer, Event, Summary};
 use std::alloc::Global;
@@ -87,7 +87,7 @@ pub(crate) fn open_cells(
     ensures seats { IfOk result (λ r. All (λ c. IsSeatOf r.0 c.seat) r.1.items) }
     ensures watch { IfOk result (λ r. IsWatchOf r.0 r.2) }
 {
-    match cell::open(alloc, shape, blank_disks(alloc, shape.nodes())?, 1) {
+    match cell::open(alloc, shape, blank_disks(alloc, shape.nodes())?, 1, Saves::Images) {
         Ok((wire, cells, mut watches)) => {
             let watch = watches.remove(0);
             Ok((wire, cells, watch))
