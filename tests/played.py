@@ -16,6 +16,8 @@ ASKED = (1 << 32) - 1
 # The length of the content of each body in a frame, apart from its optional reference; and which bodies have one.
 BODIES = {1: 0, 2: 9, 3: 13, 4: 4, 5: 14, 6: 18, 7: 0, 8: 0}
 WITH_OPTIONAL = (4, 5)
+# The version of images that a log follows.
+WITH_LOG = 3
 # More letters than wait at a node.
 MANY = 100_000
 
@@ -90,10 +92,10 @@ def read_slots(reader: Reader, node: Saved):
 
 
 def read_image(data: bytes) -> Saved:
-    """The node that an image of version 2 describes."""
+    """The node that an image of version 2 or 3 describes."""
     reader = Reader(data)
-    if reader.number(3) != int.from_bytes(b"MR\2", "big"):
-        raise Wrong("a disk has no image of version 2")
+    if reader.number(2) != int.from_bytes(b"MR", "big") or reader.number(1) not in (2, WITH_LOG):
+        raise Wrong("a disk has no image of version 2 or 3")
     nodes, own, registers, _slots = (reader.number(it) for it in (1, 1, 2, 4))
     node = Saved(own)
     _cycle, _ended, node.swept, _cursor = (reader.number(it) for it in (8, 8, 8, 4))
@@ -119,11 +121,44 @@ def read_image(data: bytes) -> Saved:
     return node
 
 
-def read_disk(folder: Path) -> Saved:
-    """The node on the disk in a folder."""
+def part_of(data: bytes, at: int) -> tuple[bytes, int]:
+    """An image or a batch with its length before it, and where the next byte is."""
+    start = at + 8
+    end = start + int.from_bytes(data[at:start], "big")
+    if end > len(data):
+        raise Wrong("an area is too short for what it has")
+    return data[start:end], end
+
+
+def log_of(data: bytes, at: int) -> list[bytes]:
+    """The batches of the log in an area, from its first gate on."""
+    batches = []
+    while data[at : at + 1] and data[at] % 2:
+        batch, at = part_of(data, at + 1)
+        batches.append(batch)
+    if at >= len(data):
+        raise Wrong("a log has no end")
+    return batches
+
+
+def area_of(folder: Path) -> tuple[bytes, list[bytes]]:
+    """The image on the disk in a folder, and the batches of the log behind it."""
     area = "ab"[(folder / "select").read_bytes()[0] % 2]
     data = (folder / area).read_bytes()
-    return read_image(data[8 : 8 + int.from_bytes(data[:8], "big")])
+    image, end = part_of(data, 0)
+    return image, log_of(data, end) if image[2] == WITH_LOG else []
+
+
+def read_disk(folder: Path) -> Saved:
+    """The node on the disk in a folder. If a log follows its image, the node is saved whole first."""
+    image, batches = area_of(folder)
+    if batches:
+        lines = ["files", f"at {folder.name}", "journal open", "kept", "save", "leave"]
+        ran = subprocess.run([PROGRAM], cwd=folder.parent, input="\n".join(lines), capture_output=True, text=True, timeout=60)
+        image, batches = area_of(folder)
+        if ran.stdout.split() != ["ok"] * 5 or batches:
+            raise Wrong(f"a node with a log couldn't be saved whole: {ran.stdout!r}")
+    return read_image(image)
 
 
 def check_disks(folder: Path, count: int, cycle: int) -> int:

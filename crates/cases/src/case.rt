@@ -2,6 +2,7 @@
 //! case.
 use crate::out::Out;
 use hex::FromHexError;
+use ids::Saves;
 use std::alloc::{AllocError, AllocFailed, Global};
 use std::str::FromStr;
 
@@ -113,6 +114,15 @@ where
     T::Err: Drop,
 {
     read(word(words, place)?)
+}
+
+/// What a save writes: images, or what the word in this place says, if there is one.
+pub fn saves_at(words: &[&str], place: usize) -> Result<Saves, CaseError> {
+    match words.get(place) {
+        None => Ok(Saves::Images),
+        Some(word) if *word == "events" => Ok(Saves::Events),
+        Some(_) => Err(CaseError::Unknown),
+    }
 }
 
 /// The bytes, spelled with two hexadecimal digits each; `-` means no bytes.

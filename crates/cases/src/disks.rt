@@ -2,7 +2,7 @@
 //! each of the crashes that are possible.
 use crate::case::{CaseError, CaseLine, Subject, number, take_all, verb};
 use crate::out::{Out, count, put_tally};
-use crate::shelves::{Bench, Stored, node_behind, node_on};
+use crate::shelves::{Bench, Stored, node_on};
 use disk::{MemoryDisk, is_blank};
 use ids::Refusal;
 use std::alloc::Global;
@@ -68,7 +68,7 @@ impl Disks {
         let mut tally = [0; 5];
         for fill in 0..=u8::MAX {
             let left = after_crash(&self.bench.held, fill)?;
-            let found = found_on(self.alloc, left, is_logged(&self.bench.held));
+            let found = found_on(self.alloc, left);
             count(&mut tally, opens_to(&found, &self.old, &new));
         }
         put_tally(&NAMES, &tally, out);
@@ -145,25 +145,13 @@ fn opens_to(found: &Result<Option<Vec<u8>>, Refusal>, old: &[u8], new: &[u8]) ->
 fn found_on(
     alloc: Global,
     left: Result<MemoryDisk, Refusal>,
-    is_logged: bool,
 ) -> Result<Option<Vec<u8>>, Refusal> {
     let mut disk = left?;
     if is_blank(&mut disk) == Ok(true) {
         return Ok(None);
     }
-    let node = if is_logged {
-        node_behind(alloc, disk)?
-    } else {
-        node_on(alloc, disk)?
-    };
+    let node = node_on(alloc, disk)?;
     let image = image::to_bytes(alloc, &node);
     drop(node);
     Ok(Some(image?))
-}
-
-fn is_logged(held: &Stored<MemoryDisk>) -> bool {
-    match held {
-        Stored::Logged(_) => true,
-        Stored::Nothing | Stored::Loose(_) | Stored::Shelved(_) => false,
-    }
 }

@@ -4,11 +4,11 @@ use crate::case::{CaseError, Subject, bytes_of, number, verb, word};
 use crate::nodes::NodeCase;
 use crate::out::Out;
 use disk::{Area, Disk, DiskFault, Journal, MemoryDisk, Shelf, is_blank};
-use ids::Refusal;
+use ids::{Refusal, Saves};
 use image::Images;
 use model::Summary;
 use node::Node;
-use replays::{Log, LoggedImages};
+use replays::{Log, LoggedImages, read_node};
 use std::alloc::Global;
 use std::mem;
 
@@ -183,14 +183,6 @@ impl<D: Disk + Drop> Subject for Bench<D> {
     }
 }
 
-/// The node that the disk of a journal opens to.
-pub(crate) fn node_behind<D: Disk + Drop>(alloc: Global, disk: D) -> Result<Node, Refusal> {
-    match Journal::<D, LoggedImages>::open(alloc, disk) {
-        Ok((_journal, node)) => Ok(node),
-        Err(refusal) => Err(refusal),
-    }
-}
-
 /// The node that a disk opens to, in numbers.
 pub fn state_on<D: Disk + Drop>(alloc: Global, disk: D) -> Result<Summary, Refusal> {
     let node = node_on(alloc, disk)?;
@@ -199,12 +191,10 @@ pub fn state_on<D: Disk + Drop>(alloc: Global, disk: D) -> Result<Summary, Refus
     Ok(state)
 }
 
-/// The node that a disk opens to.
-pub(crate) fn node_on<D: Disk + Drop>(alloc: Global, disk: D) -> Result<Node, Refusal> {
-    match Shelf::open::<Images>(alloc, disk) {
-        Ok((_shelf, node)) => Ok(node),
-        Err(refusal) => Err(refusal),
-    }
+/// The node that a disk opens to, with a log or without one.
+pub(crate) fn node_on<D: Disk + Drop>(alloc: Global, mut disk: D) -> Result<Node, Refusal> {
+    let (_place, node) = read_node(alloc, &mut disk, Saves::Images)?;
+    Ok(node)
 }
 
 // The disk after an attempt to create the node on it, and the result of that. A disk that isn't

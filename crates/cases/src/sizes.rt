@@ -1,15 +1,17 @@
-//! The size of a space in memory, the text of its configuration, and its disks.
+//! The size of a space and how it saves, the text of its configuration, and its disks in memory.
 use disk::MemoryDisk;
+use ids::Saves;
 use std::alloc::{AllocError, Global};
 
-/// How many nodes a space has, each with this many registers and slots, and how many turns its
-/// workers take at most.
+/// How many nodes a space has, each with this many registers and slots, how many turns its workers
+/// take at most, and what a save writes.
 #[derive(Clone, Copy)]
 pub struct Size {
     pub nodes: u8,
     pub registers: u16,
     pub slots: u32,
     pub turns: u32,
+    pub saves: Saves,
 }
 
 impl Size {
@@ -20,19 +22,26 @@ impl Size {
             registers: 3,
             slots: 8,
             turns,
+            saves: Saves::Images,
         }
     }
 
-    /// The text of a configuration of this size, on disks in memory.
+    /// The text of a configuration of this size, without a folder.
     pub fn text(self, alloc: Global) -> Result<String, AllocError> {
         let Size {
             nodes,
             registers,
             slots,
             turns,
+            saves,
         } = self;
+        let way = match saves {
+            Saves::Images => "images",
+            Saves::Events => "events",
+        };
         format!(in alloc;
-            "nodes = {nodes}\nregisters = {registers}\nslots = {slots}\nturns = {turns}\n"
+            "nodes = {nodes}\nregisters = {registers}\nslots = {slots}\nturns = {turns}\n\
+            saves = \"{way}\"\n"
         )
     }
 }

@@ -1,11 +1,13 @@
 -- Why opening a node from its disk fails.
-use Rattle.std.proofs.Common.{◌≡◌, ◌≢◌, ◌⊎◌, ◌≤◌, ℕ, List, [], Some, slice_get, Result, Err, refl, sym, ap, subst, ⊎_elim, arith}
+use Rattle.std.proofs.Common.{◌≡◌, ◌≢◌, ◌⊎◌, ◌≤◌, ◌<◌, ℕ, List, [], length, Some, slice_get, Result, Err, refl, sym, ap, subst, ⊎_elim, arith}
 use Rattle.ids.specs.Limits.{Shaped}
 use Rattle.ids.specs.declared.refusal.Refusal.{Refusal}
 use Rattle.ids.specs.declared.refusal.Refusal.TheVariants.{BadImage, Disk, ImageTooLarge, Memory}
 use Rattle.disk.specs.Areas.{Areas}
 use Rattle.disk.specs.Crashes.{Grew}
-use Rattle.node.specs.Keeping.{WholeNode}
+use Rattle.ids.specs.declared.limits.TheConstants.{GREATEST_IMAGE}
+use Rattle.image.specs.Wholes.{whole_image}
+use Rattle.node.specs.Keeping.{WholeNode, new_whole}
 use Rattle.cell.specs.Disks.{OpensToNode}
 use Rattle.cell.specs.Ages.{IsWhy}
 use Rattle.cell.specs.Looking.{IsOfReading}
@@ -64,6 +66,28 @@ reading-cause seen moment faults shape own disk after e written none later faile
     (⊎_elim
     (λ is. subst (IsCause seen moment faults shape own disk) (sym is)
     record { written = written; none = none is })
+    (λ is. subst (IsCause seen moment faults shape own disk) (sym is)
+    record { after = after; later = later; failed = failed is }))
+    which
+
+-- for a new node that is created
+pub creating-cause : {D : Type 0} (seen : D → Areas) (moment faults : D → ℕ) (n : WholeNode)
+    (disk after : D) (e : Refusal)
+    → ((seen disk).select ≡ []) × (n ≡ new_whole n.core.local.shape n.core.local.own)
+    → moment disk ≤ moment after → (e ≡ Disk → Grew (faults disk) (faults after))
+    → (e ≡ ImageTooLarge → GREATEST_IMAGE < length (whole_image n))
+    → (e ≡ Memory) ⊎ ((e ≡ ImageTooLarge) ⊎ (e ≡ Disk)) → e ≢ Memory
+    → IsCause seen moment faults n.core.local.shape n.core.local.own disk e
+creating-cause seen moment faults n disk after e new later failed large which other =
+    let shape = n.core.local.shape in
+    let own = n.core.local.own in
+    ⊎_elim (λ is. absurd (other is))
+    (⊎_elim
+    (λ is. subst (IsCause seen moment faults shape own disk) (sym is)
+    record {
+      blank = new.0;
+      large = subst (λ (m : WholeNode). GREATEST_IMAGE < length (whole_image m)) new.1 (large is);
+    })
     (λ is. subst (IsCause seen moment faults shape own disk) (sym is)
     record { after = after; later = later; failed = failed is }))
     which

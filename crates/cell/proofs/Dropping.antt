@@ -23,17 +23,16 @@ use Rattle.model.proofs.Lookups.{at_set_if, map-set_same}
 use Rattle.model.proofs.Shown.{view-ok}
 use Rattle.laws.proofs.Lookups.{slice_get-append, slice_get-last}
 use Rattle.node.specs.Keeping.{Rings, WholeNode, met, next_event, waiting}
-use Rattle.image.specs.Nodes.{HasImage}
 use Rattle.wire.specs.Lists.{Continues}
 use Rattle.wire.specs.Readers.{known}
 use Rattle.wire.specs.Rule.{receiver}
 use Rattle.wire.specs.Views.{Known, ticks}
 use Rattle.wire.proofs.Lists.{continues-both}
 use Rattle.cell.specs.Desks.{DeskView, HasDropped, IsDropped}
-use Rattle.cell.specs.Disks.{is_same_image}
+use Rattle.cell.specs.Disks.{is_same_node}
 use Rattle.cell.specs.Events.{Given, Handled, is_counted, known_after, pair_by}
 use Rattle.cell.specs.Sending.{IsSent}
-use Rattle.cell.proofs.Found.{same-nodes}
+use Rattle.cell.proofs.Sames.{same-true}
 
 -- ---- The messages that a link dropped
 
@@ -142,13 +141,13 @@ dropped-kept first v w n more h =
 
 -- the node that a reopening found
 pub dropped-found : (first : NodeView) (v w : Known) (n saved found : NodeView) → TookMore v w
-    → HasImage found → ∥ HasImage saved ∥₁ → (is_same_image found saved ≡ false → found ≡ kept_view n)
+    → (is_same_node found saved ≡ false → found ≡ kept_view n)
     → HasDropped first v n → HasDropped first v saved → HasDropped first w found
-dropped-found first v w n saved found more read was which now before =
+dropped-found first v w n saved found more which now before =
     ⊎_elim
-    (λ same. dropped-as first v w saved found more (same-nodes found saved same read was) before)
+    (λ same. dropped-as first v w saved found more (same-true found saved same) before)
     (λ other. subst (HasDropped first w) (sym (which other)) (dropped-kept first v w n more now))
-    (cases_Bool (is_same_image found saved))
+    (cases_Bool (is_same_node found saved))
 
 -- ---- Events
 

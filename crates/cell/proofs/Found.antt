@@ -1,19 +1,14 @@
--- A node that was read from its image, as it was saved or as it was found on a disk.
+-- A node that was found on a disk, or as it was saved.
 use Rattle.std.proofs.Common.{◌≡◌, ℕ, Bool, true, false, List, length, refl, sym, ap, ◌∙◌, subst, arith}
-use Rattle.std.proofs.Math.Logic.{∥∥₁_elim}
 use Rattle.std.proofs.Math.ListN.{get_or-map}
 use Rattle.std.proofs.lemmas.List.{length-drop, length-map}
-use Rattle.std.proofs.Props.{props}
-use Rattle.std.proofs.lemmas.Slice.Eq.{bytes_eq-Decides}
 use Rattle.model.specs.State.{LocalState, NodeState, sent_to}
 use Rattle.model.specs.View.{Link, NodeView, Shows, ShowsSent, all_kept, kept_view, link_to, no_link, used}
-use Rattle.image.specs.Images.{image_of}
-use Rattle.image.specs.Nodes.{HasImage}
-use Rattle.image.proofs.Spelled.{kept_is, image_of_same}
 use Rattle.wire.specs.Views.{Known, Pair}
 use Rattle.wire.specs.Plays.{Happens}
 use Rattle.cell.specs.Desks.{IsSavedNode, StandsAt}
-use Rattle.cell.specs.Disks.{is_same_image}
+use Rattle.cell.specs.Disks.{is_same_node}
+use Rattle.cell.proofs.Sames.{same-true}
 use Rattle.cell.specs.Events.{both_states, found_pair, found_step}
 use Rattle.cell.proofs.Standing.{behind-itself}
 
@@ -31,12 +26,11 @@ shows-kept n s h = record {
       (record { within = (h.links i).within; unacknowledged = (h.links i).unacknowledged });
 }
 
--- a node that is read from its image shows its state with everything saved
+-- a node whose messages all count as saved shows its state with everything saved
 pub stands-read : (me width : ℕ) (s : NodeState) (n : NodeView) → n.local.own ≡ me
-    → n.local.shape.nodes ≡ width → Shows n s → HasImage n
+    → n.local.shape.nodes ≡ width → Shows n s → kept_view n ≡ n
     → StandsAt me width (both_states s) n
-stands-read me width s n own nodes shows image =
-    let kept : kept_view n ≡ n = kept_is image.0 n image.1 in
+stands-read me width s n own nodes shows kept =
     record {
       own = own;
       nodes = nodes;
@@ -51,10 +45,10 @@ stands-read me width s n own nodes shows image =
     }
 
 pub saved-read : (me width : ℕ) (s : NodeState) (n : NodeView) → n.local.own ≡ me
-    → n.local.shape.nodes ≡ width → Shows n s → HasImage n
+    → n.local.shape.nodes ≡ width → Shows n s → kept_view n ≡ n
     → IsSavedNode me width s n
-saved-read me width s n own nodes shows image =
-    record { own = own; nodes = nodes; shows = shows; image = ∣ image ∣₁ }
+saved-read me width s n own nodes shows kept =
+    record { own = own; nodes = nodes; shows = shows; kept = kept }
 
 -- the step that a reopening enters may happen
 pub found-happens : (same : Bool) (v : Known)
@@ -62,44 +56,38 @@ pub found-happens : (same : Bool) (v : Known)
 found-happens true v = (refl, refl)
 found-happens false v = (refl, refl)
 
--- nodes with equal images, each of which was read from an image, are the same
-pub same-nodes : (m n : NodeView) → is_same_image m n ≡ true → HasImage m → ∥ HasImage n ∥₁ → m ≡ n
-same-nodes m n same first second =
-    let bytes : image_of m ≡ image_of n = (bytes_eq-Decides (image_of m) (image_of n)).0 same in
-    ∥∥₁_elim second (hlevel props) (λ read. image_of_same m n first read bytes)
-
 -- the node that was found is in the state in which the reopening leaves the seat
 pub record IsFound (me width : ℕ) (p : Pair) (found : NodeView) : Type 0 where
   pub stands : StandsAt me width p found
   pub saved : IsSavedNode me width p.saved found
 
 pub found-read : (me width : ℕ) (s : NodeState) (n : NodeView) → n.local.own ≡ me
-    → n.local.shape.nodes ≡ width → Shows n s → HasImage n
+    → n.local.shape.nodes ≡ width → Shows n s → kept_view n ≡ n
     → IsFound me width (both_states s) n
-found-read me width s n own nodes shows image = record {
-  stands = stands-read me width s n own nodes shows image;
-  saved = saved-read me width s n own nodes shows image;
+found-read me width s n own nodes shows kept = record {
+  stands = stands-read me width s n own nodes shows kept;
+  saved = saved-read me width s n own nodes shows kept;
 }
 
 found-by : (me width : ℕ) (p : Pair) (n was found : NodeView) (same : Bool)
-    → is_same_image found was ≡ same → StandsAt me width p n → IsSavedNode me width p.saved was
-    → HasImage found → (same ≡ false → found ≡ kept_view n)
+    → is_same_node found was ≡ same → StandsAt me width p n → IsSavedNode me width p.saved was
+    → kept_view found ≡ found → (same ≡ false → found ≡ kept_view n)
     → IsFound me width (found_pair same p) found
-found-by me width p n was found true same stands saved image which =
-    let is : found ≡ was = same-nodes found was same image saved.image in
+found-by me width p n was found true same stands saved kept which =
+    let is : found ≡ was = same-true found was same in
     found-read me width p.saved found (ap (λ (m : NodeView). m.local.own) is ∙ saved.own)
     (ap (λ (m : NodeView). m.local.shape.nodes) is ∙ saved.nodes)
-    (subst (λ (m : NodeView). Shows m p.saved) (sym is) saved.shows) image
-found-by me width p n was found false same stands saved image which =
+    (subst (λ (m : NodeView). Shows m p.saved) (sym is) saved.shows) kept
+found-by me width p n was found false same stands saved kept which =
     let is : found ≡ kept_view n = which refl in
     found-read me width p.current found (ap (λ (m : NodeView). m.local.own) is ∙ stands.own)
     (ap (λ (m : NodeView). m.local.shape.nodes) is ∙ stands.nodes)
     (subst (λ (m : NodeView). Shows m p.current) (sym is)
-    (shows-kept n p.current stands.shows)) image
+    (shows-kept n p.current stands.shows)) kept
 
 pub is-found : (me width : ℕ) (p : Pair) (n was found : NodeView) → StandsAt me width p n
-    → IsSavedNode me width p.saved was → HasImage found
-    → (is_same_image found was ≡ false → found ≡ kept_view n)
-    → IsFound me width (found_pair (is_same_image found was) p) found
-is-found me width p n was found stands saved image which =
-    found-by me width p n was found (is_same_image found was) refl stands saved image which
+    → IsSavedNode me width p.saved was → kept_view found ≡ found
+    → (is_same_node found was ≡ false → found ≡ kept_view n)
+    → IsFound me width (found_pair (is_same_node found was) p) found
+is-found me width p n was found stands saved kept which =
+    found-by me width p n was found (is_same_node found was) refl stands saved kept which

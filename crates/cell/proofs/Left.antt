@@ -1,5 +1,5 @@
 -- What a space left on its disks is the world in which it continues.
-use Rattle.std.proofs.Common.{◌≡◌, ◌≢◌, ℕ, zero, suc, true, Bool, List, [], ◌∷◌, ◌++◌, Option, Some, None, Ok, Err, append_assoc, length, length-append, set, refl, sym, ap, ◌∙◌, subst, arith}
+use Rattle.std.proofs.Common.{◌≡◌, ◌≢◌, ℕ, zero, suc, true, Bool, List, [], ◌∷◌, ◌++◌, Ok, Err, append_assoc, length, length-append, set, refl, sym, ap, ◌∙◌, subst, arith}
 use Rattle.std.specs.Prelude.{cond}
 use Rattle.std.proofs.Math.Logic.{∥∥₁_elim}
 use Rattle.std.proofs.Math.Seq.{get_or-append_seam, set-append_seam}
@@ -18,15 +18,15 @@ use Rattle.model.proofs.Runs.{run-append}
 use Rattle.laws.proofs.Cuts.{run-keeps-sent}
 use Rattle.laws.proofs.KeepsSent.{new-keeps-sent}
 use Rattle.disk.specs.Areas.{Areas}
-use Rattle.disk.specs.Shelf.{image_at, side}
+use Rattle.replays.proofs.Stores.{keeps_some}
 use Rattle.wire.specs.Readers.{IsSavedAs}
 use Rattle.cell.specs.Disks.{OpensTo}
 use Rattle.cell.specs.Laws.{restarted, IsLeft, LeftIsOpened}
 use Rattle.cell.specs.Opened.{IsReadFrom}
 use Rattle.cell.specs.Reached.{AreAlike, IsReached}
-use Rattle.node.specs.Keeping.{WholeNode}
+use Rattle.node.specs.Keeping.{WholeNode, alone}
 use Rattle.cell.proofs.Found.{stands-read}
-use Rattle.cell.proofs.Opening.{core-found, image-found, same-found}
+use Rattle.cell.proofs.Opening.{core-found, kept-found, same-found}
 use Rattle.cell.proofs.Places.{mapped-from}
 
 -- ---- All nodes restart from their saved states
@@ -97,10 +97,7 @@ restarted-reached w r =
 -- ---- What is read from what was left
 
 not-blank : (n : NodeView) (c : Areas) → OpensTo n c → c.select ≢ []
-not-blank n c opens empty =
-    let both : ◌≡◌ {A = Option (List ℕ)} None (Some opens.0) =
-    sym (ap (λ (bytes : List ℕ). image_at (side bytes) c) empty) ∙ opens.1 in
-    absurd cc
+not-blank n c opens = keeps_some (alone n) c opens
 
 -- the node that is read is the one that was left
 left-is : (shape : Shaped) (k width : ℕ) (s : NodeState) (c : Areas) (n : NodeView)
@@ -130,7 +127,7 @@ left-stands shape k width s c whole left read =
     (ap (λ (m : NodeView). m.local.own) is ∙ left.saved.own)
     (ap (λ (m : NodeView). m.local.shape.nodes) is ∙ left.saved.nodes)
     (subst (λ (m : NodeView). Shows m s) (sym is) left.saved.shows)
-    (image-found n c found) in
+    (kept-found n c found) in
     record { shows = stands.shows; counted = stands.counted; acks = stands.acks }
 
 pub left-opened : LeftIsOpened

@@ -21,6 +21,8 @@ pub mod OnShelves
 pub mod Causes
 pub mod Looking
 pub mod Ready
+pub mod Sames
+pub mod Beside
 pub mod Blank
 pub mod Left
 pub mod Reaches

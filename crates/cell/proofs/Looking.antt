@@ -6,7 +6,7 @@ use Rattle.ids.specs.Limits.{Shaped}
 use Rattle.ids.specs.declared.refusal.Refusal.{Refusal}
 use Rattle.disk.specs.Areas.{Areas}
 use Rattle.disk.specs.Crashes.{Unmoved}
-use Rattle.disk.specs.declared.shelf.Selected.{Selected}
+use Rattle.replays.specs.declared.place.Place.{Place}
 use Rattle.node.specs.Keeping.{WholeNode}
 use Rattle.cell.specs.Ages.{IsWhy}
 use Rattle.cell.specs.Looking.{AreLookedAt, AreOn, AreUnmoved, IsLookedAt, IsOfReading}
@@ -52,15 +52,15 @@ set-past (a ∷ xs) (suc i) (suc k) y after = set-past xs i k y (omega (arith, a
 module _ {D : Type 0} (seen : D → Areas) (may_leave : D → Areas → Type 0) (faults : D → ℕ)
     (shape : Shaped) where
   pub looked-next : (number : ℕ) (old new : List D) (nodes : List WholeNode)
-      (areas : List (Option Selected)) (ns : List WholeNode) (bs : List (Option Selected))
-      (x y : D) (n : WholeNode) (area : Option Selected)
+      (areas : List (Option Place)) (ns : List WholeNode) (bs : List (Option Place))
+      (x y : D) (n : WholeNode) (area : Option Place)
       → AreLookedAt seen may_leave faults shape number old new nodes areas
       → slice_get old number ≡ Some x → IsLookedAt seen may_leave faults shape number x y n area
       → ns ≡ nodes ++ n ∷ [] → bs ≡ areas ++ area ∷ []
       → AreLookedAt seen may_leave faults shape (number + 1) old (set new number y) ns bs
   looked-next number old new nodes areas ns bs x y n area h there it more also = record {
     nodes_count = ap length more ∙ length-append nodes (n ∷ []) ∙ ap (λ i. i + 1) h.nodes_count;
-    areas_count = ap length also ∙ length-append areas (area ∷ []) ∙ ap (λ i. i + 1) h.areas_count;
+    places_count = ap length also ∙ length-append areas (area ∷ []) ∙ ap (λ i. i + 1) h.places_count;
     each = λ k d e m b was is stands at.
         ⊎_elim
         (λ first.
@@ -75,7 +75,7 @@ module _ {D : Type 0} (seen : D → Areas) (may_leave : D → Areas → Type 0) 
         (set-from new number k y e is))
         first
         (⊎_elim (λ old_area. old_area)
-        (λ last. absurd (let count = h.areas_count in omega (arith, before, last.0, count)))
+        (λ last. absurd (let count = h.places_count in omega (arith, before, last.0, count)))
         (pushed-at areas area k b (ap (λ l. slice_get l k) (sym also) ∙ at))))
         (λ last.
         let here : k ≡ number = last.0 ∙ h.nodes_count in
@@ -90,11 +90,11 @@ module _ {D : Type 0} (seen : D → Areas) (may_leave : D → Areas → Type 0) 
         ⊎_elim
         (λ (earlier : slice_get areas k ≡ Some b).
         absurd (let inside = slice_get_within areas k b earlier in
-        let count = h.areas_count in omega (arith, inside, here, count)))
+        let count = h.places_count in omega (arith, inside, here, count)))
         (λ (t : (k ≡ length areas) × (b ≡ area)). t.1)
         (pushed-at areas area k b (ap (λ l. slice_get l k) (sym also) ∙ at)) in
         subst (λ (i : ℕ). IsLookedAt seen may_leave faults shape i d e m b) (sym here)
-        (subst (λ (v : Option Selected). IsLookedAt seen may_leave faults shape number d e m v)
+        (subst (λ (v : Option Place). IsLookedAt seen may_leave faults shape number d e m v)
         (sym b_is)
         (subst (λ (v : WholeNode). IsLookedAt seen may_leave faults shape number d e v area)
         (sym last.1)
@@ -107,13 +107,13 @@ module _ {D : Type 0} (seen : D → Areas) (may_leave : D → Areas → Type 0) 
   }
 
   -- all of them were read
-  pub all-on : (old new : List D) (nodes : List WholeNode) (areas : List (Option Selected))
+  pub all-on : (old new : List D) (nodes : List WholeNode) (areas : List (Option Place))
       → AreLookedAt seen may_leave faults shape shape.nodes old new nodes areas
       → length old ≡ shape.nodes → length new ≡ length old
       → AreOn seen may_leave shape new nodes areas
   all-on old new nodes areas h many count = record {
     nodes_count = h.nodes_count ∙ sym many ∙ sym count;
-    areas_count = h.areas_count ∙ sym many ∙ sym count;
+    places_count = h.places_count ∙ sym many ∙ sym count;
     each = λ k e n area there stands at.
         (let was = some_at old k
         (let inside = slice_get_within new k e there in omega (arith, inside, count)) in
@@ -121,19 +121,19 @@ module _ {D : Type 0} (seen : D → Areas) (may_leave : D → Areas → Type 0) 
         (it.node, it.holds));
   }
 
-  pub all-read : (old new : List D) (nodes : List WholeNode) (areas : List (Option Selected))
+  pub all-read : (old new : List D) (nodes : List WholeNode) (areas : List (Option Place))
       → AreLookedAt seen may_leave faults shape shape.nodes old new nodes areas
       → length old ≡ shape.nodes → length new ≡ length old
       → AreBeside (λ k d n. IsReadFrom shape k (seen d) n) old nodes
   all-read old new nodes areas h many count k d n was stands =
       let inside = slice_get_within old k d was in
       let there = some_at new k (omega (arith, inside, count)) in
-      let at = some_at areas k (let found = h.areas_count in omega (arith, inside, many, found)) in
+      let at = some_at areas k (let found = h.places_count in omega (arith, inside, many, found)) in
       (h.each k d there.0 n at.0 was there.1 stands at.1).read
 
   -- why a node of one of these disks couldn't be created
   cause-before : (moment : D → ℕ) (left_since : D → ℕ → Areas → Type 0) (old new : List D)
-      (nodes : List WholeNode) (areas : List (Option Selected)) (r : Refusal)
+      (nodes : List WholeNode) (areas : List (Option Place)) (r : Refusal)
       → AreLookedAt seen may_leave faults shape shape.nodes old new nodes areas
       → length old ≡ shape.nodes → AreUnmoved seen may_leave moment left_since old new
       → (k : ℕ) → HasAt k (λ d. IsCause seen moment faults shape k d r) new
@@ -145,7 +145,7 @@ module _ {D : Type 0} (seen : D → Areas) (may_leave : D → Areas → Type 0) 
       let n = some_at nodes k
       (let found = h.nodes_count in omega (arith, inside, many, count, found)) in
       let at = some_at areas k
-      (let found = h.areas_count in omega (arith, inside, many, count, found)) in
+      (let found = h.places_count in omega (arith, inside, many, count, found)) in
       let same = quiet.each k was.0 cause.value was.1 cause.there in
       let it = h.each k was.0 cause.value n.0 at.0 was.1 cause.there n.1 at.1 in
       record {
@@ -156,7 +156,7 @@ module _ {D : Type 0} (seen : D → Areas) (may_leave : D → Areas → Type 0) 
       }
 
   pub why-before : (moment : D → ℕ) (left_since : D → ℕ → Areas → Type 0) (old new found : List D)
-      (nodes : List WholeNode) (areas : List (Option Selected)) (e : Unopened)
+      (nodes : List WholeNode) (areas : List (Option Place)) (e : Unopened)
       → AreLookedAt seen may_leave faults shape shape.nodes old new nodes areas
       → length old ≡ shape.nodes → AreUnmoved seen may_leave moment left_since old new
       → found ≡ new → (IsOfReading e → ⊥) → IsWhy seen moment faults shape found e
@@ -194,7 +194,7 @@ shelf-next Lies nodes shelves place ss n s h count stands lies is k t m there at
 -- all nodes are on their shelves
 pub shelves-found : {D S : Type 0} (Lies : WholeNode → S → Type 0) (seen : D → Areas)
     (may_leave : D → Areas → Type 0) (shape : Shaped) (disks : List D) (nodes : List WholeNode)
-    (areas : List (Option Selected)) (shelves : List S)
+    (areas : List (Option Place)) (shelves : List S)
     → AreOn seen may_leave shape disks nodes areas → length shelves ≡ length nodes
     → AreBeside (λ k t m. Lies m t) shelves nodes → AreFound Lies shape nodes shelves
 shelves-found Lies seen may_leave shape disks nodes areas shelves on count h = record {
@@ -203,7 +203,7 @@ shelves-found Lies seen may_leave shape disks nodes areas shelves on count h = r
       (let inside = slice_get_within nodes k n stands in
       let d = some_at disks k (let many = on.nodes_count in omega (arith, inside, many)) in
       let area = some_at areas k
-      (let many = on.nodes_count in let also = on.areas_count in omega (arith, inside, many, also)) in
+      (let many = on.nodes_count in let also = on.places_count in omega (arith, inside, many, also)) in
       ((on.each k d.0 n area.0 d.1 stands area.1).0, h k s n there stands));
 }
 
@@ -212,7 +212,7 @@ shelves-found Lies seen may_leave shape disks nodes areas shelves on count h = r
 -- the disk in a place that wasn't read yet
 pub read-there : {D : Type 0} {seen : D → Areas} {may_leave : D → Areas → Type 0} {faults : D → ℕ}
     {shape : Shaped} {number : ℕ} {old new : List D} {nodes : List WholeNode}
-    {areas : List (Option Selected)} (at : ℕ) (d : D)
+    {areas : List (Option Place)} (at : ℕ) (d : D)
     → AreLookedAt seen may_leave faults shape number old new nodes areas
     → length new ≡ length old → at ≡ number → number < length old
     → slice_get old number ≡ Some (get_or new at d)
@@ -233,7 +233,7 @@ unmoved-at {seen = seen} {may_leave = may_leave} {moment = moment} {left_since =
 
 pub looked-at : {D : Type 0} {seen : D → Areas} {may_leave : D → Areas → Type 0} {faults : D → ℕ}
     {shape : Shaped} {number : ℕ} {old new : List D} {nodes ns : List WholeNode}
-    {areas bs : List (Option Selected)} (at : ℕ) (x y : D) (n : WholeNode) (area : Option Selected)
+    {areas bs : List (Option Place)} (at : ℕ) (x y : D) (n : WholeNode) (area : Option Place)
     → AreLookedAt seen may_leave faults shape number old new nodes areas → at ≡ number
     → slice_get old number ≡ Some x → IsLookedAt seen may_leave faults shape number x y n area
     → (ns ≡ nodes ++ n ∷ []) × (bs ≡ areas ++ area ∷ [])
@@ -250,7 +250,7 @@ looked-at {seen = seen} {may_leave = may_leave} {faults = faults} {shape = shape
 -- why a node can't be put on its disk
 pub put-cause : {D : Type 0} (seen : D → Areas) (may_leave : D → Areas → Type 0)
     (moment faults : D → ℕ) (shape : Shaped) (disks : List D) (nodes : List WholeNode)
-    (areas : List (Option Selected)) (place : ℕ) (d : D) (n : WholeNode) (r : Refusal)
+    (areas : List (Option Place)) (place : ℕ) (d : D) (n : WholeNode) (r : Refusal)
     → AreOn seen may_leave shape disks nodes areas → slice_get disks place ≡ Some d
     → slice_get nodes place ≡ Some n
     → IsCause seen moment faults n.core.local.shape n.core.local.own d r
@@ -258,7 +258,7 @@ pub put-cause : {D : Type 0} (seen : D → Areas) (may_leave : D → Areas → T
 put-cause seen may_leave moment faults shape disks nodes areas place d n r on there stands cause =
     let area = some_at areas place
     (let inside = slice_get_within disks place d there in
-    let many = on.areas_count in omega (arith, inside, many)) in
+    let many = on.places_count in omega (arith, inside, many)) in
     let node = (on.each place d n area.0 there stands area.1).0 in
     subst (λ (i : ℕ). IsCause seen moment faults shape i d r) node.numbered
     (subst (λ (s : Shaped). IsCause seen moment faults s n.core.local.own d r) node.shaped cause)

@@ -1,14 +1,13 @@
 -- The cell of a new node.
-use Rattle.std.proofs.Common.{◌≡◌, ◌<◌, ℕ, Some, sym, ap, ◌∙◌, subst}
+use Rattle.std.proofs.Common.{◌≡◌, ◌<◌, ℕ, sym, ap, ◌∙◌, subst}
 use Rattle.ids.specs.Limits.{Shaped}
 use Rattle.model.specs.State.{new_node}
 use Rattle.model.specs.View.{Shows, new_view}
 use Rattle.model.specs.World.{World, new_world}
 use Rattle.model.proofs.NewNodes.{new-kept, new-shown}
 use Rattle.node.specs.Keeping.{WholeNode, alone, new_whole}
-use Rattle.image.specs.Wholes.{IsWholeOf, saved_whole, whole_image}
+use Rattle.image.specs.Wholes.{saved_whole}
 use Rattle.disk.specs.Areas.{Areas}
-use Rattle.disk.specs.Shelf.{opened}
 use Rattle.wire.specs.Views.{Known, Pair, pair_at}
 use Rattle.wire.specs.Readers.{known, opened_with, IsSeated}
 use Rattle.wire.specs.declared.seats.Wire.{Wire}
@@ -35,9 +34,8 @@ at-seat shape own wire s opening width inside seated =
 
 -- the disk on which the node was created opens to it
 pub opens-new : (shape : Shaped) (own : ℕ) (n : WholeNode) (c : Areas) → n ≡ new_whole shape own
-    → opened c ≡ Some (whole_image n) → IsWholeOf (whole_image n) (saved_whole n)
-    → OpensToNode n c
-opens-new shape own n c is found read =
+    → OpensToNode (saved_whole n) c → OpensToNode n c
+opens-new shape own n c is found =
     let kept : saved_whole n ≡ n =
     ap saved_whole is ∙ ap alone (new-kept shape own) ∙ sym is in
-    (whole_image n, found, subst (IsWholeOf (whole_image n)) kept read)
+    subst (λ (m : WholeNode). OpensToNode m c) kept found

@@ -1,60 +1,57 @@
 -- Which node a cell's disk opens to.
-use Rattle.std.proofs.Common.{◌≡◌, Bool, IsTrue, true, false, ◌≤◌, List, ℕ, Option, Some, refl, sym, ap, ◌∙◌, subst, subst₂, inl, inr, ⊎_elim}
+use Rattle.std.proofs.Common.{◌≡◌, Bool, IsTrue, true, false, ◌≤◌, ℕ, sym, ap, ◌∙◌, subst, subst₂, inl, ⊎_elim}
 use Rattle.std.proofs.Math.Logic.{∥∥₁_elim, ∥∥₁_map}
 use Rattle.std.proofs.Props.{props}
-use Rattle.std.proofs.lemmas.Slice.Eq.{bytes_eq-Decides}
 use Rattle.model.specs.View.{NodeView, kept_view}
-use Rattle.image.specs.Images.{image_of}
-use Rattle.image.specs.Nodes.{HasImage, IsImageOf}
-use Rattle.image.proofs.Spelled.{image_of_one}
 use Rattle.disk.specs.Areas.{Areas}
 use Rattle.disk.specs.Crashes.{LeavesOnly, Only}
-use Rattle.disk.specs.Record.{areas_of, leaves}
-use Rattle.disk.specs.Shelf.{opened, OldOrNew}
+use Rattle.disk.specs.Record.{leaves}
+use Rattle.image.specs.Nodes.{HasImage}
+use Rattle.replays.specs.Plain.{IsPlain, KeepsEither, StaysPlain}
+use Rattle.replays.proofs.Stores.{keeps_alone, keeps_kept, keeps_one, read_kept}
 use Rattle.disk.specs.declared.state.State.{State}
 use Rattle.node.specs.Keeping.{WholeNode, alone}
-use Rattle.cell.specs.Disks.{HoldsSaved, OpensTo, OpensToEither, OpensToNode, is_same_image}
+use Rattle.cell.specs.Disks.{HoldsSaved, OpensTo, OpensToEither, OpensToNode, is_same_node}
+use Rattle.cell.proofs.Sames.{same-node}
 
 -- the core of the node that was found
 pub core-found : (n : WholeNode) (c : Areas) → OpensToNode n c → OpensTo n.core c
-core-found n c found = (found.0, found.1, found.2.0)
+core-found n c found = subst (λ (m : WholeNode). OpensToNode m c) (keeps_alone n c found) found
 
 pub whole-found : (n : NodeView) (c : Areas) → OpensTo n c → OpensToNode (alone n) c
-whole-found n c found = (found.0, found.1, (found.2, refl))
+whole-found n c found = found
 
 -- a disk opens to at most one node
 pub same-found : (m n : NodeView) (c : Areas) → OpensTo m c → OpensTo n c → m ≡ n
 same-found m n c first second =
-    let both : ◌≡◌ {A = Option (List ℕ)} (Some second.0) (Some first.0) =
-    sym second.1 ∙ first.1 in
-    let bytes : second.0 ≡ first.0 = cc in
-    image_of_one first.0 m n first.2 (subst (λ (b : List ℕ). IsImageOf b n) bytes second.2)
+    ap (λ (w : WholeNode). w.core) (keeps_one (alone m) (alone n) c first second)
 
--- a node that was found was read from bytes
-pub image-found : (n : NodeView) (c : Areas) → OpensTo n c → HasImage n
-image-found n c found = (found.0, found.2)
+-- all messages of a node that was found count as saved
+pub kept-found : (n : NodeView) (c : Areas) → OpensTo n c → kept_view n ≡ n
+kept-found n c found = keeps_kept (alone n) c found
 
-same-image : (m n : NodeView) → m ≡ n → is_same_image m n ≡ true
-same-image m n same = (bytes_eq-Decides (image_of m) (image_of n)).1 (ap image_of same)
-
--- if the image that was found isn't that of the last saved node, it is the current node's
+-- if the node that was found isn't the last saved one, it is the current one
 pub which-found : (saved n found : NodeView) (c : Areas) → OpensTo found c
-    → ∥ OpensToEither saved n c ∥₁ → is_same_image found saved ≡ false → found ≡ kept_view n
+    → ∥ OpensToEither saved n c ∥₁ → is_same_node found saved ≡ false → found ≡ kept_view n
 which-found saved n found c there left other =
     ∥∥₁_elim left (hlevel props)
     (⊎_elim
     (λ was.
-    let same : is_same_image found saved ≡ true =
-    same-image found saved (same-found found saved c there was) in
+    let same : is_same_node found saved ≡ true =
+    same-node found saved (same-found found saved c there was) in
     let never : true ≡ false = sym same ∙ other in
     absurd cc)
     (λ now. same-found found (kept_view n) c there now))
 
 pub saved-found : (saved found : NodeView) (c : Areas) → OpensTo found c → ∥ OpensTo saved c ∥₁
-    → is_same_image found saved ≡ true
+    → is_same_node found saved ≡ true
 saved-found saved found c there was =
     ∥∥₁_elim was (hlevel props)
-    (λ old. same-image found saved (same-found found saved c there old))
+    (λ old. same-node found saved (same-found found saved c there old))
+
+-- if no log follows the image, the node that was found has an image
+pub image-found : (n : NodeView) (c : Areas) → IsPlain c → OpensTo n c → HasImage n
+image-found n c plain found = let read = read_kept (alone n) c plain found in (read.0, read.2.0)
 
 -- some node is found
 pub never-bad : (saved n : NodeView) (c : Areas) → ∥ OpensToEither saved n c ∥₁
@@ -64,69 +61,76 @@ never-bad saved n c left none =
     (⊎_elim (λ was. none (alone saved) (whole-found saved c was))
     (λ now. none (alone (kept_view n)) (whole-found (kept_view n) c now)))
 
--- a crash leaves what is read, and that opens to the last saved node
-settled-left : (saved n : NodeView) (seen c : Areas) → c ≡ seen → ∥ OpensTo saved seen ∥₁
-    → ∥ OpensToEither saved n c ∥₁
-settled-left saved n seen c same was =
-    ∥∥₁_map was (λ there. inl (subst (OpensTo saved) (sym same) there))
-
--- the disk opens to the last saved node, under another name
-open-stays : (was saved : NodeView) (seen : Areas) → saved ≡ was → ∥ OpensTo was seen ∥₁
-    → ∥ OpensTo saved seen ∥₁
-open-stays was saved seen same opens =
-    subst (λ (m : NodeView). ∥ OpensTo m seen ∥₁) (sym same) opens
-
--- so if a crash leaves only what is read, whatever it leaves opens to that node
+-- if a crash leaves only what is read, and that opens to a node, whatever a crash leaves does
 pub open-holds : (saved : NodeView) (seen : Areas) (may_leave : Areas → Type 0)
     → Only seen may_leave → ∥ OpensTo saved seen ∥₁ → HoldsSaved may_leave saved
 open-holds saved seen may_leave only opens x may =
     subst (λ (c : Areas). ∥ OpensTo saved c ∥₁) (sym (only x may)) opens
 
+-- if a save may add no events to a log, the saved node has an image
+abbrev pub IsImaged : Bool → NodeView → Type 0
+IsImaged logs saved = logs ≡ false → ∥ HasImage saved ∥₁
+
 -- what an open cell guarantees, if the disk and what was saved on it stay the same
-pub stays-open : {ready : Bool} (was saved n : NodeView) (seen : Areas) (may_leave : Areas → Type 0)
-    → saved ≡ was → Only seen may_leave → ∥ OpensTo was seen ∥₁
-    → (IsTrue ready → ∥ OpensTo saved seen ∥₁)
-    × (((x : Areas) → may_leave x → ∥ OpensToEither saved n x ∥₁) × Unit {0})
-stays-open was saved n seen may_leave same only opens =
-    let still = open-stays was saved seen same opens in
-    (λ _. still, ((λ x may. settled-left saved n seen x (only x may) still), tt))
+pub stays-open : {ready logs : Bool} (was saved n : NodeView) (may_leave : Areas → Type 0)
+    → saved ≡ was → HoldsSaved may_leave was → IsImaged logs was
+    → (IsTrue ready → HoldsSaved may_leave saved)
+    × (((x : Areas) → may_leave x → ∥ OpensToEither saved n x ∥₁)
+    × (IsImaged logs saved × Unit {0}))
+stays-open {logs = logs} was saved n may_leave same holds imaged =
+    let still : HoldsSaved may_leave saved = subst (HoldsSaved may_leave) (sym same) holds in (
+      λ _. still,
+      ((λ x may. ∥∥₁_map (still x may) inl), (subst (IsImaged logs) (sym same) imaged, tt)),
+    )
+
+-- a node that was found in a store that keeps no log has an image
+pub imaged-found : {logs : Bool} (n : NodeView) (seen : Areas) (may_leave : Areas → Type 0)
+    → may_leave seen → (logs ≡ false → StaysPlain may_leave) → ∥ OpensTo n seen ∥₁
+    → IsImaged logs n
+imaged-found n seen may_leave now plain opens none =
+    ∥∥₁_map opens (image-found n seen (plain none seen now))
 
 -- what a cell guarantees, open or closed, if node and disk stay the same
-pub stays-left : {ready : Bool} {was saved m n : NodeView} (seen : Areas) (may_leave : Areas → Type 0)
-    → saved ≡ was → n ≡ m → (IsTrue ready → ∥ OpensTo was seen ∥₁)
-    → ((x : Areas) → may_leave x → ∥ OpensToEither was m x ∥₁)
-    → (IsTrue ready → ∥ OpensTo saved seen ∥₁)
-    × (((x : Areas) → may_leave x → ∥ OpensToEither saved n x ∥₁) × Unit {0})
-stays-left seen may_leave same still opens left = (
-  λ ready. subst (λ (v : NodeView). ∥ OpensTo v seen ∥₁) (sym same) (opens ready),
+pub stays-left : {ready logs : Bool} {was saved m n : NodeView} (may_leave : Areas → Type 0)
+    → saved ≡ was → n ≡ m → (IsTrue ready → HoldsSaved may_leave was)
+    → ((x : Areas) → may_leave x → ∥ OpensToEither was m x ∥₁) → IsImaged logs was
+    → (IsTrue ready → HoldsSaved may_leave saved)
+    × (((x : Areas) → may_leave x → ∥ OpensToEither saved n x ∥₁)
+    × (IsImaged logs saved × Unit {0}))
+stays-left {logs = logs} may_leave same still opens left imaged = (
+  λ ready. subst (HoldsSaved may_leave) (sym same) (opens ready),
   (
     λ x may. subst₂ (λ (v w : NodeView). ∥ OpensToEither v w x ∥₁) (sym same) (sym still)
         (left x may),
-    tt,
+    (subst (IsImaged logs) (sym same) imaged, tt),
   ),
 )
 
 -- what a cell guarantees whose disk in memory was given a plan of failures
-pub told-to-fail : (ready was : Bool) (saved n : NodeView) (old new : State) → new ≡ old
-    → ready ≡ was → (IsTrue was → ∥ OpensTo saved (areas_of old.held) ∥₁)
-    → ((x : Areas) → leaves old x → ∥ OpensToEither saved n x ∥₁)
-    → (IsTrue ready → ∥ OpensTo saved (areas_of new.held) ∥₁)
-    × (((x : Areas) → leaves new x → ∥ OpensToEither saved n x ∥₁) × Unit {0})
-told-to-fail ready was saved n old new same as_before opens left = (
-  λ is. subst (λ (s : State). ∥ OpensTo saved (areas_of s.held) ∥₁) (sym same)
-      (opens (sym as_before ∙ is)),
-  ((λ x may. left x (subst (λ (s : State). leaves s x) same may)), tt),
+pub told-to-fail : {logs logged : Bool} (ready was : Bool) (saved n : NodeView) (old new : State)
+    → new ≡ old → ready ≡ was → logs ≡ logged → (IsTrue was → HoldsSaved (leaves old) saved)
+    → ((x : Areas) → leaves old x → ∥ OpensToEither saved n x ∥₁) → IsImaged logged saved
+    → (IsTrue ready → HoldsSaved (leaves new) saved)
+    × (((x : Areas) → leaves new x → ∥ OpensToEither saved n x ∥₁)
+    × (IsImaged logs saved × Unit {0}))
+told-to-fail ready was saved n old new same as_before logs opens left imaged = (
+  λ is x may. opens (sym as_before ∙ is) x (subst (λ (s : State). leaves s x) same may),
+  (
+    λ x may. left x (subst (λ (s : State). leaves s x) same may),
+    (λ none. imaged (sym logs ∙ none), tt),
+  ),
 )
 
 -- what a crash leaves after a save in which the disk failed
-pub failed-left : {D : Type 0} (seen : D → Areas) (may_leave : D → Areas → Type 0)
-    (moment : D → ℕ) (left_since : D → ℕ → Areas → Type 0) (old new : D) (saved n : NodeView)
+pub failed-left : {D : Type 0} (may_leave : D → Areas → Type 0) (moment : D → ℕ)
+    (left_since : D → ℕ → Areas → Type 0) (old new : D) (saved n : NodeView)
     → ((t : ℕ) (c : Areas) → t ≤ moment new → may_leave new c → left_since new t c)
-    → LeavesOnly moment left_since old new (OldOrNew (opened (seen old)) (image_of n))
-    → ∥ OpensTo saved (seen old) ∥₁ → IsImageOf (image_of n) (kept_view n)
+    → ∥ LeavesOnly moment left_since old new (KeepsEither (alone saved) (alone (kept_view n))) ∥₁
     → (c : Areas) → may_leave new c → ∥ OpensToEither saved n c ∥₁
-failed-left seen may_leave moment left_since old new saved n counts only was image c may =
-    ⊎_elim
-    (λ same. ∥∥₁_map was (λ there. inl (there.0, same ∙ there.1, there.2)))
-    (λ is. ∣ inr (image_of n, is, image) ∣₁)
-    (only.each c (counts (moment old) c only.later may))
+failed-left may_leave moment left_since old new saved n counts only c may =
+    ∥∥₁_map only (λ o. o.each c (counts (moment old) c o.later may))
+
+-- the premises of a save: the disk opens to the last saved node, and the log leads on from there
+pub saved-by : {Opens Leads Done : Type 0} → ∥ Opens ∥₁ → ∥ Leads ∥₁ → (Opens → Leads → Done)
+    → ∥ Done ∥₁
+saved-by opens leads done = ∥∥₁_elim opens (hlevel props) (λ o. ∥∥₁_map leads (done o))

@@ -1,5 +1,5 @@
 -- A wire between nodes on their shelves, and their seats.
-use Rattle.std.proofs.Common.{◌≡◌, ◌<◌, ◌+◌, ◌++◌, ◌∷◌, [], append_assoc, map, ℕ, List, Some, length, length-append, drop, get_or, replicate, slice_get, refl, sym, ap, ◌∙◌, subst, arith}
+use Rattle.std.proofs.Common.{◌≡◌, ◌<◌, ◌+◌, ◌++◌, ◌∷◌, [], append_assoc, map, ℕ, Bool, List, Some, length, length-append, drop, get_or, replicate, slice_get, refl, sym, ap, ◌∙◌, subst, arith}
 use Rattle.std.proofs.lemmas.List.{append-nil, nil_from_length, length-drop, length-map, length-replicate, get_or-map, map-append, map-id}
 use Rattle.std.proofs.Math.ListN.{get_or-map as get_or-mapped}
 use Rattle.std.proofs.Math.Seq.{drop-append_seam}
@@ -186,8 +186,9 @@ shifted f done left all now last first rest were is same front some after =
 
 -- a cell that was made in this way is new
 pub made-new : {D : Type 0} (c : CellView D) (n : WholeNode) (seat : NodeSeat) (disk : D)
-    → c ≡ new_cell n seat disk → IsNew c
-made-new c n seat disk made = made ∙ sym (ap (λ v. new_cell v.node v.seat v.disk) made)
+    (logs : Bool) → c ≡ new_cell n seat disk logs → IsNew c
+made-new c n seat disk logs made =
+    made ∙ sym (ap (λ v. new_cell v.node v.seat v.disk v.logs) made)
 
 -- the nodes of cells that were opened from these disks
 pub opened-read : {D : Type 0} (seen : D → Areas) (shape : Shaped) (disks : List D)

@@ -6,7 +6,8 @@ use denote.Param.Send.{IsSend, IsSync, recorded_send, recorded_sync, struct_send
 use Rattle.std.proofs.Crossing.{crosses, Arc-send}
 use Rattle.ids.proofs.names.Cycle.TheSendSync as Cycle
 use Rattle.node.proofs.keeping.Node.TheSendSync as Node
-use Rattle.disk.proofs.shelf.Shelf.TheSendSync as Shelf
+use Rattle.replays.proofs.log.Log.TheSendSync as Log
+use Rattle.replays.proofs.store.Store.TheSendSync as Store
 use Rattle.trace.proofs.trace.Trace.TheSendSync as Trace
 use Rattle.wire.proofs.seats.NodeSeat.TheSendSync as Seat
 use Rattle.wire.proofs.seats.Wire.TheSendSync as Wire
@@ -32,7 +33,13 @@ desk-send =
           Node.the_send,
           (
             search (crosses, sendable),
-            (Cycle.the_field_send, (Seat.the_field_send, (search sendable, (search sendable, tt)))),
+            (
+              Cycle.the_field_send,
+              (
+                Seat.the_field_send,
+                (search sendable, (search sendable, (Log.the_send, (search sendable, tt)))),
+              ),
+            ),
           ),
         ),
       ),
@@ -48,7 +55,7 @@ module _ (D : RattleType) (g : disk.Ghosts D.Denot) where
         search sendable,
         (
           desk-send,
-          (Shelf.the_field_send D g s, (Trace.the_send, (search (crosses, sendable), tt))),
+          (Store.the_field_send D g s, (Trace.the_send, (search (crosses, sendable), tt))),
         ),
       )))
 

@@ -5,8 +5,9 @@ use Rattle.trace.specs.declared.trace.TraceLine.{TraceLine}
 use Rattle.cell.specs.Cells.{CellView}
 use Rattle.cell.specs.Desks.{DeskView}
 
-abbrev pub cell_at : {D : Type 0} → NodeView → D → Bool → List TraceLine → DeskView → CellView D
-cell_at first disk is_open trace desk = record {
+abbrev pub cell_at : {D : Type 0} → NodeView → D → Bool → Bool → List TraceLine → DeskView
+    → CellView D
+cell_at first disk is_open logs trace desk = record {
   node = desk.node;
   saved = desk.saved;
   first = first;
@@ -15,5 +16,6 @@ cell_at first disk is_open trace desk = record {
   unsaved = desk.unsaved;
   disk = disk;
   is_open = is_open;
+  logs = logs;
   trace = trace;
 }

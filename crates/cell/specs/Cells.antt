@@ -6,10 +6,12 @@ use Rattle.model.specs.View.{NodeView}
 use Rattle.node.specs.Keeping.{WholeNode}
 use Rattle.trace.specs.declared.trace.TraceLine.{TraceLine}
 use Rattle.disk.specs.Areas.{Areas}
+use Rattle.image.specs.Nodes.{HasImage}
 use Rattle.wire.specs.Readers.{known, seat_node, IsSame}
 use Rattle.wire.specs.declared.seats.NodeSeat.{NodeSeat}
 use Rattle.cell.specs.Desks.{HasDropped, AreTaken, IsSavedNode, IsUnsaved, StandsAt}
 use Rattle.cell.specs.Disks.{HoldsSaved, OpensToEither}
+use Rattle.replays.specs.Plain.{StaysPlain}
 use Rattle.cell.specs.Events.{IsMarked}
 
 pub record CellView (D : Type 0) : Type 0 where
@@ -26,12 +28,14 @@ pub record CellView (D : Type 0) : Type 0 where
   pub unsaved : Bool
   pub disk : D
   pub is_open : Bool
+  -- whether a save may add events to a log behind the image
+  pub logs : Bool
   -- the last calls and their outcomes, oldest first
   pub trace : List TraceLine
 
 -- a cell that was just made
-abbrev pub new_cell : {D : Type 0} → WholeNode → NodeSeat → D → CellView D
-new_cell node seat disk = record {
+abbrev pub new_cell : {D : Type 0} → WholeNode → NodeSeat → D → Bool → CellView D
+new_cell node seat disk logs = record {
   node = node;
   saved = node.core;
   first = node.core;
@@ -40,16 +44,19 @@ new_cell node seat disk = record {
   unsaved = false;
   disk = disk;
   is_open = true;
+  logs = logs;
   trace = [];
 }
 
 abbrev pub IsNew : {D : Type 0} → CellView D → Type 0
-IsNew c = c ≡ new_cell c.node c.seat c.disk
+IsNew c = c ≡ new_cell c.node c.seat c.disk c.logs
 
 -- What each cell guarantees between two calls. The node shows the current state that its seat's
 -- events lead to, and the last saved node shows the saved state. While the cell is open, the disk
 -- opens to the last saved node, even after a crash. In any case it opens to that node or to the
--- current one. Since the cell was made, neither node dropped a message that no frame acknowledges.
+-- current one. Unless saves add events to a log, no log follows the image on the disk, and the last
+-- saved node has an image. Since the cell was made, neither node dropped a message that no frame
+-- acknowledges.
 pub record IsKept {D : Type 0} (may_leave : D → Areas → Type 0) (c : CellView D) : Type 0 where
   pub stands : StandsAt (seat_node c.seat) c.seat.nodes (known c.seat).pair c.node.core
   pub was : IsSavedNode (seat_node c.seat) c.seat.nodes (known c.seat).pair.saved c.saved
@@ -57,6 +64,8 @@ pub record IsKept {D : Type 0} (may_leave : D → Areas → Type 0) (c : CellVie
   pub taken : AreTaken (known c.seat).taken c.node.early
   pub while_open : IsTrue c.is_open → HoldsSaved (may_leave c.disk) c.saved
   pub left : (x : Areas) → may_leave c.disk x → ∥ OpensToEither c.saved c.node.core x ∥₁
+  pub plain : c.logs ≡ false → StaysPlain (may_leave c.disk)
+  pub imaged : c.logs ≡ false → ∥ HasImage c.saved ∥₁
   pub dropped : HasDropped c.first (known c.seat) c.node.core
   pub saved_dropped : HasDropped c.first (known c.seat) c.saved
 

@@ -5,8 +5,7 @@ use Rattle.msg.specs.Frames.{plain_data}
 use Rattle.msg.specs.Grammar.{Plain, ack_frame}
 use Rattle.msg.specs.declared.frame.Data.{Data}
 use Rattle.model.specs.State.{NodeState, sent_to}
-use Rattle.model.specs.View.{NodeView, Shows, link_to}
-use Rattle.image.specs.Nodes.{HasImage}
+use Rattle.model.specs.View.{NodeView, Shows, kept_view, link_to}
 use Rattle.node.specs.Keeping.{OfAll, Rings, WholeNode}
 use Rattle.wire.specs.Views.{Known, Pair}
 use Rattle.wire.specs.Readers.{known, seat_node}
@@ -32,12 +31,12 @@ pub record StandsAt (me width : ℕ) (p : Pair) (n : NodeView) : Type 0 where
   pub acks : n.acks ≡ p.saved.local.got
   pub behind : IsBehind p.saved p.current
 
--- the node shows the state, and was read from bytes
+-- the node shows the state, and all of its messages count as saved
 pub record IsSavedNode (me width : ℕ) (s : NodeState) (n : NodeView) : Type 0 where
   pub own : n.local.own ≡ me
   pub nodes : n.local.shape.nodes ≡ width
   pub shows : Shows n s
-  pub image : ∥ HasImage n ∥₁
+  pub kept : kept_view n ≡ n
 
 -- if this is false, the current state is the saved one
 abbrev pub IsUnsaved : Bool → Pair → Type 0
@@ -82,7 +81,7 @@ pub record DeskView : Type 0 where
   -- whether an event happened since the last save or reopening
   pub unsaved : Bool
 
--- the desk of a node that was just read from bytes
+-- the desk of a node that was just found on its disk
 abbrev pub new_desk : WholeNode → NodeSeat → DeskView
 new_desk node seat = record {
   node = node;

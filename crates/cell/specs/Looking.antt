@@ -1,11 +1,13 @@
 -- Disks that are read before anything is created on them.
-use Rattle.std.specs.Prelude.{◌≡◌, ◌≤◌, ℕ, List, [], Option, Some, None, length, slice_get}
+use Rattle.std.specs.Prelude.{◌≡◌, ◌≤◌, ℕ, Bool, true, false, List, [], Option, Some, None, length, slice_get}
 use Rattle.ids.specs.Limits.{Shaped}
 use Rattle.ids.specs.declared.refusal.Refusal.TheVariants.{BadImage}
+use Rattle.ids.specs.declared.saves.Saves.{Saves}
+use Rattle.ids.specs.declared.saves.Saves.TheVariants.{Events, Images}
 use Rattle.disk.specs.Areas.{Areas}
 use Rattle.disk.specs.Crashes.{Unmoved}
-use Rattle.disk.specs.Shelf.{IsSettled}
-use Rattle.disk.specs.declared.shelf.Selected.{Selected}
+use Rattle.replays.specs.Stores.{LiesAt, is_logged_at}
+use Rattle.replays.specs.declared.place.Place.{Place}
 use Rattle.node.specs.Keeping.{WholeNode, new_whole}
 use Rattle.cell.specs.Disks.{OpensToNode}
 use Rattle.cell.specs.Opened.{IsNodeOf, IsReadFrom}
@@ -19,43 +21,49 @@ pub record AreUnmoved {D : Type 0} (seen : D → Areas) (may_leave : D → Areas
   pub each : (k : ℕ) (d e : D) → slice_get old k ≡ Some d → slice_get new k ≡ Some e
       → Unmoved seen may_leave moment left_since d e
 
--- The disk holds the node in this area. Without an area, nothing was ever created on the disk, and
+-- The disk holds the node in this place. Without a place, nothing was ever created on the disk, and
 -- the node is new.
 abbrev pub HoldsNode : {D : Type 0} → (D → Areas) → (D → Areas → Type 0) → D → WholeNode
-    → Option Selected → Type 0
+    → Option Place → Type 0
 HoldsNode seen may_leave disk n None =
     ((c : Areas) → may_leave disk c → c.select ≡ [])
     × (n ≡ new_whole n.core.local.shape n.core.local.own)
-HoldsNode seen may_leave disk n (Some area) =
-    IsSettled seen may_leave disk area.in_b × OpensToNode n (seen disk)
+HoldsNode seen may_leave disk n (Some place) =
+    LiesAt seen may_leave disk place × OpensToNode n (seen disk)
 
--- Nodes of a shape, in order, each with its disk and the area that holds it.
+-- whether saves of a node that was found in this place add events to a log
+abbrev pub logs_at : Saves → Option Place → Bool
+logs_at saves (Some place) = is_logged_at place
+logs_at Events None = true
+logs_at Images None = false
+
+-- Nodes of a shape, in order, each with its disk and the place that holds it.
 pub record AreOn {D : Type 0} (seen : D → Areas) (may_leave : D → Areas → Type 0) (shape : Shaped)
-    (disks : List D) (nodes : List WholeNode) (areas : List (Option Selected)) : Type 0 where
+    (disks : List D) (nodes : List WholeNode) (places : List (Option Place)) : Type 0 where
   pub nodes_count : length nodes ≡ length disks
-  pub areas_count : length areas ≡ length disks
-  pub each : (k : ℕ) (d : D) (n : WholeNode) (area : Option Selected) → slice_get disks k ≡ Some d
-      → slice_get nodes k ≡ Some n → slice_get areas k ≡ Some area
-      → IsNodeOf shape k n.core × HoldsNode seen may_leave d n area
+  pub places_count : length places ≡ length disks
+  pub each : (k : ℕ) (d : D) (n : WholeNode) (place : Option Place) → slice_get disks k ≡ Some d
+      → slice_get nodes k ≡ Some n → slice_get places k ≡ Some place
+      → IsNodeOf shape k n.core × HoldsNode seen may_leave d n place
 
 -- the disk of node k before it was read and after, and what was read
 pub record IsLookedAt {D : Type 0} (seen : D → Areas) (may_leave : D → Areas → Type 0)
     (faults : D → ℕ) (shape : Shaped) (k : ℕ) (old new : D) (n : WholeNode)
-    (area : Option Selected) : Type 0 where
+    (place : Option Place) : Type 0 where
   pub node : IsNodeOf shape k n.core
-  pub holds : HoldsNode seen may_leave new n area
+  pub holds : HoldsNode seen may_leave new n place
   pub read : IsReadFrom shape k (seen old) n
   pub fine : faults new ≡ faults old
 
 -- The first disks of a space, up to this number, were read; the others are as they were.
 pub record AreLookedAt {D : Type 0} (seen : D → Areas) (may_leave : D → Areas → Type 0)
     (faults : D → ℕ) (shape : Shaped) (number : ℕ) (old new : List D) (nodes : List WholeNode)
-    (areas : List (Option Selected)) : Type 0 where
+    (places : List (Option Place)) : Type 0 where
   pub nodes_count : length nodes ≡ number
-  pub areas_count : length areas ≡ number
-  pub each : (k : ℕ) (d e : D) (n : WholeNode) (area : Option Selected)
+  pub places_count : length places ≡ number
+  pub each : (k : ℕ) (d e : D) (n : WholeNode) (place : Option Place)
       → slice_get old k ≡ Some d → slice_get new k ≡ Some e → slice_get nodes k ≡ Some n
-      → slice_get areas k ≡ Some area → IsLookedAt seen may_leave faults shape k d e n area
+      → slice_get places k ≡ Some place → IsLookedAt seen may_leave faults shape k d e n place
   pub rest : (k : ℕ) → number ≤ k → slice_get new k ≡ slice_get old k
 
 -- the errors of an opening that come before anything is created

@@ -1,9 +1,11 @@
--- Nodes on their shelves, and a wire between them.
-use Rattle.std.specs.Prelude.{◌≡◌, ◌≢◌, ◌<◌, ℕ, [], List, ◌++◌, length, map, replicate, Some, slice_get}
+-- Nodes in their stores, and a wire between them.
+use Rattle.std.specs.Prelude.{◌≡◌, ◌≢◌, ◌<◌, ℕ, Bool, true, false, [], List, ◌++◌, length, map, replicate, Some, slice_get}
 use Rattle.ids.specs.Limits.{Shaped}
 use Rattle.ids.specs.declared.limits.TheConstants.{GREATEST_IMAGE}
 use Rattle.ids.specs.declared.refusal.Refusal.{Refusal}
 use Rattle.ids.specs.declared.refusal.Refusal.TheVariants.{BadImage, Disk, ImageTooLarge}
+use Rattle.ids.specs.declared.saves.Saves.{Saves}
+use Rattle.ids.specs.declared.saves.Saves.TheVariants.{Events, Images}
 use Rattle.msg.specs.declared.body.Body.TheVariants as body
 use Rattle.msg.specs.declared.body.Message.{Message}
 use Rattle.model.specs.State.{NodeState}
@@ -14,6 +16,7 @@ use Rattle.disk.specs.Areas.{Areas}
 use Rattle.disk.specs.Crashes.{HasFailed}
 use Rattle.node.specs.Keeping.{WholeNode, new_whole}
 use Rattle.image.specs.Wholes.{whole_image}
+use Rattle.replays.specs.Plain.{IsPlain}
 use Rattle.cell.specs.Desks.{IsAtSeat}
 use Rattle.cell.specs.Disks.{OpensTo, OpensToNode}
 use Rattle.cell.specs.declared.fault.Unopened.{Unopened}
@@ -77,10 +80,15 @@ pub record HasAt {X : Type 0} (place : ℕ) (Is : X → Type 0) (xs : List X) : 
   pub is : Is value
 
 -- a property holds at each place of two lists
-abbrev pub AreBeside : {X : Type 0} → (ℕ → X → WholeNode → Type 0) → List X → List WholeNode
-    → Type 0
-AreBeside {X} Is xs nodes =
-    (k : ℕ) (x : X) (n : WholeNode) → slice_get xs k ≡ Some x → slice_get nodes k ≡ Some n → Is k x n
+abbrev pub AreBeside : {X Y : Type 0} → (ℕ → X → Y → Type 0) → List X → List Y → Type 0
+AreBeside {X} {Y} Is xs ys =
+    (k : ℕ) (x : X) (y : Y) → slice_get xs k ≡ Some x → slice_get ys k ≡ Some y → Is k x y
+
+-- Whether saves add events to a log, on a disk that read as `seen` when it was opened: as the caller
+-- chose, except that a disk that has a log keeps it.
+pub record IsChosen (saves : Saves) (seen : Areas) (logs : Bool) : Type 0 where
+  pub events : saves ≡ Events → logs ≡ true
+  pub images : saves ≡ Images → IsPlain seen → logs ≡ false
 
 -- For any meaning of `Lies`: the nodes of a shape in order, each on the shelf in its place.
 pub record AreFound {S : Type 0} (Lies : WholeNode → S → Type 0) (shape : Shaped)

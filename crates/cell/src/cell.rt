@@ -1,11 +1,13 @@
 //! A node with its disk, its seat and a trace. The type's invariant connects them: each event
 //! entered the one history of the space, and while the cell is open, its disk opens to the last
 //! saved node.
-ghost use Rattle.std.specs.Prelude.{◌≡◌, IsTrue};
+ghost use Rattle.std.specs.Prelude.{◌≡◌, false, IsTrue};
 ghost use Rattle.disk.specs.Areas.{Areas};
+ghost use Rattle.image.specs.Nodes.{HasImage};
 ghost use Rattle.wire.specs.Readers.{known};
 ghost use Rattle.cell.specs.Desks.{HasDropped};
-ghost use Rattle.cell.specs.Disks.{OpensTo, OpensToEither};
+ghost use Rattle.cell.specs.Disks.{HoldsSaved, OpensToEither};
+ghost use Rattle.replays.specs.Stores.{disk_of, is_ready_in, logs_in};
 
 mod acting;
 mod learning;
@@ -13,14 +15,15 @@ mod pumping;
 mod saving;
 
 use crate::desk::Desk;
-use disk::{Disk, Shelf};
+use disk::Disk;
 use node::Core;
+use replays::Store;
 use std::alloc::Global;
 use std::marker::Model;
 use std::snapshot::Snapshot;
 use trace::Trace;
 
-/// A node at its seat on a wire, the shelf that it is saved on, and a trace of its last calls.
+/// A node at its seat on a wire, the store that it is saved in, and a trace of its last calls.
 ///
 /// The node shows the state that the seat's events lead to; what it counts as saved is what the
 /// last saved node holds. While the cell is open, its disk opens to a node that shows the last
@@ -39,15 +42,17 @@ use trace::Trace;
 pub struct Cell<D: Disk> {
     alloc: Global,
     desk: Desk,
-    shelf: Shelf<D>,
+    store: Store<D>,
     trace: Trace,
     // The node with which the cell was made.
     first: Snapshot<Core>,
     ghost dropped: { HasDropped first.value (known desk.seat) desk.node.core },
     ghost saved_dropped: { HasDropped first.value (known desk.seat) desk.saved },
-    ghost while_open: { IsTrue shelf.ready → ∥ OpensTo desk.saved (D.seen shelf.disk) ∥₁ },
-    ghost left: { (c : Areas) → D.may_leave shelf.disk c
+    ghost while_open: { IsTrue (is_ready_in store)
+        → HoldsSaved (D.may_leave (disk_of store)) desk.saved },
+    ghost left: { (c : Areas) → D.may_leave (disk_of store) c
         → ∥ OpensToEither desk.saved desk.node.core c ∥₁ },
+    ghost imaged: { logs_in store ≡ false → ∥ HasImage desk.saved ∥₁ },
 }
 
 // Written out, so that the crates above need not prove again how each field is dropped.
@@ -56,7 +61,7 @@ impl<D: Disk + Drop> Drop for Cell<D> {
         let Cell {
             alloc: _,
             desk: _,
-            shelf: _,
+            store: _,
             trace: _,
             first: _,
         } = self;
@@ -65,6 +70,7 @@ impl<D: Disk + Drop> Drop for Cell<D> {
 
 impl<D: Disk> Model for Cell<D> {
     ghost use Rattle.cell.specs.Cells.{CellView};
+    ghost use Rattle.replays.specs.Stores.{disk_of, is_ready_in, logs_in};
 
     ghost Value = { CellView D };
 
@@ -75,8 +81,9 @@ impl<D: Disk> Model for Cell<D> {
       seat = c.desk.seat;
       places = c.desk.places;
       unsaved = c.desk.unsaved;
-      disk = c.shelf.disk;
-      is_open = c.shelf.ready;
+      disk = disk_of c.store;
+      is_open = is_ready_in c.store;
+      logs = logs_in c.store;
       trace = c.trace;
     } };
 }

@@ -10,9 +10,11 @@ ghost use Rattle.cell.specs.Desks.{
   IsUnsaved,
   StandsAt,
 };
+ghost use Rattle.replays.specs.Noted.{IsLogged};
 
 use ids::{Cycle, GREATEST_NODES};
 use node::{Core, Node};
+use replays::Log;
 use std::marker::Model;
 use std::snapshot::Snapshot;
 use wire::NodeSeat;
@@ -32,12 +34,17 @@ pub(crate) struct Desk {
     pub(crate) places: [u8; GREATEST_NODES as usize],
     // Whether an event happened since the last save or reopening.
     pub(crate) is_unsaved: bool,
+    // The events since the last save or reopening, unless they were lost.
+    pub(crate) log: Log,
+    // Whether such a log is kept.
+    pub(crate) logs: bool,
     ghost at: { IsSeatAt own nodes seat },
     ghost stands: { StandsAt own nodes (known seat).pair node.core },
     ghost was: { IsSavedNode own nodes (known seat).pair.saved saved.value },
     ghost ended_is: { ended.number ≡ (known seat).pair.saved.local.phases.ended },
     ghost unsaved: { IsUnsaved is_unsaved (known seat).pair },
     ghost taken: { AreTaken (known seat).taken node.early },
+    ghost logged: { ∥ IsLogged log saved.value node.core ∥₁ },
 }
 
 impl Model for Desk {
@@ -62,6 +69,14 @@ impl Desk {
         ensures kept { IsKeptAt self.now }
     {
         &self.node
+    }
+
+    // The events since the last save or reopening, which lead from the saved node to the current one.
+    #[inline(always)]
+    pub(crate) fn log(&self) -> &Log
+        ensures { ∥ IsLogged result.now self.now.saved self.now.node.core ∥₁ }
+    {
+        &self.log
     }
 
     // The number of the node.

@@ -3,10 +3,9 @@
 ghost use Rattle.std.specs.Prelude.{◌≡◌, false};
 ghost use Rattle.model.specs.View.{kept_view};
 ghost use Rattle.node.specs.Keeping.{alone, kept_whole};
-ghost use Rattle.image.specs.Nodes.{HasImage};
 ghost use Rattle.wire.specs.Readers.{known, IsSeatOf, IsSame};
 ghost use Rattle.cell.specs.Desks.{new_desk, IsAtSeat};
-ghost use Rattle.cell.specs.Disks.{is_same_image};
+ghost use Rattle.cell.specs.Disks.{is_same_node};
 ghost use Rattle.cell.specs.Events.{found_step, reopened_by, saved_by, Entered};
 ghost use Rattle.model.specs.declared.step.Step.TheVariants as step;
 
@@ -14,6 +13,8 @@ use crate::desk::Desk;
 use crate::entering::{enter_found, enter_save};
 use ids::{Cycle, GREATEST_NODES};
 use node::Node;
+use replays::Log;
+use std::alloc::Global;
 use std::snapshot::Snapshot;
 use wire::{NodeSeat, Wire};
 
@@ -27,14 +28,16 @@ fn ended_by(node: &Node) -> Cycle
 }
 
 impl Desk {
-    // A desk for a node that was read from bytes, at its seat.
-    pub(crate) fn new(node: Node, seat: NodeSeat) -> Desk
+    // A desk for a node that was found on its disk, at its seat.
+    pub(crate) fn new(alloc: Global, node: Node, seat: NodeSeat, logs: bool) -> Desk
         requires seat { IsAtSeat node.core seat }
-        requires image { HasImage node.core }
+        requires kept { kept_view node.core ≡ node.core }
         requires alone { node ≡ alone node.core }
         ensures { result ≡ new_desk node seat }
     {
         let state = node.state();
+        let mut log = Log::new(alloc);
+        log.begin(logs);
         Desk {
             own: state.own,
             nodes: state.shape.nodes(),
@@ -44,13 +47,14 @@ impl Desk {
             seat,
             places: [0; GREATEST_NODES as usize],
             is_unsaved: false,
+            log,
+            logs,
         }
     }
 
-    // Records that the node was saved. What was written reads back as this node.
+    // Records that the node was saved.
     pub(crate) fn save(&mut self, wire: &Wire)
         requires wire { IsSeatOf wire.now self.old.seat }
-        requires image { HasImage (kept_view self.old.node.core) }
         ensures same { IsSame self.old.seat self.new.seat }
         ensures known { known self.new.seat ≡ saved_by (known self.old.seat) }
         ensures entered { Entered (step.Save (known self.old.seat).me)
@@ -67,22 +71,22 @@ impl Desk {
         self.ended = ended_by(&self.node);
         enter_save(wire, &mut self.seat);
         self.is_unsaved = false;
+        self.log.begin(self.logs);
     }
 
     // Takes the node that was found on the disk: the last saved one, or the current one as saved.
     pub(crate) fn reopen(&mut self, wire: &Wire, found: Node)
         requires wire { IsSeatOf wire.now self.old.seat }
-        requires image { HasImage found.core }
+        requires kept { kept_view found.core ≡ found.core }
         requires alone { found ≡ alone found.core }
-        requires which { is_same_image found.core self.old.saved ≡ false
+        requires which { is_same_node found.core self.old.saved ≡ false
             → found.core ≡ kept_view self.old.node.core }
         ensures same { IsSame self.old.seat self.new.seat }
         ensures known { known self.new.seat
-            ≡ reopened_by (is_same_image found.core self.old.saved) (known self.old.seat) }
+            ≡ reopened_by (is_same_node found.core self.old.saved) (known self.old.seat) }
         ensures entered { Entered
-            (found_step (is_same_image found.core self.old.saved) (known self.old.seat).me)
+            (found_step (is_same_node found.core self.old.saved) (known self.old.seat).me)
             (known self.old.seat) (known self.new.seat) }
-        ensures was { ∥ HasImage self.old.saved ∥₁ }
         ensures done { self.new ≡ new_desk found self.new.seat }
     {
         enter_found(wire, &mut self.seat, found.core(), &self.saved);
@@ -91,5 +95,6 @@ impl Desk {
         self.node = found;
         self.places = [0; GREATEST_NODES as usize];
         self.is_unsaved = false;
+        self.log.begin(self.logs);
     }
 }

@@ -22,16 +22,19 @@ ghost use Rattle.disk.specs.Crashes.{Unmoved};
 ghost use Rattle.cell.specs.Ages.{AreOfOneAge, IsWhy};
 ghost use Rattle.cell.specs.Disks.{OpensToNode};
 ghost use Rattle.cell.specs.Looking.{AreLookedAt, AreOn, AreUnmoved, HoldsNode, IsOfReading};
-ghost use Rattle.cell.specs.Opened.{AreBeside, AreFound, IsCause, IsNodeOf, IsReadFrom, IsWhyNot};
+ghost use Rattle.cell.specs.Looking.{logs_at};
+ghost use Rattle.cell.specs.Opened.{AreBeside, AreFound, IsCause, IsChosen, IsNodeOf, IsReadFrom};
+ghost use Rattle.cell.specs.Opened.{IsWhyNot};
 ghost use Rattle.cell.specs.declared.fault.Unopened.TheVariants as fault;
 ghost use Rattle.node.specs.Keeping.{new_whole};
+ghost use Rattle.replays.specs.Stores.{disk_of, is_ready_in, logs_in};
 
 use crate::ages::first_apart;
 use crate::fault::Unopened;
-use disk::{Disk, Selected, Shelf, is_blank, read_value};
-use ids::{NodeId, Refusal, Shape};
-use image::Images;
+use disk::{Disk, is_blank};
+use ids::{NodeId, Refusal, Saves, Shape};
 use node::Node;
+use replays::{Place, Store};
 use std::alloc::Global;
 use std::mem;
 
@@ -76,29 +79,31 @@ fn read_node<D: Disk>(
     shape: Shape,
     own: NodeId,
     disk: &mut D,
-) -> Result<(Node, Option<Selected>), Unopened>
+    saves: Saves,
+) -> Result<(Node, Option<Place>), Unopened>
     requires { (D.seen disk.old).select ≢ [] }
     ensures node { IfOk result (λ r. IsNodeOf shape own.number r.0.core) }
     ensures holds { IfOk result (λ r. HoldsNode D.seen D.may_leave disk.new r.0 r.1) }
+    ensures chosen { IfOk result (λ r. IsChosen saves (D.seen disk.old) (logs_at saves r.1)) }
     ensures read { IfOk result (λ r. OpensToNode r.0 (D.seen disk.old)) }
     ensures quiet { Unmoved D.seen D.may_leave D.moment D.left_since disk.old disk.new }
     ensures fine { OnOk result (D.faults disk.new ≡ D.faults disk.old) }
     ensures why { IfErr result
         (IsWhyNot D.seen D.moment D.faults shape own.number disk.old) }
 {
-    let (selected, node) = match read_value::<D, Images>(alloc, disk) {
+    let (place, node) = match replays::read_node(alloc, disk, saves) {
         Ok(found) => found,
         Err(refusal) => return Err(failed(own.number, refusal)),
     };
     if is_node_of(&node, shape, own) {
-        Ok((node, Some(selected)))
+        Ok((node, Some(place)))
     } else {
         Err(Unopened::Another { node: own.number })
     }
 }
 
 // A new node. Nothing is created on its disk yet.
-fn new_node(alloc: Global, shape: Shape, own: NodeId) -> Result<(Node, Option<Selected>), Unopened>
+fn new_node(alloc: Global, shape: Shape, own: NodeId) -> Result<(Node, Option<Place>), Unopened>
     requires { own.number < shape.nodes }
     ensures node { IfOk result (λ r. r.0 ≡ new_whole shape own.number) }
     ensures blank { IfOk result (λ r. r.1 ≡ None) }
@@ -117,10 +122,12 @@ fn look_at<D: Disk>(
     shape: Shape,
     own: NodeId,
     disk: &mut D,
-) -> Result<(Node, Option<Selected>), Unopened>
+    saves: Saves,
+) -> Result<(Node, Option<Place>), Unopened>
     requires { own.number < shape.nodes }
     ensures node { IfOk result (λ r. IsNodeOf shape own.number r.0.core) }
     ensures holds { IfOk result (λ r. HoldsNode D.seen D.may_leave disk.new r.0 r.1) }
+    ensures chosen { IfOk result (λ r. IsChosen saves (D.seen disk.old) (logs_at saves r.1)) }
     ensures read { IfOk result (λ r. IsReadFrom shape own.number (D.seen disk.old) r.0) }
     ensures quiet { Unmoved D.seen D.may_leave D.moment D.left_since disk.old disk.new }
     ensures fine { OnOk result (D.faults disk.new ≡ D.faults disk.old) }
@@ -129,7 +136,7 @@ fn look_at<D: Disk>(
 {
     match is_blank(disk) {
         Ok(true) => new_node(alloc, shape, own),
-        Ok(false) => read_node(alloc, shape, own, disk),
+        Ok(false) => read_node(alloc, shape, own, disk, saves),
         Err(_) => Err(Unopened::Failed {
             node: own.number,
             refusal: Refusal::Disk,
@@ -143,89 +150,104 @@ fn look_at_all<D: Disk>(
     alloc: Global,
     shape: Shape,
     disks: &mut [D],
-) -> Result<(Vec<Node>, Vec<Option<Selected>>), Unopened>
+    saves: Saves,
+) -> Result<(Vec<Node>, Vec<Option<Place>>), Unopened>
     requires { length disks.old ≡ shape.nodes }
     ensures untouched { AreUnmoved D.seen D.may_leave D.moment D.left_since disks.old disks.new }
     ensures why { IfErr result (IsWhy D.seen D.moment D.faults shape disks.old) }
     ensures found { IfOk result (λ r. AreLookedAt D.seen D.may_leave D.faults shape shape.nodes
         disks.old disks.new r.0.items r.1.items) }
+    ensures chosen { IfOk result (λ r. AreBeside
+        (λ k d place. IsChosen saves (D.seen d) (logs_at saves place)) disks.old r.1.items) }
 {
     let mut nodes = Vec::new(alloc);
     let mut areas = Vec::new(alloc);
     for number in 0..shape.nodes() {
         let disk = &mut disks[usize::from(number)];
-        let (node, area) = look_at(alloc, shape, NodeId { number }, disk)?;
+        let (node, area) = look_at(alloc, shape, NodeId { number }, disk, saves)?;
         keep(&mut nodes, node)?;
         keep(&mut areas, area)?;
     }
     Ok((nodes, areas))
 }
 
-// A new node's shelf, on a disk on which nothing was ever created.
-fn create<D: Disk + Drop>(alloc: Global, disk: D, node: &Node) -> Result<Shelf<D>, Refusal>
+// A new node's store, on a disk on which nothing was ever created.
+fn create<D: Disk + Drop>(
+    alloc: Global,
+    disk: D,
+    node: &Node,
+    saves: Saves,
+) -> Result<Store<D>, Refusal>
     requires { HoldsNode D.seen D.may_leave disk node.now None }
-    ensures ready { IfOk result (λ s. s.ready ≡ true) }
-    ensures opens { IfOk result (λ s. OpensToNode node.now (D.seen s.disk)) }
+    ensures ready { IfOk result (λ s. is_ready_in s ≡ true) }
+    ensures opens { IfOk result (λ s. OpensToNode node.now (D.seen (disk_of s))) }
+    ensures logs { IfOk result (λ s. logs_in s ≡ logs_at saves None) }
     ensures cause { IfErr result (λ r. r ≢ Memory → IsCause D.seen D.moment D.faults
         node.now.core.local.shape node.now.core.local.own disk r) }
     ensures not_bad { IfErr result (λ r. r ≢ BadImage) }
 {
-    match Shelf::create::<Images>(alloc, disk, node) {
-        Ok(shelf) => Ok(shelf),
+    match Store::create(alloc, disk, node, saves) {
+        Ok(store) => Ok(store),
         Err((_disk, refusal)) => Err(refusal),
     }
 }
 
-// The shelf of a node that was read from this disk. A new node is created on it.
+// The store of a node that was read from this disk. A new node is created on it.
 fn put_on<D: Disk + Drop>(
     alloc: Global,
     disk: D,
     node: &Node,
-    area: Option<Selected>,
-) -> Result<Shelf<D>, Refusal>
+    area: Option<Place>,
+    saves: Saves,
+) -> Result<Store<D>, Refusal>
     requires { HoldsNode D.seen D.may_leave disk node.now area }
-    ensures ready { IfOk result (λ s. s.ready ≡ true) }
-    ensures opens { IfOk result (λ s. OpensToNode node.now (D.seen s.disk)) }
+    ensures ready { IfOk result (λ s. is_ready_in s ≡ true) }
+    ensures opens { IfOk result (λ s. OpensToNode node.now (D.seen (disk_of s))) }
+    ensures logs { IfOk result (λ s. logs_in s ≡ logs_at saves area) }
     ensures cause { IfErr result (λ r. r ≢ Memory → IsCause D.seen D.moment D.faults
         node.now.core.local.shape node.now.core.local.own disk r) }
     ensures not_bad { IfErr result (λ r. r ≢ BadImage) }
 {
     match area {
-        Some(selected) => Ok(Shelf::resume(alloc, disk, selected)),
-        None => create(alloc, disk, node),
+        Some(place) => Ok(Store::resume(alloc, disk, place)),
+        None => create(alloc, disk, node, saves),
     }
 }
 
-// The shelves of nodes that were read from these disks, in order. New nodes are created on theirs.
+// The stores of nodes that were read from these disks, in order. New nodes are created on theirs.
 fn put_all_on<D: Disk + Drop>(
     alloc: Global,
     shape: Shape,
     mut disks: Vec<D>,
     nodes: &[Node],
-    areas: &[Option<Selected>],
-) -> Result<Vec<Shelf<D>>, Unopened>
+    areas: &[Option<Place>],
+    saves: Saves,
+) -> Result<Vec<Store<D>>, Unopened>
     requires on { AreOn D.seen D.may_leave shape disks.items nodes.now areas.now }
     requires count { length nodes.now ≡ shape.nodes }
     ensures found { IfOk result (λ v.
-        AreFound (λ n s. (s.ready ≡ true) × OpensToNode n (D.seen s.disk))
+        AreFound (λ n s. (is_ready_in s ≡ true) × OpensToNode n (D.seen (disk_of s)))
         shape nodes.now v.items) }
+    ensures logs { IfOk result (λ v.
+        AreBeside (λ k place s. logs_in s ≡ logs_at saves place) areas.now v.items) }
     ensures why { IfErr result (IsWhy D.seen D.moment D.faults shape disks.items) }
     ensures all_read { IfErr result (λ e. IsOfReading e → ⊥) }
 {
-    let mut shelves = Vec::new(alloc);
+    let mut stores = Vec::new(alloc);
     for number in 0..shape.nodes() {
         let disk = disks.remove(0);
         let place = usize::from(number);
-        match put_on(alloc, disk, &nodes[place], areas[place]) {
-            Ok(shelf) => keep(&mut shelves, shelf)?,
+        match put_on(alloc, disk, &nodes[place], areas[place], saves) {
+            Ok(store) => keep(&mut stores, store)?,
             Err(refusal) => return Err(failed(number, refusal)),
         }
     }
-    Ok(shelves)
+    Ok(stores)
 }
 
-/// The nodes of a space, in order, each on its shelf: new ones for disks on which nothing was ever
-/// created, else those that the disks hold.
+/// The nodes of a space, in order, each in its store: new ones for disks on which nothing was ever
+/// created, else those that the disks hold. A save adds events to a log if the caller chose that, or
+/// if a log follows the image on the disk; otherwise it writes the image.
 ///
 /// Fails with `Disks` exactly if the number of disks is not the number of nodes; with `Memory` if
 /// an allocation failed. The other errors name the node of the disk that is their cause:
@@ -247,7 +269,8 @@ pub fn find<D: Disk + Drop>(
     alloc: Global,
     shape: Shape,
     disks: &mut Vec<D>,
-) -> Result<(Vec<Node>, Vec<Shelf<D>>), Unopened>
+    saves: Saves,
+) -> Result<(Vec<Node>, Vec<Store<D>>), Unopened>
     ensures disks { vec_len disks.old ≢ shape.nodes → IsErrOf result fault.Disks }
     ensures why { IfErr result (IsWhy D.seen D.moment D.faults shape disks.old.items) }
     ensures untouched { IfErr result (λ e. IsOfReading e →
@@ -255,8 +278,10 @@ pub fn find<D: Disk + Drop>(
     ensures taken { OnOk result (disks.new.items ≡ []) }
     ensures count { IfOk result (λ r. length r.0.items ≡ shape.nodes) }
     ensures found { IfOk result (λ r.
-        AreFound (λ n s. (s.ready ≡ true) × OpensToNode n (D.seen s.disk))
+        AreFound (λ n s. (is_ready_in s ≡ true) × OpensToNode n (D.seen (disk_of s)))
         shape r.0.items r.1.items) }
+    ensures logs { IfOk result (λ r.
+        AreBeside (λ k d s. IsChosen saves (D.seen d) (logs_in s)) disks.old.items r.1.items) }
     ensures read { IfOk result (λ r. AreBeside
         (λ k d n. IsReadFrom shape k (D.seen d) n) disks.old.items r.0.items) }
     ensures all { IfOk result (λ r. length r.0.items ≡ length disks.old.items) }
@@ -265,11 +290,18 @@ pub fn find<D: Disk + Drop>(
     if disks.len() != usize::from(shape.nodes()) {
         return Err(Unopened::Disks);
     }
-    let (nodes, areas) = look_at_all(alloc, shape, disks.as_mut_slice())?;
+    let (nodes, areas) = look_at_all(alloc, shape, disks.as_mut_slice(), saves)?;
     if let Some((sender, receiver)) = first_apart(nodes.as_slice(), shape.nodes()) {
         return Err(Unopened::Ages { sender, receiver });
     }
     let found = mem::replace(disks, Vec::new(alloc));
-    let shelves = put_all_on(alloc, shape, found, nodes.as_slice(), areas.as_slice())?;
-    Ok((nodes, shelves))
+    let stores = put_all_on(
+        alloc,
+        shape,
+        found,
+        nodes.as_slice(),
+        areas.as_slice(),
+        saves,
+    )?;
+    Ok((nodes, stores))
 }

@@ -1,4 +1,4 @@
-//! Makes the cells of nodes that are on shelves, and the wire between them. The caller names the
+//! Makes the cells of nodes that are in stores, and the wire between them. The caller names the
 //! world whose states the nodes are in; the theorems hold if a run reaches it.
 ghost use Rattle.std.specs.Prelude.{◌≡◌, ◌≢◌, ℕ, true, All, IfErr, IfOk, IsErrOf, MatchResult, Some, length};
 ghost use Rattle.std.specs.Prelude.{map, slice_get, vec_len};
@@ -18,32 +18,36 @@ ghost use Rattle.cell.specs.Opened.{
   AreBeside,
   AreFound,
   AreReady,
+  IsChosen,
   IsNodeOf,
   IsReadFrom,
 };
 ghost use Rattle.cell.specs.declared.fault.Unopened.TheVariants as fault;
+ghost use Rattle.replays.specs.Stores.{disk_of, is_ready_in, logs_in};
 
 use crate::cell::Cell;
 use crate::fault::Unopened;
 use crate::finding::find;
-use disk::{Disk, Shelf};
-use ids::{Refusal, Shape};
+use disk::Disk;
+use ids::{Refusal, Saves, Shape};
 use node::Node;
+use replays::Store;
 use std::alloc::Global;
 use wire::{NodeSeat, Watch, Wire};
 
-// The cells of nodes, in order, each with its shelf and its seat.
+// The cells of nodes, in order, each with its store and its seat.
 fn seat_all<D: Disk + Drop>(
     alloc: Global,
     mut nodes: Vec<Node>,
-    mut shelves: Vec<Shelf<D>>,
+    mut stores: Vec<Store<D>>,
     mut seats: Vec<NodeSeat>,
 ) -> Result<Vec<Cell<D>>, Refusal>
-    requires { AreReady (λ n s. (s.ready ≡ true) × OpensToNode n (D.seen s.disk))
-        nodes.items shelves.items seats.items }
+    requires { AreReady (λ n s. (is_ready_in s ≡ true) × OpensToNode n (D.seen (disk_of s)))
+        nodes.items stores.items seats.items }
     ensures nodes { IfOk result (λ v. map (λ c. c.node) v.items ≡ nodes.items) }
     ensures disks { IfOk result (λ v. map (λ c. c.disk) v.items
-        ≡ map (λ s. s.disk) shelves.items) }
+        ≡ map disk_of stores.items) }
+    ensures logs { IfOk result (λ v. map (λ c. c.logs) v.items ≡ map logs_in stores.items) }
     ensures seats { IfOk result (λ v. map (λ c. c.seat) v.items ≡ seats.items) }
     ensures new { IfOk result (λ v. All IsNew v.items) }
     ensures refused { IfErr result (λ e. e ≡ Memory) }
@@ -51,14 +55,14 @@ fn seat_all<D: Disk + Drop>(
     let mut cells = Vec::new(alloc);
     for _ in 0..nodes.len() {
         let node = nodes.remove(0);
-        let shelf = shelves.remove(0);
+        let store = stores.remove(0);
         let seat = seats.remove(0);
-        cells.push(Cell::new(alloc, node, shelf, seat)?)?;
+        cells.push(Cell::new(alloc, node, store, seat)?)?;
     }
     Ok(cells)
 }
 
-/// Makes the wire between nodes on their shelves, their cells in order, and the given number of
+/// Makes the wire between nodes in their stores, their cells in order, and the given number of
 /// watches. The wire begins in a world that the caller names, in which everything is saved and
 /// whose states the nodes show. If a run left that world on the disks, [`laws`](crate::laws)
 /// applies to the cells.
@@ -68,23 +72,24 @@ pub fn join<D: Disk + Drop>(
     alloc: Global,
     shape: Shape,
     nodes: Vec<Node>,
-    shelves: Vec<Shelf<D>>,
+    stores: Vec<Store<D>>,
     watches: u8,
 ) -> Result<(Wire, Vec<Cell<D>>, Vec<Watch>), Refusal>
     ghost opening: { World }
     requires opened { AreOpened shape (cores nodes.items) opening }
-    requires found { AreFound (λ n s. (s.ready ≡ true) × OpensToNode n (D.seen s.disk))
-        shape nodes.items shelves.items }
+    requires found { AreFound (λ n s. (is_ready_in s ≡ true) × OpensToNode n (D.seen (disk_of s)))
+        shape nodes.items stores.items }
     ensures nodes { IfOk result (λ r. map (λ c. c.node) r.1.items ≡ nodes.items) }
     ensures disks { IfOk result (λ r. map (λ c. c.disk) r.1.items
-        ≡ map (λ s. s.disk) shelves.items) }
+        ≡ map disk_of stores.items) }
+    ensures logs { IfOk result (λ r. map (λ c. c.logs) r.1.items ≡ map logs_in stores.items) }
     ensures new { IfOk result (λ r. All IsNew r.1.items) }
     ensures made { IfOk result (λ r. IsMade opening watches r.0
         (map (λ c. c.seat) r.1.items) r.2.items) }
     ensures refused { IfErr result (λ e. e ≡ Memory) }
 {
     let (wire, seats, watching) = Wire::new(alloc, shape, nodes.as_slice(), watches)?;
-    let cells = seat_all(alloc, nodes, shelves, seats)?;
+    let cells = seat_all(alloc, nodes, stores, seats)?;
     Ok((wire, cells, watching))
 }
 
@@ -96,16 +101,22 @@ pub fn join<D: Disk + Drop>(
 ///
 /// Fails as [`find`] and [`join`] do; all disks are then dropped. Before an error that [`find`]
 /// gives while it reads the disks, nothing was written on any of them.
+///
+/// A save adds events to a log if the caller chose that, or if a log follows the image on the disk;
+/// otherwise it writes the image.
 pub fn open<D: Disk + Drop>(
     alloc: Global,
     shape: Shape,
     mut disks: Vec<D>,
     watches: u8,
+    saves: Saves,
 ) -> Result<(Wire, Vec<Cell<D>>, Vec<Watch>), Unopened>
     ensures disks { vec_len disks ≢ shape.nodes → IsErrOf result fault.Disks }
     ensures why { IfErr result (IsWhy D.seen D.moment D.faults shape disks.items) }
     ensures read { IfOk result (λ r. AreBeside (λ k d n. IsReadFrom shape k (D.seen d) n)
         disks.items (map (λ c. c.node) r.1.items)) }
+    ensures logs { IfOk result (λ r. AreBeside
+        (λ k d c. IsChosen saves (D.seen d) c.logs) disks.items r.1.items) }
     ensures shaped { IfOk result (λ r. (k : ℕ) (n : WholeNode)
         → slice_get (map (λ c. c.node) r.1.items) k ≡ Some n → IsNodeOf shape k n.core) }
     ensures count { IfOk result (λ r. vec_len r.1 ≡ shape.nodes) }
@@ -120,8 +131,8 @@ pub fn open<D: Disk + Drop>(
         (world_of (cores (map (λ c. c.node) r.1.items))) watches r.0
         (map (λ c. c.seat) r.1.items) r.2.items) }
 {
-    let (nodes, shelves) = find(alloc, shape, &mut disks)?;
-    match join(alloc, shape, nodes, shelves, watches) {
+    let (nodes, stores) = find(alloc, shape, &mut disks, saves)?;
+    match join(alloc, shape, nodes, stores, watches) {
         Ok(opened) => Ok(opened),
         Err(_) => Err(Unopened::Memory),
     }

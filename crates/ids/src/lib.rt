@@ -6,6 +6,7 @@
 mod limits;
 mod names;
 mod refusal;
+mod saves;
 mod shape;
 
 pub use limits::{
@@ -15,4 +16,5 @@ pub use limits::{
 };
 pub use names::{Cycle, NodeId, Ref, RefOrDash};
 pub use refusal::Refusal;
+pub use saves::Saves;
 pub use shape::Shape;

@@ -28,7 +28,7 @@ pub fn meant(node: &Node, event: Event) -> Event
 
 /// Gives a node an event, as [`Node::act`] does, and notes it in the node's log if it is answered
 /// and changes what is saved. The log may be lost (see [`Log::note`]); no event is refused for
-/// that.
+/// that. If it is lost already, nothing is noted.
 pub fn act(node: &mut Node, log: &mut Log, event: Event) -> Result<Answer, Refusal>
     ensures performs { Performs (is_shading (met node.old.early event)) result node.new.core
         (view_act node.old.core (met node.old.early event)) }
@@ -47,6 +47,9 @@ pub fn act(node: &mut Node, log: &mut Log, event: Event) -> Result<Answer, Refus
         → IsLogged log.new first node.new.core }
     ensures still { OnErr result (log.new ≡ log.old) }
 {
+    if !log.is_kept() {
+        return node.act(event);
+    }
     let meant = meant(node, event);
     let answer = node.act(event)?;
     if !is_quiet(&answer) {

@@ -18,7 +18,7 @@ mod store;
 
 pub use acting::{act, meant};
 pub use log::{GREATEST_LOG, Log};
-pub use place::{Place, Saves};
+pub use place::Place;
 pub use redoing::LoggedImages;
 pub use saving::save;
 pub use store::{Store, read_node};

@@ -2,6 +2,7 @@
 //! which there is no memory, is lost; the node's next save then writes its image.
 ghost use Rattle.std.specs.Prelude.{◌≡◌, ◌≢◌, ◌≤◌, ◌+◌, ◌++◌, List, ℕ, [], length, None, OnOk, Some, IfErr, true, false};
 ghost use Rattle.std.specs.Option.{option_map};
+ghost use Rattle.std.specs.Prelude.{is_some};
 ghost use Rattle.ids.specs.declared.refusal.Refusal.TheVariants.{Memory};
 ghost use Rattle.events.specs.Entries.{entry};
 ghost use Rattle.events.specs.Events.{entry_of};
@@ -71,6 +72,14 @@ impl Log {
             alloc,
             bytes: Some(Vec::new(alloc)),
         }
+    }
+
+    /// Whether the log has the events, so that they aren't lost.
+    #[inline(always)]
+    pub(crate) fn is_kept(&self) -> bool
+        ensures { result ≡ is_some self.now }
+    {
+        self.bytes.is_some()
     }
 
     /// The bytes of the events, unless they were lost.

@@ -4,6 +4,7 @@ ghost use Rattle.std.specs.Prelude.{◌≡◌, ◌≢◌, ◌⊎◌, ◌↔◌, 
 ghost use Rattle.std.specs.Prelude.{IfErr, IfOk, IsErr, IsErrOf, IsTrue, MatchResult, OnOk};
 ghost use Rattle.ids.specs.declared.limits.TheConstants.{GREATEST_IMAGE};
 ghost use Rattle.ids.specs.declared.refusal.Refusal.TheVariants as refusal;
+ghost use Rattle.ids.specs.declared.saves.Saves.TheVariants as way;
 ghost use Rattle.disk.specs.Areas.{Areas};
 ghost use Rattle.disk.specs.Crashes.{Grew, HasCause, LeavesOnly, Only, Unmoved};
 ghost use Rattle.disk.specs.Memory.{filled_by_crash, held_by, IsFaultless, left_by};
@@ -15,14 +16,13 @@ ghost use Rattle.replays.specs.Noted.{IsLogged};
 ghost use Rattle.replays.specs.Plain.{IsPlain, Keeps, KeepsEither, StaysPlain};
 ghost use Rattle.replays.specs.Stores.{disk_of, is_logged_at, is_ready_in, LiesAt, logs_in};
 ghost use Rattle.replays.specs.Stores.{WritesAll};
-ghost use Rattle.replays.specs.declared.place.Saves.TheVariants as way;
 
 use crate::log::Log;
-use crate::place::{Place, Saves};
+use crate::place::Place;
 use crate::plain::{PlainShelf, read_plain};
 use crate::redoing::LoggedImages;
 use disk::{Disk, Journal, MemoryDisk, Tail, read_logged};
-use ids::Refusal;
+use ids::{Refusal, Saves};
 use node::Node;
 use std::alloc::Global;
 

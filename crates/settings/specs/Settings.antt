@@ -1,27 +1,39 @@
 -- What a TOML document says about a space.
-use Rattle.std.specs.Prelude.{ℕ, ℤ, pos, ◌==◌, ◌&&◌, nat_le, suc, cond, List, Option, Some, None, codes, is_some, option_and_then, option_map, string_bytes}
+use Rattle.std.specs.Prelude.{ℕ, ℤ, pos, ◌==◌, ◌+◌, ◌&&◌, nat_le, suc, cond, List, Option, Some, None, codes, is_some, option_and_then, option_map, string_bytes}
+use Rattle.std.specs.Str.{bytes_eq}
 use Rattle.ids.specs.Limits.{Shaped}
 use Rattle.ids.specs.declared.limits.TheConstants.{LEAST_NODES, GREATEST_NODES}
 use Rattle.ids.specs.declared.limits.TheConstants.{GREATEST_REGISTERS, GREATEST_SLOTS}
+use Rattle.ids.specs.declared.saves.Saves.{Saves}
+use Rattle.ids.specs.declared.saves.Saves.TheVariants as saves
 use Rattle.toml.specs.Data.{Data, Members, no_members, member, as_integer, as_str, get_member}
 use Rattle.toml.specs.Parse.{parse_document}
 use Rattle.settings.specs.declared.config.Config.{Config}
 use Rattle.settings.specs.declared.config.Found.{Found}
 use Rattle.settings.specs.declared.config.TheConstants.{GREATEST_TURNS}
 
--- the sizes of a space, the most turns of a worker, and the folder of its disks
+-- the sizes of a space, the most turns of a worker, what a save writes, and the folder of its disks
 pub record Settings : Type 0 where
   pub shape : Shaped
   pub turns : ℕ
+  pub saves : Saves
   pub folder : Option (List ℕ)
 
 abbrev pub settings_of : Config → Settings
-settings_of c =
-    record { shape = c.shape; turns = c.turns; folder = option_map (λ s. string_bytes s) c.folder }
+settings_of c = record {
+  shape = c.shape;
+  turns = c.turns;
+  saves = c.saves;
+  folder = option_map (λ s. string_bytes s) c.folder;
+}
 
 abbrev pub found_settings : Found → Settings
-found_settings f =
-    record { shape = f.shape; turns = f.turns; folder = option_map (λ s. s.now) f.folder }
+found_settings f = record {
+  shape = f.shape;
+  turns = f.turns;
+  saves = f.saves;
+  folder = option_map (λ s. s.now) f.folder;
+}
 
 -- a number within these limits
 abbrev pub within : ℕ → ℕ → Option ℤ → Option ℕ
@@ -37,6 +49,21 @@ abbrev pub folder_in : Option Data → Option (Option (List ℕ))
 folder_in None = Some None
 folder_in (Some d) = option_map (λ s. Some s) (as_str d)
 
+-- one of two names or nothing; anything else is rejected
+abbrev pub saves_named : List ℕ → Option Saves
+saves_named name =
+    cond (bytes_eq name (codes "images")) (Some saves.Images)
+    (cond (bytes_eq name (codes "events")) (Some saves.Events) None)
+
+abbrev pub saves_in : Option Data → Option (Option Saves)
+saves_in None = Some None
+saves_in (Some d) = option_map (λ s. Some s) (option_and_then saves_named (as_str d))
+
+-- a save writes the image unless the configuration says otherwise
+abbrev pub chosen : Option Saves → Saves
+chosen (Some s) = s
+chosen None = saves.Images
+
 -- how many keys there are; each key occurs once in a table
 abbrev pub count_keys : Members → ℕ
 count_keys no_members = 0
@@ -50,13 +77,15 @@ shape_at t =
     (number_at (codes "registers") 1 GREATEST_REGISTERS t))
     (number_at (codes "nodes") LEAST_NODES GREATEST_NODES t)
 
--- the four required keys, the folder if it is there, and no other key
+-- the four required keys, the two optional ones if they are there, and no other key
 abbrev pub table_settings : Members → Option Settings
 table_settings t =
-    option_and_then (λ shape. option_and_then (λ turns. option_and_then (λ folder.
-    cond (count_keys t == cond (is_some folder) 5 4)
-    (Some (record { shape = shape; turns = turns; folder = folder })) None)
+    option_and_then (λ shape. option_and_then (λ turns. option_and_then (λ save.
+    option_and_then (λ folder.
+    cond (count_keys t == 4 + cond (is_some save) 1 0 + cond (is_some folder) 1 0)
+    (Some (record { shape = shape; turns = turns; saves = chosen save; folder = folder })) None)
     (folder_in (get_member (codes "folder") t)))
+    (saves_in (get_member (codes "saves") t)))
     (number_at (codes "turns") 1 GREATEST_TURNS t))
     (shape_at t)
 

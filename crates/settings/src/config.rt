@@ -1,23 +1,23 @@
 //! The configuration of a space, read from a TOML document. It is read strictly: an extra key, a
 //! missing key, or a number outside its limits is an error.
-ghost use Rattle.std.specs.Prelude.{◌≡◌, ◌≤◌, ◌<◌, ◌⊎◌, None, Some, IfErr, IfOk, IfSome, cond};
+ghost use Rattle.std.specs.Prelude.{◌≡◌, ◌≤◌, ◌<◌, ◌+◌, ◌⊎◌, None, Some, IfErr, IfOk, IfSome, cond};
 ghost use Rattle.std.specs.Prelude.{◌==◌, option_and_then, option_map};
 ghost use Rattle.toml.specs.Data.{as_integer, get_member};
 ghost use Rattle.toml.specs.View.{table_view, view};
 ghost use Rattle.settings.specs.Settings.{count_keys, found_settings, settings_of, folder_in};
 ghost use Rattle.settings.specs.Settings.{number_at, shape_at, table_settings, text_settings};
-ghost use Rattle.settings.specs.Settings.{within};
+ghost use Rattle.settings.specs.Settings.{chosen, saves_in, saves_named, within};
 ghost use Rattle.settings.specs.declared.fault.OpenFault.TheVariants as fault;
 
 use crate::fault::OpenFault;
-use ids::{GREATEST_NODES, GREATEST_REGISTERS, GREATEST_SLOTS, LEAST_NODES, Shape};
+use ids::{GREATEST_NODES, GREATEST_REGISTERS, GREATEST_SLOTS, LEAST_NODES, Saves, Shape};
 use std::alloc::Global;
 use toml::{Table, Value};
 
 /// The greatest number of turns that a worker may be given.
 pub const GREATEST_TURNS: u32 = 1_000_000;
 
-/// How many keys a configuration has, not counting `folder`.
+/// How many keys each configuration has. `saves` and `folder` are optional.
 const KEYS: usize = 4;
 
 /// How a space is to be opened and run.
@@ -27,6 +27,8 @@ pub struct Config {
     pub shape: Shape,
     /// How many turns each worker takes at most.
     pub turns: u32,
+    /// What a save of a node writes.
+    pub saves: Saves,
     /// The folder in which each node has a folder for its disk; `None` for disks in memory.
     pub folder: Option<String>,
 }
@@ -36,13 +38,15 @@ pub struct Config {
 struct Found<'a> {
     shape: Shape,
     turns: u32,
+    saves: Saves,
     folder: Option<&'a str>,
 }
 
 impl Config {
     /// Reads a TOML document that has these keys at its top level and no others: `nodes`, 2 to 64;
     /// `registers`, 1 to 256; `slots`, 1 to 1,048,576; `turns`, 1 to 1,000,000; and optionally
-    /// `folder`, a string.
+    /// `saves`, which is `"images"` or `"events"`, and `folder`, a string. Without `saves`, a save
+    /// writes the image.
     ///
     /// `Config` exactly if the text isn't such a document. `Memory` may come instead of either
     /// result.
@@ -84,6 +88,7 @@ fn config_in(alloc: Global, table: &Table) -> Result<Config, OpenFault>
     Ok(Config {
         shape: found.shape,
         turns: found.turns,
+        saves: found.saves,
         folder,
     })
 }
@@ -94,23 +99,31 @@ fn found_in(table: &Table) -> Option<Found<'_>>
 {
     let shape = shape_in(table)?;
     let turns = number_at(table, "turns", 1, GREATEST_TURNS)?;
+    let saves = saves_in(value_at(table, "saves"))?;
     let folder = folder_in(value_at(table, "folder"))?;
-    if !has_keys(table, folder.is_some()) {
+    if !has_keys(table, saves.is_some(), folder.is_some()) {
         return None;
     }
     Some(Found {
         shape,
         turns,
+        saves: chosen(saves),
         folder,
     })
 }
 
-// Whether a table has as many keys as a configuration with a folder, or without.
-fn has_keys(table: &Table, with_folder: bool) -> bool
-    ensures { result ≡ (count_keys (table_view table.now) == cond with_folder 5 4) }
+// Whether a table has as many keys as a configuration with these optional ones.
+fn has_keys(table: &Table, with_saves: bool, with_folder: bool) -> bool
+    ensures { result ≡ (count_keys (table_view table.now)
+        == 4 + cond with_saves 1 0 + cond with_folder 1 0) }
 {
-    let keys = if with_folder { KEYS + 1 } else { KEYS };
-    count_in(table) == keys
+    count_in(table) == KEYS + one_if(with_saves) + one_if(with_folder)
+}
+
+fn one_if(is_there: bool) -> usize
+    ensures { result ≡ cond is_there 1 0 }
+{
+    if is_there { 1 } else { 0 }
 }
 
 fn count_in(table: &Table) -> usize
@@ -176,6 +189,39 @@ fn folder_in(value: Option<&Value>) -> Option<Option<&str>>
     match value {
         Some(value) => value.as_str().map(Some),
         None => Some(None),
+    }
+}
+
+// What the string says that a save writes, if there is a value. The outer `None` is for a value that
+// says nothing of the kind.
+fn saves_in(value: Option<&Value>) -> Option<Option<Saves>>
+    ensures { result ≡ saves_in (option_map (λ v. view v.now) value.entry) }
+{
+    match value {
+        Some(value) => saves_named(value.as_str()?).map(Some),
+        None => Some(None),
+    }
+}
+
+fn saves_named(name: &str) -> Option<Saves>
+    ensures { result ≡ saves_named name.now }
+{
+    if name == "images" {
+        Some(Saves::Images)
+    } else if name == "events" {
+        Some(Saves::Events)
+    } else {
+        None
+    }
+}
+
+// What a save writes if the configuration may say nothing of it.
+fn chosen(saves: Option<Saves>) -> Saves
+    ensures { result ≡ chosen saves }
+{
+    match saves {
+        Some(saves) => saves,
+        None => Saves::Images,
     }
 }
 

@@ -1,13 +1,14 @@
 -- Spaces that are opened on images: what the disks of these images have, and what follows of the
 -- cells.
-use Rattle.std.proofs.Common.{◌≡◌, ℕ, ◌≤◌, ◌+◌, zero, suc, List, [], ◌++◌, Some, None, length, map, drop, refl, sym, ap, ◌∙◌, subst}
+use Rattle.std.proofs.Common.{◌≡◌, ℕ, ◌≤◌, ◌+◌, zero, suc, List, [], ◌++◌, false, Some, None, length, map, drop, refl, sym, arith, ap, ◌∙◌, subst}
 use Rattle.std.specs.Prelude.{slice_get}
 use Rattle.std.proofs.lemmas.List.{append-nil, length-map}
+use Rattle.std.proofs.lemmas.Option.{slice_get_within}
 use Rattle.ids.specs.Limits.{Shaped}
 use Rattle.ids.specs.declared.limits.TheConstants.{GREATEST_IMAGE}
 use Rattle.ids.specs.declared.refusal.Refusal.{Refusal}
 use Rattle.ids.specs.declared.refusal.Refusal.TheVariants as refusal
-use Rattle.node.specs.Keeping.{WholeNode}
+use Rattle.node.specs.Keeping.{WholeNode, alone}
 use Rattle.image.specs.Nodes.{IsImageOf}
 use Rattle.image.specs.Wholes.{IsWholeOf}
 use Rattle.disk.specs.Areas.{Areas}
@@ -15,13 +16,16 @@ use Rattle.disk.specs.Memory.{held_by}
 use Rattle.disk.specs.Shelf.{record_of, recorded}
 use Rattle.disk.specs.declared.memory.MemoryDisk.{MemoryDisk}
 use Rattle.disk.proofs.Records.{recorded_holds}
+use Rattle.replays.specs.Plain.{IsPlain}
+use Rattle.replays.proofs.Stores.{bare_read, keeps_read, keeps_some, plain_read}
+use Rattle.cell.specs.Cells.{CellView}
 use Rattle.cell.specs.Ages as ages
 use Rattle.cell.specs.Ages.{AreApart, AreRead}
 use Rattle.cell.specs.Opened.{AreBeside, HasAt, HoldsAnother, HoldsNone, IsCause, IsReadFrom}
 use Rattle.cell.specs.declared.fault.Unopened.{Unopened}
 use Rattle.cell.specs.declared.fault.Unopened.TheVariants as unopened
 use Rattle.cell.specs.Opened as cells
-use Rattle.cell.proofs.Places.{mapped-from, mapped-there}
+use Rattle.cell.proofs.Places.{mapped-from, mapped-there, some_at}
 use Rattle.values.specs.declared.fault.Fault.TheVariants as fault
 use Rattle.spaces.specs.Opening.{AreOfTwoAges, Begins, EachOf, HasPlace, HoldsNoImage, HoldsOther, Image, IsShort, IsTooLarge, IsWhy, areas_in, fault_of}
 
@@ -72,9 +76,8 @@ begins : (shape : Shaped) (k : ℕ) (i : Image) (n : WholeNode) → IsShort i
     → IsReadFrom shape k (areas_in i) n → Begins shape k i n
 begins shape k None n short read = read.blank refl
 begins shape k (Some v) n short read =
-    let found = read.held (λ e. absurd cc) in
-    let same : found.0 ≡ v.items = some-is _ _ (sym found.1 ∙ opens v.items short) in
-    subst (λ (l : List ℕ). IsWholeOf l n) same found.2
+    bare_read n (areas_in (Some v)) false v.items refl refl (opens v.items short)
+    (read.held (λ e. absurd cc))
 
 pub all-begin : (shape : Shaped) (images : List Image) (disks : List MemoryDisk)
     (nodes : List WholeNode) → AreDisksOf images disks
@@ -84,6 +87,29 @@ all-begin shape images disks nodes are read = λ k i n at_image at_node.
     let of = disk-at are k i at_image in
     begins shape k i n (are.short k i at_image)
     (subst (λ (c : Areas). IsReadFrom shape k c n) (sym of.2) (read k of.0 n of.1 at_node))
+
+-- no log follows an image that was given
+plain-in : (shape : Shaped) (k : ℕ) (i : Image) (n : WholeNode) → IsShort i
+    → IsReadFrom shape k (areas_in i) n → IsPlain (areas_in i)
+plain-in shape k None n short read = λ image found. absurd cc
+plain-in shape k (Some v) n short read =
+    plain_read n (areas_in (Some v))
+    (v.items, opens v.items short, begins shape k (Some v) n short read)
+
+pub no-logs : (shape : Shaped) (images : List Image) (disks : List MemoryDisk)
+    (cells : List (CellView MemoryDisk)) → AreDisksOf images disks → length cells ≡ length disks
+    → AreBeside (λ k d n. IsReadFrom shape k (held_by d) n) disks (map (λ c. c.node) cells)
+    → ((k : ℕ) (d : MemoryDisk) (c : CellView MemoryDisk) → slice_get disks k ≡ Some d
+    → slice_get cells k ≡ Some c → IsPlain (held_by d) → c.logs ≡ false)
+    → EachOf (λ c. c.logs ≡ false) cells
+no-logs shape images disks cells are count read logs = λ k c there.
+    let d = some_at disks k (omega (arith, count, slice_get_within cells k c there)) in
+    let i = image-at are k d.0 d.1 in
+    logs k d.0 c d.1 there
+    (subst IsPlain (sym i.2)
+    (plain-in shape k i.0 c.node (are.short k i.0 i.1)
+    (subst (λ (a : Areas). IsReadFrom shape k a c.node) i.2
+    (read k d.0 c.node d.1 (mapped-there (λ y. y.node) cells k c there)))))
 
 pub two-ages : (shape : Shaped) (images : List Image) (disks : List MemoryDisk)
     (sender receiver : ℕ) → AreDisksOf images disks
@@ -100,14 +126,16 @@ two-ages shape images disks sender receiver are h = record {
 
 other-in : (shape : Shaped) (k : ℕ) (i : Image) → IsShort i → HoldsAnother shape k (areas_in i)
     → HoldsOther shape k i
-other-in shape k None short h = let none = h.opens.1 in absurd cc
+other-in shape k None short h = absurd (keeps_some (alone h.node) blank h.opens refl)
 other-in shape k (Some v) short h =
-    let same : h.opens.0 ≡ v.items = some-is _ _ (sym h.opens.1 ∙ opens v.items short) in
-    (h.node, subst (λ (l : List ℕ). IsImageOf l h.node) same h.opens.2, h.is_other)
+    let whole = bare_read (alone h.node) (areas_in (Some v)) false v.items refl refl
+    (opens v.items short) h.opens in
+    (h.node, whole.0, h.is_other)
 
 none-in : (i : Image) → HoldsNone (areas_in i) → HoldsNoImage i
 none-in None h = h.written refl
-none-in (Some v) h = λ n fits whole. h.none n (v.items, opens v.items fits, whole)
+none-in (Some v) h = λ n fits whole.
+    h.none n (keeps_read n (areas_in (Some v)) (v.items, opens v.items fits, whole))
 
 large-in : (shape : Shaped) (k : ℕ) (i : Image) → cells.IsTooLarge shape k (areas_in i)
     → IsTooLarge shape k i

@@ -11,12 +11,15 @@ use Rattle.model.specs.declared.event.Answer.{Answer}
 use Rattle.model.specs.declared.event.Event.{Event}
 use Rattle.node.specs.Keeping.{kept_whole, met, own_step}
 use Rattle.image.specs.Images.{image_of}
+use Rattle.image.specs.Wholes.{IsWholeOf}
 use Rattle.disk.specs.Crashes.{Grew}
 use Rattle.disk.specs.Memory.{held_by, left_by}
+use Rattle.disk.specs.Shelf.{IsReadAs, opened as image_in}
+use Rattle.replays.specs.Plain.{StaysPlain}
 use Rattle.wire.specs.Readers.{known, outbox, seat_node, IsSame}
 use Rattle.wire.specs.Views.{raises}
 use Rattle.cell.specs.Cells.{GoesOn}
-use Rattle.cell.specs.Disks.{is_same_image, HoldsSaved, OpensToNode}
+use Rattle.cell.specs.Disks.{is_same_node, HoldsSaved}
 use Rattle.cell.specs.Pumping.{PumpedIn}
 use Rattle.cell.specs.Sending.{frame_due, places_after, IsSent}
 use Rattle.wire.specs.declared.pumped.Inbound.{Inbound}
@@ -184,7 +187,7 @@ Saved mark old new r = SavedBy (may_save mark old) old new r
 
 -- What `Cell::reopen` ensures.
 pub record ReopenedAs (old new : SeatedCell) (r : Result (Unit {0}) Refusal) : Type 0 where
-  pub opened : OnOk r (OpensToNode new.cell.node (held_by old.cell.disk))
+  pub opened : OnOk r (IsReadAs IsWholeOf (image_in (held_by old.cell.disk)) new.cell.node)
   pub done : OnOk r (new.cell ≡ record old.cell {
     node = new.cell.node;
     saved = new.cell.node.core;
@@ -196,10 +199,10 @@ pub record ReopenedAs (old new : SeatedCell) (r : Result (Unit {0}) Refusal) : T
     trace = new.cell.trace;
   })
   pub knows : OnOk r (known new.cell.seat
-      ≡ events.reopened_by (is_same_image new.cell.node.core old.cell.saved)
+      ≡ events.reopened_by (is_same_node new.cell.node.core old.cell.saved)
       (known old.cell.seat))
   pub entered : OnOk r (events.Entered
-      (events.found_step (is_same_image new.cell.node.core old.cell.saved)
+      (events.found_step (is_same_node new.cell.node.core old.cell.saved)
       (known old.cell.seat).me) (known old.cell.seat) (known new.cell.seat))
   pub restarted : OnOk r (IsTrue old.cell.is_open
       ⊎ HoldsSaved (left_by old.cell.disk) old.cell.saved
@@ -207,6 +210,8 @@ pub record ReopenedAs (old new : SeatedCell) (r : Result (Unit {0}) Refusal) : T
   pub saved_still : OnErr r (IsTrue old.cell.is_open
       ⊎ HoldsSaved (left_by old.cell.disk) old.cell.saved
       → HoldsSaved (left_by new.cell.disk) new.cell.saved)
+  -- what a crash leaves is an image, and no log follows it
+  pub plain : StaysPlain (left_by new.cell.disk)
   pub same : IsSame old.cell.seat new.cell.seat
   pub refused : OnErr r (new.cell ≡ record old.cell {
     disk = new.cell.disk;

@@ -62,7 +62,7 @@ Begins shape own None n = n ≡ new_whole shape own
 Begins shape own (Some image) n = IsWholeOf image.items n
 
 -- The cells of new or given nodes that are of one age, in order, on a wire that begins in their
--- world, and this many watches of it.
+-- world, and this many watches of it. Each save of them writes the image.
 pub record AreBegun (shape : Shaped) (images : List Image) (watches : ℕ) (wire : Wire)
     (cells : List (CellView MemoryDisk)) (watching : List Watch) : Type 0 where
   pub count : length cells ≡ shape.nodes
@@ -71,6 +71,7 @@ pub record AreBegun (shape : Shaped) (images : List Image) (watches : ℕ) (wire
       → IsNodeOf shape k n.core
   pub one_age : AreOfOneAge (map (λ c. c.node) cells)
   pub new : All IsNew cells
+  pub logs : EachOf (λ c. c.logs ≡ false) cells
   pub made : IsMade (world_of (cores (map (λ c. c.node) cells))) watches wire
       (map (λ c. c.seat) cells) watching
 

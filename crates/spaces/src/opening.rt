@@ -1,7 +1,7 @@
 //! What a space is opened with: a disk in memory for each node, and for each cell and each watch one
 //! more holder of the wire.
 ghost use Rattle.std.specs.Prelude.{◌≡◌, ◌⊎◌, All, IfErr, IfOk, IsErrOf, OnOk, length, map};
-ghost use Rattle.std.specs.Prelude.{None, Some, replicate};
+ghost use Rattle.std.specs.Prelude.{None, Some, false, replicate};
 ghost use Rattle.std.specs.Arc.{arc_value};
 ghost use Rattle.ids.specs.declared.refusal.Refusal.TheVariants.{Memory};
 ghost use Rattle.disk.specs.Memory.{held_by};
@@ -14,7 +14,7 @@ use crate::seated::SeatedCell;
 use crate::watching::SeatedWatch;
 use cell::{Cell, Unopened, open};
 use disk::MemoryDisk;
-use ids::{GREATEST_IMAGE, Refusal, Shape};
+use ids::{GREATEST_IMAGE, Refusal, Saves, Shape};
 use std::alloc::Global;
 use std::sync::Arc;
 use values::Fault;
@@ -98,7 +98,7 @@ pub(crate) fn begin(
     ensures refused { IfErr result (IsWhy shape images.now) }
 {
     let disks = disks_of(alloc, images)?;
-    match open(alloc, shape, disks, watches) {
+    match open(alloc, shape, disks, watches, Saves::Images) {
         Ok(opened) => Ok(opened),
         Err(unopened) => Err(fault_of(unopened)),
     }
@@ -114,7 +114,8 @@ fn same_wire(wire: &Arc<Wire>) -> Result<Arc<Wire>, Refusal>
 
 // A cell with its wire.
 fn seat(alloc: Global, wire: &Arc<Wire>, cell: Cell<MemoryDisk>) -> Result<Box<SeatedCell>, Refusal>
-    requires { IsSeatOf (arc_value wire.now) cell.seat }
+    requires seat { IsSeatOf (arc_value wire.now) cell.seat }
+    requires plain { cell.logs ≡ false }
     ensures cell { IfOk result (λ b. b.value.cell ≡ cell) }
     ensures fresh { IfOk result (λ b. IsFresh (arc_value wire.now) b.value) }
     ensures refused { IfErr result (λ e. e ≡ Memory) }
@@ -128,7 +129,8 @@ pub(crate) fn seat_all(
     wire: &Arc<Wire>,
     mut cells: Vec<Cell<MemoryDisk>>,
 ) -> Result<Vec<Option<Box<SeatedCell>>>, Refusal>
-    requires { EachOf (λ c. IsSeatOf (arc_value wire.now) c.seat) cells.items }
+    requires seats { EachOf (λ c. IsSeatOf (arc_value wire.now) c.seat) cells.items }
+    requires plain { EachOf (λ c. c.logs ≡ false) cells.items }
     ensures cells { IfOk result (λ v. map cell_in v.items ≡ map Some cells.items) }
     ensures fresh { IfOk result (λ v. All (IsFreshIn (arc_value wire.now)) v.items) }
     ensures refused { IfErr result (λ e. e ≡ Memory) }

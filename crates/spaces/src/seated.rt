@@ -34,6 +34,8 @@ pub struct SeatedCell {
     imaged: Snapshot<Core>,
     ghost sits: { IsSeatOf (arc_value wire) cell.seat },
     ghost fresh: { IsTrue is_fresh → imaged.value ≡ cell.node.core },
+    // Each save writes the image.
+    ghost plain: { cell.logs ≡ false },
 }
 
 impl SeatedCell {
@@ -41,7 +43,8 @@ impl SeatedCell {
 
     /// A cell of which no image was taken, whose seat belongs to the wire.
     pub(crate) fn new(cell: Cell<MemoryDisk>, wire: Arc<Wire>) -> SeatedCell
-        requires { IsSeatOf (arc_value wire) cell.seat }
+        requires seat { IsSeatOf (arc_value wire) cell.seat }
+        requires plain { cell.logs ≡ false }
         ensures cell { result.cell ≡ cell }
         ensures wire { result.wire ≡ wire }
         ensures mark { result.mark ≡ 0 }
@@ -137,7 +140,11 @@ impl SeatedCell {
     pub fn reopen(&mut self) -> Result<(), Fault>
         ensures { Reopened self.old self.new result }
     {
-        self.cell.reopen(&self.wire)?;
+        // Called for its contract, as it is below.
+        let _node = self.cell.node();
+        let reopened = self.cell.reopen(&self.wire);
+        let _node = self.cell.node();
+        reopened?;
         self.is_fresh = false;
         Ok(())
     }

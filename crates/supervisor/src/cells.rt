@@ -9,6 +9,7 @@ ghost use Rattle.wire.specs.Rule.{nodes_of};
 ghost use Rattle.cell.specs.Ages.{AreOfOneAge, AreRead, IfAges, IsWhy as IsWhyUnopened};
 ghost use Rattle.cell.specs.Closing.{AreOfOneMoment, HasBegun, HaveBegun};
 ghost use Rattle.cell.specs.Names.{name_of, IsNamed};
+ghost use Rattle.cell.specs.Opened.{AreBeside, IsChosen};
 ghost use Rattle.cell.specs.Reached.{IsReached};
 ghost use Rattle.settings.specs.declared.fault.OpenFault.TheVariants as fault;
 ghost use Rattle.supervisor.specs.Opened.{AreInPlace, AreSeats, AreWatches, IfUnopened};
@@ -16,7 +17,7 @@ ghost use Rattle.supervisor.specs.declared.cells.TheConstants.{WATCHES};
 
 use cell::{Cell, Naming, SharedOn, Unopened};
 use disk::Disk;
-use ids::{Refusal, Shape};
+use ids::{Refusal, Saves, Shape};
 use settings::OpenFault;
 use std::alloc::Global;
 use std::sync::Arc;
@@ -76,6 +77,7 @@ pub(crate) fn open_alone<D: Disk + Drop>(
     alloc: Global,
     shape: Shape,
     disks: Vec<D>,
+    saves: Saves,
 ) -> Result<(Wire, Vec<Cell<D>>, Vec<Watch>), OpenFault>
     ensures disks { vec_len disks ≢ shape.nodes → IsErrOf result fault.Disks }
     ensures why { IfErr result
@@ -93,8 +95,10 @@ pub(crate) fn open_alone<D: Disk + Drop>(
         → MatchResult result (λ r. IsReached (opened_with r.0))
         (IfUnopened (IfAges (λ _ _. ⊥))) }
     ensures begun { IfOk result (λ r. HaveBegun r.1.items) }
+    ensures logs { IfOk result (λ r. AreBeside
+        (λ k d c. IsChosen saves (D.seen d) c.logs) disks.items r.1.items) }
 {
-    match cell::open(alloc, shape, disks, WATCHES) {
+    match cell::open(alloc, shape, disks, WATCHES, saves) {
         Ok(opened) => Ok(opened),
         Err(Unopened::Disks) => Err(OpenFault::Disks),
         Err(Unopened::Another { node }) => Err(OpenFault::Another { node }),

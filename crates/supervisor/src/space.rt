@@ -17,6 +17,7 @@ ghost use Rattle.cell.specs.Ages.{AreOfOneAge, AreRead, IfAges, IsWhy as IsWhyUn
 ghost use Rattle.cell.specs.Closing.{AreOfOneMoment, HaveBegun};
 ghost use Rattle.cell.specs.Locked.{WasAnswered};
 ghost use Rattle.cell.specs.Names.{name_of, IsNamed};
+ghost use Rattle.cell.specs.Opened.{AreBeside, IsChosen};
 ghost use Rattle.cell.specs.Reached.{IsReached};
 ghost use Rattle.settings.specs.declared.fault.OpenFault.TheVariants as fault;
 ghost use Rattle.cell.specs.Moments.{EachCell};
@@ -75,6 +76,8 @@ impl<D: Disk + Drop> Opened<D> {
             AreRead D.seen config.now.shape disks.items AreOfOneAge) }
         ensures nodes { IfOk result (λ s. s.plan.nodes ≡ config.now.shape.nodes) }
         ensures turns { IfOk result (λ s. s.plan.turns ≡ config.now.turns) }
+        ensures saves { IfOk result (λ s. AreBeside
+            (λ k d c. IsChosen config.now.saves (D.seen d) c.logs) disks.items s.cells.items) }
         ensures watches { IfOk result (λ s. vec_len s.watches ≡ WATCHES) }
         ensures closed { (opening : World) → IsReached opening
             → nodes_of opening ≡ config.now.shape.nodes
@@ -83,7 +86,7 @@ impl<D: Disk + Drop> Opened<D> {
             (IfUnopened (IfAges (λ _ _. ⊥))) }
     {
         let shape = config.shape;
-        let (wire, cells, watches) = open_alone(alloc, shape, disks)?;
+        let (wire, cells, watches) = open_alone(alloc, shape, disks, config.saves)?;
         Ok(Opened {
             alloc,
             plan: TeamPlan {

@@ -9,7 +9,7 @@ use cases::{
 };
 use cell::{Cell, Unopened};
 use disk::MemoryDisk;
-use ids::{Refusal, Shape};
+use ids::{Refusal, Saves, Shape};
 use lines::SummaryText;
 use model::{Answer, Event, Summary};
 use std::alloc::Global;
@@ -83,11 +83,12 @@ impl Seated<'_> {
 pub(crate) fn open_cells(
     alloc: Global,
     shape: Shape,
+    saves: Saves,
 ) -> Result<(Wire, Vec<Cell<MemoryDisk>>, Watch), Refusal>
     ensures seats { IfOk result (λ r. All (λ c. IsSeatOf r.0 c.seat) r.1.items) }
     ensures watch { IfOk result (λ r. IsWatchOf r.0 r.2) }
 {
-    match cell::open(alloc, shape, blank_disks(alloc, shape.nodes())?, 1) {
+    match cell::open(alloc, shape, blank_disks(alloc, shape.nodes())?, 1, saves) {
         Ok((wire, cells, mut watches)) => {
             let watch = watches.remove(0);
             Ok((wire, cells, watch))
@@ -118,10 +119,11 @@ fn seat_all<'a>(
 pub fn run(
     alloc: Global,
     shape: Shape,
+    saves: Saves,
     lines: &[CaseLine<'_>],
     out: &mut Out,
 ) -> Result<(), CaseError> {
-    match on_wire(alloc, shape, lines, out) {
+    match on_wire(alloc, shape, saves, lines, out) {
         Ok(taken) => taken,
         Err(_) => Err(CaseError::Memory),
     }
@@ -130,10 +132,11 @@ pub fn run(
 fn on_wire(
     alloc: Global,
     shape: Shape,
+    saves: Saves,
     lines: &[CaseLine<'_>],
     out: &mut Out,
 ) -> Result<Result<(), CaseError>, Refusal> {
-    let (wire, cells, watch) = open_cells(alloc, shape)?;
+    let (wire, cells, watch) = open_cells(alloc, shape, saves)?;
     let cells = seat_all(alloc, &wire, cells)?;
     drop(watch);
     Ok(take_all(Cells { alloc, cells }, lines, out))

@@ -3,7 +3,7 @@ ghost use Rattle.std.specs.Prelude.{◌≡◌, false, is_some, IfOk};
 
 use crate::play::Play;
 use crate::spaces::{MANY, config_of};
-use cases::{CaseError, CaseLine, Out, Size, disks_in, number, verb};
+use cases::{CaseError, CaseLine, Out, Size, disks_in, number, saves_at, verb};
 use disk::FileDisk;
 use ids::Refusal;
 use std::alloc::Global;
@@ -35,13 +35,14 @@ where
         }
     }
 
-    // `open NODES REGISTERS SLOTS FOLDER`
+    // `open NODES REGISTERS SLOTS FOLDER [events]`
     fn open(&mut self, words: &[&str], out: &mut Out) -> Result<(), CaseError> {
         let size = Size {
             nodes: number(words, 1)?,
             registers: number(words, 2)?,
             slots: number(words, 3)?,
             turns: MANY,
+            saves: saves_at(words, 5)?,
         };
         let space = opened(self.rt, self.alloc, size, number(words, 4)?);
         self.play.set(space, size.nodes, out);

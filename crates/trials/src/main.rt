@@ -18,7 +18,8 @@ mod spaces;
 mod turns;
 
 use cases::nodes::shape_of;
-use cases::{CaseError, CaseLine, Out, arenas, disks, files, nodes, read, read_lines, verb};
+use cases::{CaseError, CaseLine, Out, arenas, disks, files, nodes, read, read_lines};
+use cases::{saves_at, verb};
 use std::alloc::Global;
 use std::fs::File;
 use std::io;
@@ -101,7 +102,7 @@ where
     };
     let words = out.at(first);
     match verb(words) {
-        "cells" => cells::run(alloc, shape_of(words)?, lines, out),
+        "cells" => cells::run(alloc, shape_of(words)?, saves_at(words, 4)?, lines, out),
         "shared" => {
             let k = match words.get(4) {
                 Some(word) => Some(read(word)?),

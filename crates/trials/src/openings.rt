@@ -7,10 +7,11 @@ ghost use Rattle.model.specs.Steps.{is_own};
 
 use crate::spaces::config_of;
 use cases::crashes::{change, put_crashes};
-use cases::{CaseError, CaseLine, Lent, Out, Size, blank_disks, event_of, number, read, verb};
+use cases::{CaseError, CaseLine, Lent, Out, Size, blank_disks, event_of, number, read, saves_at};
+use cases::verb;
 use cell::Naming;
 use disk::{Disk, MemoryDisk};
-use ids::Refusal;
+use ids::{Refusal, Saves};
 use model::{Answer, Event};
 use std::alloc::Global;
 use std::marker::Brand;
@@ -19,12 +20,13 @@ use std::thread::Threads;
 use supervisor::{CloseFault, Config, OpenFault, Opened, Space, SpaceOn};
 use wire::Inbound;
 
-// The disks of a space, and the copies that the case has kept.
+// The disks of a space, what a save writes to them, and the copies that the case has kept.
 #[derive(Drop)]
 struct Openings<'a, R> {
     rt: &'a R,
     alloc: Global,
     disks: Vec<MemoryDisk>,
+    saves: Saves,
     copies: Vec<MemoryDisk>,
 }
 
@@ -39,6 +41,7 @@ pub(crate) fn run<R: Threads + Wait>(
         rt,
         alloc,
         disks: Vec::new(alloc),
+        saves: Saves::Images,
         copies: Vec::new(alloc),
     };
     for line in lines {
@@ -52,6 +55,11 @@ impl<R: Threads + Wait> Openings<'_, R> {
         match verb(words) {
             "fresh" => {
                 self.disks = blank_disks(self.alloc, number(words, 1)?)?;
+                self.saves = saves_at(words, 2)?;
+                out.text("ok");
+            }
+            "saves" => {
+                self.saves = saves_at(words, 1)?;
                 out.text("ok");
             }
             "open" => self.open(out),
@@ -71,7 +79,7 @@ impl<R: Threads + Wait> Openings<'_, R> {
 
     // Opens a space on the disks, and drops it.
     fn open(&mut self, out: &mut Out) {
-        match opened(self.alloc, &mut self.disks) {
+        match opened(self.alloc, &mut self.disks, self.saves) {
             Ok(space) => {
                 drop(space);
                 out.text("ok");
@@ -87,7 +95,7 @@ impl<R: Threads + Wait> Openings<'_, R> {
         };
         let node = read(node)?;
         let event = event_of(self.alloc, words)?;
-        match opened(self.alloc, &mut self.disks) {
+        match opened(self.alloc, &mut self.disks, self.saves) {
             Ok(space) => out.answer(act_on(self.rt, &space, node, event)),
             Err(fault) => out.show(&fault),
         }
@@ -102,7 +110,7 @@ impl<R: Threads + Wait> Openings<'_, R> {
         };
         let node = read(node)?;
         let event = event_of(self.alloc, words)?;
-        match close_at_once(self.rt, self.alloc, &mut self.disks, node, event) {
+        match close_at_once(self.rt, self.alloc, &mut self.disks, self.saves, node, event) {
             Ok(once) => {
                 out.answer(once.answer);
                 out.debug(&once.closed);
@@ -117,7 +125,7 @@ impl<R: Threads + Wait> Openings<'_, R> {
         let from = number(words, 1)?;
         let to = number(words, 2)?;
         let count = number(words, 3)?;
-        match opened(self.alloc, &mut self.disks) {
+        match opened(self.alloc, &mut self.disks, self.saves) {
             Ok(space) => out.answer(carry_on(self.rt, &space, from, to, count)),
             Err(fault) => out.show(&fault),
         }
@@ -164,9 +172,11 @@ fn disk_of(held: &mut [MemoryDisk], node: u8) -> Result<&mut MemoryDisk, CaseErr
 fn lent<'a>(
     alloc: Global,
     held: &'a mut [MemoryDisk],
+    saves: Saves,
 ) -> Result<(Config, Vec<Lent<'a, MemoryDisk>>), OpenFault> {
     let size = Size {
         nodes: u8::try_from(held.len()).unwrap_or(u8::MAX),
+        saves,
         ..Size::pair(1)
     };
     let config = config_of(alloc, size)?;
@@ -184,8 +194,9 @@ fn lent<'a>(
 fn opened<'a>(
     alloc: Global,
     held: &'a mut [MemoryDisk],
+    saves: Saves,
 ) -> Result<Space<Lent<'a, MemoryDisk>>, OpenFault> {
-    let (config, disks) = lent(alloc, held)?;
+    let (config, disks) = lent(alloc, held, saves)?;
     Space::open(alloc, &config, disks)
 }
 
@@ -195,12 +206,13 @@ fn close_at_once<R: Threads + Wait>(
     rt: &R,
     alloc: Global,
     held: &mut [MemoryDisk],
+    saves: Saves,
     node: u8,
     event: Event,
 ) -> Result<Once, OpenFault>
     requires { is_own event ≡ true }
 {
-    let (config, disks) = lent(alloc, held)?;
+    let (config, disks) = lent(alloc, held, saves)?;
     let opened = Opened::open(alloc, &config, disks)?;
     match close_named::<Brand, R>(rt, opened, node, event) {
         Ok(once) => Ok(once),

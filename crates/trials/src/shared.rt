@@ -9,7 +9,7 @@ use crate::cells::open_cells;
 use cases::{CaseError, CaseLine, Out, Subject, event_of, number, read, take_all, verb};
 use cell::{Cell, Naming, SharedOn};
 use disk::{Disk, MemoryDisk};
-use ids::{Refusal, Shape};
+use ids::{Refusal, Saves, Shape};
 use std::alloc::Global;
 use std::marker::Brand;
 use std::sync::{Arc, Wait};
@@ -170,7 +170,7 @@ fn on_wire<R: Wait>(
     lines: &[CaseLine<'_>],
     out: &mut Out,
 ) -> Result<Result<(), CaseError>, Refusal> {
-    let (wire, cells, watch) = open_cells(alloc, shape)?;
+    let (wire, cells, watch) = open_cells(alloc, shape, Saves::Images)?;
     let wire = Arc::new(alloc, wire)?;
     named::<Brand, R>(rt, alloc, wire, cells, watch, k, lines, out)
 }

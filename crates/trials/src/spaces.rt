@@ -4,7 +4,7 @@ ghost use Rattle.std.specs.Prelude.{◌≡◌, false, is_some, IfOk};
 use crate::once::once;
 use crate::play::Play;
 use crate::space::meet;
-use cases::{CaseError, CaseLine, Out, Size, blank_disks, number, verb};
+use cases::{CaseError, CaseLine, Out, Size, blank_disks, number, saves_at, verb};
 use disk::MemoryDisk;
 use std::alloc::Global;
 use std::sync::Wait;
@@ -73,13 +73,14 @@ where
         }
     }
 
-    // `open NODES REGISTERS SLOTS TURNS`
+    // `open NODES REGISTERS SLOTS TURNS [events]`
     fn open(&mut self, words: &[&str], out: &mut Out) -> Result<(), CaseError> {
         let size = Size {
             nodes: number(words, 1)?,
             registers: number(words, 2)?,
             slots: number(words, 3)?,
             turns: number(words, 4)?,
+            saves: saves_at(words, 5)?,
         };
         let space = opened(self.alloc, size, self.failing.take());
         self.play.set(space, size.nodes, out);

@@ -37,43 +37,48 @@ ghost use Rattle.cell.specs.Cells.{new_cell, GoesOn, IsKept};
 ghost use Rattle.cell.specs.Desks.{IsAtSeat, IsUnsaved};
 ghost use Rattle.cell.specs.Disks.{OpensToNode};
 ghost use Rattle.cell.specs.Events.{outcome_of, Given};
+ghost use Rattle.replays.specs.Stores.{disk_of, is_ready_in, logs_in};
 
 use super::Cell;
 use crate::desk::Desk;
 use crate::tracing::outcome;
-use disk::{Disk, Shelf};
+use disk::Disk;
 use ids::Refusal;
 use model::{Answer, Event};
 use node::Node;
+use replays::Store;
 use std::alloc::Global;
 use std::snapshot::Snapshot;
 use trace::{Call, CallOutcome, Trace};
 use wire::{NodeSeat, Raised, Wire};
 
 impl<D: Disk> Cell<D> {
-    /// Makes a cell of a node that was created on the shelf or opened from it, and of the node's
+    /// Makes a cell of a node that was created in the store or opened from it, and of the node's
     /// own seat, which has seen no event since. Fails with `Memory` if an allocation fails; node,
-    /// shelf and seat are then dropped.
+    /// store and seat are then dropped.
     pub fn new(
         alloc: Global,
         node: Node,
-        shelf: Shelf<D>,
+        store: Store<D>,
         seat: NodeSeat,
     ) -> Result<Cell<D>, Refusal>
     where
         D: Drop,
         requires seat { IsAtSeat node.core seat }
-        requires ready { shelf.ready ≡ true }
-        requires disk { OpensToNode node (D.seen shelf.disk) }
-        ensures made { IfOk result (λ c. c ≡ new_cell node seat shelf.disk) }
+        requires ready { is_ready_in store ≡ true }
+        requires disk { OpensToNode node (D.seen (disk_of store)) }
+        ensures made { IfOk result
+            (λ c. c ≡ new_cell node seat (disk_of store) (logs_in store)) }
         ensures refused { IfErr result (λ e. e ≡ Memory) }
     {
         let trace = Trace::new(alloc)?;
+        // Called for its contract.
+        let _ready = store.is_ready();
         let first = Snapshot::of(node.core());
         Ok(Cell {
             alloc,
-            desk: Desk::new(node, seat),
-            shelf,
+            desk: Desk::new(alloc, node, seat, store.logs()),
+            store,
             trace,
             first,
         })
@@ -104,7 +109,7 @@ impl<D: Disk> Cell<D> {
         ensures traced { self.new.trace ≡ keep_last TRACE_EVENTS (self.old.trace
             ++ record { call = call_of event; outcome = outcome_of result } ∷ []) }
     {
-        if !self.shelf.is_ready() {
+        if !self.store.is_ready() {
             let closed = CallOutcome::Refused(Refusal::Closed);
             self.trace.push(Call::of(&event), closed);
             return Err(Refusal::Closed);
@@ -133,7 +138,7 @@ impl<D: Disk> Cell<D> {
         ensures same { IsSame self.old.seat self.new.seat }
         ensures stays { self.new ≡ record self.old { seat = self.new.seat } }
     {
-        if !self.shelf.is_ready() {
+        if !self.store.is_ready() {
             return Err(Refusal::Closed);
         }
         if self.desk.own() != 0 {
@@ -158,6 +163,8 @@ impl<D: Disk> Cell<D> {
         ensures value { result.now ≡ self.now.node }
         ensures kept { IsKept D.may_leave self.now }
     {
+        // Called for its contract.
+        let _logs = self.store.logs();
         self.desk.node()
     }
 

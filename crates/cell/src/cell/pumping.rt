@@ -66,7 +66,7 @@ impl<D: Disk> Cell<D> {
             → IsErrOf result Refusal.NoNode × (self.new ≡ self.old) }
         ensures goes_on { GoesOn self.old self.new }
     {
-        if !self.shelf.is_ready() {
+        if !self.store.is_ready() {
             return Err(Refusal::Closed);
         }
         if !self.desk.is_other(from) {
@@ -147,7 +147,7 @@ impl<D: Disk> Cell<D> {
         ensures stays { self.new
             ≡ record self.old { seat = self.new.seat; places = self.new.places } }
     {
-        if !self.shelf.is_ready() {
+        if !self.store.is_ready() {
             return Err(Refusal::Closed);
         }
         if !self.desk.is_other(to) {

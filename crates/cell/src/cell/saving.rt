@@ -33,7 +33,7 @@ ghost use Rattle.disk.specs.Memory.{filled_by_crash, held_by, IsFaultless, left_
 ghost use Rattle.disk.specs.Plan.{fails_from, fails_once};
 ghost use Rattle.wire.specs.Readers.{known, IsSame, IsSeatOf};
 ghost use Rattle.cell.specs.Cells.{IsKept};
-ghost use Rattle.cell.specs.Disks.{is_same_image, HoldsSaved, OpensToNode};
+ghost use Rattle.cell.specs.Disks.{is_same_node, HoldsSaved, OpensToNode};
 ghost use Rattle.cell.specs.Events.{
   done_outcome,
   found_step,
@@ -47,7 +47,6 @@ ghost use Rattle.model.specs.declared.step.Step.TheVariants as step;
 use super::Cell;
 use disk::{Disk, MemoryDisk};
 use ids::Refusal;
-use image::Images;
 use trace::{Call, CallOutcome};
 use wire::Wire;
 
@@ -56,9 +55,9 @@ impl<D: Disk> Cell<D> {
     /// history.
     ///
     /// Fails with `Closed` exactly if the cell is closed, with `ImageTooLarge` if the node's image
-    /// is longer than an image may be, and with `Memory`; these change nothing. Fails with `Disk`
-    /// if the device failed: this closes the cell, and no event enters. Either way a line is added
-    /// to the trace.
+    /// is written and is longer than an image may be, and with `Memory`; these change nothing. Fails
+    /// with `Disk` if the device failed: this closes the cell, and no event enters. Either way a
+    /// line is added to the trace.
     pub fn save(&mut self, wire: &Wire) -> Result<(), Refusal>
         requires wire { IsSeatOf wire.now self.old.seat }
         ensures done { OnOk result (self.new ≡ record self.old {
@@ -83,9 +82,12 @@ impl<D: Disk> Cell<D> {
         ensures disk { IsErrOf result Refusal.Disk
             → Grew (D.faults self.old.disk) (D.faults self.new.disk)
             × (self.new.is_open ≡ false) }
-        ensures too_large { IsErrOf result Refusal.ImageTooLarge ↔
+        ensures too_large { IsErrOf result Refusal.ImageTooLarge →
             IsTrue self.old.is_open
             × (GREATEST_IMAGE < length (image_of self.old.node.core)) }
+        ensures whole { self.old.logs ≡ false → IsTrue self.old.is_open
+            → GREATEST_IMAGE < length (image_of self.old.node.core)
+            → IsErrOf result Refusal.ImageTooLarge }
         ensures unchanged { IfErr result (λ e. e ≢ Refusal.Disk
             → self.new ≡ record self.old { trace = self.new.trace }) }
         ensures others { IfErr result (λ e. (e ≡ Refusal.Closed) ⊎ ((e ≡ Refusal.ImageTooLarge)
@@ -93,8 +95,10 @@ impl<D: Disk> Cell<D> {
         ensures traced { self.new.trace ≡ keep_last TRACE_EVENTS (self.old.trace
             ++ record { call = call.Save; outcome = done_outcome result } ∷ []) }
     {
-        match self.shelf.save::<Images>(self.desk.node()) {
+        match self.store.save(self.desk.node(), self.desk.log()) {
             Ok(()) => {
+                // Called for its contract.
+                let _logs = self.store.logs();
                 self.desk.save(wire);
                 self.trace.push(Call::Save, CallOutcome::Done);
                 Ok(())
@@ -128,10 +132,10 @@ impl<D: Disk> Cell<D> {
           trace = self.new.trace;
         }) }
         ensures known { OnOk result (known self.new.seat
-            ≡ reopened_by (is_same_image self.new.node.core self.old.saved)
+            ≡ reopened_by (is_same_node self.new.node.core self.old.saved)
             (known self.old.seat)) }
         ensures entered { OnOk result (Entered
-            (found_step (is_same_image self.new.node.core self.old.saved) (known self.old.seat).me)
+            (found_step (is_same_node self.new.node.core self.old.saved) (known self.old.seat).me)
             (known self.old.seat) (known self.new.seat)) }
         ensures restarted { OnOk result
             (IsTrue self.old.is_open ⊎ HoldsSaved (D.may_leave self.old.disk) self.old.saved
@@ -151,8 +155,10 @@ impl<D: Disk> Cell<D> {
         ensures traced { self.new.trace ≡ keep_last TRACE_EVENTS (self.old.trace
             ++ record { call = call.Reopen; outcome = done_outcome result } ∷ []) }
     {
-        match self.shelf.reopen::<Images>() {
+        match self.store.reopen() {
             Ok(found) => {
+                // Called for its contract.
+                let _logs = self.store.logs();
                 self.desk.reopen(wire, found);
                 self.trace.push(Call::Reopen, CallOutcome::Done);
                 Ok(())
@@ -170,7 +176,7 @@ impl<D: Disk> Cell<D> {
     pub fn is_open(&self) -> bool
         ensures { result ≡ self.now.is_open }
     {
-        self.shelf.is_ready()
+        self.store.is_ready()
     }
 
     /// The disk, as the cell leaves it; node and seat are dropped. The contract states everything
@@ -184,11 +190,11 @@ impl<D: Disk> Cell<D> {
         let Cell {
             alloc: _,
             desk: _,
-            shelf,
+            store,
             trace: _,
             first: _,
         } = self;
-        shelf.into_disk()
+        store.into_disk()
     }
 }
 
@@ -200,7 +206,7 @@ impl Cell<MemoryDisk> {
         ensures account { self.new.disk.account ≡ self.old.disk.account }
         ensures stays { self.new ≡ record self.old { disk = self.new.disk } }
     {
-        self.shelf.fail_from(k);
+        self.store.fail_from(k);
     }
 
     /// The `k`-th call of the disk from now on fails, and no later one; see
@@ -210,7 +216,7 @@ impl Cell<MemoryDisk> {
         ensures account { self.new.disk.account ≡ self.old.disk.account }
         ensures stays { self.new ≡ record self.old { disk = self.new.disk } }
     {
-        self.shelf.fail_once(k);
+        self.store.fail_once(k);
     }
 
     /// The disk that a crash now leaves; see [`MemoryDisk::after_crash`].
@@ -221,6 +227,6 @@ impl Cell<MemoryDisk> {
         ensures faultless { IfOk result IsFaultless }
         ensures memory { IfErr result (λ e. e ≡ Refusal.Memory) }
     {
-        self.shelf.after_crash(fill)
+        self.store.after_crash(fill)
     }
 }

@@ -1,10 +1,12 @@
 use Rattle.std.proofs.Common.{◌≡◌, ◌∙◌, true, ap, arith, length, subst, sym}
 use Rattle.std.proofs.lemmas.List.{with_items_is}
 use Rattle.std.proofs.lemmas.Result.{err_from_is_err_and}
+use Rattle.replays.specs.Stores.{disk_of, is_ready_in, logs_in}
 use Rattle.cell.specs.Ages.{AreApart}
 use Rattle.cell.specs.Disks.{OpensToNode}
-use Rattle.cell.specs.Looking.{AreLookedAt, AreOn, AreUnmoved}
-use Rattle.cell.specs.Opened.{AreFound}
+use Rattle.cell.specs.Looking.{AreLookedAt, AreOn, AreUnmoved, logs_at}
+use Rattle.cell.specs.Opened.{AreBeside, AreFound, IsChosen}
+use Rattle.cell.proofs.Beside.{beside-by, chosen-as}
 use Rattle.cell.proofs.Looking.{all-on, all-read, why-before}
 use Rattle.cell.proofs.finding.find.Goals as goal
 
@@ -60,9 +62,25 @@ put_all_on-requires-clause-on g c =
 pub returns-clause-found : goal.returns-clause-found
 returns-clause-found g c =
     subst
-    (λ l. AreFound (λ n s. (s.ready ≡ true) × OpensToNode n (g.D.Disk.seen s.disk))
-    c.args.shape l c.in_ok-shelves.shelves.items)
-    c.as_slice-2.ensures.value c.in_ok-shelves.ensures.found
+    (λ l. AreFound (λ n s. (is_ready_in s ≡ true) × OpensToNode n (g.D.Disk.seen (disk_of s)))
+    c.args.shape l c.in_ok-stores.stores.items)
+    c.as_slice-2.ensures.value c.in_ok-stores.ensures.found
+
+pub returns-clause-logs : goal.returns-clause-logs
+returns-clause-logs g c =
+    let old = c.args.disks.now.items in
+    let seen = g.D.Disk.seen in
+    let saves = c.args.saves in
+    let many : length old ≡ c.args.shape.nodes = omega (arith, c.args.disks.now.ok) in
+    let areas = c.in_ok-nodes.areas.items in
+    let chosen = subst
+    (λ l. AreBeside (λ k d place. IsChosen saves (seen d) (logs_at saves place)) l areas)
+    c.as_mut_slice.ensures.value c.in_ok-nodes.ensures.chosen in
+    let logs = subst
+    (λ l. AreBeside (λ k place s. logs_in s ≡ logs_at saves place) l c.in_ok-stores.stores.items)
+    c.as_slice-3.ensures.value c.in_ok-stores.ensures.logs in
+    beside-by areas (c.in_ok-nodes.ensures.found.places_count ∙ sym many)
+    (λ d place s. chosen-as saves (seen d) place (logs_in s)) chosen logs
 
 pub returns-clause-read : goal.returns-clause-read
 returns-clause-read g c =
@@ -79,9 +97,9 @@ returns-clause-read g c =
     all-read g.D.Disk.seen g.D.Disk.may_leave g.D.Disk.faults c.args.shape old new
     c.in_ok-nodes.nodes.items c.in_ok-nodes.areas.items found many quiet.count
 
-pub returns-in_err-shelves-clause-why : goal.returns-in_err-shelves-clause-why
-returns-in_err-shelves-clause-why g c =
-    let p = err_from_is_err_and c.from_residual-in_err-shelves.result c.from_residual-in_err-shelves.ensures.1 in
+pub returns-in_err-stores-clause-why : goal.returns-in_err-stores-clause-why
+returns-in_err-stores-clause-why g c =
+    let p = err_from_is_err_and c.from_residual-in_err-stores.result c.from_residual-in_err-stores.ensures.1 in
     let old = c.args.disks.now.items in
     let new = c.look_at_all.new.disks in
     let many : length old ≡ c.args.shape.nodes = omega (arith, c.args.disks.now.ok) in
@@ -99,9 +117,9 @@ returns-in_err-shelves-clause-why g c =
     rw (p.1, p.2)
     (why-before g.D.Disk.seen g.D.Disk.may_leave g.D.Disk.faults c.args.shape g.D.Disk.moment
     g.D.Disk.left_since old new _ c.in_ok-nodes.nodes.items c.in_ok-nodes.areas.items _ found many
-    quiet items c.in_err-shelves.ensures.all_read c.in_err-shelves.ensures.why)
+    quiet items c.in_err-stores.ensures.all_read c.in_err-stores.ensures.why)
 
-pub returns-in_err-shelves-clause-untouched : goal.returns-in_err-shelves-clause-untouched
-returns-in_err-shelves-clause-untouched g c =
-    let p = err_from_is_err_and c.from_residual-in_err-shelves.result c.from_residual-in_err-shelves.ensures.1 in
-    rw (p.1, p.2) (λ reading. absurd (c.in_err-shelves.ensures.all_read reading))
+pub returns-in_err-stores-clause-untouched : goal.returns-in_err-stores-clause-untouched
+returns-in_err-stores-clause-untouched g c =
+    let p = err_from_is_err_and c.from_residual-in_err-stores.result c.from_residual-in_err-stores.ensures.1 in
+    rw (p.1, p.2) (λ reading. absurd (c.in_err-stores.ensures.all_read reading))

@@ -4,10 +4,12 @@ use Rattle.std.proofs.lemmas.List.{length-map}
 use Rattle.std.proofs.lemmas.Option.{slice_get_within}
 use Rattle.std.proofs.lemmas.Result.{err_from_is_err_and}
 use Rattle.node.specs.Keeping.{WholeNode}
-use Rattle.image.proofs.Spelled.{kept_is}
+use Rattle.replays.specs.Stores.{logs_in}
+use Rattle.replays.proofs.Stores.{keeps_kept}
 use Rattle.cell.specs.Ages.{AreOfOneAge}
 use Rattle.cell.specs.Opened.{AreBeside, IsNodeOf, IsReadFrom, cores, world_of}
 use Rattle.cell.specs.Reached.{IsReached}
+use Rattle.cell.proofs.Beside.{beside-mapped}
 use Rattle.cell.proofs.Causes.{same-error}
 use Rattle.cell.proofs.Closed.{never-ages, new-begun, opened-again}
 use Rattle.cell.proofs.OnShelves.{found-kept}
@@ -20,7 +22,7 @@ join-requires g c = λ κs within. (
   within,
   (
     opened c.args.shape _ c.in_ok-nodes.ensures.count
-        (found-kept (λ m s lies. kept_is lies.1.0 m.core lies.1.2.0) c.in_ok-nodes.ensures.found),
+        (found-kept (λ m s lies. keeps_kept m _ lies.1) c.in_ok-nodes.ensures.found),
     c.in_ok-nodes.ensures.found,
   ),
 )
@@ -31,6 +33,10 @@ returns-in-Ok-clause-read g c =
     AreBeside (λ k d n. IsReadFrom c.args.shape k (g.D.Disk.seen d) n) c.args.disks.items l)
     (sym c.in-Ok.ensures.nodes) c.in_ok-nodes.ensures.read
 
+pub returns-in-Ok-clause-logs : goal.returns-in-Ok-clause-logs
+returns-in-Ok-clause-logs g c =
+    beside-mapped logs_in (λ v. v.logs) c.in-Ok.ensures.logs c.in_ok-nodes.ensures.logs
+
 pub returns-in-Ok-clause-shaped : goal.returns-in-Ok-clause-shaped
 returns-in-Ok-clause-shaped g c =
     let nodes = c.in_ok-nodes.nodes.items in
@@ -38,7 +44,7 @@ returns-in-Ok-clause-shaped g c =
     subst (λ (l : List WholeNode).
     (k : ℕ) (n : WholeNode) → slice_get l k ≡ Some n → IsNodeOf c.args.shape k n.core)
     (sym c.in-Ok.ensures.nodes) (λ k n there.
-    let shelf = some_at c.in_ok-nodes.shelves.items k
+    let shelf = some_at c.in_ok-nodes.stores.items k
     (omega (arith, slice_get_within nodes k n there, found.same)) in
     (found.each k n shelf.0 there shelf.1).0)
 

@@ -1,6 +1,7 @@
 use Rattle.std.proofs.Common.{◌≡◌, ◌<◌, ◌∙◌, All, [], ap, length, arith, subst, sym}
 use Rattle.std.proofs.lemmas.List.{length-map}
 use Rattle.std.proofs.lemmas.List.Elements.{All-append, All-cons, All-nil}
+use Rattle.replays.specs.Stores.{disk_of, logs_in}
 use Rattle.cell.specs.Cells.{IsNew}
 use Rattle.cell.proofs.Ready.{first-ready, handed-on, later-ready, made-new, shifted, shifted-by}
 use Rattle.cell.proofs.joining.seat_all.Goals as goal
@@ -8,9 +9,9 @@ use Rattle.cell.proofs.joining.seat_all.Goals as goal
 pub new-requires : goal.new-requires
 new-requires g c =
     let some : 0 < length c.loop.nodes.items = omega arith in
-    let h = first-ready c.remove-node.result c.remove-shelf.result c.remove-seat.result
+    let h = first-ready c.remove-node.result c.remove-store.result c.remove-seat.result
     c.loop.invariant.ready some
-    (c.remove-node.ensures.value, c.remove-shelf.ensures.value, c.remove-seat.ensures.value) in
+    (c.remove-node.ensures.value, c.remove-store.ensures.value, c.remove-seat.ensures.value) in
     record { seat = h.stands; ready = h.lies.0; disk = h.lies.1 }
 
 pub loop-preserved : goal.loop-preserved
@@ -20,20 +21,23 @@ loop-preserved g c =
     let made = c.in_ok-new.ensures.made in
     record {
       ready = later-ready _ _ _ was.ready
-          (c.remove-node.ensures.items, c.remove-shelf.ensures.items, c.remove-seat.ensures.items);
+          (c.remove-node.ensures.items, c.remove-store.ensures.items, c.remove-seat.ensures.items);
       left = omega (arith, was.left, c.remove-node.ensures.len);
       all = was.all;
       nodes = shifted _ _ _ _ _ _ c.remove-node.result _ was.nodes c.in_ok-push.ensures.items
           (ap (λ v. v.node) made) c.remove-node.ensures.value some c.remove-node.ensures.items;
-      disks = shifted-by (λ v. v.disk) (λ s. s.disk) _ _ _ _ _ c.remove-shelf.result _ was.disks
-          c.in_ok-push.ensures.items (ap (λ v. v.disk) made) c.remove-shelf.ensures.value
-          (omega (arith, some, was.ready.shelved)) c.remove-shelf.ensures.items;
+      disks = shifted-by (λ v. v.disk) disk_of _ _ _ _ _ c.remove-store.result _ was.disks
+          c.in_ok-push.ensures.items (ap (λ v. v.disk) made) c.remove-store.ensures.value
+          (omega (arith, some, was.ready.shelved)) c.remove-store.ensures.items;
+      logs = shifted-by (λ v. v.logs) logs_in _ _ _ _ _ c.remove-store.result _ was.logs
+          c.in_ok-push.ensures.items (ap (λ v. v.logs) made) c.remove-store.ensures.value
+          (omega (arith, some, was.ready.shelved)) c.remove-store.ensures.items;
       seats = shifted _ _ _ _ _ _ c.remove-seat.result _ was.seats c.in_ok-push.ensures.items
           (ap (λ v. v.seat) made) c.remove-seat.ensures.value
           (omega (arith, some, was.ready.seated)) c.remove-seat.ensures.items;
       new = subst (All IsNew) (sym c.in_ok-push.ensures.items)
           (All-append IsNew _ _ was.new
-          (All-cons IsNew _ [] (made-new _ _ _ _ made) (All-nil IsNew)));
+          (All-cons IsNew _ [] (made-new _ _ _ _ _ made) (All-nil IsNew)));
     }
 
 pub returns-clause-nodes : goal.returns-clause-nodes
@@ -45,7 +49,13 @@ pub returns-clause-disks : goal.returns-clause-disks
 returns-clause-disks g c =
     let none : length c.loop.nodes.items ≡ 0 = omega arith in
     handed-on _ _ _ c.loop.invariant.disks
-    (length-map c.loop.shelves.items (λ s. s.disk) ∙ c.loop.invariant.ready.shelved ∙ none)
+    (length-map c.loop.stores.items disk_of ∙ c.loop.invariant.ready.shelved ∙ none)
+
+pub returns-clause-logs : goal.returns-clause-logs
+returns-clause-logs g c =
+    let none : length c.loop.nodes.items ≡ 0 = omega arith in
+    handed-on _ _ _ c.loop.invariant.logs
+    (length-map c.loop.stores.items logs_in ∙ c.loop.invariant.ready.shelved ∙ none)
 
 pub returns-clause-seats : goal.returns-clause-seats
 returns-clause-seats g c =

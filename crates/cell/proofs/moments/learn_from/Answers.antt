@@ -6,6 +6,14 @@ use Rattle.wire.specs.Readers.{known}
 use Rattle.cell.proofs.Surveying.{noted-seats, turned}
 use Rattle.cell.proofs.moments.learn_from.Goals as goal
 
+pub note-note-requires : goal.note-note-requires
+note-note-requires g c =
+    let xs = c.args.cells.now in
+    record {
+      wire = c.requires.wire c.args.from (get_or xs c.args.from c.index-cells-from.result)
+          (slice_get-get_or xs c.args.from c.index-cells-from.result c.requires.from);
+    }
+
 pub learn-requires-clause-wire : goal.learn-requires-clause-wire
 learn-requires-clause-wire g c =
     let xs = c.args.cells.now in

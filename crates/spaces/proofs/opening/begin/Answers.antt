@@ -1,6 +1,6 @@
-use Rattle.std.proofs.Common.{◌∙◌, subst, sym}
+use Rattle.std.proofs.Common.{◌∙◌, refl, subst, sym}
 use Rattle.spaces.specs.Opening.{IsWhy}
-use Rattle.spaces.proofs.Given.{AreDisksOf, all-begin, same-count, why}
+use Rattle.spaces.proofs.Given.{AreDisksOf, all-begin, no-logs, same-count, why}
 use Rattle.spaces.proofs.opening.begin.Goals as goal
 
 pub returns-in-Ok-clause-begun : goal.returns-in-Ok-clause-begun
@@ -15,6 +15,8 @@ returns-in-Ok-clause-begun c =
       shaped = h.shaped;
       one_age = h.one_age;
       new = h.new;
+      logs = no-logs c.args.shape c.args.images.now c.in_ok-disks.disks.items _ are h.all h.read
+          (λ k d y at there. (h.logs k d y at there).images refl);
       made = h.made;
     }
 

@@ -1,4 +1,4 @@
-use Rattle.std.proofs.Common.{◌≡◌, ◌<◌, ◌∙◌, Some, ap, length, arith}
+use Rattle.std.proofs.Common.{◌≡◌, ◌<◌, ◌∙◌, Some, false, ap, length, arith}
 use Rattle.std.specs.Arc.{arc_value}
 use Rattle.std.proofs.lemmas.List.{length-map}
 use Rattle.std.proofs.lemmas.List.Elements.{All-push, All-same}
@@ -11,8 +11,12 @@ use Rattle.spaces.proofs.opening.seat_all.Goals as goal
 pub seat-requires : goal.seat-requires
 seat-requires c =
     let some : 0 < length c.loop.cells.items = omega arith in
-    first-of (λ y. IsSeatOf (arc_value c.args.wire.now) y.seat) c.loop.cells.items
-    c.remove-cell.result c.loop.invariant.seats some c.remove-cell.ensures.value
+    record {
+      seat = first-of (λ y. IsSeatOf (arc_value c.args.wire.now) y.seat) c.loop.cells.items
+          c.remove-cell.result c.loop.invariant.seats some c.remove-cell.ensures.value;
+      plain = first-of (λ y. y.logs ≡ false) c.loop.cells.items
+          c.remove-cell.result c.loop.invariant.plain some c.remove-cell.ensures.value;
+    }
 
 pub loop-preserved : goal.loop-preserved
 loop-preserved c =
@@ -21,6 +25,8 @@ loop-preserved c =
     record {
       seats = later-of (λ y. IsSeatOf (arc_value c.args.wire.now) y.seat) c.loop.cells.items _
           was.seats c.remove-cell.ensures.items;
+      plain = later-of (λ y. y.logs ≡ false) c.loop.cells.items _ was.plain
+          c.remove-cell.ensures.items;
       left = omega (arith, was.left, c.remove-cell.ensures.len);
       made = shifted-by cell_in Some _ c.loop.cells.items _ _ _ c.remove-cell.result _ was.made
           c.in_ok-push.ensures.items (ap Some c.in_ok-full.ensures.cell)

@@ -1,5 +1,6 @@
 use Rattle.std.proofs.Common.{◌≡◌, true, false, ap, sym, ◌∙◌, Bool}
 use Rattle.wire.specs.Readers.{known}
+use Rattle.replays.specs.Stores.{disk_of, is_ready_in, logs_in}
 use Rattle.cell.proofs.Dropping.{dropped-as, given-dropped, given-took, own-none}
 use Rattle.cell.proofs.Opening.{stays-open}
 use Rattle.model.specs.Steps.{is_shading}
@@ -13,7 +14,7 @@ pub invariant_of-self-inside-2 : goal.invariant_of-self-inside-2
 invariant_of-self-inside-2 g c =
     let cell = c.self.inside in
     let desk = c.act-answered.new.self in
-    let ready : cell.shelf.ready ≡ true = sym c.is_ready.ensures ∙ c.if-not-is_ready.false in
+    let ready : is_ready_in cell.store ≡ true = sym c.is_ready.ensures.ready ∙ c.if-not-is_ready.false in
     let v = known cell.desk.seat in
     let w = known desk.seat in
     let given = c.act-answered.ensures.given in
@@ -24,9 +25,8 @@ invariant_of-self-inside-2 g c =
       (
         dropped-as first v w cell.desk.saved desk.saved
             (given-took _ _ _ _ cell.desk.node desk.node v w given) same cell.saved_dropped,
-        stays-open cell.desk.saved desk.saved desk.node.core (g.D.Disk.seen cell.shelf.disk)
-            (g.D.Disk.may_leave cell.shelf.disk) same (cell.shelf.settled ready).0
-            (cell.while_open ready),
+        stays-open cell.desk.saved desk.saved desk.node.core
+            (g.D.Disk.may_leave (disk_of cell.store)) same (cell.while_open ready) cell.imaged,
       ),
     )
 
@@ -37,7 +37,7 @@ returns-clause-closed g c =
           (met old.early c.args.event) old.core c.act-answered.new.self.node.core
           c.act-answered.result c.act-answered.ensures.given.acted.performs closed),
       λ shut. (let never : ◌≡◌ {A = Bool} true false =
-          sym c.if-not-is_ready.false ∙ c.is_ready.ensures
+          sym c.if-not-is_ready.false ∙ c.is_ready.ensures.ready
           ∙ ap (λ v. v.is_open) c.self.view_is ∙ shut in absurd cc),
     )
 
@@ -49,6 +49,6 @@ returns-clause-goes_on g c =
     record {
       same = said.same;
       marked = marked-after _ _ c.act-answered.result _ _ _ _ said.given.acted.known said.unsaved;
-      stays = ap (cell_at cell.first.value cell.shelf.disk cell.shelf.ready c.push-2.new.self)
+      stays = ap (cell_at cell.first.value (disk_of cell.store) (is_ready_in cell.store) (logs_in cell.store) c.push-2.new.self)
           said.stays;
     }

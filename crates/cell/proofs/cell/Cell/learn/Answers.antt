@@ -1,6 +1,7 @@
 use Rattle.std.proofs.Common.{ap, sym, ◌∙◌}
 use Rattle.wire.specs.Views.{learns}
 use Rattle.wire.specs.Readers.{known}
+use Rattle.replays.specs.Stores.{disk_of, is_ready_in, logs_in}
 use Rattle.cell.proofs.Dropping.{dropped-as, took-same}
 use Rattle.cell.proofs.Opening.{stays-left}
 use Rattle.cell.proofs.Views.{cell_at}
@@ -21,9 +22,9 @@ invariant_of-self-inside g c =
       (
         dropped-as first v w cell.desk.saved desk.saved took (ap (λ d. d.saved) said.stays)
             cell.saved_dropped,
-        stays-left (g.D.Disk.seen cell.shelf.disk) (g.D.Disk.may_leave cell.shelf.disk)
+        stays-left (g.D.Disk.may_leave (disk_of cell.store))
             (ap (λ d. d.saved) said.stays) (ap (λ d. d.node.core) said.stays) cell.while_open
-            cell.left,
+            cell.left cell.imaged,
       ),
     )
 
@@ -34,7 +35,7 @@ returns-clause-learned g c =
     rw (← c.self.view_is)
     record {
       same = said.same;
-      stays = ap (cell_at cell.first.value cell.shelf.disk cell.shelf.ready cell.trace) said.stays;
+      stays = ap (cell_at cell.first.value (disk_of cell.store) (is_ready_in cell.store) (logs_in cell.store) cell.trace) said.stays;
       known = said.learned.known
           ∙ ap (λ l. learns l (known cell.desk.seat)) (sym (ap (λ v. v.seen) said.learned.known));
     }

@@ -1,4 +1,4 @@
-use Rattle.cell.proofs.Opening.{open-holds}
+use Rattle.std.proofs.Common.{◌∙◌}
 use Rattle.cell.proofs.cell.Cell.node.Goals as goal
 
 pub returns-clause-kept : goal.returns-clause-kept
@@ -11,10 +11,10 @@ returns-clause-kept g c =
       was = desk.was;
       unsaved = desk.unsaved;
       taken = desk.taken;
-      while_open = λ ready.
-          open-holds cell.desk.saved (g.D.Disk.seen cell.shelf.disk)
-          (g.D.Disk.may_leave cell.shelf.disk) (cell.shelf.settled ready).0 (cell.while_open ready);
+      while_open = cell.while_open;
       left = cell.left;
+      plain = λ none. c.logs-logs.ensures.plain (c.logs-logs.ensures.value ∙ none);
+      imaged = cell.imaged;
       dropped = cell.dropped;
       saved_dropped = cell.saved_dropped;
     }

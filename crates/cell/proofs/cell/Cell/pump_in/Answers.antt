@@ -8,7 +8,7 @@ returns-then-is_some-clause-closed g c = (
   λ closed. absurd (pumped-not-closed c.args.from c.next.result c.args.self.now c.next.new.self
       c.next.ensures.pumped closed),
   λ shut. (let never : ◌≡◌ {A = Bool} true false =
-      sym c.if-not-is_ready.false ∙ c.is_ready.ensures ∙ ap (λ v. v.is_open) c.self.view_is
+      sym c.if-not-is_ready.false ∙ c.is_ready.ensures.ready ∙ ap (λ v. v.is_open) c.self.view_is
       ∙ shut in absurd cc),
 )
 
@@ -17,7 +17,7 @@ returns-clause-closed g c = (
   λ closed. absurd (pumped-not-closed c.args.from c.receive.result c.args.self.now
       c.receive.new.self c.receive.ensures.pumped closed),
   λ shut. (let never : ◌≡◌ {A = Bool} true false =
-      sym c.if-not-is_ready.false ∙ c.is_ready.ensures ∙ ap (λ v. v.is_open) c.self.view_is
+      sym c.if-not-is_ready.false ∙ c.is_ready.ensures.ready ∙ ap (λ v. v.is_open) c.self.view_is
       ∙ shut in absurd cc),
 )
 
@@ -26,7 +26,7 @@ returns-then-is_some-clause-pumped g c = λ _ _. c.next.ensures.pumped
 
 pub returns-then-is_some-clause-shut : goal.returns-then-is_some-clause-shut
 returns-then-is_some-clause-shut g c = λ shut. (let never : ◌≡◌ {A = Bool} true false =
-    sym c.if-not-is_ready.false ∙ c.is_ready.ensures ∙ ap (λ v. v.is_open) c.self.view_is ∙ shut in
+    sym c.if-not-is_ready.false ∙ c.is_ready.ensures.ready ∙ ap (λ v. v.is_open) c.self.view_is ∙ shut in
     absurd cc)
 
 pub returns-then-is_some-clause-no_node : goal.returns-then-is_some-clause-no_node
@@ -39,7 +39,7 @@ returns-clause-pumped g c = λ _ _. c.receive.ensures.pumped
 
 pub returns-clause-shut : goal.returns-clause-shut
 returns-clause-shut g c = λ shut. (let never : ◌≡◌ {A = Bool} true false =
-    sym c.if-not-is_ready.false ∙ c.is_ready.ensures ∙ ap (λ v. v.is_open) c.self.view_is ∙ shut in
+    sym c.if-not-is_ready.false ∙ c.is_ready.ensures.ready ∙ ap (λ v. v.is_open) c.self.view_is ∙ shut in
     absurd cc)
 
 pub returns-clause-no_node : goal.returns-clause-no_node

@@ -1,5 +1,6 @@
 use Rattle.std.proofs.Common.{◌≡◌, ◌∙◌, Bool, ap, slice_index_or, subst, sym, true}
 use Rattle.std.proofs.lemmas.Result.{err_from_is_err_and}
+use Rattle.replays.specs.Stores.{disk_of, is_ready_in, logs_in}
 use Rattle.cell.specs.Cells.{CellView}
 use Rattle.wire.specs.Readers.{known, outbox}
 use Rattle.cell.specs.Pumping.{is_out}
@@ -14,7 +15,7 @@ pub invariant_of-self-inside : goal.invariant_of-self-inside
 invariant_of-self-inside g c =
     let cell = c.self.inside in
     let desk = c.send.new.self in
-    let ready : cell.shelf.ready ≡ true = sym c.is_ready.ensures ∙ c.if-not-is_ready.false in
+    let ready : is_ready_in cell.store ≡ true = sym c.is_ready.ensures.ready ∙ c.if-not-is_ready.false in
     let said = c.send.ensures in
     let v = known cell.desk.seat in
     let w = known desk.seat in
@@ -25,9 +26,9 @@ invariant_of-self-inside g c =
       (
         dropped-as first v w cell.desk.saved desk.saved took (ap (λ d. d.saved) said.stays)
             cell.saved_dropped,
-        stays-open cell.desk.saved desk.saved desk.node.core (g.D.Disk.seen cell.shelf.disk)
-            (g.D.Disk.may_leave cell.shelf.disk) (ap (λ d. d.saved) said.stays)
-            (cell.shelf.settled ready).0 (cell.while_open ready),
+        stays-open cell.desk.saved desk.saved desk.node.core
+            (g.D.Disk.may_leave (disk_of cell.store)) (ap (λ d. d.saved) said.stays)
+            (cell.while_open ready) cell.imaged,
       ),
     )
 
@@ -35,20 +36,20 @@ pub returns-clause-stays : goal.returns-clause-stays
 returns-clause-stays g c =
     let cell = c.self.inside in
     rw (← c.self.view_is)
-    (ap (cell_at cell.first.value cell.shelf.disk cell.shelf.ready cell.trace) c.send.ensures.stays)
+    (ap (cell_at cell.first.value (disk_of cell.store) (is_ready_in cell.store) (logs_in cell.store) cell.trace) c.send.ensures.stays)
 
 pub returns-in_err-is_sent-clause-stays : goal.returns-in_err-is_sent-clause-stays
 returns-in_err-is_sent-clause-stays g c =
     let cell = c.self.inside in
     rw (← c.self.view_is)
-    (ap (cell_at cell.first.value cell.shelf.disk cell.shelf.ready cell.trace) c.send.ensures.stays)
+    (ap (cell_at cell.first.value (disk_of cell.store) (is_ready_in cell.store) (logs_in cell.store) cell.trace) c.send.ensures.stays)
 
 pub returns-in_err-is_sent-clause-refused : goal.returns-in_err-is_sent-clause-refused
 returns-in_err-is_sent-clause-refused g c =
     let cell = c.self.inside in
     let p = err_from_is_err_and c.from_residual.result c.from_residual.ensures.1 in
     rw (p.1, ← c.self.view_is)
-    (ap (cell_at cell.first.value cell.shelf.disk cell.shelf.ready cell.trace)
+    (ap (cell_at cell.first.value (disk_of cell.store) (is_ready_in cell.store) (logs_in cell.store) cell.trace)
     c.in_err-is_sent.ensures.refused.1)
 
 pub returns-clause-sent : goal.returns-clause-sent

@@ -1,5 +1,6 @@
 use Rattle.std.proofs.Common.{◌≡◌, ◌∙◌, ap, sym, true}
 use Rattle.wire.specs.Readers.{known}
+use Rattle.replays.specs.Stores.{disk_of, is_ready_in, logs_in}
 use Rattle.cell.proofs.Dropping.{dropped-as, took-same}
 use Rattle.cell.proofs.Opening.{stays-open}
 use Rattle.cell.proofs.Views.{cell_at}
@@ -9,7 +10,7 @@ pub invariant_of-self-inside : goal.invariant_of-self-inside
 invariant_of-self-inside g c =
     let cell = c.self.inside in
     let desk = c.raise.new.self in
-    let ready : cell.shelf.ready ≡ true = sym c.is_ready.ensures ∙ c.if-not-is_ready.false in
+    let ready : is_ready_in cell.store ≡ true = sym c.is_ready.ensures.ready ∙ c.if-not-is_ready.false in
     let said = c.raise.ensures in
     let v = known cell.desk.seat in
     let w = known desk.seat in
@@ -20,9 +21,9 @@ invariant_of-self-inside g c =
       (
         dropped-as first v w cell.desk.saved desk.saved took (ap (λ d. d.saved) said.stays)
             cell.saved_dropped,
-        stays-open cell.desk.saved desk.saved desk.node.core (g.D.Disk.seen cell.shelf.disk)
-            (g.D.Disk.may_leave cell.shelf.disk) (ap (λ d. d.saved) said.stays)
-            (cell.shelf.settled ready).0 (cell.while_open ready),
+        stays-open cell.desk.saved desk.saved desk.node.core
+            (g.D.Disk.may_leave (disk_of cell.store)) (ap (λ d. d.saved) said.stays)
+            (cell.while_open ready) cell.imaged,
       ),
     )
 
@@ -30,5 +31,5 @@ pub returns-clause-stays : goal.returns-clause-stays
 returns-clause-stays g c =
     let cell = c.self.inside in
     rw (← c.self.view_is)
-    (ap (cell_at cell.first.value cell.shelf.disk cell.shelf.ready cell.trace)
+    (ap (cell_at cell.first.value (disk_of cell.store) (is_ready_in cell.store) (logs_in cell.store) cell.trace)
     c.raise.ensures.stays)

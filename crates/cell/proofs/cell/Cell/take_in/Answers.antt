@@ -1,4 +1,5 @@
 use Rattle.std.proofs.Common.{◌≡◌, ◌<◌, ℕ, Bool, true, [], ◌∷◌, ◌++◌, sym, ap, ◌∙◌, subst}
+use Rattle.replays.specs.Stores.{disk_of, is_ready_in, logs_in}
 use Rattle.cell.proofs.Dropping.{TookMore, at-last, dropped-as, handled-dropped, handled-took, took-again, took-same}
 use Rattle.cell.proofs.Opening.{stays-open}
 use Rattle.circular_buffer.specs.Buffer.{keep_last}
@@ -22,7 +23,7 @@ pub invariant_of-self-inside : goal.invariant_of-self-inside
 invariant_of-self-inside g c =
     let cell = c.self.inside in
     let desk = c.take.new.self in
-    let ready : cell.shelf.ready ≡ true = ap (λ v. v.is_open) c.self.view_is ∙ c.requires.ready in
+    let ready : is_ready_in cell.store ≡ true = ap (λ v. v.is_open) c.self.view_is ∙ c.requires.ready in
     let said = c.take.ensures in
     let v = known cell.desk.seat in
     let w = known desk.seat in
@@ -34,9 +35,9 @@ invariant_of-self-inside g c =
       (
         dropped-as first v w cell.desk.saved desk.saved took (ap (λ d. d.saved) said.stays)
             cell.saved_dropped,
-        stays-open cell.desk.saved desk.saved desk.node.core (g.D.Disk.seen cell.shelf.disk)
-            (g.D.Disk.may_leave cell.shelf.disk) (ap (λ d. d.saved) said.stays)
-            (cell.shelf.settled ready).0 (cell.while_open ready),
+        stays-open cell.desk.saved desk.saved desk.node.core
+            (g.D.Disk.may_leave (disk_of cell.store)) (ap (λ d. d.saved) said.stays)
+            (cell.while_open ready) cell.imaged,
       ),
     )
 
@@ -44,7 +45,7 @@ pub invariant_of-self-inside-2 : goal.invariant_of-self-inside-2
 invariant_of-self-inside-2 g c =
     let cell = c.self.inside in
     let desk = c.handle-answered.new.self in
-    let ready : cell.shelf.ready ≡ true = ap (λ v. v.is_open) c.self.view_is ∙ c.requires.ready in
+    let ready : is_ready_in cell.store ≡ true = ap (λ v. v.is_open) c.self.view_is ∙ c.requires.ready in
     let took = c.take.ensures in
     let said = c.handle-answered.ensures in
     let u = known cell.desk.seat in
@@ -67,9 +68,8 @@ invariant_of-self-inside-2 g c =
             (took-again u v w more (handled-took c.in_ok-frame.frame c.handle-answered.result
             c.take.new.self.node desk.node v w said.handled))
             saved cell.saved_dropped,
-        stays-open cell.desk.saved desk.saved desk.node.core (g.D.Disk.seen cell.shelf.disk)
-            (g.D.Disk.may_leave cell.shelf.disk) saved (cell.shelf.settled ready).0
-            (cell.while_open ready),
+        stays-open cell.desk.saved desk.saved desk.node.core
+            (g.D.Disk.may_leave (disk_of cell.store)) saved (cell.while_open ready) cell.imaged,
       ),
     )
 
@@ -139,7 +139,7 @@ returns-clause-goes_on g c =
           (ap (λ d. d.unsaved) took.stays)
           (subst (λ (u : Known). IsMarked u (known desk.seat) c.take.new.self.unsaved desk.unsaved)
           c.in_ok-frame.ensures.taken.3.2 said.unsaved);
-      stays = ap (cell_at cell.first.value cell.shelf.disk cell.shelf.ready c.push.new.self)
+      stays = ap (cell_at cell.first.value (disk_of cell.store) (is_ready_in cell.store) (logs_in cell.store) c.push.new.self)
           (said.stays ∙ ap (λ (d : DeskView). record d {
             node = desk.node;
             seat = desk.seat;

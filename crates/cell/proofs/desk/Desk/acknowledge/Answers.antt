@@ -1,4 +1,5 @@
 use Rattle.std.proofs.Common.{sym, subst}
+use Rattle.std.proofs.Math.Logic.{∥∥₁_map}
 use Rattle.wire.specs.Readers.{known}
 use Rattle.cell.specs.Desks.{AreTaken}
 use Rattle.cell.proofs.Standing.{stands-acknowledged}
@@ -10,7 +11,7 @@ invariant_of-self-inside c =
     let pair = (known desk.seat).pair in (
       desk.at,
       (
-        stands-acknowledged desk.own desk.nodes pair desk.node.core c.act.new.self.core c.args.ack
+        stands-acknowledged desk.own desk.nodes pair desk.node.core c.act.new.node.core c.args.ack
             c.act.result desk.stands c.act.ensures.leaves
             (c.act.ensures.states pair.current desk.stands.shows) c.act.ensures.unchanged,
         (
@@ -19,7 +20,10 @@ invariant_of-self-inside c =
             desk.ended_is,
             (
               desk.unsaved,
-              (subst (AreTaken (known desk.seat).taken) (sym c.act.ensures.early) desk.taken, tt),
+              (
+                subst (AreTaken (known desk.seat).taken) (sym c.act.ensures.early) desk.taken,
+                (∥∥₁_map desk.logged (c.act.ensures.logged desk.saved.value), tt),
+              ),
             ),
           ),
         ),

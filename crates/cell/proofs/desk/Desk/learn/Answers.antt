@@ -22,7 +22,7 @@ invariant_of-self-inside c =
               (
                 subst (λ (ts : List Plain). AreTaken ts desk.node.early)
                     (sym (ap (λ (v : Known). v.taken) same)) desk.taken,
-                tt,
+                (desk.logged, tt),
               ),
             ),
           ),

@@ -9,6 +9,8 @@ use Rattle.cell.specs.Desks.{AreTaken, IsSavedNode, StandsAt}
 use Rattle.cell.specs.Events.{both_states}
 use Rattle.cell.proofs.Found.{found-read}
 use Rattle.cell.proofs.Waiting.{taken-none}
+use Rattle.replays.specs.Noted.{IsLogged}
+use Rattle.replays.proofs.Ends.{begun_log}
 use Rattle.cell.proofs.desk.Desk.new.Goals as goal
 
 pub invariant_of-result : goal.invariant_of-result
@@ -23,7 +25,7 @@ invariant_of-result c =
     ap (λ (s : NodeState). let p : Pair = record { current = pair.current; saved = s } in p)
     c.requires.seat.saved in
     let found = found-read c.state-state.result.own c.nodes.result pair.current n own nodes
-    c.requires.seat.shows c.requires.image in (
+    c.requires.seat.shows c.requires.kept in (
       record {
         own = sym c.requires.seat.own ∙ own;
         nodes = sym c.requires.seat.nodes ∙ nodes;
@@ -47,7 +49,11 @@ invariant_of-result c =
                 subst (AreTaken (known c.args.seat).taken)
                     (sym (ap (λ (m : WholeNode). m.early) c.requires.alone))
                     (taken-none (known c.args.seat).taken n.local.shape.nodes),
-                tt,
+                (
+                  subst (λ (m : NodeView). ∥ IsLogged c.begin.new.self m n ∥₁) (sym (c.of.ensures ∙ c.core.ensures.value))
+                      ∣ begun_log c.begin.new.self c.args.logs n c.begin.ensures.kept c.begin.ensures.lost ∣₁,
+                  tt,
+                ),
               ),
             ),
           ),

@@ -1,4 +1,5 @@
 use Rattle.std.proofs.Common.{◌≡◌, Bool, true, false, List, Ok, sym, ap, ◌∙◌, subst, Result}
+use Rattle.std.proofs.Math.Logic.{∥∥₁_map}
 use Rattle.std.proofs.lemmas.Bool.{cond-true, cond-false}
 use Rattle.ids.specs.declared.refusal.Refusal.{Refusal}
 use Rattle.msg.specs.Grammar.{Plain}
@@ -34,7 +35,7 @@ invariant_of-self-inside c =
                 subst (AreTaken (known desk.seat).taken) (sym c.in_err-answer.ensures.early)
                     (taken-after (known desk.seat).taken desk.node.core.local desk.node.early c.args.event _
                     desk.taken (rw (← c.self.view_is) at c.requires.taken)),
-                tt,
+                (∥∥₁_map desk.logged (c.in_err-answer.ensures.logged desk.saved.value), tt),
               ),
             ),
           ),
@@ -60,9 +61,9 @@ invariant_of-self-inside-then-is_counted_answer c =
         nodes = c.enter.ensures.same.3 ∙ desk.at.nodes;
       },
       (
-        subst (λ (p : Pair). StandsAt desk.own desk.nodes p c.act.new.self.core)
+        subst (λ (p : Pair). StandsAt desk.own desk.nodes p c.act.new.node.core)
             (sym pair_is)
-            (stands-moved desk.own desk.nodes pair found.0 desk.node.core c.act.new.self.core e
+            (stands-moved desk.own desk.nodes pair found.0 desk.node.core c.act.new.node.core e
             desk.stands c.in_ok-answer.ensures.leaves found.2
             (behind-acted pair.saved pair.current e found.0 c.in_ok-answer.answer
             desk.stands.behind found.1)),
@@ -75,12 +76,12 @@ invariant_of-self-inside-then-is_counted_answer c =
             (
               λ never. absurd cc,
               (
-                subst (λ (ts : List Plain). AreTaken ts c.act.new.self.early)
+                subst (λ (ts : List Plain). AreTaken ts c.act.new.node.early)
                     (sym (ap (λ (v : Known). v.taken) c.enter.ensures.ticked))
                     (subst (AreTaken (known desk.seat).taken) (sym c.in_ok-answer.ensures.early)
                     (taken-after (known desk.seat).taken desk.node.core.local desk.node.early c.args.event
                     (Ok c.in_ok-answer.answer) desk.taken (rw (← c.self.view_is) at c.requires.taken))),
-                tt,
+                (∥∥₁_map desk.logged (c.in_ok-answer.ensures.logged desk.saved.value), tt),
               ),
             ),
           ),
@@ -96,7 +97,7 @@ invariant_of-self-inside-else-is_counted_answer c =
     let found = c.in_ok-answer.ensures.states pair.current desk.stands.shows in (
       desk.at,
       (
-        stands-quiet desk.own desk.nodes pair found.0 desk.node.core c.act.new.self.core e
+        stands-quiet desk.own desk.nodes pair found.0 desk.node.core c.act.new.node.core e
             desk.stands c.in_ok-answer.ensures.leaves found.2
             ((rw (← c.self.view_is) at c.requires.may).quiet found.0 c.in_ok-answer.answer
             (ap (act pair.current) (rw (← c.self.view_is) at c.requires.met) ∙ found.1)
@@ -111,7 +112,7 @@ invariant_of-self-inside-else-is_counted_answer c =
                 subst (AreTaken (known desk.seat).taken) (sym c.in_ok-answer.ensures.early)
                     (taken-after (known desk.seat).taken desk.node.core.local desk.node.early c.args.event
                     (Ok c.in_ok-answer.answer) desk.taken (rw (← c.self.view_is) at c.requires.taken)),
-                tt,
+                (∥∥₁_map desk.logged (c.in_ok-answer.ensures.logged desk.saved.value), tt),
               ),
             ),
           ),
@@ -144,7 +145,7 @@ returns-then-is_counted_answer-clause-given c =
     sym c.is_counted_answer.ensures ∙ c.if-is_counted_answer.true in
     rw (← c.self.view_is)
     (subst (λ (m : Event).
-    Given c.args.event m c.args.step (Ok a) desk.node c.act.new.self v (known c.enter.new.seat))
+    Given c.args.event m c.args.step (Ok a) desk.node c.act.new.node v (known c.enter.new.seat))
     (sym (rw (← c.self.view_is) at c.requires.met))
     record {
       acted = record {
@@ -173,7 +174,7 @@ returns-else-is_counted_answer-clause-given c =
     let quiet : is_counted a ≡ false =
     sym c.is_counted_answer.ensures ∙ c.if-is_counted_answer.false in
     rw (← c.self.view_is)
-    (subst (λ (m : Event). Given c.args.event m c.args.step (Ok a) desk.node c.act.new.self v v)
+    (subst (λ (m : Event). Given c.args.event m c.args.step (Ok a) desk.node c.act.new.node v v)
     (sym (rw (← c.self.view_is) at c.requires.met))
     record {
       acted = record {

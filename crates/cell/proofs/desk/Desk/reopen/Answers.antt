@@ -6,10 +6,12 @@ use Rattle.wire.specs.Views.{Known, Pair}
 use Rattle.wire.specs.Plays.{Happens}
 use Rattle.node.specs.Keeping.{WholeNode}
 use Rattle.cell.specs.Desks.{AreTaken, IsSavedNode, StandsAt}
-use Rattle.cell.specs.Disks.{is_same_image}
+use Rattle.cell.specs.Disks.{is_same_node}
 use Rattle.cell.specs.Events.{found_pair, found_step, reopened_by}
 use Rattle.cell.proofs.Waiting.{taken-none}
 use Rattle.cell.proofs.Found.{found-happens, is-found}
+use Rattle.replays.specs.Noted.{IsLogged}
+use Rattle.replays.proofs.Ends.{begun_log}
 use Rattle.cell.proofs.desk.Desk.reopen.Goals as goal
 
 pub enter_found-requires : goal.enter_found-requires
@@ -17,11 +19,11 @@ enter_found-requires c = (
   rw (← c.self.view_is) at c.requires.wire,
   subst (λ (m : NodeView).
       Happens (known c.self.inside.seat)
-      (found_step (is_same_image m c.self.inside.saved.value) (known c.self.inside.seat).me)
-      (found_pair (is_same_image m c.self.inside.saved.value)
+      (found_step (is_same_node m c.self.inside.saved.value) (known c.self.inside.seat).me)
+      (found_pair (is_same_node m c.self.inside.saved.value)
       (known c.self.inside.seat).pair))
       (sym c.core.ensures.value)
-      (found-happens (is_same_image c.args.found.core c.self.inside.saved.value)
+      (found-happens (is_same_node c.args.found.core c.self.inside.saved.value)
       (known c.self.inside.seat)),
 )
 
@@ -30,7 +32,7 @@ returns-clause-known c =
     rw (← c.self.view_is)
     (c.enter_found.ensures.ticked
     ∙ ap (λ (m : NodeView).
-    reopened_by (is_same_image m c.self.inside.saved.value) (known c.self.inside.seat))
+    reopened_by (is_same_node m c.self.inside.saved.value) (known c.self.inside.seat))
     c.core.ensures.value)
 
 pub invariant_of-self-inside : goal.invariant_of-self-inside
@@ -38,13 +40,13 @@ invariant_of-self-inside c =
     let desk = c.self.inside in
     let pair = (known desk.seat).pair in
     let found_core = c.args.found.core in
-    let same = is_same_image found_core desk.saved.value in
+    let same = is_same_node found_core desk.saved.value in
     let pair_is : (known c.enter_found.new.seat).pair ≡ found_pair same pair =
     ap (λ (v : Known). v.pair) c.enter_found.ensures.ticked
-    ∙ ap (λ (m : NodeView). found_pair (is_same_image m desk.saved.value) pair)
+    ∙ ap (λ (m : NodeView). found_pair (is_same_node m desk.saved.value) pair)
     c.core.ensures.value in
     let found = is-found desk.own desk.nodes pair desk.node.core desk.saved.value found_core
-    desk.stands desk.was c.requires.image (rw (← c.self.view_is) at c.requires.which) in (
+    desk.stands desk.was c.requires.kept (rw (← c.self.view_is) at c.requires.which) in (
       record {
         own = c.enter_found.ensures.same.2 ∙ desk.at.own;
         nodes = c.enter_found.ensures.same.3 ∙ desk.at.nodes;
@@ -70,13 +72,14 @@ invariant_of-self-inside c =
                 subst (AreTaken (known c.enter_found.new.seat).taken)
                     (sym (ap (λ (m : WholeNode). m.early) c.requires.alone))
                     (taken-none (known c.enter_found.new.seat).taken found_core.local.shape.nodes),
-                tt,
+                (
+                  subst (λ (m : NodeView). ∥ IsLogged c.begin.new.self m found_core ∥₁) (sym (c.of.ensures ∙ c.core-2.ensures.value))
+                      ∣ begun_log c.begin.new.self desk.logs found_core c.begin.ensures.kept c.begin.ensures.lost ∣₁,
+                  tt,
+                ),
               ),
             ),
           ),
         ),
       ),
     )
-
-pub returns-clause-was : goal.returns-clause-was
-returns-clause-was c = rw (← c.self.view_is) c.self.inside.was.image

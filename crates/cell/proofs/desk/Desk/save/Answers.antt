@@ -8,6 +8,9 @@ use Rattle.node.specs.Keeping.{WholeNode}
 use Rattle.cell.specs.Desks.{AreTaken, IsSavedNode, StandsAt}
 use Rattle.cell.specs.Events.{both_states}
 use Rattle.cell.proofs.Found.{found-read, shows-kept}
+use Rattle.replays.proofs.Stores.{kept_twice}
+use Rattle.replays.specs.Noted.{IsLogged}
+use Rattle.replays.proofs.Ends.{begun_log}
 use Rattle.cell.proofs.desk.Desk.save.Goals as goal
 
 pub invariant_of-self-inside : goal.invariant_of-self-inside
@@ -19,7 +22,7 @@ invariant_of-self-inside c =
     ap (λ (v : Known). v.pair) c.enter_save.ensures.ticked in
     let found = found-read desk.own desk.nodes pair.current (kept_view n) desk.stands.own
     desk.stands.nodes (shows-kept n pair.current desk.stands.shows)
-    (rw (← c.self.view_is) at c.requires.image) in (
+    (kept_twice n) in (
       record {
         own = c.enter_save.ensures.same.2 ∙ desk.at.own;
         nodes = c.enter_save.ensures.same.3 ∙ desk.at.nodes;
@@ -51,7 +54,11 @@ invariant_of-self-inside c =
                     (sym (ap (λ (v : Known). v.taken) c.enter_save.ensures.ticked))
                     (subst (AreTaken (known desk.seat).taken)
                     (sym (ap (λ (m : WholeNode). m.early) c.kept.ensures)) desk.taken),
-                tt,
+                (
+                  subst (λ (m : NodeView). ∥ IsLogged c.begin.new.self m c.kept.new.self.core ∥₁) (sym (c.of.ensures ∙ c.core.ensures.value))
+                      ∣ begun_log c.begin.new.self desk.logs c.kept.new.self.core c.begin.ensures.kept c.begin.ensures.lost ∣₁,
+                  tt,
+                ),
               ),
             ),
           ),

@@ -52,7 +52,7 @@ invariant_of-self-inside c =
               (
                 subst (λ (ts : List Plain). AreTaken ts desk.node.early)
                     (sym (sent-taken _ _ c.send-is_sent.result _ _ sent)) desk.taken,
-                tt,
+                (desk.logged, tt),
               ),
             ),
           ),
@@ -78,7 +78,7 @@ invariant_of-self-inside-else-is_sent c =
               (
                 subst (λ (ts : List Plain). AreTaken ts desk.node.early)
                     (sym (sent-taken _ _ c.send-is_sent.result _ _ sent)) desk.taken,
-                tt,
+                (desk.logged, tt),
               ),
             ),
           ),

@@ -34,7 +34,7 @@ invariant_of-self-inside c =
               (
                 subst (λ (ts : List Plain). AreTaken ts desk.node.early)
                     (sym (ap (λ (w : Known). w.taken) known_is)) desk.taken,
-                tt,
+                (desk.logged, tt),
               ),
             ),
           ),
@@ -135,7 +135,7 @@ invariant_of-self-inside-2 c =
                 subst (λ (ts : List Plain). AreTaken ts desk.node.early)
                     (sym (ap (λ (w : Known). w.taken) known_is))
                     (taken-more v.taken (told.2.0 ∷ []) desk.node.early desk.taken),
-                tt,
+                (desk.logged, tt),
               ),
             ),
           ),

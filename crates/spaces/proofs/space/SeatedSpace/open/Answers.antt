@@ -9,9 +9,13 @@ use Rattle.spaces.proofs.space.SeatedSpace.open.Goals as goal
 pub seat_all-requires : goal.seat_all-requires
 seat_all-requires c =
     let cells = c.in_ok-wire.cells.items in
-    subst (λ (w : Wire). EachOf (λ y. IsSeatOf w y.seat) cells) (sym c.in_ok-wire-2.ensures.ok)
-    (λ k y there. (c.in_ok-wire.ensures.begun.made.each_seat k y.seat
-    (mapped-there (λ z. z.seat) cells k y there)).of)
+    record {
+      seats = subst (λ (w : Wire). EachOf (λ y. IsSeatOf w y.seat) cells)
+          (sym c.in_ok-wire-2.ensures.ok)
+          (λ k y there. (c.in_ok-wire.ensures.begun.made.each_seat k y.seat
+          (mapped-there (λ z. z.seat) cells k y there)).of);
+      plain = c.in_ok-wire.ensures.begun.logs;
+    }
 
 pub seat_watches-requires : goal.seat_watches-requires
 seat_watches-requires c =

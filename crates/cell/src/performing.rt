@@ -15,6 +15,7 @@ use crate::entering::enter;
 use ids::Refusal;
 use model::{Answer, Event, Step};
 use msg::Ack;
+use replays::act;
 use wire::Wire;
 
 // Whether an answer is that of an event that counts. Reading a word doesn't count, nor does a
@@ -106,7 +107,7 @@ impl Desk {
         ensures same { IsSame self.old.seat self.new.seat }
         ensures stays { GoesOnAt self.old self.new }
     {
-        let answer = self.node.act(event)?;
+        let answer = act(&mut self.node, &mut self.log, event)?;
         if is_counted_answer(&answer) {
             enter(wire, &mut self.seat, step, meant);
             self.is_unsaved = true;
@@ -121,6 +122,6 @@ impl Desk {
         ensures memory_free { IfErr result (λ e. e ≢ Memory) }
         ensures stays { self.new ≡ record self.old { node = self.new.node } }
     {
-        self.node.act(Event::Ack(ack))
+        act(&mut self.node, &mut self.log, Event::Ack(ack))
     }
 }
