@@ -91,7 +91,7 @@ fn on_node(
         "bytes" => put_image(alloc, node, out),
         "state" => out.show(&SummaryText(node.state())),
         "kept" => {
-            node.kept();
+            node.mark_saved();
             log.lose();
             out.text("ok");
         }

@@ -66,7 +66,7 @@ impl Desk {
           unsaved = false;
         } }
     {
-        self.node.kept();
+        self.node.mark_saved();
         self.saved = Snapshot::of(self.node.core());
         self.ended = ended_by(&self.node);
         enter_save(wire, &mut self.seat);

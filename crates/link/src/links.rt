@@ -53,18 +53,18 @@ impl Ends {
         }
     }
 
-    fn kept(&mut self)
+    fn mark_saved(&mut self)
         ensures { self.new ≡ kept_ends self.old }
     {
-        self.sender.kept();
-        self.receiver.kept();
+        self.sender.mark_saved();
+        self.receiver.mark_saved();
     }
 
-    fn kept_to(&mut self, sent: u64, received: u64)
+    fn mark_saved_to(&mut self, sent: u64, received: u64)
         ensures { self.new ≡ kept_ends_to sent received self.old }
     {
-        self.sender.kept_to(sent);
-        self.receiver.kept_to(received);
+        self.sender.mark_saved_to(sent);
+        self.receiver.mark_saved_to(received);
     }
 }
 
@@ -329,12 +329,12 @@ impl Links {
     /// Marks every message, and everything received, as held by a saved state. To be called after a
     /// save: it releases the messages, and what was received may be acknowledged. It takes time
     /// linear in the number of nodes, whatever the number of messages.
-    pub fn kept(&mut self)
+    pub fn mark_saved(&mut self)
         ensures done { self.new ≡ kept_links self.old }
         ensures sound { IsLinks self.new }
     {
         for ends in self.by_node.iter_mut() {
-            ends.kept();
+            ends.mark_saved();
         }
     }
 
@@ -342,11 +342,11 @@ impl Links {
     /// to the number `received`, as held by a saved state. To be called after a save of an earlier
     /// state, with that state's numbers. A number above the last one counts as that one; one that
     /// counts as saved already changes nothing. It allocates nothing.
-    pub fn kept_to(&mut self, peer: u8, sent: u64, received: u64)
+    pub fn mark_saved_to(&mut self, peer: u8, sent: u64, received: u64)
         requires { peer < length self.old.links }
         ensures done { self.new ≡ kept_peer self.old peer sent received }
         ensures sound { IsLinks self.new }
     {
-        self.by_node[usize::from(peer)].kept_to(sent, received);
+        self.by_node[usize::from(peer)].mark_saved_to(sent, received);
     }
 }

@@ -106,7 +106,7 @@ impl Receiver {
     }
 
     /// Marks everything received as held by a saved state. To be called after a save.
-    pub fn kept(&mut self)
+    pub fn mark_saved(&mut self)
         ensures { self.new ≡ all_saved self.old }
     {
         self.saved = self.taken;
@@ -114,7 +114,7 @@ impl Receiver {
 
     /// Marks what was received up to this number as held by a saved state. A number above the last
     /// one received counts as that one; one below what is saved already changes nothing.
-    pub fn kept_to(&mut self, number: u64)
+    pub fn mark_saved_to(&mut self, number: u64)
         ensures { self.new ≡ saved_to number self.old }
     {
         self.saved = self.saved.max(number.min(self.taken));

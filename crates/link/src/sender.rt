@@ -144,7 +144,7 @@ impl Sender {
 
     /// Marks every message as held by a saved state, which releases them. To be called after a
     /// save.
-    pub fn kept(&mut self)
+    pub fn mark_saved(&mut self)
         ensures { self.new ≡ all_kept self.old }
     {
         self.kept = self.used();
@@ -152,7 +152,7 @@ impl Sender {
 
     /// Marks the messages up to this number as held by a saved state, which releases them. A number
     /// above the last one counts as that one; one below what is released already changes nothing.
-    pub fn kept_to(&mut self, number: u64)
+    pub fn mark_saved_to(&mut self, number: u64)
         ensures { self.new ≡ kept_to number self.old }
     {
         self.kept = self.kept.max(number.min(self.used()));

@@ -180,18 +180,18 @@ impl Node {
     }
 
     /// Marks all messages as held by a saved state, which releases them. Call it after a save.
-    pub fn kept(&mut self)
+    pub fn mark_saved(&mut self)
         ensures { self.new ≡ kept_whole self.old }
     {
-        self.core.kept();
+        self.core.mark_saved();
     }
 
     /// Marks as held by a saved state what was sent to the node `peer` and received from it, up to
     /// these numbers; see [`Core::kept_to`].
-    pub fn kept_to(&mut self, peer: u8, sent: u64, received: u64)
+    pub fn mark_saved_to(&mut self, peer: u8, sent: u64, received: u64)
         ensures { self.new ≡ kept_whole_with peer sent received self.old }
     {
-        self.core.kept_to(peer, sent, received);
+        self.core.mark_saved_to(peer, sent, received);
     }
 
     /// The part of the node that is saved.

@@ -149,10 +149,10 @@ impl Core {
     }
 
     /// Marks all messages as held by a saved state, which releases them. Call it after a save.
-    pub fn kept(&mut self)
+    pub fn mark_saved(&mut self)
         ensures { self.new ≡ kept_view self.old }
     {
-        self.links.kept();
+        self.links.mark_saved();
     }
 
     /// Marks as held by a saved state what was sent to the node `peer` up to the number `sent`, and
@@ -160,11 +160,11 @@ impl Core {
     /// of an earlier state, with that state's numbers ([`Core::links`]). A number above the last
     /// one counts as that one, and one that counts as saved already changes nothing. Nothing
     /// changes either if `peer` is no other node of the space. It allocates nothing.
-    pub fn kept_to(&mut self, peer: u8, sent: u64, received: u64)
+    pub fn mark_saved_to(&mut self, peer: u8, sent: u64, received: u64)
         ensures { self.new ≡ kept_with peer sent received self.old }
     {
         if self.is_other(peer) {
-            self.links.kept_to(peer, sent, received);
+            self.links.mark_saved_to(peer, sent, received);
         }
     }
 

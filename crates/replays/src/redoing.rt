@@ -108,6 +108,6 @@ fn redo(node: &mut Node, batch: &[u8]) -> Result<(), Refusal>
         }
         perform(node, event)?;
     }
-    node.kept();
+    node.mark_saved();
     Ok(())
 }

@@ -52,7 +52,7 @@ pub fn save<D: Disk>(
         ⊎ ((e ≡ Refusal.Memory) ⊎ (e ≡ Refusal.Disk)))) }
 {
     journal.save(node, log.bytes())?;
-    node.kept();
+    node.mark_saved();
     log.clear();
     Ok(())
 }

@@ -117,7 +117,7 @@ impl Site {
         let spare = self.saved.take_spare(alloc);
         let image = to_bytes_over(spare, &self.current)?;
         release_all(&mut self.outboxes, self.current.core())?;
-        self.current.kept();
+        self.current.mark_saved();
         self.saved.renew(image, self.current.core());
         Ok(())
     }

@@ -47,7 +47,7 @@ fn keep(node: &mut Node, counts: &[Counts])
             Some(held) => (held.sent, held.received),
             None => (0, 0),
         };
-        node.kept_to(peer, sent, received);
+        node.mark_saved_to(peer, sent, received);
     }
 }
 
@@ -121,7 +121,7 @@ impl LoneNode {
     pub fn release(&mut self)
         ensures { self.new ≡ released self.old }
     {
-        self.node.kept();
+        self.node.mark_saved();
         self.is_changed = false;
         self.is_unsaved = false;
         self.log.lose();

@@ -96,7 +96,7 @@ returns-clause-led c =
         before = now.node.core;
         logged = left_end c.args.batch.now c.args.node.now.core (left now.reader) now.node.core
             now.invariant.1 (sym c.finish.ensures ∙ c.loop-reader-test.false);
-        kept = ap (λ (n : WholeNode). n.core) c.kept.ensures;
+        kept = ap (λ (n : WholeNode). n.core) c.mark_saved.ensures;
       },
-      kept_alone now.node c.kept.new.self now.invariant.0 c.kept.ensures,
+      kept_alone now.node c.mark_saved.new.self now.invariant.0 c.mark_saved.ensures,
     )

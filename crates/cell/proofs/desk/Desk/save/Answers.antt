@@ -30,7 +30,7 @@ invariant_of-self-inside c =
       (
         subst
             (λ (m : NodeView). StandsAt desk.own desk.nodes (known c.enter_save.new.seat).pair m)
-            (sym (ap (λ (m : WholeNode). m.core) c.kept.ensures))
+            (sym (ap (λ (m : WholeNode). m.core) c.mark_saved.ensures))
             (subst (λ (p : Pair). StandsAt desk.own desk.nodes p (kept_view n)) (sym pair_is)
             found.stands),
         (
@@ -38,25 +38,25 @@ invariant_of-self-inside c =
               (λ (m : NodeView).
               IsSavedNode desk.own desk.nodes (known c.enter_save.new.seat).pair.saved m)
               (sym (c.of.ensures ∙ c.core.ensures.value
-              ∙ ap (λ (m : WholeNode). m.core) c.kept.ensures))
+              ∙ ap (λ (m : WholeNode). m.core) c.mark_saved.ensures))
               (subst (λ (p : Pair). IsSavedNode desk.own desk.nodes p.saved (kept_view n))
               (sym pair_is) found.saved),
           (
             c.ended_by-self-inside.ensures
-                ∙ ap (λ (m : WholeNode). m.core.local.phases.ended) c.kept.ensures
+                ∙ ap (λ (m : WholeNode). m.core.local.phases.ended) c.mark_saved.ensures
                 ∙ ap (λ (l : LocalState). l.phases.ended) found.saved.shows.local
                 ∙ sym (ap (λ (p : Pair). p.saved.local.phases.ended) pair_is),
             (
               λ _. ap (λ (p : Pair). p.current) pair_is
                   ∙ sym (ap (λ (p : Pair). p.saved) pair_is),
               (
-                subst (λ (ts : List Plain). AreTaken ts c.kept.new.self.early)
+                subst (λ (ts : List Plain). AreTaken ts c.mark_saved.new.self.early)
                     (sym (ap (λ (v : Known). v.taken) c.enter_save.ensures.ticked))
                     (subst (AreTaken (known desk.seat).taken)
-                    (sym (ap (λ (m : WholeNode). m.early) c.kept.ensures)) desk.taken),
+                    (sym (ap (λ (m : WholeNode). m.early) c.mark_saved.ensures)) desk.taken),
                 (
-                  subst (λ (m : NodeView). ∥ IsLogged c.begin.new.self m c.kept.new.self.core ∥₁) (sym (c.of.ensures ∙ c.core.ensures.value))
-                      ∣ begun_log c.begin.new.self desk.logs c.kept.new.self.core c.begin.ensures.kept c.begin.ensures.lost ∣₁,
+                  subst (λ (m : NodeView). ∥ IsLogged c.begin.new.self m c.mark_saved.new.self.core ∥₁) (sym (c.of.ensures ∙ c.core.ensures.value))
+                      ∣ begun_log c.begin.new.self desk.logs c.mark_saved.new.self.core c.begin.ensures.kept c.begin.ensures.lost ∣₁,
                   tt,
                 ),
               ),

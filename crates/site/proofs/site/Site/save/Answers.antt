@@ -10,7 +10,7 @@ use Rattle.site.proofs.site.Site.save.Goals as goal
 -- once everything counts as saved, the image spells the node
 pub renew-requires : goal.renew-requires
 renew-requires c =
-    rw (c.in_ok-image.ensures.written, c.core-2.ensures.value, c.kept.ensures)
+    rw (c.in_ok-image.ensures.written, c.core-2.ensures.value, c.mark_saved.ensures)
     c.in_ok-image.ensures.image
 
 -- frames that were made but not released show nowhere
@@ -56,9 +56,9 @@ invariant_of-self-2 c =
     (site-saved _ _ c.self.invariant
     (simp length-map (c.release_all.auto.row ∙ ap length c.deref_mut.ensures.value))
     (record {
-      current = ap (λ (w : WholeNode). w.core) c.kept.ensures;
+      current = ap (λ (w : WholeNode). w.core) c.mark_saved.ensures;
       saved = c.renew.ensures ∙ c.core-2.ensures.value
-          ∙ ap (λ (w : WholeNode). w.core) c.kept.ensures;
+          ∙ ap (λ (w : WholeNode). w.core) c.mark_saved.ensures;
       frames = rw (c.deref_mut.ensures.value, c.core.ensures.value) at
           c.in_ok-release_all.ensures.done;
     }))
@@ -69,9 +69,9 @@ returns-clause-done c =
     (c.release_all.auto.row ∙ c.deref_mut.ensures.len) in
     rw (← c.self.view_is, wrote)
     (record {
-      current = ap (λ (w : WholeNode). w.core) c.kept.ensures;
+      current = ap (λ (w : WholeNode). w.core) c.mark_saved.ensures;
       saved = c.renew.ensures ∙ c.core-2.ensures.value
-          ∙ ap (λ (w : WholeNode). w.core) c.kept.ensures;
+          ∙ ap (λ (w : WholeNode). w.core) c.mark_saved.ensures;
       frames = rw (c.deref_mut.ensures.value, c.core.ensures.value) at
           c.in_ok-release_all.ensures.done;
     })

@@ -14,8 +14,8 @@ invariant_of-self c =
       node = node-kept_with n c.args.peer c.args.sent c.args.received c.self.invariant.node
           (other-from n c.args.peer other)
           (record {
-            sound = c.kept_to.ensures.sound;
-            links = c.kept_to.ensures.done;
+            sound = c.mark_saved_to.ensures.sound;
+            links = c.mark_saved_to.ensures.done;
             ring = refl;
           });
       limit = c.self.invariant.limit;
