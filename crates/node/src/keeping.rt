@@ -187,7 +187,7 @@ impl Node {
     }
 
     /// Marks as held by a saved state what was sent to the node `peer` and received from it, up to
-    /// these numbers; see [`Core::kept_to`].
+    /// these numbers; see [`Core::mark_saved_to`].
     pub fn mark_saved_to(&mut self, peer: u8, sent: u64, received: u64)
         ensures { self.new ≡ kept_whole_with peer sent received self.old }
     {
