@@ -60,16 +60,3 @@ module _ (v : LinksView) (own cycle last : ℕ) (last-is : last ≡ length v.lin
       spent-after ((length v.links - 1, token) ∷ []) others first
       (subst (λ (k : ℕ). fits (map used l.links) (for_others own told k) ≡ false)
       (sent-width first) none)
-
--- ---- the same message for all others
-
--- what a node announces, and what the links are asked to send
-pub told-is : (n : NodeView) (b : Body) (stamp : ℕ) → stamp ≡ n.local.phases.cycle
-    → length n.links ≡ n.local.shape.nodes
-    → for_others n.local.own (record { stamp = stamp; body = b }) (length n.links)
-    ≡ (announce b n.local).sends
-unfolding announce
-told-is n b stamp now width =
-    ap (λ (k : ℕ). for_others n.local.own (record { stamp = k; body = b }) (length n.links)) now
-    ∙ ap (for_others n.local.own (stamped n.local b)) width
-    ∙ sym (to_others-is n.local b n.local.shape.nodes)
