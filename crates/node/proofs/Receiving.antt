@@ -264,6 +264,12 @@ module _ (from stamp : ℕ) (p : LocalState) where
           ∙ ap (λ (rs : List Ref). see_to true (target ∷ rs) q) (sym (filled-one v)))
 
 pub ruleset following = (
-  begin-followed, token-followed, mark-followed, give-followed, put-followed, get-followed,
-  ended-followed, swept-followed
+  begin-followed,
+  token-followed,
+  mark-followed,
+  give-followed,
+  put-followed,
+  get-followed,
+  ended-followed,
+  swept-followed,
 )

@@ -9,7 +9,7 @@ use Rattle.model.specs.Steps.{fits}
 use Rattle.model.specs.View.{NodeView, used}
 use Rattle.model.proofs.Appending.{fits-append}
 use Rattle.link.specs.Links.{LinksView, appended_to, fits_others, fits_to, for_others}
-use Rattle.link.proofs.Announcing.{to_others-is}
+use Rattle.link.proofs.EveryLink.{retracted_to-appended_to}
 use Rattle.barrier.specs.Asked.{AreSent, all_appended}
 use Rattle.barrier.proofs.Sent.{fits-then, sent-then, sent-width}
 use Rattle.node.specs.Cycles.{begins}
@@ -60,3 +60,12 @@ module _ (v : LinksView) (own cycle last : ℕ) (last-is : last ≡ length v.lin
       spent-after ((length v.links - 1, token) ∷ []) others first
       (subst (λ (k : ℕ). fits (map used l.links) (for_others own told k) ≡ false)
       (sent-width first) none)
+
+pub ruleset sending = (
+  spent-before,
+  spent-after,
+  sent-then,
+  begins-sent,
+  begins-spent,
+  retracted_to-appended_to,
+)

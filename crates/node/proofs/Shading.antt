@@ -97,8 +97,10 @@ pub load-errand : (p : LocalState) (register : ℕ) (v : Option Ref)
     (λ q. record q { heap = with_register q.heap register v })
 unfolding errand_here
 load-errand p register v =
-    rw (errand-stays p.phases.cycle true (filled (v ∷ [])) extra.Nothing p (le_refl p.phases.cycle),
-    filled-one v)
+    rw (
+      errand-stays p.phases.cycle true (filled (v ∷ [])) extra.Nothing p (le_refl p.phases.cycle),
+      filled-one v,
+    )
     refl
 
 -- the registers are still there

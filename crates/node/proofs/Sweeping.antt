@@ -25,7 +25,6 @@ use Rattle.heap.specs.Heap.{swept}
 use Rattle.node.specs.Cycles.{reports, slots_swept}
 use Rattle.node.specs.Errands.{IsRun}
 use Rattle.node.specs.Invariant.{IsNode}
-use Rattle.node.proofs.Events.{effect-performed, effect-refused, past_tests, test_refused}
 use Rattle.node.proofs.Nodes.{moved, node-moved, with_swept}
 
 -- ---- the heap has as many slots as before

@@ -193,6 +193,7 @@ pub(super) fn letters_in(extra: Extra) -> usize
 /// The part of an errand that can fail: asks for the references or vouches for them, and then sends
 /// what the extra says. All of it or nothing is done. It returns the number of Marks sent.
 #[inline(always)]
+#[tactic(auto, using(crate::proofs::Sends::sending))]
 pub(super) fn send_out(
     asked: &mut RefSet,
     links: &mut Links,
@@ -277,6 +278,7 @@ fn send_message(links: &mut Links, to: u8, message: Message) -> Result<(), Refus
 
 /// Sends the token of a new probe to the last node, and announces the cycle to all nodes except
 /// `own`: all of it or nothing.
+#[tactic(auto, using(crate::proofs::Sends::sending))]
 fn send_begins(links: &mut Links, own: u8, cycle: u64) -> Result<(), Refusal>
     requires { 0 < length links.old.links }
     ensures done { OnOk result (AreSent
