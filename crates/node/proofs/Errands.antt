@@ -95,13 +95,13 @@ module _ (n : NodeView) (old : IsNode n) where
       (stocked-letter old.stocked l fit.0)
       (le_refl (length n.local.heap.slots))
   node-extra (extra.Answer to label reference) fit links =
-      node-sent n to (body.Give label reference) old fit.0
+      node-sent n to (body.Give label reference) old fit.0.0 fit.0.1
       (record {
         stamp = old.phases.phases.within;
         references = any-list (IsWithin n.local.shape) reference fit.1;
         place = tt;
       })
-      (record { sound = links; links = refl; ring = refl })
+      links
   node-extra extra.Begins first links =
       let own : ℕ = n.local.own in
       let cycle : ℕ = n.local.phases.cycle in
@@ -109,9 +109,8 @@ module _ (n : NodeView) (old : IsNode n) where
       let may = begins-may first in
       let more : number_sum n.links n.local.got ≤ number_sum (append_to n.links ms) n.local.got =
       omega (arith, numbers-appended n.local.shape own cycle (links_of n) ms old.links may) in
-      node-rewired n (all_appended (links_of n) ms) (whitened n.local.ring) old
-      (record { sound = links; links = refl; ring = refl }) refl
-      (linked-appended n.local.shape own cycle (links_of n) ms old.links may)
+      node-rewired n (all_appended (links_of n) ms) (whitened n.local.ring) old refl
+      (linked-appended n.local.shape own cycle (links_of n) ms old.links may links)
       (bounded_more _ _ (whitened n.local.ring) more
       (bounded-same _ (whitened n.local.ring) n.local.ring refl refl old.balance))
   node-extra extra.Nothing fit links = old

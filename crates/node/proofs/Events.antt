@@ -127,23 +127,6 @@ module _ (n : NodeView) (ts : List (Bool × Refusal)) (x : Effect) where
     λ memory. subst (IsReplaced false) (sym (answered all (last memory))) refl,
   )
 
--- ---- an effect that fails only if its messages get no numbers
-
-module _ {n new : NodeView} (x : Effect) where
-  pub effect-performed : IsRun (record { local = x.local; sends = x.sends }) n new
-      → Performed false (Ok x.answer) n new (view_done n x)
-  effect-performed run = record {
-    performs = answered n [] x tt run.fits ∙ ap (λ (m : NodeView). okay m x.answer) (sym run.now);
-    unchanged = tt;
-  }
-
-  pub effect-refused : (e : Refusal)
-      → (e ≢ Memory → (e ≡ LinkSpent) × (fits (map used n.links) x.sends ≡ false))
-      → (e ≡ Memory → fits (map used n.links) x.sends ≡ true) → new ≡ n
-      → Performed false (Err e) n new (view_done n x)
-  effect-refused e told last same =
-      record { performs = sending_refused n [] x e tt told last; unchanged = same }
-
 -- ---- an event that shades: the effect of its errand, and its answer
 
 module _ {n new : NodeView} (ts : List (Bool × Refusal)) {x : Effect} {w : Work} {a : Answer}

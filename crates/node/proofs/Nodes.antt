@@ -79,32 +79,20 @@ rewired n l r =
       acks = l.acks;
     }
 
--- the links and the ring after a call, and the same by the definitions
-pub record Rewires (v : LinksView) (q : Ring) (l : LinksView) (r : Ring) : Type 0 where
-  pub sound : IsLinks l
-  pub links : l ≡ v
-  pub ring : r ≡ q
-
-pub node-rewired : (n : NodeView) (v : LinksView) (q : Ring) {l : LinksView} {r : Ring} → IsNode n
-    → Rewires v q l r → q.token ≡ n.local.ring.token
-    → (IsLinks v → AreLinked n.local.shape n.local.own n.local.phases.cycle v)
-    → IsBalanced q v.links v.got → IsNode (rewired n l r)
-node-rewired n v q {l = l} {r = r} old w same linked balance =
-    let now : AreLinked n.local.shape n.local.own n.local.phases.cycle l =
-    subst (AreLinked n.local.shape n.local.own n.local.phases.cycle) (sym w.links)
-    (linked (subst IsLinks w.links w.sound)) in
-    record {
-      shape = old.shape;
-      own = old.own;
-      references = old.references;
-      stocked = old.stocked;
-      asked = old.asked;
-      phases = old.phases;
-      token = subst (IsHeld n.local.phases.cycle n.local.phases.ended)
-          (sym (ap (λ (z : Ring). z.token) w.ring ∙ same)) old.token;
-      links = now;
-      balance = rw (w.links, w.ring) balance;
-    }
+pub node-rewired : (n : NodeView) (v : LinksView) (q : Ring) → IsNode n → q.token ≡ n.local.ring.token
+    → AreLinked n.local.shape n.local.own n.local.phases.cycle v → IsBalanced q v.links v.got
+    → IsNode (rewired n v q)
+node-rewired n v q old same linked balance = record {
+  shape = old.shape;
+  own = old.own;
+  references = old.references;
+  stocked = old.stocked;
+  asked = old.asked;
+  phases = old.phases;
+  token = subst (IsHeld n.local.phases.cycle n.local.phases.ended) (sym same) old.token;
+  links = linked;
+  balance = balance;
+}
 
 -- ---- links
 
@@ -156,61 +144,72 @@ module _ (n : NodeView) (old : IsNode n) where
     timely = timely-kept old.links.timely;
   }
 
--- ---- in the form of the code: the links after a call, and the ring
+other-from : (n : NodeView) (i : ℕ) → is_other n.local i ≡ true
+    → IsOther n.local.shape n.local.own i
+other-from n i h = grind (arith, nat_tests, h)
 
-pub node-sent : (n : NodeView) (to : ℕ) (b : Body) {l : LinksView} {r : Ring} → IsNode n
-    → IsOther n.local.shape n.local.own to → IsSendable n.local.shape (stamped n.local b)
-    → Rewires (appended_to (links_of n) to (stamped n.local b))
-    (counted_up (balance_of n.local.phases.cycle n.local.phases.cycle b) n.local.ring) l r
-    → IsNode (rewired n l r)
-node-sent n to b old there sendable w =
+-- a frame that is addressed to the node comes from another node of the shape
+addressed-from : (n : NodeView) (from to : ℕ) → is_addressed n.local from to ≡ true
+    → IsOther n.local.shape n.local.own from
+addressed-from n from to h = grind (arith, nat_tests, h)
+
+-- ---- the node
+
+-- a message was appended, and counted
+pub node-sent : (n : NodeView) (to : ℕ) (b : Body) → IsNode n → to < n.local.shape.nodes
+    → to ≢ n.local.own → IsSendable n.local.shape (stamped n.local b)
+    → IsLinks (appended_to (links_of n) to (stamped n.local b))
+    → IsNode (rewired n (appended_to (links_of n) to (stamped n.local b))
+    (counted_up (balance_of n.local.phases.cycle n.local.phases.cycle b) n.local.ring))
+node-sent n to b old there other sendable links =
     let s : Shaped = n.local.shape in
     let own : ℕ = n.local.own in
     let cycle : ℕ = n.local.phases.cycle in
     let x : Message = stamped n.local b in
     let k = balance_of cycle cycle b in
-    let may = one-may s own cycle to x there sendable (le_refl cycle) in
-    node-rewired n (appended_to (links_of n) to x) (counted_up k n.local.ring) old w
+    let may = one-may s own cycle to x (there, other) sendable (le_refl cycle) in
+    node-rewired n (appended_to (links_of n) to x) (counted_up k n.local.ring) old
     (up-token k n.local.ring)
-    (linked-appended s own cycle (links_of n) ((to, x) ∷ []) old.links may)
+    (linked-appended s own cycle (links_of n) ((to, x) ∷ []) old.links may links)
     (subst (λ (most : ℕ). IsBounded most (counted_up k n.local.ring))
     (sym (numbers-appended s own cycle (links_of n) ((to, x) ∷ []) old.links may))
     (bounded_up (number_sum n.links n.local.got) k n.local.ring old.balance))
 
-pub node-trimmed : (n : NodeView) (from number : ℕ) {l : LinksView} → IsNode n
-    → IsOther n.local.shape n.local.own from
-    → Rewires (trimmed_to (links_of n) from number) n.local.ring l n.local.ring
-    → IsNode (rewired n l n.local.ring)
-node-trimmed n from number old there w =
+-- messages were acknowledged
+pub node-trimmed : (n : NodeView) (from to number : ℕ) → IsNode n
+    → is_addressed n.local from to ≡ true → IsLinks (trimmed_to (links_of n) from number)
+    → IsNode (rewired n (trimmed_to (links_of n) from number) n.local.ring)
+node-trimmed n from to number old addressed links =
+    let there = addressed-from n from to addressed in
     let inside : from < length n.links = omega (arith, there.0, old.links.width) in
-    node-rewired n (trimmed_to (links_of n) from number) n.local.ring old w refl
-    (linked-trimmed n old from number there.1)
+    node-rewired n (trimmed_to (links_of n) from number) n.local.ring old refl
+    (linked-trimmed n old from number there.1 links)
     (balance-trimmed n.local.ring n.links n.local.got from number old.balance inside)
 
 -- the same message was appended for all others
-pub node-told : (n : NodeView) (x : Message) {l : LinksView} → IsNode n
-    → IsSendable n.local.shape x → x.stamp ≡ n.local.phases.cycle
-    → Rewires (announced (links_of n) n.local.own x) n.local.ring l n.local.ring
-    → IsNode (rewired n l n.local.ring)
-node-told n x old sendable now w =
+pub node-told : (n : NodeView) (b : Body) → IsNode n
+    → IsSendable n.local.shape (stamped n.local b)
+    → IsLinks (announced (links_of n) n.local.own (stamped n.local b))
+    → IsNode (rewired n (announced (links_of n) n.local.own (stamped n.local b)) n.local.ring)
+node-told n b old sendable links =
     let s : Shaped = n.local.shape in
     let own : ℕ = n.local.own in
     let cycle : ℕ = n.local.phases.cycle in
+    let x : Message = stamped n.local b in
     let ms : List (ℕ × Message) = for_others own x (length n.links) in
     let may = subst (λ (k : ℕ). MaySend s own cycle (for_others own x k)) (sym old.links.width)
-    (others-may s own cycle x sendable (omega (arith, now))) in
+    (others-may s own cycle x sendable (le_refl cycle)) in
     let more = numbers-appended s own cycle (links_of n) ms old.links may in
-    node-rewired n (all_appended (links_of n) ms) n.local.ring old w refl
-    (linked-appended s own cycle (links_of n) ms old.links may)
+    node-rewired n (all_appended (links_of n) ms) n.local.ring old refl
+    (linked-appended s own cycle (links_of n) ms old.links may links)
     (bounded_more _ _ n.local.ring (omega (arith, more)) old.balance)
 
--- the next message from a node is received
-pub node-counted : (n : NodeView) (from stamp : ℕ) (b : Body) {l : LinksView} {r : Ring} → IsNode n
-    → IsSender n.local from
-    → Rewires (taken_next_from (links_of n) from)
-    (counted_down (balance_of n.local.phases.cycle stamp b) n.local.ring) l r
-    → IsNode (rewired n l r)
-node-counted n from stamp b old sender w =
+-- the next message from a node was received
+pub node-counted : (n : NodeView) (from stamp : ℕ) (b : Body) → IsNode n → IsSender n.local from
+    → IsLinks (taken_next_from (links_of n) from)
+    → IsNode (rewired n (taken_next_from (links_of n) from)
+    (counted_down (balance_of n.local.phases.cycle stamp b) n.local.ring))
+node-counted n from stamp b old sender links =
     let k = balance_of n.local.phases.cycle stamp b in
     let got = n.local.got in
     let most : ℕ = number_sum n.links got in
@@ -219,9 +218,9 @@ node-counted n from stamp b old sender w =
     let more : sum_by (λ (j : ℕ). j) (set got from (get_or got from 0 + 1)) + get_or got from 0
     ≡ sum_by (λ (j : ℕ). j) got + (get_or got from 0 + 1) =
     sum_by-set (λ (j : ℕ). j) got from (get_or got from 0 + 1) 0 inside in
-    node-rewired n (taken_next_from (links_of n) from) (counted_down k n.local.ring) old w
+    node-rewired n (taken_next_from (links_of n) from) (counted_down k n.local.ring) old
     (down-token k n.local.ring)
-    (λ links. record {
+    (record {
       width = old.links.width;
       links = links;
       messages = old.links.messages;
@@ -230,22 +229,21 @@ node-counted n from stamp b old sender w =
     (bounded_more (most + 1) _ (counted_down k n.local.ring) (omega (arith, more))
     (bounded_down most k n.local.ring old.balance))
 
-pub node-kept : (n : NodeView) {l : LinksView} → IsNode n
-    → Rewires (kept_links (links_of n)) n.local.ring l n.local.ring
-    → IsNode (rewired n l n.local.ring)
-node-kept n old w =
-    node-rewired n (kept_links (links_of n)) n.local.ring old w refl
-    (linked-kept n old)
+-- everything was saved
+pub node-kept : (n : NodeView) → IsNode n → IsLinks (kept_links (links_of n))
+    → IsNode (rewired n (kept_links (links_of n)) n.local.ring)
+node-kept n old links =
+    node-rewired n (kept_links (links_of n)) n.local.ring old refl (linked-kept n old links)
     (balance-kept n.local.ring n.links n.local.got old.balance)
 
-pub node-kept_with : (n : NodeView) (peer sent received : ℕ) {l : LinksView} → IsNode n
-    → IsOther n.local.shape n.local.own peer
-    → Rewires (kept_peer (links_of n) peer sent received) n.local.ring l n.local.ring
-    → IsNode (rewired n l n.local.ring)
-node-kept_with n peer sent received old there w =
+pub node-kept_with : (n : NodeView) (peer sent received : ℕ) → IsNode n
+    → is_other n.local peer ≡ true → IsLinks (kept_peer (links_of n) peer sent received)
+    → IsNode (rewired n (kept_peer (links_of n) peer sent received) n.local.ring)
+node-kept_with n peer sent received old is links =
+    let there = other-from n peer is in
     let inside : peer < length n.links = omega (arith, there.0, old.links.width) in
-    node-rewired n (kept_peer (links_of n) peer sent received) n.local.ring old w refl
-    (linked-kept_peer n old peer sent received there.1)
+    node-rewired n (kept_peer (links_of n) peer sent received) n.local.ring old refl
+    (linked-kept_peer n old peer sent received there.1 links)
     (balance-set n.local.ring n.links n.local.got peer _ old.balance inside refl)
 
 phases-new : (nodes : ℕ) → IsPhases (new_phases nodes)
@@ -283,12 +281,3 @@ node-new shape own s within links = record {
   };
   balance = bounded_new (number_sum (replicate shape.nodes no_link) (replicate shape.nodes 0));
 }
-
-pub other-from : (n : NodeView) (i : ℕ) → is_other n.local i ≡ true
-    → IsOther n.local.shape n.local.own i
-other-from n i h = grind (arith, nat_tests, h)
-
--- a frame that is addressed to the node comes from another node of the shape
-pub addressed-from : (n : NodeView) (from to : ℕ) → is_addressed n.local from to ≡ true
-    → IsOther n.local.shape n.local.own from
-addressed-from n from to h = grind (arith, nat_tests, h)

@@ -37,4 +37,4 @@ pub told_same : (p : LocalState) (nodes : ℕ)
 told_same p nodes =
     to_others-is (ended_local p) body.Ended nodes ∙ sym (to_others-is p body.Ended nodes)
 
-pub ruleset judging = (concluded, continued, told_same)
+pub ruleset judging = (concluded, continued, told_same, to_others-is)

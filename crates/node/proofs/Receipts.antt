@@ -68,13 +68,17 @@ takable p d addressed turn may = record {
 
 -- ---- the tests of a node that joins the message's cycle first can be made before it joins
 
+none-is : {A : Type 0} (o : Option A) → is_none o ≡ not (is_some o)
+none-is None = refl
+none-is (Some x) = refl
+
 module _ (p : LocalState) (stamp : ℕ) where
-  pub joined-token : is_none (joined p stamp).local.ring.token ≡ is_none p.ring.token
+  pub joined-token : is_none (joined p stamp).local.ring.token ≡ not (is_some p.ring.token)
   joined-token =
       cond_both (nat_lt p.phases.cycle stamp) (join p stamp) (at_rest p)
-      (λ (w : Work). is_none w.local.ring.token ≡ is_none p.ring.token)
-      (λ _. ap (λ (t : Option Token). is_none t) (join-token p stamp))
-      (λ _. refl)
+      (λ (w : Work). is_none w.local.ring.token ≡ not (is_some p.ring.token))
+      (λ _. ap (λ (t : Option Token). is_none t) (join-token p stamp) ∙ none-is p.ring.token)
+      (λ _. none-is p.ring.token)
 
   module _ (phases : IsPhases p.phases) (later : p.phases.cycle < stamp) where
     before : (p.phases.ended == stamp) ≡ false
@@ -98,49 +102,16 @@ module _ (p : LocalState) (stamp : ℕ) where
     calm-later =
         ap (λ (q : LocalState). is_calm q.heap) joined-later ∙ join-calm p stamp before
 
--- ---- the tests of these bodies
-
-pub none-is : {A : Type 0} (o : Option A) (b : Bool) → is_some o ≡ not b → b ≡ is_none o
-none-is None true h = refl
-none-is (Some x) false h = refl
-none-is None false h = absurd cc
-none-is (Some x) true h = absurd cc
-
-at-most : (a b : ℕ) → b ≤ a → nat_le a b ≡ (b == a)
-at-most a b less = grind (arith, nat_tests)
-
-abbrev suits : LocalState → ℕ → ℕ → Body → Bool
-suits p from stamp b =
-    are_within p.shape (mentioned b)
-    && (may_follow p from b && may_settle (joined p stamp).local stamp b)
-
-module _ (p : LocalState) (from stamp : ℕ) (b : Body) where
-  pub suits-token : {token : Token} → b ≡ body.Token token → from ≡ (p.own + 1) % p.shape.nodes
-      → is_marking (joined p stamp).local stamp ≡ true
-      → is_none p.ring.token ≡ suits p from stamp b
-  suits-token is sender marks =
-      rw (is, eq-eqb from ((p.own + 1) % p.shape.nodes) sender, marks)
-      (sym (joined-token p stamp))
-
-  pub suits-ended : b ≡ body.Ended → from ≡ 0 → is_marking (joined p stamp).local stamp ≡ true
-      → is_calm (joined p stamp).local.heap ≡ true
-      → is_none p.ring.token ≡ suits p from stamp b
-  suits-ended is sender marks calm =
-      rw (is, eq-eqb from 0 sender, marks, calm) (sym (joined-token p stamp))
-
   -- the stamp is the node's cycle, or that of a cycle which the node joins
-  pub suits-swept : b ≡ body.Swept → p.own ≡ 0
-      → nat_le p.phases.cycle stamp ≡ suits p from stamp b
-  suits-swept is first =
-      rw (is, eq-eqb p.own 0 first) swept
-    where
-      swept : nat_le p.phases.cycle stamp ≡ (stamp == (joined p stamp).local.phases.cycle)
-      swept =
-          cond_both (nat_lt p.phases.cycle stamp) (join p stamp) (at_rest p)
-          (λ (w : Work). nat_le p.phases.cycle stamp ≡ (stamp == w.local.phases.cycle))
-          (λ later.
-          let less : p.phases.cycle < stamp = ltb-true p.phases.cycle stamp later in
-          le-leb p.phases.cycle stamp (omega (arith, less))
-          ∙ sym (eq-eqb stamp stamp refl)
-          ∙ ap (λ (z : Phases). stamp == z.cycle) (sym (join-phases p stamp)))
-          (λ here. at-most p.phases.cycle stamp (ltb-false p.phases.cycle stamp here))
+  pub joined-swept : (stamp == (joined p stamp).local.phases.cycle) ≡ nat_le p.phases.cycle stamp
+  joined-swept =
+      cond_both (nat_lt p.phases.cycle stamp) (join p stamp) (at_rest p)
+      (λ (w : Work). (stamp == w.local.phases.cycle) ≡ nat_le p.phases.cycle stamp)
+      (λ later.
+      let less : p.phases.cycle < stamp = ltb-true p.phases.cycle stamp later in
+      ap (λ (z : Phases). stamp == z.cycle) (join-phases p stamp)
+      ∙ eq-eqb stamp stamp refl
+      ∙ sym (le-leb p.phases.cycle stamp (omega (arith, less))))
+      (λ here. let most = ltb-false p.phases.cycle stamp here in grind (arith, nat_tests, most))
+
+pub ruleset joining = (joined-token, joined-swept, marks-later, calm-later)

@@ -28,7 +28,7 @@ use Rattle.node.specs.Taking.{IsSender, IsTakable, followed}
 use Rattle.node.specs.declared.node.errands.Extra.{Extra}
 use Rattle.node.specs.declared.node.errands.Extra.TheVariants as extra
 use Rattle.node.proofs.Events.{shaded, shaded-refused}
-use Rattle.node.proofs.Runs.{IsStep, run-then, runs-refused, stepped}
+use Rattle.node.proofs.Runs.{run-then, runs-refused, stepped}
 use Rattle.node.proofs.Places.{joined-places, seen-places}
 
 -- ---- the message counts
@@ -166,31 +166,31 @@ module _ (from stamp : ℕ) (p : LocalState) where
   unfolding take_body
   begin-followed = by-errand body.Begin false [] extra.Nothing (λ z. z) (quiet (λ z. z))
 
-  pub token-followed : (token : Token)
-      → IsStep (followed from stamp (body.Token token) p) (errand stamp false [] extra.Nothing p)
+  pub token-followed : (token : Token) → followed from stamp (body.Token token) p
+      ≡ stepped (errand stamp false [] extra.Nothing p)
       (λ z. record z { ring = record z.ring { token = Some token } })
   unfolding take_body
   token-followed token =
-      let held : LocalState → LocalState =
+      let f : LocalState → LocalState =
       λ z. record z { ring = record z.ring { token = Some token } } in
-      record { is = by-errand (body.Token token) false [] extra.Nothing held (quiet held) }
+      by-errand (body.Token token) false [] extra.Nothing f (quiet f)
 
-  pub ended-followed : IsStep (followed from stamp body.Ended p)
-      (errand stamp false [] extra.Nothing p)
+  pub ended-followed : followed from stamp body.Ended p
+      ≡ stepped (errand stamp false [] extra.Nothing p)
       (λ z. record z { phases = with_ended z.phases })
   unfolding take_body
   ended-followed =
-      let ended : LocalState → LocalState = λ z. record z { phases = with_ended z.phases } in
-      record { is = by-errand body.Ended false [] extra.Nothing ended (quiet ended) }
+      let f : LocalState → LocalState = λ z. record z { phases = with_ended z.phases } in
+      by-errand body.Ended false [] extra.Nothing f (quiet f)
 
-  pub swept-followed : IsStep (followed from stamp body.Swept p)
-      (errand stamp false [] extra.Nothing p)
+  pub swept-followed : followed from stamp body.Swept p
+      ≡ stepped (errand stamp false [] extra.Nothing p)
       (λ z. record z { phases = with_report from stamp z.phases })
   unfolding take_body
   swept-followed =
-      let noted : LocalState → LocalState =
+      let f : LocalState → LocalState =
       λ z. record z { phases = with_report from stamp z.phases } in
-      record { is = by-errand body.Swept false [] extra.Nothing noted (quiet noted) }
+      by-errand body.Swept false [] extra.Nothing f (quiet f)
 
   pub mark-followed : (target : Ref) → followed from stamp (body.Mark target) p
       ≡ errand stamp true (filled (Some target ∷ [])) extra.Nothing p
@@ -223,21 +223,14 @@ module _ (from stamp : ℕ) (p : LocalState) where
       same = rw (is, joined-cycle p stamp, filled-one v) refl
 
   pub put-followed : (due : Bool) (target : Ref) (place : ℕ) (v : Option Ref) → due ≡ late
-      → IsStep (followed from stamp (body.Put target place v) p)
-      (errand stamp due (filled (Some target ∷ v ∷ [])) extra.Nothing p)
+      → followed from stamp (body.Put target place v) p
+      ≡ stepped (errand stamp due (filled (Some target ∷ v ∷ [])) extra.Nothing p)
       (λ z. record z { heap = with_place z.heap target place v })
   unfolding take_body errand_here
   put-followed due target place v is =
-      record {
-        is = by-errand (body.Put target place v) due (filled (Some target ∷ v ∷ [])) extra.Nothing
-            (λ (z : LocalState). record z { heap = with_place z.heap target place v }) same;
-      }
-    where
-      same : then (take_carried stamp (body.Put target place v) q)
-          (take_body from stamp (body.Put target place v))
-          ≡ stepped (errand_here due (filled (Some target ∷ v ∷ [])) extra.Nothing q)
-          (λ z. record z { heap = with_place z.heap target place v })
-      same = rw (is, joined-cycle p stamp, filled-one v) refl
+      by-errand (body.Put target place v) due (filled (Some target ∷ v ∷ [])) extra.Nothing
+      (λ (z : LocalState). record z { heap = with_place z.heap target place v })
+      (rw (is, joined-cycle p stamp, filled-one v) refl)
 
   -- What is in the place is read before the node joins. Marking doesn't change it.
   pub get-followed : (target : Ref) (place label : ℕ) (v : Option Ref)
@@ -269,3 +262,14 @@ module _ (from stamp : ℕ) (p : LocalState) where
           ∙ ap (λ (z : Work). then z (append from (body.Give label v)))
           (see_to-then due target (option_to_list v) q here
           ∙ ap (λ (rs : List Ref). see_to true (target ∷ rs) q) (sym (filled-one v)))
+
+pub ruleset following = (
+  begin-followed,
+  token-followed,
+  mark-followed,
+  give-followed,
+  put-followed,
+  get-followed,
+  ended-followed,
+  swept-followed,
+)

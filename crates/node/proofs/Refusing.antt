@@ -20,13 +20,3 @@ module _ (n : NodeView) (object place register : ℕ) (e : Refusal) where
       test_refused n ts (made p (map used n.links) (event.Store object place register))
       false new e h
       (spared ts new e refl h)
-
-  pub load_refused : guarded (load_tests n.local.own n.local.heap register object place)
-      (place_loaded n.local.heap object place) ≡ Err e
-      → Performed true (Err e) n n (view_act n (event.Load register object place))
-  unfolding view_act
-  load_refused h =
-      let p = n.local in
-      shading-tested n (load_tests p.own p.heap register object place)
-      (made p (map used n.links) (event.Load register object place))
-      (place_loaded p.heap object place) e refl h

@@ -67,18 +67,6 @@ runs-refused {e = e} {old = old} same runs = record {
 abbrev pub stepped : Work → (LocalState → LocalState) → Work
 stepped w f = record { local = f w.local; sends = w.sends }
 
-pub record IsStep (v w : Work) (f : LocalState → LocalState) : Type 0 where
-  pub is : v ≡ stepped w f
-
-pub step-refused : {v w : Work} {f : LocalState → LocalState} {e : Refusal} {old new : NodeView}
-    → IsStep v w f → Runs (Err e) w old new → Runs (Err e) v old new
-step-refused step = runs-refused (ap (λ (z : Work). z.sends) step.is)
-
-pub step-done : {v w : Work} {f : LocalState → LocalState} {old mid new : NodeView} → IsStep v w f
-    → IsRun w old mid → new ≡ record mid { local = f mid.local } → Runs (Ok tt) v old new
-step-done {f = f} {old = old} {new = new} step run now =
-    runs-done (subst (λ (z : Work). IsRun z old new) (sym step.is) (run-then f run now))
-
 -- ---- the work of an errand
 
 module _ (cycle : ℕ) (due : Bool) (rs : List Ref) (x : Extra) (p : LocalState) where

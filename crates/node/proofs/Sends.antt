@@ -9,7 +9,7 @@ use Rattle.model.specs.Steps.{fits}
 use Rattle.model.specs.View.{NodeView, used}
 use Rattle.model.proofs.Appending.{fits-append}
 use Rattle.link.specs.Links.{LinksView, appended_to, fits_others, fits_to, for_others}
-use Rattle.link.proofs.Announcing.{to_others-is}
+use Rattle.link.proofs.EveryLink.{retracted_to-appended_to}
 use Rattle.barrier.specs.Asked.{AreSent, all_appended}
 use Rattle.barrier.proofs.Sent.{fits-then, sent-then, sent-width}
 use Rattle.node.specs.Cycles.{begins}
@@ -61,15 +61,11 @@ module _ (v : LinksView) (own cycle last : ℕ) (last-is : last ≡ length v.lin
       (subst (λ (k : ℕ). fits (map used l.links) (for_others own told k) ≡ false)
       (sent-width first) none)
 
--- ---- the same message for all others
-
--- what a node announces, and what the links are asked to send
-pub told-is : (n : NodeView) (b : Body) (stamp : ℕ) → stamp ≡ n.local.phases.cycle
-    → length n.links ≡ n.local.shape.nodes
-    → for_others n.local.own (record { stamp = stamp; body = b }) (length n.links)
-    ≡ (announce b n.local).sends
-unfolding announce
-told-is n b stamp now width =
-    ap (λ (k : ℕ). for_others n.local.own (record { stamp = k; body = b }) (length n.links)) now
-    ∙ ap (for_others n.local.own (stamped n.local b)) width
-    ∙ sym (to_others-is n.local b n.local.shape.nodes)
+pub ruleset sending = (
+  spent-before,
+  spent-after,
+  sent-then,
+  begins-sent,
+  begins-spent,
+  retracted_to-appended_to,
+)

@@ -16,7 +16,10 @@ use Rattle.model.specs.View.{NodeView, view_act}
 use Rattle.model.proofs.Checks.{guarded-ok, guarded-passes}
 use Rattle.model.proofs.References.{holds-letter_gone, holds-with_register, holds-with_object, holds-with_place, holds-with_word}
 use Rattle.model.proofs.Stocks.{stocked-letter_gone, stocked-object, stocked-place, stocked-register, stocked-word}
+use Rattle.heap.specs.Heap.{HeapView}
+use Rattle.node.specs.Inside.{view_of, IsSound}
 use Rattle.node.specs.Invariant.{IsNode}
+use Rattle.node.specs.declared.node.Core.TheInside.{Inside}
 use Rattle.node.proofs.Events.{okay}
 use Rattle.node.proofs.Nodes.{node-heap}
 
@@ -165,3 +168,8 @@ module _ (n : NodeView) (old : IsNode n) where
       (holds-with_word (IsWithin p.shape) p.heap r word old.references)
       (stocked-word old.stocked r word)
       (omega (arith, slots)))
+
+-- the struct, once its heap has changed
+pub sound-heap : {m : Inside} {h : HeapView} → IsSound m → IsNode (with_heap (view_of m) h.heap)
+    → h.limit ≡ m.heap.limit → IsSound (record m { heap = h })
+sound-heap was node same = record { node = node; limit = same ∙ was.limit }

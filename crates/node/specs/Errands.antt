@@ -115,9 +115,3 @@ pub record Runs (result : Result (Unit {0}) Refusal) (w : Work) (old new : NodeV
   pub done : OnOk result (IsRun w old new)
   pub refused : IfErr result (IsRefused (links_of old) w.sends)
   pub unchanged : OnErr result (new ≡ old)
-
--- The same of a call that runs out of memory only if all messages get numbers.
-pub record RunsLast (result : Result (Unit {0}) Refusal) (w : Work) (old new : NodeView) : Type 0
-  where
-    pub runs : Runs result w old new
-    pub last : IfErr result (λ e. e ≡ Memory → fits (map used old.links) w.sends ≡ true)

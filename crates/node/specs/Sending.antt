@@ -1,5 +1,7 @@
 -- A message appended by a node.
-use Rattle.std.specs.Prelude.{ℕ, [], ◌∷◌}
+use Rattle.std.specs.Prelude.{ℕ, List, [], ◌∷◌, length}
+use Rattle.link.specs.Links.{for_others}
+use Rattle.msg.specs.declared.body.Message.{Message}
 use Rattle.msg.specs.declared.body.Body.{Body}
 use Rattle.model.specs.Counting.{balance_of, counted_up, stamped}
 use Rattle.model.specs.State.{LocalState}
@@ -16,3 +18,7 @@ with_sent n to b =
       local = counted n.local b;
       links = append_to n.links ((to, stamped n.local b) ∷ []);
     }
+
+-- what is appended if the node sends the same to all others
+abbrev pub told : NodeView → Body → List (ℕ × Message)
+told n b = for_others n.local.own (stamped n.local b) (length n.links)

@@ -27,6 +27,7 @@ impl Core {
     /// `CycleRunning` while the last cycle isn't swept everywhere, and with `CyclesSpent` after the
     /// greatest one. After that it fails with `LinkSpent` if a message gets no number, and with
     /// `Memory` if an allocation fails.
+    #[tactic(auto, using(crate::proofs::Shading::shading), unfolding(model::specs::View::view_act))]
     pub(crate) fn begin(&mut self) -> Result<Answer, Refusal>
         ensures { Performed true result self.old self.new (view_act self.old event.Begin) }
     {
@@ -39,6 +40,7 @@ impl Core {
     /// Scans the object that turned grey last: shades what its places hold. It fails with
     /// `NothingToDo` if no object is grey. After that it fails with `LinkSpent` if a Mark gets no
     /// number, and with `Memory` if an allocation fails.
+    #[tactic(auto, using(crate::proofs::Shading::shading), unfolding(model::specs::View::view_act))]
     pub(crate) fn scan(&mut self) -> Result<Answer, Refusal>
         ensures { Performed true result self.old self.new (view_act self.old event.Scan) }
     {
@@ -120,6 +122,7 @@ impl Core {
     /// that to node 0. It fails with `NothingToDo` if the node knows of no cycle that is to be
     /// swept. After that it fails with `LinkSpent` if the report gets no number, and then with
     /// `Memory` if an allocation fails.
+    #[tactic(auto, unfolding(model::specs::View::view_act, model::specs::Collecting::swept_slots))]
     pub(crate) fn sweep(&mut self, count: u32) -> Result<Answer, Refusal>
         ensures performed { Performed false result self.old self.new
             (view_act self.old (event.Sweep count)) }

@@ -14,11 +14,11 @@ ghost use Rattle.ids.specs.declared.limits.TheConstants.{
 };
 ghost use Rattle.ids.specs.declared.refusal.Refusal.TheVariants.{LinkSpent, Memory};
 ghost use Rattle.model.specs.Collecting.{new_token};
-ghost use Rattle.model.specs.Counting.{announce, counted_marks, stamped};
+ghost use Rattle.model.specs.Counting.{counted_marks, stamped};
 ghost use Rattle.model.specs.References.{IsSendable, IsWithin};
 ghost use Rattle.model.specs.Shading.{filled, make_all_grey, marks_for, unasked};
 ghost use Rattle.model.specs.Steps.{fits};
-ghost use Rattle.model.specs.View.{used};
+ghost use Rattle.model.specs.View.{append_to, used};
 ghost use Rattle.link.specs.Links.{IsLinks};
 ghost use Rattle.safra.specs.Balances.{IsBounded};
 ghost use Rattle.barrier.specs.Asked.{AreSent, IsRefused, all_appended};
@@ -28,7 +28,6 @@ ghost use Rattle.node.specs.Errands.{
   IsFit,
   MayJoin,
   Runs,
-  RunsLast,
   errand,
   extra_ring,
   extra_sends,
@@ -37,7 +36,7 @@ ghost use Rattle.node.specs.Errands.{
   listed,
   with_extra,
 };
-ghost use Rattle.node.specs.Sending.{with_sent};
+ghost use Rattle.node.specs.Sending.{told, with_sent};
 
 use super::Core;
 use barrier::{RefSet, see, unsee};
@@ -144,7 +143,16 @@ impl Core {
     /// allocation fails. The node is then as it was.
     pub(super) fn tell(&mut self, body: Body) -> Result<(), Refusal>
         requires { IsSendable self.old.local.shape (stamped self.old.local body) }
-        ensures { RunsLast result (announce body self.old.local) self.old self.new }
+        ensures fits { let sends = told self.old body in
+            OnOk result (fits (map used self.old.links) sends ≡ true) }
+        ensures done { let links = append_to self.old.links (told self.old body) in
+            OnOk result (self.new ≡ record self.old { links = links }) }
+        ensures refused { IfErr result (λ e. e ≢ Memory → (e ≡ LinkSpent)
+            × (fits (map used self.old.links) (told self.old body) ≡ false)) }
+        ensures last { IfErr result (λ e. e ≡ Memory
+            → fits (map used self.old.links) (told self.old body) ≡ true) }
+        ensures unchanged { OnErr result (self.new ≡ self.old) }
+        ensures width { length self.old.links ≡ self.old.local.shape.nodes }
     {
         let stamp = self.phases.cycle();
         self.links.announce(self.own, Message { stamp, body })?;
@@ -185,6 +193,7 @@ pub(super) fn letters_in(extra: Extra) -> usize
 /// The part of an errand that can fail: asks for the references or vouches for them, and then sends
 /// what the extra says. All of it or nothing is done. It returns the number of Marks sent.
 #[inline(always)]
+#[tactic(auto, using(crate::proofs::Sends::sending))]
 pub(super) fn send_out(
     asked: &mut RefSet,
     links: &mut Links,
@@ -269,6 +278,7 @@ fn send_message(links: &mut Links, to: u8, message: Message) -> Result<(), Refus
 
 /// Sends the token of a new probe to the last node, and announces the cycle to all nodes except
 /// `own`: all of it or nothing.
+#[tactic(auto, using(crate::proofs::Sends::sending))]
 fn send_begins(links: &mut Links, own: u8, cycle: u64) -> Result<(), Refusal>
     requires { 0 < length links.old.links }
     ensures done { OnOk result (AreSent

@@ -45,6 +45,7 @@ impl Core {
     }
 
     #[inline(always)]
+    #[tactic(auto, using(crate::proofs::Shading::shading), unfolding(model::specs::View::view_act))]
     pub(crate) fn load(&mut self, register: u16, object: u16, place: u8) -> Result<Answer, Refusal>
         ensures { Performed true result self.old self.new
             (view_act self.old (event.Load register object place)) }

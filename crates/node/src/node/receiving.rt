@@ -42,6 +42,7 @@ impl Core {
     }
 
     /// Begin: the node has joined the cycle, and that is all.
+    #[tactic(auto, using(crate::proofs::Receiving::following))]
     fn receive_begin(&mut self, from: u8, stamp: u64) -> Result<(), Refusal>
         requires { IsTakable self.old.local from stamp body.Begin }
         ensures { Runs result (followed from stamp body.Begin self.old.local) self.old self.new }
@@ -50,6 +51,7 @@ impl Core {
     }
 
     /// The token: it is held.
+    #[tactic(auto, using(crate::proofs::Receiving::following))]
     fn receive_token(&mut self, from: u8, stamp: u64, token: Token) -> Result<(), Refusal>
         requires { IsTakable self.old.local from stamp (body.Token token) }
         ensures { Runs result (followed from stamp (body.Token token) self.old.local) self.old
@@ -61,6 +63,7 @@ impl Core {
     }
 
     /// A Mark: its object is shaded.
+    #[tactic(auto, using(crate::proofs::Receiving::following))]
     fn receive_mark(&mut self, from: u8, stamp: u64, target: Ref) -> Result<(), Refusal>
         requires { IsTakable self.old.local from stamp (body.Mark target) }
         ensures { Runs result (followed from stamp (body.Mark target) self.old.local) self.old
@@ -70,6 +73,7 @@ impl Core {
     }
 
     /// A Give: its reference is seen to, and a letter with it is added.
+    #[tactic(auto, using(crate::proofs::Receiving::following))]
     fn receive_give(
         &mut self,
         from: u8,
@@ -91,6 +95,7 @@ impl Core {
     }
 
     /// A Put: its object and its reference are seen to, and the object's place gets the reference.
+    #[tactic(auto, using(crate::proofs::Receiving::following))]
     fn receive_put(
         &mut self,
         from: u8,
@@ -111,6 +116,7 @@ impl Core {
     }
 
     /// A Get: its object and what the object's place holds are shaded, and the latter is sent back.
+    #[tactic(auto, using(crate::proofs::Receiving::following))]
     fn receive_get(
         &mut self,
         from: u8,
@@ -133,6 +139,7 @@ impl Core {
     }
 
     /// Ended: the node knows that marking has ended.
+    #[tactic(auto, using(crate::proofs::Receiving::following))]
     fn receive_ended(&mut self, from: u8, stamp: u64) -> Result<(), Refusal>
         requires { IsTakable self.old.local from stamp body.Ended }
         ensures { Runs result (followed from stamp body.Ended self.old.local) self.old self.new }
@@ -143,6 +150,7 @@ impl Core {
     }
 
     /// Swept: node 0 notes that the sender has swept.
+    #[tactic(auto, using(crate::proofs::Receiving::following))]
     fn receive_swept(&mut self, from: u8, stamp: u64) -> Result<(), Refusal>
         requires { IsTakable self.old.local from stamp body.Swept }
         ensures { Runs result (followed from stamp body.Swept self.old.local) self.old self.new }

@@ -255,6 +255,7 @@ impl Core {
 
     /// Counts the next message from a node as received.
     #[inline(always)]
+    #[tactic(auto, unfolding(model::specs::Steps::count_in))]
     pub(super) fn count_in(&mut self, from: u8, stamp: u64, body: Body)
         requires { IsSender self.old.local from }
         ensures { self.new ≡ record self.old {

@@ -79,6 +79,7 @@ impl Core {
     /// follow such a body from that node, and whether it fits the node once that has joined the
     /// message's cycle. (Node 0 joins no cycle, so no Swept is of a later one.)
     #[inline(always)]
+    #[tactic(auto, using(crate::proofs::Receipts::joining))]
     fn suits(&self, from: u8, stamp: u64, body: Body) -> bool
         ensures { result ≡ (are_within self.now.local.shape (mentioned body)
             && (may_follow self.now.local from body
@@ -88,7 +89,7 @@ impl Core {
             Body::Begin => from == 0,
             Body::Token(_) => {
                 from == (self.own + 1) % self.shape.nodes()
-                    && (self.marks_once_joined(stamp) && self.ring.token().is_none())
+                    && (self.marks_once_joined(stamp) && !self.has_token())
             }
             Body::Mark { target } | Body::Get { target, .. } => {
                 self.is_within(target) && target.node == self.own
@@ -104,9 +105,9 @@ impl Core {
             Body::Ended => {
                 from == 0
                     && (self.marks_once_joined(stamp)
-                        && (self.is_calm_once_joined(stamp) && self.ring.token().is_none()))
+                        && (self.is_calm_once_joined(stamp) && !self.has_token()))
             }
-            Body::Swept => self.own == 0 && stamp >= self.phases.cycle(),
+            Body::Swept => self.is_director() && stamp >= self.cycle(),
         }
     }
 
@@ -127,6 +128,7 @@ impl Core {
 
     /// Whether the node, once it has joined this cycle, is in it and doesn't know its marking to
     /// have ended.
+    #[tactic(auto, using(crate::proofs::Receipts::joining))]
     fn marks_once_joined(&self, stamp: u64) -> bool
         ensures { result ≡ is_marking (joined self.now.local stamp).local stamp }
     {
@@ -135,10 +137,11 @@ impl Core {
     }
 
     /// Whether no object is grey once the node has joined this cycle.
+    #[tactic(auto, using(crate::proofs::Receipts::joining))]
     fn is_calm_once_joined(&self, stamp: u64) -> bool
         ensures { result ≡ is_calm (joined self.now.local stamp).local.heap }
     {
-        let calm = self.heap.grey() == 0;
+        let calm = self.is_calm();
         if stamp > self.phases.cycle() {
             calm && !self.heap.wakes_root(self.own, stamp)
         } else {

@@ -4,7 +4,7 @@ use Rattle.link.specs.Links.{IsLinks, kept_links}
 use Rattle.link.specs.Ends.{kept_ends, view_of}
 use Rattle.link.proofs.Ends.{all_written}
 use Rattle.link.proofs.EveryLink.{links-kept}
-use Rattle.link.proofs.links.Links.kept.Goals as goal
+use Rattle.link.proofs.links.Links.mark_saved.Goals as goal
 
 pub loop-ends-preserved : goal.loop-ends-preserved
 loop-ends-preserved c =

@@ -1,6 +1,6 @@
 use Rattle.std.proofs.Common.{◌≡◌, ◌++◌, map, take, drop}
 use Rattle.link.specs.Ends.{kept_ends}
-use Rattle.link.proofs.links.Links.kept.Given as goal
+use Rattle.link.proofs.links.Links.mark_saved.Given as goal
 
 abbrev pub invariant-loop-ends : goal.invariant-loop-ends
 invariant-loop-ends l =

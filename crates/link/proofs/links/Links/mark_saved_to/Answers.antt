@@ -1,6 +1,6 @@
 use Rattle.std.proofs.Common.{arith}
 use Rattle.link.proofs.Ends.{reads, ends_kept_to, sound_kept_to}
-use Rattle.link.proofs.links.Links.kept_to.Goals as goal
+use Rattle.link.proofs.links.Links.mark_saved_to.Goals as goal
 
 pub invariant_of-self : goal.invariant_of-self
 invariant_of-self c =

@@ -1,11 +1,8 @@
-use Rattle.std.proofs.Common.{◌∙◌}
-use Rattle.node.specs.Inside.{view_of}
-use Rattle.node.proofs.Sound.{node-accepted}
+use Rattle.node.proofs.Sound.{node-accepted, sound-heap}
 use Rattle.node.proofs.node.Core.accept.Goals as goal
 
 pub invariant_of-self-2 : goal.invariant_of-self-2
-invariant_of-self-2 c = record {
-  node = node-accepted (view_of c.self.inside) c.self.invariant.node _ _ _
-      c.in_ok-letter.ensures.done;
-  limit = c.in_ok-letter.ensures.limit ∙ c.self.invariant.limit;
-}
+invariant_of-self-2 c =
+    sound-heap c.self.invariant
+    (node-accepted _ c.self.invariant.node _ _ _ c.in_ok-letter.ensures.done)
+    c.in_ok-letter.ensures.limit

@@ -17,7 +17,6 @@ returns-clause-saved c =
     subst (IsSlotted m.heap.heap) c.self.invariant.limit c.live.ensures.slots in
     subst (λ (v : NodeView). IsStanding (kept_view v)) c.self.view_is
     (record {
-      node = node-kept n {l = kept_links (links_of n)} is
-          (record { sound = links-kept (links_of n) is.links.links; links = refl; ring = refl });
+      node = node-kept n is (links-kept (links_of n) is.links.links);
       slots = slots;
     })

@@ -4,16 +4,15 @@ use Rattle.model.specs.Heaps.{heap_store}
 use Rattle.model.specs.View.{NodeView}
 use Rattle.heap.specs.Heap.{HeapView}
 use Rattle.node.specs.Inside.{view_of}
-use Rattle.node.proofs.Sound.{node-stored}
+use Rattle.node.proofs.Sound.{node-stored, sound-heap}
 use Rattle.node.proofs.Refusing.{store_refused}
 use Rattle.node.proofs.node.Core.store.Goals as goal
 
 pub invariant_of-self-2 : goal.invariant_of-self-2
-invariant_of-self-2 c = record {
-  node = node-stored (view_of c.self.inside) c.self.invariant.node _ _ _ _
-      c.in_ok-store.ensures.done;
-  limit = c.in_ok-store.ensures.limit ∙ c.self.invariant.limit;
-}
+invariant_of-self-2 c =
+    sound-heap c.self.invariant
+    (node-stored _ c.self.invariant.node _ _ _ _ c.in_ok-store.ensures.done)
+    c.in_ok-store.ensures.limit
 
 pub returns-in_err-store-clause-performed : goal.returns-in_err-store-clause-performed
 returns-in_err-store-clause-performed c =
