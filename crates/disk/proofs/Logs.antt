@@ -429,7 +429,8 @@ module _ {in_b : Bool} {area : Area} {end : ℕ} {batch bytes : List ℕ} {s : A
     still_selected : (c : Areas) → Changes area (Holds end (1 ∷ [])) t c →
         side c.select ≡ Some in_b
     still_selected c ch =
-        (here_changed in_b (Holds end (1 ∷ [])) t c middle.0 (step_here (Holds end (1 ∷ [])) t c ch)).0
+        (here_changed in_b (Holds end (1 ∷ [])) t c middle.0
+        (step_here (Holds end (1 ∷ [])) t c ch)).0
 
     -- and once it is written, the batch counts
     pub batch_added : (image : List ℕ) (batches : List (List ℕ)) → Opens image batches s →
@@ -480,11 +481,11 @@ read_none at held = record {
   back = λ all log. (all, log);
 }
 
-pub read_one : (at end next : ℕ) (batches : List (List ℕ)) (batch held : List ℕ) →
+pub read_one : {at end next : ℕ} {batches : List (List ℕ)} {batch held : List ℕ} →
     Read at end batches held → side (drop end held) ≡ Some true →
     recorded (drop 1 (drop end held)) ≡ Some batch → next ≡ end + (9 + length batch) →
     Read at next (batches ++ batch ∷ []) held
-read_one at end next batches batch held read odd is from = record {
+read_one {at} {end} {next} {batches} {batch} {held} read odd is from = record {
   reached = omega (arith, from, read.reached, log_more batches batch);
   ahead = λ more log.
       let behind : HasLog more (drop (9 + length batch) (drop end held)) =
@@ -508,7 +509,7 @@ read_one at end next batches batch held read odd is from = record {
               ∙ drop-drop (9 + length batch) end held ∙ ap (λ n. drop n held) (sym from)) log.2,
         )
 
-pub read_all : (at end : ℕ) (batches : List (List ℕ)) (held : List ℕ) → Read at end batches held →
+pub read_all : {at end : ℕ} {batches : List (List ℕ)} {held : List ℕ} → Read at end batches held →
     side (drop end held) ≡ Some false → HasLog batches (drop at held)
-read_all at end batches held read even =
+read_all {at} {batches = batches} {held} read even =
     subst (λ l. HasLog l (drop at held)) (append-nil batches) (read.ahead [] even)

@@ -9,22 +9,22 @@ use Rattle.disk.specs.declared.device.Area.TheVariants.{Select}
 use Rattle.disk.proofs.Torn.{torn_same, unchanged}
 use Rattle.disk.proofs.Sides.{Aside, first_selector, torn_half, torn_choice}
 
-module _ {D : Type 0} (moment : D → ℕ) (left_since : D → ℕ → Areas → Type 0) where
+module _ {D : Type 0} {moment : D → ℕ} {left_since : D → ℕ → Areas → Type 0} where
   -- before the first call
-  pub started : (old : D) (P : Areas → Type 0) →
+  pub started : {old : D} {P : Areas → Type 0} →
       ((c : Areas) → left_since old (moment old) c → P c) → LeavesOnly moment left_since old old P
-  started old P here = record {
+  started here = record {
     later = omega arith;
     each = here;
     before = λ t c le left. inl left;
   }
 
   -- one more call, after which a crash leaves only areas that satisfy P
-  pub goes_on : (old mid new : D) (P may_leave : Areas → Type 0) →
+  pub goes_on : {old mid new : D} {P may_leave : Areas → Type 0} →
       LeavesOnly moment left_since old mid P →
       Elapses (moment mid) (moment new) (left_since mid) (left_since new) may_leave →
       ((c : Areas) → may_leave c → P c) → LeavesOnly moment left_since old new P
-  goes_on old mid new P may_leave so_far time here = record {
+  goes_on {old} so_far time here = record {
     later = omega (arith, so_far.later, time.later);
     each = λ c left.
         ⊎_elim (so_far.each c) (here c) (time.nothing_else (moment old) c so_far.later left);
@@ -33,24 +33,23 @@ module _ {D : Type 0} (moment : D → ℕ) (left_since : D → ℕ → Areas →
   }
 
   -- an area is written, when before a crash left what a read gives
-  pub wrote : (old new : D) (s : Areas) (before after : Areas → Type 0) (area : Area) (at n : ℕ) →
+  pub wrote : {old new : D} {before after : Areas → Type 0} (s : Areas) (area : Area) (at n : ℕ) →
       Only s before → ((c : Areas) → left_since old (moment old) c → before c) →
       Follows (Changes area (Torn at n)) before after →
       Elapses (moment old) (moment new) (left_since old) (left_since new) after →
       LeavesOnly moment left_since old new (Changes area (Torn at n) s)
-  wrote old new s before after area at n only here follows time =
+  wrote s area at n only here follows time =
       let P : Areas → Type 0 = λ c. Changes area (Torn at n) s c in
       let nothing : P s = unchanged area (Torn at n) s (torn_same at n (part area s)) in
-      goes_on old old new P after
-      (started old P (λ c left. subst P (sym (only c (here c left))) nothing)) time
+      goes_on (started (λ c left. subst P (sym (only c (here c left))) nothing)) time
       (λ c left.
       let from = follows c left in
       subst (λ (x : Areas). Changes area (Torn at n) x c) (only from.0 from.1) from.2)
 
   -- what satisfies P satisfies Q
-  pub weaker : (old new : D) (P Q : Areas → Type 0) → LeavesOnly moment left_since old new P →
+  pub weaker : {old new : D} {P Q : Areas → Type 0} → LeavesOnly moment left_since old new P →
       ((c : Areas) → P c → Q c) → LeavesOnly moment left_since old new Q
-  weaker old new P Q run more = record {
+  weaker run more = record {
     later = run.later;
     each = λ c left. more c (run.each c left);
     before = λ t c le left.
@@ -58,9 +57,9 @@ module _ {D : Type 0} (moment : D → ℕ) (left_since : D → ℕ → Areas →
   }
 
   -- one run after another
-  pub joined : (old mid new : D) (P : Areas → Type 0) → LeavesOnly moment left_since old mid P →
+  pub joined : {old mid new : D} {P : Areas → Type 0} → LeavesOnly moment left_since old mid P →
       LeavesOnly moment left_since mid new P → LeavesOnly moment left_since old new P
-  joined old mid new P first second = record {
+  joined {old} first second = record {
     later = omega (arith, first.later, second.later);
     each = λ c left.
         ⊎_elim (first.each c) (λ p. p) (second.before (moment old) c first.later left);
@@ -69,25 +68,21 @@ module _ {D : Type 0} (moment : D → ℕ) (left_since : D → ℕ → Areas →
   }
 
   -- both areas hold the image, and then the selector is written
-  pub laid : (old mid new : D) (s : Areas) (image : List ℕ) →
+  pub laid : {old mid new : D} (s : Areas) (image : List ℕ) →
       LeavesOnly moment left_since old mid (λ c. c.select ≡ []) →
       (recorded s.a ≡ Some image) × (recorded s.b ≡ Some image) →
       LeavesOnly moment left_since mid new (Changes Select (Torn 0 1) s) →
       LeavesOnly moment left_since old new (NoneOrNew image)
-  laid old mid new s image first held second = joined old mid new (NoneOrNew image)
-      (weaker old mid (λ c. c.select ≡ []) (NoneOrNew image) first (λ c none. inl none))
-      (weaker mid new (Changes Select (Torn 0 1) s) (NoneOrNew image) second
-      (λ c torn. first_selector s c image held.0 held.1 torn))
+  laid s image first held second =
+      joined (weaker first (λ c none. inl none))
+      (weaker second (λ c torn. first_selector s c image held.0 held.1 torn))
 
   -- the image is written into the other area, and then the selector is written
-  pub swapped : {in_b : Bool} {area : Area} {image bytes : List ℕ} {s t : Areas} (old mid new : D) →
+  pub swapped : {in_b : Bool} {area : Area} {image bytes : List ℕ} {s t : Areas} {old mid new : D} →
       Aside in_b area image bytes s t →
       LeavesOnly moment left_since old mid (Changes area (Torn 0 (length bytes)) s) →
       LeavesOnly moment left_since mid new (Changes Select (Torn 0 1) t) →
       LeavesOnly moment left_since old new (OldOrNew (opened s) image)
-  swapped {in_b} {area} {image} {bytes} {s} {t} old mid new aside first second =
-      let P = OldOrNew (opened s) image in
-      joined old mid new P
-      (weaker old mid (Changes area (Torn 0 (length bytes)) s) P first
-      (λ c torn. inl (torn_half aside c torn)))
-      (weaker mid new (Changes Select (Torn 0 1) t) P second (λ c torn. torn_choice aside c torn))
+  swapped aside first second =
+      joined (weaker first (λ c torn. inl (torn_half aside c torn)))
+      (weaker second (λ c torn. torn_choice aside c torn))

@@ -7,39 +7,32 @@ use Rattle.disk.specs.Areas.{Areas}
 use Rattle.disk.specs.Crashes.{Elapses, HasCause, Only, Unmoved}
 use Rattle.disk.proofs.Moments.{goes_on, joined, started, weaker}
 
-module _ {D : Type 0} (seen : D → Areas) (may_leave : D → Areas → Type 0)
-    (moment : D → ℕ) (left_since : D → ℕ → Areas → Type 0) where
+module _ {D : Type 0} {seen : D → Areas} {may_leave : D → Areas → Type 0}
+    {moment : D → ℕ} {left_since : D → ℕ → Areas → Type 0} where
   -- one call
-  pub unmoved : (old new : D) → ((c : Areas) → left_since old (moment old) c → may_leave old c) →
+  pub unmoved : {old new : D} → ((c : Areas) → left_since old (moment old) c → may_leave old c) →
       seen new ≡ seen old → ((c : Areas) → may_leave new c → may_leave old c) →
       Elapses (moment old) (moment new) (left_since old) (left_since new) (may_leave new) →
       Unmoved seen may_leave moment left_since old new
-  unmoved old new here same crash time = record {
+  unmoved here same crash time = record {
     same = same;
     crash = crash;
-    any_moment = goes_on moment left_since old old new (may_leave old) (may_leave new)
-        (started moment left_since old (may_leave old) here) time crash;
+    any_moment = goes_on (started here) time crash;
   }
 
   -- no call
-  pub still : (old : D) → ((c : Areas) → left_since old (moment old) c → may_leave old c) →
+  pub still : {old : D} → ((c : Areas) → left_since old (moment old) c → may_leave old c) →
       Unmoved seen may_leave moment left_since old old
-  still old here = record {
-    same = refl;
-    crash = λ c left. left;
-    any_moment = started moment left_since old (may_leave old) here;
-  }
+  still here = record { same = refl; crash = λ c left. left; any_moment = started here }
 
   -- one after another
-  pub both_unmoved : (old mid new : D) → Unmoved seen may_leave moment left_since old mid →
+  pub both_unmoved : {old mid new : D} → Unmoved seen may_leave moment left_since old mid →
       Unmoved seen may_leave moment left_since mid new →
       Unmoved seen may_leave moment left_since old new
-  both_unmoved old mid new first second = record {
+  both_unmoved first second = record {
     same = second.same ∙ first.same;
     crash = λ c left. first.crash c (second.crash c left);
-    any_moment = joined moment left_since old mid new (may_leave old) first.any_moment
-        (weaker moment left_since mid new (may_leave mid) (may_leave old) second.any_moment
-        first.crash);
+    any_moment = joined first.any_moment (weaker second.any_moment first.crash);
   }
 
   -- after a sync

@@ -8,7 +8,6 @@ use Rattle.ids.specs.declared.limits.TheConstants.{GREATEST_IMAGE}
 use Rattle.disk.proofs.Records.{recorded_holds}
 use Rattle.disk.specs.declared.device.Area.{Area}
 use Rattle.disk.specs.Shelf.{record_of, recorded, side, half, image_at, opened, OldOrNew, NoneOrNew}
-use Rattle.disk.specs.Shelf.{IsSettled}
 use Rattle.disk.specs.declared.device.Area.TheVariants.{Select, A, B}
 
 -- a step on the area that isn't selected: the disk opens to the same as before
@@ -108,15 +107,19 @@ written_selector in_b v s c says ch =
     same true = ch.2
     same false = ch.1
 
+-- what three facts of a value say
+pub on_ok_all : {T E P Q R Z : Type 0} (r : Result T E) → (P → Q → R → Z) → OnOk r P → OnOk r Q →
+    OnOk r R → OnOk r Z
+on_ok_all (Ok done) says p q s = says p q s
+on_ok_all (Err e) says p q s = tt
+
 -- the selector was written and synced, on a disk with an image on that side
-pub settled_by : {D T E : Type 0} (seen : D → Areas)
-    (may_leave : D → Areas → Type 0) (in_b : Bool) (v : ℕ) (image : List ℕ) (s : Areas) (new : D)
-    (r : Result T E) → (v % 2 == 1) ≡ in_b → OnOk r (Only (seen new) (may_leave new)) →
-    OnOk r (Changes Select (Holds 0 (v ∷ [])) s (seen new)) →
-    OnOk r (opened (seen new) ≡ Some image) → OnOk r (IsSettled seen may_leave new in_b)
-settled_by seen may_leave in_b v image s new (Ok done) says durable written is =
-    (durable, (written_selector in_b v s (seen new) says written).0, ap is_some is)
-settled_by seen may_leave in_b v image s new (Err e) says durable written is = tt
+pub settled_by : {in_b : Bool} {image : List ℕ} {here : Areas} {outcomes : Areas → Type 0} (v : ℕ)
+    (s : Areas) → (v % 2 == 1) ≡ in_b → Only here outcomes →
+    Changes Select (Holds 0 (v ∷ [])) s here → opened here ≡ Some image →
+    Only here outcomes × (side here.select ≡ Some in_b) × (is_some (opened here) ≡ true)
+settled_by {in_b} {here = here} v s says only written is =
+    (only, (written_selector in_b v s here says written).0, ap is_some is)
 
 changed_part : (area : Area) (step : List ℕ → List ℕ → Type 0) (s c : Areas) →
     Changes area step s c → step (part area s) (part area c)

@@ -122,8 +122,12 @@ follows_noted {r} {s} {s'} note c (inl now) = (
   unchanged r.area (Torn r.at r.len) c (torn_same r.at r.len (part r.area c)),
 )
 follows_noted {r} {s} {s'} note c (inr torn) =
-    let from = (risk_noted note c).0 torn in
-    (from.0, ⊎_elim (λ held. inl (held ∙ ap areas_of note.before)) (λ risk. inr risk) from.1, from.2)
+    let from = (risk_noted note c).0 torn in (
+      from.0,
+      ⊎_elim (λ held. inl (held ∙ ap areas_of note.before))
+          (λ risk. inr risk) from.1,
+      from.2,
+    )
 
 pub reaches_noted : {r : Range} {s s' : State} → Noted r s s' →
     Reaches (Changes r.area (Torn r.at r.len)) (leaves s) (at_risk s')
@@ -312,10 +316,11 @@ part_with A next d = refl
 part_with B next d = refl
 
 -- a range from the start is recorded, and then the area holds as many other bytes
-pub loaded_by : (area : Area) (n : ℕ) (next : List ℕ) (s mid s' : State) → length next ≡ n →
-    mid.held ≡ s.held → areas_of s'.held ≡ with_part area next (areas_of mid.held) →
+pub loaded_by : {area : Area} {n : ℕ} {s s' : State} (next : List ℕ) (mid : State) →
+    length next ≡ n → mid.held ≡ s.held →
+    areas_of s'.held ≡ with_part area next (areas_of mid.held) →
     Reaches (Changes area (Torn 0 n)) (leaves s) (leaves s') → Loaded area s s'
-loaded_by area n next s mid s' size held set torn =
+loaded_by {area} {n} {s} {s'} next mid size held set torn =
     let d : Areas = areas_of s.held in
     let d' : Areas = areas_of s'.held in
     let any : List ℕ → List ℕ → Type 0 = λ _ _. Unit {0} in
@@ -355,11 +360,11 @@ unfolding leaves at_risk filled
 filled_left fill s = inr (fills_torn fill s.ranges.items (λ x. x ≡ synced s) (synced s) refl)
 
 -- the next range is filled
-pub filled_next : (fill i : ℕ) (read ranges : List Range) (r : Range) (d d' : Areas)
-    {whole : Areas} → read ≡ ranges → i < length read → r ≡ get_or read i r →
+pub filled_next : {read ranges : List Range} {r : Range} {d' whole : Areas} (fill i : ℕ)
+    (d : Areas) → read ≡ ranges → i < length read → r ≡ get_or read i r →
     d' ≡ filled_in fill r d → filled_by fill (drop i ranges) d ≡ whole →
     filled_by fill (drop (i + 1) ranges) d' ≡ whole
-filled_next fill i read ranges r d d' same within is next so_far =
+filled_next {read} {ranges} {r} fill i d same within is next so_far =
     let inside : i < length ranges = omega (arith, ap length same, within) in
     let here : r ≡ get_or ranges i r = is ∙ ap (λ (rs : List Range). get_or rs i r) same in
     let first : drop i ranges ≡ r ∷ drop (suc i) ranges =

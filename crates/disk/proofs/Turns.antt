@@ -93,14 +93,15 @@ module _ {in_b : Bool} {area : Area} {image bytes : List ℕ} {s : Areas}
         ap side same.0 ∙ turning.selected
 
     -- then the selector may be torn
-    pub turn_torn : (logged : Bool) (old : List ℕ) (batches : List (List ℕ)) →
+    pub turn_torn : {logged : Bool} {old : List ℕ} {batches : List (List ℕ)} →
         OpensIf logged old batches s → (c : Areas) → Changes Select (Torn 0 1) t c →
         OldOrWhole logged old batches image c
-    turn_torn logged old batches opens c ch =
+    turn_torn {logged} {old} {batches} opens c ch =
         let before = selected_if in_b t still_selected
         (aside_kept (Holds 0 bytes) logged old batches opens t written) in
         let long = some_length t.select in_b still_selected in
-        ⊎_elim (λ even. choose in_b false before new_laid even) (λ odd. choose in_b true before new_laid odd)
+        ⊎_elim (λ even. choose in_b false before new_laid even)
+        (λ odd. choose in_b true before new_laid odd)
         (side_some c.select (omega (arith, long, ch.0.no_shorter)))
       where
         choose : (b x : Bool) → IsLoggedIf logged old batches (part (half b) t) →

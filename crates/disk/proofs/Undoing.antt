@@ -69,9 +69,10 @@ changed_in A step d d' ch = ch.0
 changed_in B step d d' ch = ch.0
 
 -- a write is undone
-one_undone : (area : Area) (at n : ℕ) (d d' : Areas) (u : Undo) → at ≤ length (part area d) →
+one_undone : {area : Area} {at n : ℕ} {d : Areas} {u : Undo} (d' : Areas) →
+    at ≤ length (part area d) →
     IsUndo area at n d u → Changes area (Torn at n) d d' → undone_by u d' ≡ d
-one_undone area at n d d' u le is ch =
+one_undone {area} {at} {n} {d} {u} d' le is ch =
     let torn = changed_in area (Torn at n) d d' ch in
     let back : undone_in u (part area d') ≡ part area d =
     ap (λ k. take k (pasted u.at u.old.items (part area d'))) is.len
@@ -95,12 +96,12 @@ last_first [] u d = refl
 last_first (x ∷ rest) u d = ap (undone_by x) (last_first rest u d)
 
 -- what a write replaces is kept
-pub kept_undone : (area : Area) (at n : ℕ) (d last : Areas) (undo next : List Undo) (u : Undo) →
-    at ≤ length (part area d) → IsUndo area at n d u → undone undo d ≡ last →
+pub kept_undone : {area : Area} {at n : ℕ} {d last : Areas} {next : List Undo} {u : Undo}
+    (undo : List Undo) → at ≤ length (part area d) → IsUndo area at n d u → undone undo d ≡ last →
     next ≡ undo ++ u ∷ [] → IsUndone area at n next d last
-kept_undone area at n d last undo next u le is so_far made d' ch =
+kept_undone {u = u} undo le is so_far made d' ch =
     ap (λ l. undone l d') made ∙ last_first undo u d'
-    ∙ ap (undone undo) (one_undone area at n d d' u le is ch) ∙ so_far
+    ∙ ap (undone undo) (one_undone d' le is ch) ∙ so_far
 
 -- nothing is written then
 still_undone : (area : Area) (at n : ℕ) (d last : Areas) (undo : List Undo) →
@@ -109,20 +110,21 @@ still_undone area at n d last undo all =
     all d (unchanged area (Torn at n) d (torn_same at n (part area d)))
 
 -- also if there was no memory to keep it
-pub either_undone : (area : Area) (at n : ℕ) (d last : Areas) (undo next : List Undo) (u : Undo)
-    (kept : Bool) → at ≤ length (part area d) → IsUndo area at n d u → undone undo d ≡ last →
+pub either_undone : {area : Area} {at n : ℕ} {d last : Areas} {next : List Undo} {u : Undo}
+    (undo : List Undo) (kept : Bool) → at ≤ length (part area d) → IsUndo area at n d u →
+    undone undo d ≡ last →
     next ≡ cond kept (undo ++ u ∷ []) undo → undone next d ≡ last
-either_undone area at n d last undo next u true le is so_far made =
+either_undone {area} {at} {n} {d} {last} {next} undo true le is so_far made =
     still_undone area at n d last next
-    (kept_undone area at n d last undo next u le is so_far made)
-either_undone area at n d last undo next u false le is so_far made =
+    (kept_undone undo le is so_far made)
+either_undone {d = d} undo false le is so_far made =
     ap (λ l. undone l d) made ∙ so_far
 
 -- the last one of those that are left is undone
-pub undone_next : (left : ℕ) (undo : List Undo) (u : Undo) (d d' last : Areas) → 0 < left →
-    left ≤ length undo → u ≡ get_or undo (left - 1) u → d' ≡ undone_by u d →
+pub undone_next : {u : Undo} {d' last : Areas} (left : ℕ) (undo : List Undo) (d : Areas) →
+    0 < left → left ≤ length undo → u ≡ get_or undo (left - 1) u → d' ≡ undone_by u d →
     undone (take left undo) d ≡ last → undone (take (left - 1) undo) d' ≡ last
-undone_next left undo u d d' last more within is next so_far =
+undone_next {u} left undo d more within is next so_far =
     let k = left - 1 in
     let one : left ≡ k + 1 = omega (arith, more) in
     let split : take left undo ≡ take k undo ++ u ∷ [] =

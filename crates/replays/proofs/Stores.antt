@@ -83,7 +83,7 @@ no_batches image batches c o = o.holds.1
 -- a disk that opens to an image without a log
 pub keeps_read : (n : WholeNode) (c : Areas) → IsReadAs IsWholeOf (opened c) n → Keeps n c
 keeps_read n c found =
-    restores_image begins_logged IsAnyWholeOf LeadsWhole
+    restores_image
     (image_plain found.0 n.core found.2.0) (any_of found.0 n found.2)
     (opens_by (side c.select) c found.0 refl found.1)
 
@@ -114,7 +114,7 @@ keeps_alone n c r =
     r.led
 
 pub keeps_one : (m n : WholeNode) (c : Areas) → Keeps m c → Keeps n c → m ≡ n
-keeps_one = restores_one begins_logged IsAnyWholeOf LeadsWhole one_whole one_led
+keeps_one = restores_one one_whole one_led
 
 -- something was created on the disk
 pub keeps_some : (n : WholeNode) (c : Areas) → Keeps n c → c.select ≢ []

@@ -143,13 +143,14 @@ none-between i first more last same =
 pub between : {v : Known} {first middle last : List Step} → IsOpening v.opening
     → LeadsTo v first → LeadsTo v last → Continues first middle → Continues middle last
     → LeadsTo v middle
-between {v} {first} opens early late begins ends =
+between {v} {first} {middle} opens early late begins ends =
     let none : events_of v.me begins.0 ≡ [] =
     none-between v.me first begins.0 ends.0
     (ap (events_of v.me) (sym (ends.1 ∙ ap (λ (l : List Step). l ++ ends.0) begins.1))
     ∙ sym late.own ∙ early.own) in
     record {
-      events = events-front v.opening middle ends.0 (subst (AreEvents v.opening) ends.1 late.events);
+      events = events-front v.opening middle ends.0
+          (subst (AreEvents v.opening) ends.1 late.events);
       pair = ap (λ (l : List Step). pair_at (run v.opening l) v.me) begins.1
           ∙ ap (λ (w : World). pair_at w v.me) (run-append v.opening first begins.0)
           ∙ run-apart (run v.opening first) begins.0 v.me none

@@ -1,10 +1,18 @@
 -- Setting a mailbox, and what a seat then knows of it.
-use Rattle.std.proofs.Common.{◌≡◌, ◌≢◌, ℕ, zero, suc, List, [], ◌∷◌, set, Option, Some, None, refl, sym, subst, arith}
+use Rattle.std.proofs.Common.{◌≡◌, ◌≢◌, ℕ, zero, suc, ◌+◌, ◌*◌, List, [], ◌∷◌, set, Option, Some, None, refl, sym, subst, arith}
 use mathlib.Core.Option.{some, some-ne-none}
 use native.Mathlib.Decide.{ℕ_discrete}
 use lib.ListN.{get_elem?}
 use Rattle.msg.specs.Grammar.{Plain}
-use Rattle.wire.specs.Rule.{Box, empty, full, filling_by, emptying_by, face}
+use Rattle.model.specs.World.{World}
+use Rattle.wire.specs.Rule.{nodes_of, Box, empty, full, filling_by, emptying_by, face}
+
+-- how many mailboxes there are, which is also the index of the count word; the board is behind it
+abbrev pub mailboxes : World → ℕ
+mailboxes w = nodes_of w * nodes_of w
+
+abbrev pub board_at : World → ℕ
+board_at w = mailboxes w + 1
 
 abbrev pick : {P A : Type 0} → Dec P → A → A → A
 pick (yes _) a b = a

@@ -1,5 +1,5 @@
 -- A tick keeps the rule: one event enters the list.
-use Rattle.std.proofs.Common.{◌≡◌, ℕ, ◌+◌, ◌*◌, ◌%◌, ◌^◌, ◌<◌, ◌≤◌, List, [], ◌∷◌, ◌++◌, length, set, get_or, refl, sym, ap, ◌∙◌, subst, arith, le_refl, le_trans, length-set, length-append, get_or-set_other, get_or-set_same}
+use Rattle.std.proofs.Common.{◌≡◌, ℕ, ◌+◌, ◌%◌, ◌^◌, ◌<◌, ◌≤◌, List, [], ◌∷◌, ◌++◌, length, set, get_or, refl, sym, ap, ◌∙◌, subst, arith, le_refl, le_trans, length-set, length-append, get_or-set_other, get_or-set_same}
 use Rattle.std.specs.Prelude.{slice_index}
 use mathlib.Core.Option.{none}
 use Rattle.atomic_table.specs.Table.{State, Me, step, keeps, Allows}
@@ -11,7 +11,7 @@ use Rattle.wire.specs.Views.{Role, dealer, node, Pair, Known, ticks, pair_at}
 use Rattle.wire.specs.Rule.{nodes_of, ended_of, AreEvents, NodeOk, SeatOk, Holds}
 use Rattle.wire.specs.Plays.{Happens, Enters, ticked}
 use Rattle.wire.proofs.Events.{count, width, net-push, ended-push, are-push, events-push_same, events-push_other, IsLocal, happens-local}
-use Rattle.wire.proofs.Boxes.{set-at}
+use Rattle.wire.proofs.Boxes.{mailboxes, board_at, set-at}
 use Rattle.wire.proofs.Lists.{continues-both}
 use Rattle.wire.proofs.Stays.{Standing, noted, node-of, none-more}
 use Rattle.wire.proofs.Supplying.{led}
@@ -20,12 +20,6 @@ counted : (l r : ℕ) → r ≡ l % 2 ^ 64 → (r + 1) % 2 ^ 64 ≡ (l + 1) % 2 
 counted l r is = omega arith
 
 module _ {S : Type 0} {bytes : S → List ℕ} {opening : World} where
-  abbrev n : ℕ
-  n = nodes_of opening
-
-  abbrev Sat : Type 0
-  Sat = Me S Known
-
   module _ (p : Standing bytes opening) (role : p.view.role ≡ node) (e : Step) (q : Pair)
       (event : Happens p.view e q) where
     abbrev s : State S Known
@@ -40,10 +34,10 @@ module _ {S : Type 0} {bytes : S → List ℕ} {opening : World} where
     abbrev v : Known
     v = p.view
 
-    ok : NodeOk opening h.log (slice_index s.words (n * n + 1)) h.mail id v
+    ok : NodeOk opening h.log (slice_index s.words (board_at opening)) h.mail id v
     ok = node-of p role
 
-    long : length (run opening h.log).current ≡ n
+    long : length (run opening h.log).current ≡ nodes_of opening
     long = count opening h.log h.opens
 
     local : IsLocal (run opening h.log) e v.me q
@@ -64,7 +58,7 @@ module _ {S : Type 0} {bytes : S → List ℕ} {opening : World} where
     now : run opening (h.log ++ e ∷ []) ≡ happens (run opening h.log) e
     now = run-push opening h.log e
 
-    mine : NodeOk opening (h.log ++ e ∷ []) (slice_index s.words (n * n + 1)) h.mail id
+    mine : NodeOk opening (h.log ++ e ∷ []) (slice_index s.words (board_at opening)) h.mail id
         (ticks e q v)
     mine = record {
       below = ok.below;
@@ -82,7 +76,7 @@ module _ {S : Type 0} {bytes : S → List ℕ} {opening : World} where
       shows = ok.shows;
     }
 
-    enters : Enters e v (slice_index s.words (n * n)) (ticks e q v)
+    enters : Enters e v (slice_index s.words (mailboxes opening)) (ticks e q v)
     enters = record {
       log = h.log;
       events = subst (λ (o : World). AreEvents o (h.log ++ e ∷ [])) (sym ok.opening_is)
@@ -94,16 +88,21 @@ module _ {S : Type 0} {bytes : S → List ℕ} {opening : World} where
       own = mine.events_are;
     }
 
-    ticked-on : (x : ℕ) → x ≡ (slice_index s.words (n * n) + 1) % 2 ^ 64
-        → Holds bytes opening (record {
-          words = set s.words (n * n) x;
+    -- the count afterwards
+    abbrev x : ℕ
+    x = (slice_index s.words (mailboxes opening) + 1) % 2 ^ 64
+
+    ticked-on
+        : Holds bytes opening (record {
+          words = set s.words (mailboxes opening) x;
           homes = s.homes;
           views = set s.views id (ticks e q v);
         })
-    ticked-on x is =
-        let wide : length s.words ≡ n * n + 2 = h.wide in
-        let words : List ℕ = set s.words (n * n) x in
-        let board = get_or-set_other s.words (n * n) (n * n + 1) x 0 (omega arith) in
+    ticked-on =
+        let wide : length s.words ≡ mailboxes opening + 2 = h.wide in
+        let words : List ℕ = set s.words (mailboxes opening) x in
+        let board =
+        get_or-set_other s.words (mailboxes opening) (board_at opening) x 0 (omega arith) in
         noted p (ticks e q v) (h.log ++ e ∷ []) words (record {
           alike = record { role = refl; me = refl };
           filling = refl;
@@ -116,20 +115,21 @@ module _ {S : Type 0} {bytes : S → List ℕ} {opening : World} where
             );
             more = (e ∷ [], refl);
           };
-          wide = length-set s.words (n * n) x;
-          boxes = λ m below. get_or-set_other s.words (n * n) m x 0 (omega arith);
+          wide = length-set s.words (mailboxes opening) x;
+          boxes = λ m below. get_or-set_other s.words (mailboxes opening) m x 0 (omega arith);
           events = are-push opening h.log e h.events local.event;
-          count = get_or-set_same s.words (n * n) x 0 (omega arith) ∙ is
-              ∙ counted (length h.log) (slice_index s.words (n * n)) h.count
+          count = get_or-set_same s.words (mailboxes opening) x 0 (omega arith)
+              ∙ counted (length h.log) (slice_index s.words (mailboxes opening)) h.count
               ∙ ap (λ (k : ℕ). k % 2 ^ 64) (sym (length-append h.log (e ∷ [])));
           board = subst (λ (z : ℕ). z ≤ ended_of (run opening (h.log ++ e ∷ []))) (sym board)
               (le_trans h.board (ended-push opening h.log h.opens e));
           fits = subst (λ (z : ℕ). z ≤ GREATEST_CYCLE) (sym board) h.fits;
-          higher = subst (λ (z : ℕ). get_or s.words (n * n + 1) 0 ≤ z) (sym board) (le_refl _);
+          higher = subst (λ (z : ℕ). get_or s.words (board_at opening) 0 ≤ z) (sym board)
+              (le_refl _);
           shown = λ _. board;
           visits = none-more (record { role = refl; me = refl }) refl;
           mine = subst
-              (SeatOk opening (h.log ++ e ∷ []) (slice_index words (n * n + 1))
+              (SeatOk opening (h.log ++ e ∷ []) (slice_index words (board_at opening))
               (set s.views id (ticks e q v)) h.mail id (ticks e q v))
               (sym role)
               (subst (λ (z : ℕ). NodeOk opening (h.log ++ e ∷ []) z h.mail id (ticks e q v))
@@ -139,15 +139,15 @@ module _ {S : Type 0} {bytes : S → List ℕ} {opening : World} where
               (e ∷ [], refl);
         })
 
-  at-count : (slots id : ℕ) (me : Sat) (e : Step) (q : Pair) → me.0.role ≡ node
+  at-count : (slots id : ℕ) (me : Me S Known) (e : Step) (q : Pair) → me.0.role ≡ node
       → Happens me.0 e q
-      → Allows (Holds bytes opening) slots id me (n * n) (λ r. (r + 1) % 2 ^ 64)
-      (ticked e q (step slots (n * n) 1 0 none) me)
+      → Allows (Holds bytes opening) slots id me (mailboxes opening) (λ r. (r + 1) % 2 ^ 64)
+      (ticked e q (step slots (mailboxes opening) 1 0 none) me)
   at-count slots id me e q role event s h wide at small =
       let here : Standing bytes opening =
       record { state = s; holds = h; id = id; view = me.0; at = at } in
       let w : Known = ticks e q me.0 in
-      let kept = ticked-on here role e q event ((slice_index s.words (n * n) + 1) % 2 ^ 64) refl in
+      let kept = ticked-on here role e q event in
       let after : Standing bytes opening =
       record { state = _; holds = kept; id = id; view = w; at = set-at s.views id w me.0 at } in (
         w,
@@ -157,7 +157,8 @@ module _ {S : Type 0} {bytes : S → List ℕ} {opening : World} where
         (refl, refl, enters here role e q event, (kept.log, led after role)),
       )
 
-  pub ticks_allowed : {slots c : ℕ} (id : ℕ) (me : Sat) (e : Step) (q : Pair) → c ≡ n * n
+  pub ticks_allowed : {slots c : ℕ} (id : ℕ) (me : Me S Known) (e : Step) (q : Pair)
+      → c ≡ mailboxes opening
       → me.0.role ≡ node → Happens me.0 e q
       → Allows (Holds bytes opening) slots id me c (λ r. (r + 1) % 2 ^ 64)
       (ticked e q (step slots c 1 0 none) me)

@@ -1,5 +1,5 @@
 -- A new wire satisfies the rule, and still does while its seats are made.
-use Rattle.std.proofs.Common.{◌≡◌, ◌≢◌, ◌⊎◌, ℕ, zero, suc, ◌+◌, ◌*◌, ◌<◌, ◌≤◌, ◌==◌, ne_eqb, true, false, List, [], ◌∷◌, ◌++◌, length, set, get_or, Option, Some, None, refl, sym, ap, ◌∙◌, subst, inl, inr, ⊎_elim, arith, zero-le, le_refl, le_trans}
+use Rattle.std.proofs.Common.{◌≡◌, ◌≢◌, ◌⊎◌, ℕ, zero, suc, ◌+◌, ◌<◌, ◌≤◌, ◌==◌, ne_eqb, true, false, List, [], ◌∷◌, ◌++◌, length, set, get_or, Option, Some, None, refl, sym, ap, ◌∙◌, subst, inl, inr, ⊎_elim, arith, zero-le, le_refl, le_trans}
 use Rattle.std.specs.Prelude.{slice_index}
 use mathlib.Core.Option.{some, some-injective, some-ne-none}
 use lib.ListN.{get_elem?}
@@ -12,6 +12,7 @@ use Rattle.model.specs.World.{World, run}
 use Rattle.wire.specs.Views.{Role, dealer, node, watch, Visit, Known, pair_at, dealing, dealer_after, next_node, next_watch, note_of}
 use Rattle.wire.specs.Lists.{Continues}
 use Rattle.wire.specs.Rule.{nodes_of, ended_of, IsOpening, Box, Mail, empty, full, filling_by, emptying_by, Content, DealerOk, WatchOk, HasSeat, SeatOk, Holds}
+use Rattle.wire.proofs.Boxes.{mailboxes, board_at}
 use Rattle.wire.proofs.Stays.{node-of}
 use Rattle.wire.proofs.Visits.{filter-none}
 
@@ -23,55 +24,79 @@ at-end (x ∷ xs) a b zero e = inl e
 at-end (x ∷ xs) a b (suc j) e =
     ⊎_elim (λ t. inl t) (λ t. inr (ap suc t.0, t.1)) (at-end xs a b j e)
 
+abbrev Seats : List Known → Known → Known → ℕ → List Known
+Seats views left right id = set views id left ++ right ∷ []
+
+-- which seats there are after a deal
+among : (views : List Known) (id : ℕ) (left right : Known) (k : ℕ) (u : Known)
+    → get_elem? (Seats views left right id) k ≡ some u
+    → ((k ≡ id) × (left ≡ u)) ⊎ ((get_elem? views k ≡ some u) ⊎ (right ≡ u))
+among views id left right k u e =
+    ⊎_elim
+    (λ a. ⊎_elim
+    (λ (is : (k ≡ id) × (left ≡ u)). inl is)
+    (λ (is : (k ≢ id) × (get_elem? views k ≡ some u)). inr (inl is.1))
+    (at_set views id k left u a))
+    (λ (is : (k ≡ length (set views id left)) × (right ≡ u)). inr (inr is.1))
+    (at-end (set views id left) right u k e)
+
+clash : {A : Type 0} {r : Role} → r ≡ dealer → r ≡ node → A
+clash d e = let never : ◌≡◌ {A = Role} dealer node = sym d ∙ e in absurd cc
+
+later : (k : ℕ) → k ≤ k + 1
+later k = omega arith
+
+first-at : (v u : Known) (j : ℕ) → get_elem? (v ∷ []) j ≡ some u → (j ≡ 0) × (v ≡ u)
+first-at v u zero e = (refl, some-injective v u e)
+first-at v u (suc j) e = absurd (some-ne-none u (sym e))
+
+abbrev no_mail : Mail
+no_mail = record {
+  boxes = λ _. empty;
+  posted = λ _. [];
+  got = λ _. [];
+  visits = λ _. [];
+}
+
+-- the dealer becomes `left`, and the new seat is `right`
+record Deal {S : Type 0} (bytes : S → List ℕ) (opening : World) : Type 0 where
+  pub s : State S Known
+  pub h : Holds bytes opening s
+  pub id : ℕ
+  pub v : Known
+  pub left : Known
+  pub right : Known
+  pub at : get_elem? s.views id ≡ some v
+  pub was : v.role ≡ dealer
+  pub role : left.role ≡ dealer
+  pub no_dealer : right.role ≢ dealer
+  pub left_ok : DealerOk opening h.log (slice_index s.words (board_at opening)) h.mail
+      (Seats s.views left right id) id left
+  pub right_ok : SeatOk opening h.log (slice_index s.words (board_at opening))
+      (Seats s.views left right id) h.mail (length (set s.views id left)) right right.role
+  pub alone : right.role ≡ node → (k : ℕ) (u : Known) → get_elem? s.views k ≡ some u
+      → u.role ≡ node → u.me ≢ right.me
+  pub left_seen : Continues left.seen h.log
+  pub right_seen : Continues right.seen h.log
+
+-- one more seat that may only be read
+record OneMore {S : Type 0} (bytes : S → List ℕ) (opening : World) : Type 0 where
+  pub state : State S Known
+  pub holds : Holds bytes opening state
+  pub seat : Known
+  pub is : seat.role ≡ watch
+  pub ok : WatchOk opening (slice_index state.words (board_at opening)) seat
+  pub seen : Continues seat.seen holds.log
+
 module _ {S : Type 0} {bytes : S → List ℕ} {opening : World} where
-  abbrev n : ℕ
-  n = nodes_of opening
-
-  abbrev Seats : List Known → Known → Known → ℕ → List Known
-  Seats views left right id = set views id left ++ right ∷ []
-
-  -- the dealer becomes `left`, and the new seat is `right`
-  record Deal : Type 0 where
-    pub s : State S Known
-    pub h : Holds bytes opening s
-    pub id : ℕ
-    pub v : Known
-    pub left : Known
-    pub right : Known
-    pub at : get_elem? s.views id ≡ some v
-    pub was : v.role ≡ dealer
-    pub role : left.role ≡ dealer
-    pub no_dealer : right.role ≢ dealer
-    pub left_ok : DealerOk opening h.log (slice_index s.words (n * n + 1)) h.mail
-        (Seats s.views left right id) id left
-    pub right_ok : SeatOk opening h.log (slice_index s.words (n * n + 1))
-        (Seats s.views left right id) h.mail (length (set s.views id left)) right right.role
-    pub alone : right.role ≡ node → (k : ℕ) (u : Known) → get_elem? s.views k ≡ some u
-        → u.role ≡ node → u.me ≢ right.me
-    pub left_seen : Continues left.seen h.log
-    pub right_seen : Continues right.seen h.log
-
-  -- which seats there are after a deal
-  among : (s : State S Known) (id : ℕ) (left right : Known) (k : ℕ) (u : Known)
-      → get_elem? (Seats s.views left right id) k ≡ some u
-      → ((k ≡ id) × (left ≡ u)) ⊎ ((get_elem? s.views k ≡ some u) ⊎ (right ≡ u))
-  among s id left right k u e =
-      ⊎_elim
-      (λ a. ⊎_elim
-      (λ (is : (k ≡ id) × (left ≡ u)). inl is)
-      (λ (is : (k ≢ id) × (get_elem? s.views k ≡ some u)). inr (inl is.1))
-      (at_set s.views id k left u a))
-      (λ (is : (k ≡ length (set s.views id left)) × (right ≡ u)). inr (inr is.1))
-      (at-end (set s.views id left) right u k e)
-
   dealer-of : (s : State S Known) (h : Holds bytes opening s) (id : ℕ) (v : Known)
       → get_elem? s.views id ≡ some v → v.role ≡ dealer
-      → DealerOk opening h.log (slice_index s.words (n * n + 1)) h.mail s.views id v
+      → DealerOk opening h.log (slice_index s.words (board_at opening)) h.mail s.views id v
   dealer-of s h id v at role =
-      subst (SeatOk opening h.log (slice_index s.words (n * n + 1)) s.views h.mail id v) role
+      subst (SeatOk opening h.log (slice_index s.words (board_at opening)) s.views h.mail id v) role
       (h.each_seat id v at)
 
-  module _ (t : Deal) where
+  module _ (t : Deal bytes opening) where
     abbrev s : State S Known
     s = t.s
 
@@ -113,8 +138,10 @@ module _ {S : Type 0} {bytes : S → List ℕ} {opening : World} where
         ∙ r))
         ∙ e)
 
-    content-kept : (m : ℕ) (b : Box) → Content bytes n (run opening h.log) s.homes s.views m b
-        → Content bytes n (run opening h.log) s.homes (Seats s.views left right id) m b
+    content-kept : (m : ℕ) (b : Box)
+        → Content bytes (nodes_of opening) (run opening h.log) s.homes s.views m b
+        → Content bytes (nodes_of opening) (run opening h.log) s.homes
+        (Seats s.views left right id) m b
     content-kept m empty c = c
     content-kept m (full f) c = c
     content-kept m (filling_by j) c = (c.0, kept-node j c.0 c.1 c.2, c.2, c.3, c.4)
@@ -122,8 +149,9 @@ module _ {S : Type 0} {bytes : S → List ℕ} {opening : World} where
 
     seat-kept : {j : ℕ} {u : Known} → j ≢ id → get_elem? s.views j ≡ some u → (r : Role)
         → u.role ≡ r
-        → SeatOk opening h.log (slice_index s.words (n * n + 1)) s.views h.mail j u r
-        → SeatOk opening h.log (slice_index s.words (n * n + 1)) (Seats s.views left right id)
+        → SeatOk opening h.log (slice_index s.words (board_at opening)) s.views h.mail j u r
+        → SeatOk opening h.log (slice_index s.words (board_at opening))
+        (Seats s.views left right id)
         h.mail j u r
     seat-kept {j} {u} apart e dealer is ok =
         absurd (apart ((dealer-of s h id t.v t.at t.was).alone j u e is))
@@ -153,22 +181,24 @@ module _ {S : Type 0} {bytes : S → List ℕ} {opening : World} where
         (at-end (set s.views id left) right x j ex)
 
     seats-kept : (j : ℕ) (u : Known) → get_elem? (Seats s.views left right id) j ≡ some u
-        → SeatOk opening h.log (slice_index s.words (n * n + 1)) (Seats s.views left right id)
+        → SeatOk opening h.log (slice_index s.words (board_at opening))
+        (Seats s.views left right id)
         h.mail j u u.role
     seats-kept j u e =
         ⊎_elim
         (λ a. ⊎_elim
         (λ (is : (j ≡ id) × (left ≡ u)).
-        subst (λ (x : ℕ × Known). SeatOk opening h.log (slice_index s.words (n * n + 1))
+        subst (λ (x : ℕ × Known). SeatOk opening h.log (slice_index s.words (board_at opening))
         (Seats s.views left right id) h.mail x.0 x.1 x.1.role)
         (λ k. (sym is.0 k, is.1 k))
-        (subst (SeatOk opening h.log (slice_index s.words (n * n + 1)) (Seats s.views left right id)
+        (subst (SeatOk opening h.log (slice_index s.words (board_at opening))
+        (Seats s.views left right id)
         h.mail id left) (sym t.role) t.left_ok))
         (λ (is : (j ≢ id) × (get_elem? s.views j ≡ some u)).
         seat-kept is.0 is.1 u.role refl (h.each_seat j u is.1))
         (at_set s.views id j left u a))
         (λ (is : (j ≡ length (set s.views id left)) × (right ≡ u)).
-        subst (λ (x : ℕ × Known). SeatOk opening h.log (slice_index s.words (n * n + 1))
+        subst (λ (x : ℕ × Known). SeatOk opening h.log (slice_index s.words (board_at opening))
         (Seats s.views left right id) h.mail x.0 x.1 x.1.role)
         (λ k. (sym is.0 k, is.1 k)) t.right_ok)
         (at-end (set s.views id left) right u j e)
@@ -207,15 +237,9 @@ module _ {S : Type 0} {bytes : S → List ℕ} {opening : World} where
           (λ (a : get_elem? s.views j ≡ some u). h.learned j u a)
           (λ (is : right ≡ u). subst (λ (x : Known). Continues x.seen h.log) is t.right_seen)
           other)
-          (among s id left right j u e);
+          (among s.views id left right j u e);
       one = λ j k x u. one-kept j k;
     }
-
-  clash : {A : Type 0} {r : Role} → r ≡ dealer → r ≡ node → A
-  clash d e = let never : ◌≡◌ {A = Role} dealer node = sym d ∙ e in absurd cc
-
-  later : (k : ℕ) → k ≤ k + 1
-  later k = omega arith
 
   pub next_splits : (id : ℕ) (v : Known) → v.role ≡ dealer → v.me < v.nodes
       → Splits (Holds bytes opening) id v (dealer_after v) (next_node v)
@@ -247,14 +271,14 @@ module _ {S : Type 0} {bytes : S → List ℕ} {opening : World} where
               subst (λ (x : Known). x.me < v.me + 1) is
               (let after : v.me < v.me + 1 = omega arith in after))
               other)
-              (among s id (dealer_after v) (next_node v) k u e);
+              (among s.views id (dealer_after v) (next_node v) k u e);
           alone = λ k u e r. ⊎_elim
               (λ (is : (k ≡ id) × (dealer_after v ≡ u)). is.0)
               (λ other. ⊎_elim
               (λ (a : get_elem? s.views k ≡ some u). ok.alone k u a r)
               (λ (is : next_node v ≡ u). clash r (sym (ap (λ (x : Known). x.role) is)))
               other)
-              (among s id (dealer_after v) (next_node v) k u e);
+              (among s.views id (dealer_after v) (next_node v) k u e);
           still = λ i late. ok.still i (omega arith);
           unsent = λ m inside late. ok.unsent m inside (le_trans (later v.me) late);
           untaken = λ m inside late. ok.untaken m inside (le_trans (later v.me) late);
@@ -287,15 +311,7 @@ module _ {S : Type 0} {bytes : S → List ℕ} {opening : World} where
 
   -- ---- One more seat that may only be read
 
-  record OneMore : Type 0 where
-    pub state : State S Known
-    pub holds : Holds bytes opening state
-    pub seat : Known
-    pub is : seat.role ≡ watch
-    pub ok : WatchOk opening (slice_index state.words (n * n + 1)) seat
-    pub seen : Continues seat.seen holds.log
-
-  module _ (t : OneMore) where
+  module _ (t : OneMore bytes opening) where
     abbrev st : State S Known
     st = t.state
 
@@ -325,8 +341,9 @@ module _ {S : Type 0} {bytes : S → List ℕ} {opening : World} where
     still-has seat =
         (seat.0, seat.1, at_longer st.views (w ∷ []) seat.0 seat.1 seat.2, seat.3, seat.4)
 
-    content-still : (m : ℕ) (b : Box) → Content bytes n (run opening ok.log) st.homes st.views m b
-        → Content bytes n (run opening ok.log) st.homes (st.views ++ w ∷ []) m b
+    content-still : (m : ℕ) (b : Box)
+        → Content bytes (nodes_of opening) (run opening ok.log) st.homes st.views m b
+        → Content bytes (nodes_of opening) (run opening ok.log) st.homes (st.views ++ w ∷ []) m b
     content-still m empty c = c
     content-still m (full f) c = c
     content-still m (filling_by j) c =
@@ -335,8 +352,9 @@ module _ {S : Type 0} {bytes : S → List ℕ} {opening : World} where
         (c.0, at_longer st.views (w ∷ []) j c.0 c.1, c.2, c.3, c.4)
 
     seat-still : (j : ℕ) (u : Known) (r : Role)
-        → SeatOk opening ok.log (slice_index st.words (n * n + 1)) st.views ok.mail j u r
-        → SeatOk opening ok.log (slice_index st.words (n * n + 1)) (st.views ++ w ∷ []) ok.mail j u
+        → SeatOk opening ok.log (slice_index st.words (board_at opening)) st.views ok.mail j u r
+        → SeatOk opening ok.log (slice_index st.words (board_at opening))
+        (st.views ++ w ∷ []) ok.mail j u
         r
     seat-still j u dealer good = record {
       nodes_is = good.nodes_is;
@@ -373,9 +391,10 @@ module _ {S : Type 0} {bytes : S → List ℕ} {opening : World} where
       each_seat = λ j u e. ⊎_elim
           (λ was. seat-still j u u.role (ok.each_seat j u was))
           (λ (last : w ≡ u).
-          subst (λ (x : Known). SeatOk opening ok.log (slice_index st.words (n * n + 1))
+          subst (λ (x : Known). SeatOk opening ok.log (slice_index st.words (board_at opening))
           (st.views ++ w ∷ []) ok.mail j x x.role) last
-          (subst (SeatOk opening ok.log (slice_index st.words (n * n + 1)) (st.views ++ w ∷ [])
+          (subst (SeatOk opening ok.log (slice_index st.words (board_at opening))
+          (st.views ++ w ∷ [])
           ok.mail j w) (sym t.is) t.ok))
           (at_snoc st.views w u j e);
       learned = λ j u e. ⊎_elim
@@ -386,7 +405,8 @@ module _ {S : Type 0} {bytes : S → List ℕ} {opening : World} where
           ok.one j k x u (before j x ex rx no-watch) (before k u eu ru no-watch) rx ru;
     }
 
-  watch-after : (t : OneMore) (id : ℕ) (v : Known) → get_elem? t.state.views id ≡ some v
+  watch-after : (t : OneMore bytes opening) (id : ℕ) (v : Known)
+      → get_elem? t.state.views id ≡ some v
       → Holds bytes opening (record {
         words = t.state.words;
         homes = t.state.homes;
@@ -429,21 +449,10 @@ module _ {S : Type 0} {bytes : S → List ℕ} {opening : World} where
       })
       id v at
 
-  first-at : (v u : Known) (j : ℕ) → get_elem? (v ∷ []) j ≡ some u → (j ≡ 0) × (v ≡ u)
-  first-at v u zero e = (refl, some-injective v u e)
-  first-at v u (suc j) e = absurd (some-ne-none u (sym e))
-
-  abbrev no_mail : Mail
-  no_mail = record {
-    boxes = λ _. empty;
-    posted = λ _. [];
-    got = λ _. [];
-    visits = λ _. [];
-  }
-
   pub starts : (words : List ℕ) (slots : List S) → IsOpening opening
-      → length words ≡ n * n + 2 → ((k : ℕ) → get_or words k 0 ≡ 0) → length slots ≡ n * n
-      → length (table.opening words slots (dealing opening)).homes ≡ n * n
+      → length words ≡ mailboxes opening + 2 → ((k : ℕ) → get_or words k 0 ≡ 0)
+      → length slots ≡ mailboxes opening
+      → length (table.opening words slots (dealing opening)).homes ≡ mailboxes opening
       → Holds bytes opening (table.opening words slots (dealing opening))
   starts words slots opens wide zeros long homes =
       let v : Known = dealing opening in
@@ -458,16 +467,17 @@ module _ {S : Type 0} {bytes : S → List ℕ} {opening : World} where
         wide = wide;
         slots = homes;
         events = tt;
-        count = zeros (n * n);
-        board = subst (λ (z : ℕ). z ≤ ended_of opening) (sym (zeros (n * n + 1))) zero-le;
-        fits = subst (λ (z : ℕ). z ≤ GREATEST_CYCLE) (sym (zeros (n * n + 1))) zero-le;
+        count = zeros (mailboxes opening);
+        board = subst (λ (z : ℕ). z ≤ ended_of opening) (sym (zeros (board_at opening))) zero-le;
+        fits = subst (λ (z : ℕ). z ≤ GREATEST_CYCLE) (sym (zeros (board_at opening))) zero-le;
         each_box = λ m below. record {
           shows = zeros m;
           content = some_there slots m (subst (λ (k : ℕ). m < k) (sym long) below);
         };
         each_seat = λ j u e. (
             let is = first-at v u j e in
-            subst (λ (x : ℕ × Known). SeatOk opening [] (slice_index words (n * n + 1)) (v ∷ [])
+            subst (λ (x : ℕ × Known). SeatOk opening [] (slice_index words (board_at opening))
+            (v ∷ [])
             no_mail x.0 x.1 x.1.role) (λ k. (sym is.0 k, is.1 k))
             (record {
               nodes_is = refl;
@@ -478,7 +488,7 @@ module _ {S : Type 0} {bytes : S → List ℕ} {opening : World} where
               still = λ i late. (refl, refl);
               unsent = λ m inside late. refl;
               untaken = λ m inside late. refl;
-              unseen = λ _. zeros (n * n + 1);
+              unseen = λ _. zeros (board_at opening);
             })
             );
         learned = λ j u e.

@@ -1,5 +1,5 @@
 -- The four kinds of steps on a mailbox are allowed.
-use Rattle.std.proofs.Common.{◌≡◌, ℕ, ◌*◌, ◌/◌, ◌%◌, ◌<◌, true, List, ◌∷◌, length, get_or, Some, refl, sym, ap, ◌∙◌, subst, eqb}
+use Rattle.std.proofs.Common.{◌≡◌, ℕ, ◌/◌, ◌%◌, ◌<◌, true, List, ◌∷◌, length, get_or, Some, refl, sym, ap, ◌∙◌, subst, eqb}
 use mathlib.Core.Option.{none}
 use prog.Atomic.{either}
 use Rattle.atomic_table.specs.Table.{State, Me, step, Act, keeps, takes, gives, carried_after, stepped, Valid, Allows, rest}
@@ -11,29 +11,22 @@ use Rattle.wire.specs.Views.{node, Known, notes, claims, takes_in, posts, clears
 use Rattle.wire.specs.Rule.{nodes_of, AreEvents, Holds}
 use Rattle.wire.specs.Plays.{Owns, claimed, took, posted, emptied}
 use Rattle.wire.specs.Views.{pair_at}
-use Rattle.wire.proofs.Boxes.{set-at}
+use Rattle.wire.proofs.Boxes.{mailboxes, set-at}
 use Rattle.wire.proofs.Stays.{Standing, node-of}
 use Rattle.wire.proofs.Supplying.{led}
 use Rattle.wire.proofs.MailSteps.{missed, claim-hit, take-hit, post-done, clear-done}
 
+-- what a step on the word m owes
+abbrev Goes : {S : Type 0} → (S → List ℕ) → World → State S Known → ℕ → ℕ → Me S Known
+    → (Me S Known → Type 0) → ℕ → Type 0
+Goes {S} bytes opening s m id me told x =
+    (w : Known) × (a : Act S) × Valid s.homes me.1 a
+    × Holds bytes opening (stepped s m x id me.1 w a) × told (w, carried_after me.1 a)
+
 module _ {S : Type 0} {bytes : S → List ℕ} {opening : World} where
-  abbrev n : ℕ
-  n = nodes_of opening
-
-  abbrev St : Type 0
-  St = State S Known
-
-  abbrev Sat : Type 0
-  Sat = Me S Known
-
-  -- what a step on the word m owes
-  abbrev Goes : St → ℕ → ℕ → Sat → (Sat → Type 0) → ℕ → Type 0
-  Goes s m id me told x =
-      (w : Known) × (a : Act S) × Valid s.homes me.1 a
-      × Holds bytes opening (stepped s m x id me.1 w a) × told (w, carried_after me.1 a)
-
-  pub claims_allowed : {slots m : ℕ} (id : ℕ) (me : Sat) → m < n * n → me.0.role ≡ node
-      → me.0.me ≡ m / n
+  pub claims_allowed : {slots m : ℕ} (id : ℕ) (me : Me S Known) → m < mailboxes opening
+      → me.0.role ≡ node
+      → me.0.me ≡ m / nodes_of opening
       → Allows (Holds bytes opening) slots id me m (λ r. either (eqb r 0) 3 r)
       (claimed (step slots m 0 3 none) me)
   claims_allowed {slots} {m} id me below role me_is s h wide at small =
@@ -42,7 +35,7 @@ module _ {S : Type 0} {bytes : S → List ℕ} {opening : World} where
       let r : ℕ = get_or s.words m 0 in
       let place : ℕ = length (h.mail.visits m) in
       let told = claimed (step slots m 0 3 none) me r in
-      exchanged r 0 3 (Goes s m id me told)
+      exchanged r 0 3 (Goes bytes opening s m id me told)
       (λ hit.
       let c = claim-hit here role m below me_is hit me.1 in (
         claims m place me.0,
@@ -59,8 +52,9 @@ module _ {S : Type 0} {bytes : S → List ℕ} {opening : World} where
         ((λ hit. absurd (miss hit)), (λ _. (place, refl, refl))),
       ))
 
-  pub takes_allowed : {slots m : ℕ} (id : ℕ) (me : Sat) → m < n * n → me.0.role ≡ node
-      → me.0.me ≡ m % n
+  pub takes_allowed : {slots m : ℕ} (id : ℕ) (me : Me S Known) → m < mailboxes opening
+      → me.0.role ≡ node
+      → me.0.me ≡ m % nodes_of opening
       → Allows (Holds bytes opening) slots id me m (λ r. either (eqb r 1) 2 r)
       (took bytes (step slots m 1 2 none) me)
   takes_allowed {slots} {m} id me below role me_is s h wide at small =
@@ -70,7 +64,7 @@ module _ {S : Type 0} {bytes : S → List ℕ} {opening : World} where
       let place : ℕ = length (h.mail.visits m) in
       let told = took bytes (step slots m 1 2 none) me r in
       let mine = node-of here role in
-      exchanged r 1 2 (Goes s m id me told)
+      exchanged r 1 2 (Goes bytes opening s m id me told)
       (λ hit.
       let c = take-hit here role m below me_is hit me.1 in
       let w : Known = takes_in m place c.0 me.0 in
@@ -111,7 +105,7 @@ module _ {S : Type 0} {bytes : S → List ℕ} {opening : World} where
       ))
 
   -- the bytes are in the first slot
-  pub posts_allowed : {slots m : ℕ} (id : ℕ) (me : Sat) (x : S) → me.0.role ≡ node
+  pub posts_allowed : {slots m : ℕ} (id : ℕ) (me : Me S Known) (x : S) → me.0.role ≡ node
       → has m me.0.filling ≡ true → me.1 ≡ (m, x) ∷ rest me.1 → Owns m me.0 (bytes x)
       → Allows (Holds bytes opening) slots id me m (λ _. 1)
       (λ _. posted bytes (step slots m 1 0 none) me 1)
@@ -130,7 +124,8 @@ module _ {S : Type 0} {bytes : S → List ℕ} {opening : World} where
         (owns.0, ((place, refl), refl, d.1, (x, front, owns.1))),
       )
 
-  pub clears_allowed : {slots m : ℕ} (id : ℕ) (me : Sat) (x : S) (f : Plain) → me.0.role ≡ node
+  pub clears_allowed : {slots m : ℕ} (id : ℕ) (me : Me S Known) (x : S) (f : Plain)
+      → me.0.role ≡ node
       → found m me.0.emptying ≡ Some f → me.1 ≡ (m, x) ∷ rest me.1
       → Allows (Holds bytes opening) slots id me m (λ _. 0)
       (λ _. emptied (step slots m 0 0 none) me 0)

@@ -1,11 +1,11 @@
 -- The four steps on a mailbox keep the rule.
-use Rattle.std.proofs.Common.{◌≡◌, ◌≢◌, ℕ, suc, ◌+◌, ◌*◌, ◌/◌, ◌%◌, ◌<◌, ◌≤◌, true, false, true≢false, List, [], ◌∷◌, ◌++◌, append-nil, length, set, get_or, Option, Some, None, refl, sym, ap, ◌∙◌, subst, ⊎_elim, arith, ne_eqb, mod-lt}
+use Rattle.std.proofs.Common.{◌≡◌, ◌≢◌, ℕ, suc, ◌/◌, ◌%◌, ◌<◌, ◌≤◌, true, false, true≢false, List, [], ◌∷◌, ◌++◌, append-nil, length, set, get_or, Option, Some, None, refl, sym, ap, ◌∙◌, subst, ⊎_elim, arith, ne_eqb, mod-lt}
 use Rattle.std.proofs.lemmas.Bool.{cond-false, false_from_ne_true}
 use Rattle.std.specs.Prelude.{slice_index}
 use mathlib.Core.Option.{none, some, some-injective}
 use lib.ListN.{get_elem?}
 use lib.Seq.{set-get_or}
-use Rattle.atomic_table.specs.Table.{State, Me, keeps, takes, gives, stepped}
+use Rattle.atomic_table.specs.Table.{State, keeps, takes, gives, stepped}
 use Rattle.atomic_table.proofs.Lists.{set_here}
 use Rattle.msg.specs.Grammar.{Plain, data_frame, ack_frame}
 use Rattle.model.specs.State.{NodeState, node_at, got_from, sent_to}
@@ -17,9 +17,9 @@ use Rattle.wire.specs.Rule.{nodes_of, Box, empty, full, filling_by, emptying_by,
 use Rattle.wire.specs.Plays.{Releases, Owns, IsFresh}
 use Rattle.wire.proofs.Lists.{has-here, has-more, has-gone, has-stays, found-here, found-more, found-gone, found-stays}
 use Rattle.wire.proofs.InOrder.{box-number, box-here, box-else}
-use Rattle.wire.proofs.Boxes.{holder, is-empty, is-full, none-from, set-at}
+use Rattle.wire.proofs.Boxes.{mailboxes, board_at, holder, is-empty, is-full, none-from, set-at}
 use Rattle.wire.proofs.Events.{count}
-use Rattle.wire.proofs.Stays.{Standing, Visits, still-seat, noted, same-log, node-of, one-more}
+use Rattle.wire.proofs.Stays.{Standing, still-node, Visits, still-seat, noted, same-log, node-of, one-more}
 use Rattle.wire.proofs.Moves.{moved}
 
 -- what a saved state releases is in the net
@@ -45,15 +45,6 @@ only-one : (id j k : ℕ) → k ≡ suc id → j ≢ id → k ≢ suc j
 only-one id j k is apart e = let same : j ≡ id = omega arith in apart same
 
 module _ {S : Type 0} {bytes : S → List ℕ} {opening : World} where
-  abbrev n : ℕ
-  n = nodes_of opening
-
-  abbrev St : Type 0
-  St = State S Known
-
-  abbrev Sat : Type 0
-  Sat = Me S Known
-
   module _ (p : Standing bytes opening) (role : p.view.role ≡ node) where
     abbrev s : State S Known
     s = p.state
@@ -67,7 +58,7 @@ module _ {S : Type 0} {bytes : S → List ℕ} {opening : World} where
     abbrev v : Known
     v = p.view
 
-    ok : NodeOk opening h.log (slice_index s.words (n * n + 1)) h.mail id v
+    ok : NodeOk opening h.log (slice_index s.words (board_at opening)) h.mail id v
     ok = node-of p role
 
     -- a mailbox that the seat is neither filling nor emptying
@@ -82,7 +73,7 @@ module _ {S : Type 0} {bytes : S → List ℕ} {opening : World} where
     place m = length (h.mail.visits m)
 
     -- a claim or a take that found another word
-    pub missed : (m r : ℕ) → m < n * n → r ≡ get_or s.words m 0
+    pub missed : (m r : ℕ) → m < mailboxes opening → r ≡ get_or s.words m 0
         → Holds bytes opening (stepped s m r id [] (notes m (place m) r v) keeps)
     missed m r below is =
         let w : Known = notes m (place m) r v in
@@ -114,40 +105,28 @@ module _ {S : Type 0} {bytes : S → List ℕ} {opening : World} where
           count = h.count;
           board = h.board;
           fits = h.fits;
-          higher = (let z : ℕ = slice_index s.words (n * n + 1) in
+          higher = (let z : ℕ = slice_index s.words (board_at opening) in
               let le : z ≤ z = omega arith in le);
           shown = λ _. refl;
           visits = visits;
           mine = subst
-              (SeatOk opening h.log (slice_index s.words (n * n + 1)) (set s.views id w)
+              (SeatOk opening h.log (slice_index s.words (board_at opening)) (set s.views id w)
               (record h.mail { visits = visits.all }) id w)
               (sym role)
-              (record {
-                below = ok.below;
-                nodes_is = ok.nodes_is;
-                opening_is = ok.opening_is;
-                pair_is = ok.pair_is;
-                events_are = ok.events_are;
-                released = ok.released;
-                fills = ok.fills;
-                empties = ok.empties;
-                sends = ok.sends;
-                gets = ok.gets;
-                visited = visits.mine role;
-                shows = ok.shows;
-              });
+              (still-node ok (visits.mine role) ok.shows);
           no_dealer = λ d. (let never : ◌≡◌ {A = Role} node dealer = sym role ∙ d in absurd cc);
           seen = h.learned id v p.at;
         }))
 
-    pub claim-hit : (m : ℕ) → m < n * n → v.me ≡ m / n → get_or s.words m 0 ≡ 0 → (c : List (ℕ × S))
+    pub claim-hit : (m : ℕ) → m < mailboxes opening → v.me ≡ m / nodes_of opening
+        → get_or s.words m 0 ≡ 0 → (c : List (ℕ × S))
         → (x : S) × (get_elem? s.homes m ≡ some (some x))
         × Holds bytes opening (stepped s m 3 id c (claims m (place m) v) (takes m x)) × IsFresh m v
     claim-hit m below me_is hit c =
         let b = h.each_box m below in
         let is = is-empty (h.mail.boxes m) (sym b.shows ∙ hit) in
         let lies = subst
-        (Content bytes n (run opening h.log) s.homes s.views m) is b.content in
+        (Content bytes (nodes_of opening) (run opening h.log) s.homes s.views m) is b.content in
         let loose : (j : ℕ) → holder (h.mail.boxes m) ≢ suc j =
         λ j e. (let never : 0 ≡ suc j = sym (ap holder is) ∙ e in omega arith) in (
           lies.0,
@@ -187,17 +166,19 @@ module _ {S : Type 0} {bytes : S → List ℕ} {opening : World} where
           fresh m (loose id),
         )
 
-    pub take-hit : (m : ℕ) → m < n * n → v.me ≡ m % n → get_or s.words m 0 ≡ 1 → (c : List (ℕ × S))
+    pub take-hit : (m : ℕ) → m < mailboxes opening → v.me ≡ m % nodes_of opening
+        → get_or s.words m 0 ≡ 1 → (c : List (ℕ × S))
         → (f : Plain) × (x : S) × (get_elem? s.homes m ≡ some (some x))
-        × Holds bytes opening (stepped s m 2 id c (takes_in m (place m) f v) (takes m x)) × IsFresh m v
-        × Spells f (bytes x) × IsInNet (run opening h.log) f × (sender f ≡ m / n)
-        × (receiver f ≡ m % n)
+        × Holds bytes opening (stepped s m 2 id c (takes_in m (place m) f v) (takes m x))
+        × IsFresh m v
+        × Spells f (bytes x) × IsInNet (run opening h.log) f × (sender f ≡ m / nodes_of opening)
+        × (receiver f ≡ m % nodes_of opening)
     take-hit m below me_is hit c =
         let b = h.each_box m below in
         let is = is-full (h.mail.boxes m) (sym b.shows ∙ hit) in
         let f : Plain = is.0 in
         let lies = subst
-        (Content bytes n (run opening h.log) s.homes s.views m) is.1 b.content in
+        (Content bytes (nodes_of opening) (run opening h.log) s.homes s.views m) is.1 b.content in
         let loose : (j : ℕ) → holder (h.mail.boxes m) ≢ suc j =
         λ j e. (let never : 0 ≡ suc j = sym (ap holder is.1) ∙ e in omega arith) in (
           f,
@@ -235,14 +216,16 @@ module _ {S : Type 0} {bytes : S → List ℕ} {opening : World} where
                 (h.in_order m below) ∙ sym (append-nil (h.mail.got m ++ f ∷ []));
             sends = ok.sends m below;
             gets = λ me. ap (λ (fs : List Plain). fs ++ f ∷ []) (ok.gets m below me)
-                ∙ sym (box-here n m f v.taken (box-number n m f lies.2 lies.3));
+                ∙ sym (box-here (nodes_of opening) m f v.taken
+                (box-number (nodes_of opening) m f lies.2 lies.3));
             sends_none = λ _. refl;
             gets_none = λ other. absurd (other me_is);
             found = 1;
             was = sym (ap face is.1);
             visits = refl;
             sent = λ k apart. refl;
-            took = λ k apart. box-else n m k f v.taken (box-number n m f lies.2 lies.3) apart;
+            took = λ k apart. box-else (nodes_of opening) m k f v.taken
+                (box-number (nodes_of opening) m f lies.2 lies.3) apart;
           }),
           fresh m (loose id),
           lies.0.2,
@@ -258,19 +241,23 @@ module _ {S : Type 0} {bytes : S → List ℕ} {opening : World} where
     post-done m filling x c owns =
         let mine = ok.fills m filling in
         let b = h.each_box m mine.0 in
-        let was = subst (Content bytes n (run opening h.log) s.homes s.views m) mine.1 b.content in
+        let was = subst (Content bytes (nodes_of opening) (run opening h.log) s.homes s.views m)
+        mine.1 b.content in
         let is : v ≡ was.0 = some-injective v was.0 (sym p.at ∙ was.1) in
-        let me_is : v.me ≡ m / n = ap (λ (u : Known). u.me) is ∙ was.3 in
+        let me_is : v.me ≡ m / nodes_of opening = ap (λ (u : Known). u.me) is ∙ was.3 in
         let f : Plain = owns.0 in
-        let pos : 0 < n = (let below = ok.below in omega (arith, below)) in
-        let to_is : receiver f ≡ m % n = owns.2 ∙ ap (λ (k : ℕ). m % k) ok.nodes_is in
-        let number = box-number n m f (sender-is v.me v.pair.saved f owns.3 ∙ me_is) to_is in
-        let long : length (run opening h.log).current ≡ n = count opening h.log h.opens in
+        let pos : 0 < nodes_of opening = (let below = ok.below in omega (arith, below)) in
+        let to_is : receiver f ≡ m % nodes_of opening =
+        owns.2 ∙ ap (λ (k : ℕ). m % k) ok.nodes_is in
+        let number =
+        box-number (nodes_of opening) m f (sender-is v.me v.pair.saved f owns.3 ∙ me_is) to_is in
+        let long : length (run opening h.log).current ≡ nodes_of opening =
+        count opening h.log h.opens in
         let net = in-net (run opening h.log) v.me v.pair.saved f
         (ap (λ (p : Pair). p.saved) ok.pair_is)
         (subst (λ (k : ℕ). v.me < k) (sym long) ok.below)
         (subst (λ (k : ℕ). receiver f < k) (sym long)
-        (subst (λ (k : ℕ). k < n) (sym to_is) (mod-lt m pos)))
+        (subst (λ (k : ℕ). k < nodes_of opening) (sym to_is) (mod-lt m pos)))
         owns.3 in (
           moved p (posts m (place m) f v) m 1 (full f) (record {
             home = some x;
@@ -299,14 +286,14 @@ module _ {S : Type 0} {bytes : S → List ℕ} {opening : World} where
                 (subst (λ (y : Box). h.mail.posted m ≡ h.mail.got m ++ lying y) mine.1
                 (h.in_order m mine.0) ∙ append-nil (h.mail.got m));
             sends = λ me. ap (λ (fs : List Plain). fs ++ f ∷ []) (ok.sends m mine.0 me)
-                ∙ sym (box-here n m f v.sent number);
+                ∙ sym (box-here (nodes_of opening) m f v.sent number);
             gets = ok.gets m mine.0;
             sends_none = λ other. absurd (other me_is);
             gets_none = λ _. refl;
             found = 3;
             was = sym (ap face mine.1);
             visits = refl;
-            sent = λ k apart. box-else n m k f v.sent number apart;
+            sent = λ k apart. box-else (nodes_of opening) m k f v.sent number apart;
             took = λ k apart. refl;
           }),
           none-from (found m v.emptying) (λ g e. clash g (sym mine.1 ∙ (ok.empties m g e).1)),

@@ -1,5 +1,5 @@
 -- A seat that learns a beginning of the history keeps the rule.
-use Rattle.std.proofs.Common.{◌≡◌, ℕ, ◌*◌, List, refl, sym, ◌∙◌, subst, le_refl}
+use Rattle.std.proofs.Common.{◌≡◌, ℕ, List, refl, sym, ◌∙◌, subst, le_refl}
 use mathlib.Core.Option.{none, some}
 use lib.ListN.{get_elem?}
 use lib.Seq.{set-get_or}
@@ -9,17 +9,14 @@ use Rattle.model.specs.declared.step.Step.{Step}
 use Rattle.model.specs.World.{World}
 use Rattle.wire.specs.Lists.{Continues}
 use Rattle.wire.specs.Views.{Role, dealer, node, Known, learns}
-use Rattle.wire.specs.Rule.{nodes_of, IsOpening, SeatOk, Holds}
+use Rattle.wire.specs.Rule.{IsOpening, SeatOk, Holds}
 use Rattle.wire.specs.Plays.{Learns, learned}
 use Rattle.wire.proofs.Lists.{continues-itself}
-use Rattle.wire.proofs.Stays.{Standing, noted, node-of, none-more, same-log}
+use Rattle.wire.proofs.Stays.{board_of, Standing, still-node, noted, node-of, none-more, same-log}
 use Rattle.wire.proofs.Supplying.{led}
-use Rattle.std.specs.Prelude.{◌+◌, slice_index, set}
+use Rattle.std.specs.Prelude.{set}
 
 module _ {S : Type 0} {bytes : S → List ℕ} {opening : World} where
-  abbrev n : ℕ
-  n = nodes_of opening
-
   learnt : (p : Standing bytes opening) → p.view.role ≡ node → (seen : List Step)
       → Continues seen p.holds.log
       → Holds bytes opening (record {
@@ -46,23 +43,10 @@ module _ {S : Type 0} {bytes : S → List ℕ} {opening : World} where
         shown = λ _. refl;
         visits = none-more (record { role = refl; me = refl }) refl;
         mine = subst
-            (SeatOk opening h.log (slice_index p.state.words (n * n + 1))
+            (SeatOk opening h.log (board_of p)
             (set p.state.views p.id w) h.mail p.id w)
             (sym role)
-            (record {
-              below = ok.below;
-              nodes_is = ok.nodes_is;
-              opening_is = ok.opening_is;
-              pair_is = ok.pair_is;
-              events_are = ok.events_are;
-              released = ok.released;
-              fills = ok.fills;
-              empties = ok.empties;
-              sends = ok.sends;
-              gets = ok.gets;
-              visited = ok.visited;
-              shows = ok.shows;
-            });
+            (still-node ok ok.visited ok.shows);
         no_dealer = λ d. (let never : ◌≡◌ {A = Role} node dealer = sym role ∙ d in absurd cc);
         seen = begins;
       })
@@ -73,7 +57,8 @@ module _ {S : Type 0} {bytes : S → List ℕ} {opening : World} where
       let here : Standing bytes opening =
       record { state = s; holds = h; id = id; view = v; at = at } in
       let both : Known = learns w.seen v in
-      let was : get_elem? s.views other ≡ some w = sym (set_else s.views id other both apart) ∙ there in
+      let was : get_elem? s.views other ≡ some w =
+      sym (set_else s.views id other both apart) ∙ there in
       subst
       (λ (vs : List Known).
       Holds bytes opening (record { words = s.words; homes = s.homes; views = vs }))

@@ -17,7 +17,8 @@ use Rattle.wire.proofs.Lists.{has-here, has-more, has-gone, has-stays, found-her
 
 -- ---- Numbers that occur once
 
-pub once-parts : (x : ℕ) (xs : List ℕ) → once (x ∷ xs) ≡ true → (has x xs ≡ false) × (once xs ≡ true)
+pub once-parts : (x : ℕ) (xs : List ℕ) → once (x ∷ xs) ≡ true
+    → (has x xs ≡ false) × (once xs ≡ true)
 once-parts x xs e =
     ⊎_elim
     (λ there. absurd (true≢false (sym e ∙ cond-true _ _ _ there)))
@@ -138,7 +139,8 @@ module _ {S : Type 0} {bytes : S → List ℕ} {me nodes : ℕ} where
           sym fresh.1 ∙ ap (λ (j : ℕ). found j v.emptying) is ∙ there in cc)
       spells (suc i) b y g e there = s.spells i b y g e there
 
-  pub sits-took : {held : List ℕ} {v : Known} {out : List (ℕ × S)} (at place : ℕ) (x : S) (f : Plain)
+  pub sits-took : {held : List ℕ} {v : Known} {out : List (ℕ × S)} (at place : ℕ) (x : S)
+      (f : Plain)
       → Seated bytes me nodes held v out → IsFresh at v → IsOwnBox me nodes at
       → bytes x ≡ spelling f
       → Seated bytes me nodes (at ∷ held) (takes_in at place f v) ((at, x) ∷ out)
@@ -214,7 +216,8 @@ module _ {S : Type 0} {bytes : S → List ℕ} {me nodes : ℕ} where
           (λ is. cond-true _ _ _ (eq-eqb at k (sym is)))
           (λ apart. has-more at k (boxes_of out) apart ∙ e)
 
-  pub sits-posted : {held : List ℕ} {v : Known} {out : List (ℕ × S)} (at place : ℕ) (f : Plain) (x : S)
+  pub sits-posted : {held : List ℕ} {v : Known} {out : List (ℕ × S)} (at place : ℕ) (f : Plain)
+      (x : S)
       → Seated bytes me nodes held v ((at, x) ∷ out) → found at v.emptying ≡ None
       → Seated bytes me nodes (boxes_of out) (posts at place f v) out
   sits-posted {v = v} at place f x s none =

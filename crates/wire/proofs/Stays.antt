@@ -1,5 +1,5 @@
 -- What remains of the rule when one seat takes a step.
-use Rattle.std.proofs.Common.{◌≡◌, ◌≢◌, ℕ, suc, ◌+◌, ◌*◌, ◌/◌, ◌%◌, ◌^◌, ◌<◌, ◌≤◌, ◌==◌, eq-eqb, ne_eqb, List, [], ◌∷◌, ◌++◌, length, set, refl, sym, ap, ◌∙◌, subst, ⊎_elim, arith, le_trans}
+use Rattle.std.proofs.Common.{◌≡◌, ◌≢◌, ℕ, suc, ◌/◌, ◌%◌, ◌^◌, ◌<◌, ◌≤◌, ◌==◌, eq-eqb, ne_eqb, List, [], ◌∷◌, ◌++◌, length, set, refl, sym, ap, ◌∙◌, subst, ⊎_elim, arith, le_trans}
 use Rattle.std.specs.Prelude.{slice_index}
 use mathlib.Core.Option as maybe
 use mathlib.Core.Option.{some, some-injective}
@@ -16,7 +16,7 @@ use Rattle.wire.specs.Lists.{has, found, Continues}
 use Rattle.wire.specs.Views.{Role, dealer, node, watch, Visit, Known, visit, visits_with, pair_at}
 use Rattle.wire.specs.Rule.{nodes_of, ended_of, events_of, AreEvents, Box, Mail, empty, full, filling_by, emptying_by, face, lying, by_node, on_box, AreVisits, Content, BoxOk, NodeOk, DealerOk, HasSeat, AreTaken, SeatOk, Holds}
 use Rattle.laws.proofs.Lookups.{slice_get-push}
-use Rattle.wire.proofs.Boxes.{put, at_put, holder, set-at}
+use Rattle.wire.proofs.Boxes.{mailboxes, board_at, put, at_put, holder, set-at}
 use Rattle.wire.proofs.Lists.{continues-both, continues-itself}
 use Rattle.wire.proofs.Visits.{filter-here, filter-else, visits-push}
 
@@ -74,7 +74,7 @@ pub record Extends (opening : World) (log log' : List Step) (v : Known) : Type 0
   pub more : Continues log log'
 
 pub same-log : {opening : World} {log : List Step} {v : Known} → Extends opening log log v
-same-log = record {
+same-log {log = log} = record {
   net = λ f h. h;
   others = λ i apart. (refl, refl);
   more = continues-itself log;
@@ -98,6 +98,29 @@ same-mail n b mail v =
       board = λ a. refl;
     }
 
+-- A node's seat still is as the rule says when only its visits have changed, and what it has loaded,
+-- shown or learned.
+pub still-node : {opening : World} {log seen : List Step} {old new j number shown : ℕ}
+    {mail : Mail} {v : Known} {all : ℕ → List Visit} {visits : List Visit} → NodeOk opening log old mail j v
+    → ((m : ℕ) → m < mailboxes opening → by_node v.me (all m) ≡ on_box m visits)
+    → (v.me ≡ 0 → new ≡ shown)
+    → NodeOk opening log new (record mail { visits = all }) j
+    (record v { visits = visits; number = number; shown = shown; seen = seen })
+still-node ok visited shows = record {
+  below = ok.below;
+  nodes_is = ok.nodes_is;
+  opening_is = ok.opening_is;
+  pair_is = ok.pair_is;
+  events_are = ok.events_are;
+  released = ok.released;
+  fills = ok.fills;
+  empties = ok.empties;
+  sends = ok.sends;
+  gets = ok.gets;
+  visited = visited;
+  shows = shows;
+}
+
 -- a seat in a state that keeps the rule
 pub record Standing {S : Type 0} (bytes : S → List ℕ) (opening : World) : Type 0 where
   pub state : State S Known
@@ -107,8 +130,9 @@ pub record Standing {S : Type 0} (bytes : S → List ℕ) (opening : World) : Ty
   pub at : get_elem? state.views id ≡ some view
 
 module _ {S : Type 0} {bytes : S → List ℕ} {opening : World} where
-  abbrev n : ℕ
-  n = nodes_of opening
+  -- what the board shows
+  abbrev pub board_of : Standing bytes opening → ℕ
+  board_of p = slice_index p.state.words (board_at opening)
 
   -- the views when the seat's view is w
   abbrev after : Standing bytes opening → Known → List Known
@@ -164,8 +188,8 @@ module _ {S : Type 0} {bytes : S → List ℕ} {opening : World} where
 
     dealer-stays : {log : List Step} {board : ℕ} {mail : Mail} {j : ℕ} {u : Known}
         → Extends opening p.holds.log log p.view
-        → Apart n (slice_index p.state.words (n * n + 1)) board p.holds.mail mail p.view
-        → DealerOk opening p.holds.log (slice_index p.state.words (n * n + 1)) p.holds.mail
+        → Apart (nodes_of opening) (board_of p) board p.holds.mail mail p.view
+        → DealerOk opening p.holds.log (board_of p) p.holds.mail
         p.state.views j u
         → DealerOk opening log board mail (after p w) j u
     dealer-stays {u = u} extends apart h = record {
@@ -176,9 +200,9 @@ module _ {S : Type 0} {bytes : S → List ℕ} {opening : World} where
       alone = λ k x e r. let a = was k x e in h.alone k a.0 a.1 (a.2 ∙ r);
       still = λ i late. let a = h.still i late in let b = extends.others i (below i late) in
           (b.1 ∙ a.0, b.0 ∙ a.1);
-      unsent = λ m inside late. apart.posted m (λ r e. below (m / n) late r (sym e))
+      unsent = λ m inside late. apart.posted m (λ r e. below (m / nodes_of opening) late r (sym e))
           ∙ h.unsent m inside late;
-      untaken = λ m inside late. apart.got m (λ r e. below (m % n) late r (sym e))
+      untaken = λ m inside late. apart.got m (λ r e. below (m % nodes_of opening) late r (sym e))
           ∙ h.untaken m inside late;
       unseen = λ first. apart.board (λ r e. below 0 (omega (arith, first)) r (sym e))
           ∙ h.unseen first;
@@ -195,23 +219,25 @@ module _ {S : Type 0} {bytes : S → List ℕ} {opening : World} where
     pub log : List Step
     pub mail : Mail
     pub extends : Extends opening p.holds.log log p.view
-    pub apart : Apart n (slice_index p.state.words (n * n + 1)) (slice_index words (n * n + 1))
+    pub apart : Apart (nodes_of opening) (board_of p) (slice_index words (board_at opening))
         p.holds.mail mail p.view
     pub wide : length words ≡ length p.state.words
     pub slots : length homes ≡ length p.state.homes
     pub events : AreEvents opening log
-    pub count : slice_index words (n * n) ≡ length log % 2 ^ 64
-    pub board : slice_index words (n * n + 1) ≤ ended_of (run opening log)
-    pub fits : slice_index words (n * n + 1) ≤ GREATEST_CYCLE
-    pub higher : slice_index p.state.words (n * n + 1) ≤ slice_index words (n * n + 1)
-    pub each : (m : ℕ) → m < n * n
-        → BoxOk bytes n (run opening log) words homes (after p w) m (mail.boxes m)
-    pub in_order : (m : ℕ) → m < n * n → mail.posted m ≡ mail.got m ++ lying (mail.boxes m)
-    pub visits : (m : ℕ) → m < n * n → AreVisits m (face (mail.boxes m)) 0 0 (mail.visits m)
-    pub visitors : (m : ℕ) → m < n * n → AreTaken (after p w) (mail.visits m)
+    pub count : slice_index words (mailboxes opening) ≡ length log % 2 ^ 64
+    pub board : slice_index words (board_at opening) ≤ ended_of (run opening log)
+    pub fits : slice_index words (board_at opening) ≤ GREATEST_CYCLE
+    pub higher : board_of p ≤ slice_index words (board_at opening)
+    pub each : (m : ℕ) → m < mailboxes opening
+        → BoxOk bytes (nodes_of opening) (run opening log) words homes (after p w) m (mail.boxes m)
+    pub in_order : (m : ℕ) → m < mailboxes opening
+        → mail.posted m ≡ mail.got m ++ lying (mail.boxes m)
+    pub visits : (m : ℕ) → m < mailboxes opening
+        → AreVisits m (face (mail.boxes m)) 0 0 (mail.visits m)
+    pub visitors : (m : ℕ) → m < mailboxes opening → AreTaken (after p w) (mail.visits m)
     pub theirs : (j : ℕ) → j ≢ p.id → (m : ℕ) → holder (p.holds.mail.boxes m) ≡ suc j
         → mail.boxes m ≡ p.holds.mail.boxes m
-    pub mine : SeatOk opening log (slice_index words (n * n + 1)) (after p w) mail p.id
+    pub mine : SeatOk opening log (slice_index words (board_at opening)) (after p w) mail p.id
         w w.role
     pub no_dealer : p.view.role ≢ dealer
     pub seen : Continues w.seen log
@@ -220,9 +246,9 @@ module _ {S : Type 0} {bytes : S → List ℕ} {opening : World} where
       (t : Turn p w words homes) where
     theirs-stay : (j : ℕ) (u : Known) → j ≢ p.id → get_elem? p.state.views j ≡ some u → (r : Role)
         → u.role ≡ r
-        → SeatOk opening p.holds.log (slice_index p.state.words (n * n + 1)) p.state.views
+        → SeatOk opening p.holds.log (board_of p) p.state.views
         p.holds.mail j u r
-        → SeatOk opening t.log (slice_index words (n * n + 1)) (after p w) t.mail j u r
+        → SeatOk opening t.log (slice_index words (board_at opening)) (after p w) t.mail j u r
     theirs-stay j u apart at dealer is ok =
         dealer-stays p w t.alike t.extends t.apart ok
     theirs-stay j u apart at node is ok =
@@ -239,8 +265,10 @@ module _ {S : Type 0} {bytes : S → List ℕ} {opening : World} where
           released = λ k f e. t.extends.net f (ok.released k f e);
           fills = λ m e. let a = ok.fills m e in (a.0, theirs m (ap holder a.1) ∙ a.1);
           empties = λ m f e. let a = ok.empties m f e in (a.0, theirs m (ap holder a.1) ∙ a.1);
-          sends = λ m inside me. t.apart.posted m (other (m / n) me) ∙ ok.sends m inside me;
-          gets = λ m inside me. t.apart.got m (other (m % n) me) ∙ ok.gets m inside me;
+          sends = λ m inside me. t.apart.posted m (other (m / nodes_of opening) me)
+              ∙ ok.sends m inside me;
+          gets = λ m inside me. t.apart.got m (other (m % nodes_of opening) me)
+              ∙ ok.gets m inside me;
           visited = λ m inside. t.apart.visits m u.me (other u.me refl) ∙ ok.visited m inside;
           shows = λ first. t.apart.board (other 0 first) ∙ ok.shows first;
         }
@@ -268,7 +296,7 @@ module _ {S : Type 0} {bytes : S → List ℕ} {opening : World} where
           (λ (is : (j ≡ p.id) × (w ≡ u)).
           subst
           (λ (x : ℕ × Known).
-          SeatOk opening t.log (slice_index words (n * n + 1)) (after p w) t.mail
+          SeatOk opening t.log (slice_index words (board_at opening)) (after p w) t.mail
           x.0 x.1 x.1.role)
           (λ k. (sym is.0 k, is.1 k)) t.mine)
           (λ (is : (j ≢ p.id) × (get_elem? p.state.views j ≡ some u)).
@@ -288,7 +316,7 @@ module _ {S : Type 0} {bytes : S → List ℕ} {opening : World} where
 
   pub record Leaves (p : Standing bytes opening) (w : Known) (log : List Step) (words : List ℕ)
       (homes : Homes S) (m : ℕ) : Type 0 where
-    pub below : m < n * n
+    pub below : m < mailboxes opening
     pub alike : IsAlike p.view w
     pub extends : Extends opening p.holds.log log p.view
     pub word : slice_index words m ≡ slice_index p.state.words m
@@ -298,8 +326,8 @@ module _ {S : Type 0} {bytes : S → List ℕ} {opening : World} where
   module _ {p : Standing bytes opening} {w : Known} {log : List Step} {words : List ℕ}
       {homes : Homes S} {m : ℕ} (l : Leaves p w log words homes m) where
     content-stays : (b : Box)
-        → Content bytes n (run opening p.holds.log) p.state.homes p.state.views m b
-        → Content bytes n (run opening log) homes (after p w) m b
+        → Content bytes (nodes_of opening) (run opening p.holds.log) p.state.homes p.state.views m b
+        → Content bytes (nodes_of opening) (run opening log) homes (after p w) m b
     content-stays empty c = (c.0, l.home ∙ c.1)
     content-stays (full f) c =
         ((c.0.0, l.home ∙ c.0.1, c.0.2), l.extends.net f c.1, c.2, c.3)
@@ -332,7 +360,7 @@ module _ {S : Type 0} {bytes : S → List ℕ} {opening : World} where
         ))
         (λ apart. (c.0, set_else p.state.views p.id j w apart ∙ c.1, c.2, c.3, c.4))
 
-    pub box-stays : BoxOk bytes n (run opening log) words homes (after p w) m
+    pub box-stays : BoxOk bytes (nodes_of opening) (run opening log) words homes (after p w) m
         (p.holds.mail.boxes m)
     box-stays =
         let ok = p.holds.each_box m l.below in
@@ -342,10 +370,10 @@ module _ {S : Type 0} {bytes : S → List ℕ} {opening : World} where
         }
 
   pub node-of : (p : Standing bytes opening) → p.view.role ≡ node
-      → NodeOk opening p.holds.log (slice_index p.state.words (n * n + 1)) p.holds.mail p.id p.view
+      → NodeOk opening p.holds.log (board_of p) p.holds.mail p.id p.view
   node-of p role =
       subst
-      (SeatOk opening p.holds.log (slice_index p.state.words (n * n + 1)) p.state.views
+      (SeatOk opening p.holds.log (board_of p) p.state.views
       p.holds.mail p.id p.view)
       role (p.holds.each_seat p.id p.view p.at)
 
@@ -353,11 +381,11 @@ module _ {S : Type 0} {bytes : S → List ℕ} {opening : World} where
 
   pub record Visits (p : Standing bytes opening) (w : Known) (boxes : ℕ → Box) : Type 0 where
     pub all : ℕ → List Visit
-    pub each : (m : ℕ) → m < n * n → AreVisits m (face (boxes m)) 0 0 (all m)
-    pub taken : (m : ℕ) → m < n * n → AreTaken (after p w) (all m)
+    pub each : (m : ℕ) → m < mailboxes opening → AreVisits m (face (boxes m)) 0 0 (all m)
+    pub taken : (m : ℕ) → m < mailboxes opening → AreTaken (after p w) (all m)
     pub others : (m i : ℕ) → (p.view.role ≡ node → p.view.me ≢ i)
         → by_node i (all m) ≡ by_node i (p.holds.mail.visits m)
-    pub mine : p.view.role ≡ node → (m : ℕ) → m < n * n
+    pub mine : p.view.role ≡ node → (m : ℕ) → m < mailboxes opening
         → by_node w.me (all m) ≡ on_box m w.visits
 
   -- the step is on no mailbox
@@ -380,7 +408,7 @@ module _ {S : Type 0} {bytes : S → List ℕ} {opening : World} where
     pub left : ℕ
     pub alike : IsAlike p.view w
     pub role : p.view.role ≡ node
-    pub below : m < n * n
+    pub below : m < mailboxes opening
     pub was : found ≡ face (p.holds.mail.boxes m)
     pub is : left ≡ face (boxes m)
     pub same : (k : ℕ) → k ≢ m → face (boxes k) ≡ face (p.holds.mail.boxes k)
@@ -398,10 +426,10 @@ module _ {S : Type 0} {bytes : S → List ℕ} {opening : World} where
     abbrev all : ℕ → List Visit
     all = put before m (before m ++ last ∷ [])
 
-    each-follows : (k : ℕ) → k < n * n → AreVisits k (face (boxes k)) 0 0 (all k)
+    each-follows : (k : ℕ) → k < mailboxes opening → AreVisits k (face (boxes k)) 0 0 (all k)
     each-follows k below =
         at_put before m (before m ++ last ∷ [])
-        (λ i xs. i < n * n → AreVisits i (face (boxes i)) 0 0 xs) k
+        (λ i xs. i < mailboxes opening → AreVisits i (face (boxes i)) 0 0 xs) k
         (λ _.
         subst (λ (z : ℕ). AreVisits m z 0 0 (before m ++ last ∷ [])) t.is
         (visits-push last (before m) 0 0
@@ -411,10 +439,10 @@ module _ {S : Type 0} {bytes : S → List ℕ} {opening : World} where
         (p.holds.visits k inside))
         below
 
-    each-taken : (k : ℕ) → k < n * n → AreTaken (after p w) (all k)
+    each-taken : (k : ℕ) → k < mailboxes opening → AreTaken (after p w) (all k)
     each-taken k below =
         at_put before m (before m ++ last ∷ [])
-        (λ i xs. i < n * n → AreTaken (after p w) xs) k
+        (λ i xs. i < mailboxes opening → AreTaken (after p w) xs) k
         (λ _ j x e.
         ⊎_elim
         (λ was. still-there p w t.alike x.node (p.holds.visitors m t.below j x was))
@@ -430,10 +458,10 @@ module _ {S : Type 0} {bytes : S → List ℕ} {opening : World} where
         still-there p w t.alike x.node (p.holds.visitors k inside j x e))
         below
 
-    mine-too : (k : ℕ) → k < n * n → by_node p.view.me (all k) ≡ on_box k w.visits
+    mine-too : (k : ℕ) → k < mailboxes opening → by_node p.view.me (all k) ≡ on_box k w.visits
     mine-too k below =
         at_put before m (before m ++ last ∷ [])
-        (λ i xs. i < n * n → by_node p.view.me xs ≡ on_box i w.visits) k
+        (λ i xs. i < mailboxes opening → by_node p.view.me xs ≡ on_box i w.visits) k
         (λ _.
         filter-here (λ x. x.node == p.view.me) (before m) last
         (eq-eqb p.view.me p.view.me refl)
@@ -470,16 +498,16 @@ module _ {S : Type 0} {bytes : S → List ℕ} {opening : World} where
     pub emptying : w.emptying ≡ p.view.emptying
     pub extends : Extends opening p.holds.log log p.view
     pub wide : length words ≡ length p.state.words
-    pub boxes : (m : ℕ) → m < n * n → slice_index words m ≡ slice_index p.state.words m
+    pub boxes : (m : ℕ) → m < mailboxes opening → slice_index words m ≡ slice_index p.state.words m
     pub events : AreEvents opening log
-    pub count : slice_index words (n * n) ≡ length log % 2 ^ 64
-    pub board : slice_index words (n * n + 1) ≤ ended_of (run opening log)
-    pub fits : slice_index words (n * n + 1) ≤ GREATEST_CYCLE
-    pub higher : slice_index p.state.words (n * n + 1) ≤ slice_index words (n * n + 1)
+    pub count : slice_index words (mailboxes opening) ≡ length log % 2 ^ 64
+    pub board : slice_index words (board_at opening) ≤ ended_of (run opening log)
+    pub fits : slice_index words (board_at opening) ≤ GREATEST_CYCLE
+    pub higher : board_of p ≤ slice_index words (board_at opening)
     pub shown : (p.view.role ≡ node → p.view.me ≢ 0)
-        → slice_index words (n * n + 1) ≡ slice_index p.state.words (n * n + 1)
+        → slice_index words (board_at opening) ≡ board_of p
     pub visits : Visits p w p.holds.mail.boxes
-    pub mine : SeatOk opening log (slice_index words (n * n + 1)) (after p w)
+    pub mine : SeatOk opening log (slice_index words (board_at opening)) (after p w)
         (record p.holds.mail { visits = visits.all }) p.id w w.role
     pub no_dealer : p.view.role ≢ dealer
     pub seen : Continues w.seen log

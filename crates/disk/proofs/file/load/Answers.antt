@@ -9,7 +9,7 @@ returns c =
     let mid = c.risk.new.self.state in
     let s' = c.set.new.self in
     let content = c.read_to_end.new.buf in
-    loaded_by c.args.area c.len.result content.items s mid s' (sym (c.len.ensures ∙ content.ok.0))
+    loaded_by content.items mid (sym (c.len.ensures ∙ content.ok.0))
     c.in-Ok.ensures.held c.set.ensures.held
     (set_reaches (Changes c.args.area (Torn 0 c.len.result)) s mid s' c.set.ensures.synced
     c.set.ensures.ranges c.in-Ok.ensures.torn)

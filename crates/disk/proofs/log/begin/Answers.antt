@@ -1,9 +1,6 @@
-use Rattle.std.proofs.Common.{◌≡◌, [], inl, false}
+use Rattle.std.proofs.Common.{inl, false}
 use Rattle.std.proofs.lemmas.Bool.{false≢true}
 use Rattle.std.proofs.lemmas.Result.{on_ok_weaker}
-use Rattle.disk.specs.Areas.{Changes, Torn}
-use Rattle.disk.specs.Journal.{NoneOrLog}
-use Rattle.disk.specs.declared.device.Area.TheVariants.{Select}
 use Rattle.disk.proofs.Logs.{logged_by}
 use Rattle.disk.proofs.Turns.{begin_torn, begun, image_laid}
 use Rattle.disk.proofs.Moments.{joined, weaker}
@@ -12,9 +9,7 @@ use Rattle.disk.proofs.log.begin.Goals as goal
 
 pub returns-in_err-put_both-clause-any_moment : goal.returns-in_err-put_both-clause-any_moment
 returns-in_err-put_both-clause-any_moment g c =
-    weaker g.D.Disk.moment g.D.Disk.left_since c.args.disk.now c.put_both.new.disk
-    (λ x. x.select ≡ []) (NoneOrLog c.args.image.now) c.put_both.ensures.any_moment
-    (λ x none. inl none)
+    weaker c.put_both.ensures.any_moment (λ x none. inl none)
 
 pub returns-clause-any_moment : goal.returns-clause-any_moment
 returns-clause-any_moment g c =
@@ -26,13 +21,8 @@ returns-clause-any_moment g c =
     c.in_ok-put_both.ensures.a in
     let b = image_laid image bytes s.b t.b c.requires.fits c.requires.spelled
     c.in_ok-put_both.ensures.b in
-    joined g.D.Disk.moment g.D.Disk.left_since c.args.disk.now c.put_both.new.disk c.put.new.disk
-    (NoneOrLog image)
-    (weaker g.D.Disk.moment g.D.Disk.left_since c.args.disk.now c.put_both.new.disk
-    (λ x. x.select ≡ []) (NoneOrLog image) c.put_both.ensures.any_moment (λ x none. inl none))
-    (weaker g.D.Disk.moment g.D.Disk.left_since c.put_both.new.disk c.put.new.disk
-    (Changes Select (Torn 0 1) t) (NoneOrLog image) c.put.ensures.any_moment
-    (λ x torn. begin_torn image t a b x torn))
+    joined (weaker c.put_both.ensures.any_moment (λ x none. inl none))
+    (weaker c.put.ensures.any_moment (λ x torn. begin_torn image t a b x torn))
 
 pub returns-clause-begun : goal.returns-clause-begun
 returns-clause-begun g c =

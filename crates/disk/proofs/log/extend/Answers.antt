@@ -1,10 +1,9 @@
-use Rattle.std.proofs.Common.{◌+◌, ◌≤◌, ◌++◌, [], ◌∷◌, inl, length, subst, sym}
+use Rattle.std.proofs.Common.{◌+◌, ◌≤◌, inl, length, subst, sym}
 use Rattle.std.proofs.Math.Logic.{∥∥₁_elim}
 use Rattle.std.proofs.Props.{props}
 use Rattle.std.proofs.lemmas.Bool.{false≢true}
 use Rattle.std.proofs.lemmas.Result.{on_ok_weaker}
-use Rattle.disk.specs.Areas.{Changes, Torn, part}
-use Rattle.disk.specs.Journal.{OldOrNewLog}
+use Rattle.disk.specs.Areas.{part}
 use Rattle.disk.proofs.Logs.{Adding, batch_added, end_found, end_moved, first_torn, second_torn}
 use Rattle.disk.proofs.Logs.{logged_by}
 use Rattle.disk.proofs.Moments.{joined, weaker}
@@ -28,9 +27,7 @@ returns-in_err-put-clause-any_moment g c image batches opens =
       spelled = c.requires.spelled;
       fits = c.requires.fits;
     } in
-    weaker g.D.Disk.moment g.D.Disk.left_since c.args.disk.now c.put.new.disk
-    (Changes c.half-area.result (Torn (c.args.end + 1) (length c.args.bytes.now)) s)
-    (OldOrNewLog image batches image (batches ++ c.args.batch.now ∷ [])) c.put.ensures.any_moment
+    weaker c.put.ensures.any_moment
     (λ x torn. inl (first_torn adding image batches opens x torn))
 
 pub returns-clause-any_moment : goal.returns-clause-any_moment
@@ -38,7 +35,6 @@ returns-clause-any_moment g c image batches opens =
     let s = g.D.Disk.seen c.args.disk.now in
     let t = g.D.Disk.seen c.put.new.disk in
     let area = c.half-area.result in
-    let P = OldOrNewLog image batches image (batches ++ c.args.batch.now ∷ []) in
     let adding : Adding c.args.in_b area c.args.end c.args.batch.now c.args.bytes.now s = record {
       here = c.half-area.ensures;
       selected = c.requires.logged.1;
@@ -46,12 +42,10 @@ returns-clause-any_moment g c image batches opens =
       spelled = c.requires.spelled;
       fits = c.requires.fits;
     } in
-    joined g.D.Disk.moment g.D.Disk.left_since c.args.disk.now c.put.new.disk c.put-2.new.disk P
-    (weaker g.D.Disk.moment g.D.Disk.left_since c.args.disk.now c.put.new.disk
-    (Changes area (Torn (c.args.end + 1) (length c.args.bytes.now)) s) P c.put.ensures.any_moment
+    joined
+    (weaker c.put.ensures.any_moment
     (λ x torn. inl (first_torn adding image batches opens x torn)))
-    (weaker g.D.Disk.moment g.D.Disk.left_since c.put.new.disk c.put-2.new.disk
-    (Changes area (Torn c.args.end 1) t) P c.put-2.ensures.any_moment
+    (weaker c.put-2.ensures.any_moment
     (λ x torn. second_torn adding t c.in_ok-put.ensures.written image batches opens x torn))
 
 pub returns-clause-added : goal.returns-clause-added
@@ -66,7 +60,8 @@ returns-clause-added g c =
       fits = c.requires.fits;
     } in
     on_ok_weaker c.put-2.result (λ set image batches opens.
-    batch_added adding (g.D.Disk.seen c.put.new.disk) c.in_ok-put.ensures.written image batches opens
+    batch_added adding
+    (g.D.Disk.seen c.put.new.disk) c.in_ok-put.ensures.written image batches opens
     (g.D.Disk.seen c.put-2.new.disk) set) c.put-2.ensures.written
 
 pub returns-clause-logged : goal.returns-clause-logged

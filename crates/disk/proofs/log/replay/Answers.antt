@@ -1,19 +1,19 @@
-use Rattle.std.proofs.Common.{◌≡◌, ◌≢◌, ◌∙◌, ◌++◌, ◌∷◌, [], Result, IsErrOf, Err, Some, None, ap, arith, drop, length, subst, sym}
+use Rattle.std.proofs.Common.{◌≡◌, ◌≢◌, ◌∙◌, Result, IsErrOf, Err, Some, None, ap, arith, drop, length, subst, sym}
 use Rattle.std.proofs.lemmas.Result.{err_from_is_err_and}
 use Rattle.ids.specs.declared.refusal.Refusal.{Refusal}
 use Rattle.ids.specs.declared.refusal.Refusal.TheVariants.{BadImage, Memory}
 use Rattle.disk.specs.Areas.{part}
 use Rattle.disk.specs.Journal.{IsNext}
-use Rattle.disk.proofs.Logs.{read_all, read_one}
+use Rattle.disk.proofs.Logs.{read_all}
 use Rattle.disk.proofs.Quiet.{both_unmoved, ok_no_err}
-use Rattle.disk.proofs.Values.{ends_bad, fresh_led, lead_more}
+use Rattle.disk.proofs.Values.{fresh_led, next_led, performed_more}
 use Rattle.disk.proofs.log.replay.Goals as goal
 
 pub redo-requires : goal.redo-requires
 redo-requires g c =
     let now = c.loop-batch in
-    fresh_led g.P.Replay.leads g.P.Replay.fresh g.met.P.Replay.led_fresh now.invariant.0.0
-    c.args.value.now now.value c.requires now.invariant.0.2
+    fresh_led g.P.Replay.leads g.P.Replay.fresh g.met.P.Replay.led_fresh now.invariant.0.batches
+    c.args.value.now now.value c.requires now.invariant.0.led
 
 pub returns-in_err-redo-clause-bad : goal.returns-in_err-redo-clause-bad
 returns-in_err-redo-clause-bad g c bad all last log led =
@@ -29,12 +29,9 @@ returns-in_err-redo-clause-bad g c bad all last log led =
     c.in_ok-batch.ensures.batch) in
     let other : c.in_err-redo.field-0.0 ≢ Memory =
     λ was. absurd (memory_no_bad (p.1 ∙ ap Err (p.2 ∙ was)) bad) in
-    let none = (c.in_err-redo.ensures.refused other).1 in
-    ends_bad g.P.Replay.leads g.met.P.Replay.one_end c.args.value.now now.value batch.items
-    now.invariant.0.1
-    now.invariant.0.2 next.0 next.1
-    (λ v leads. none v (subst (λ l. g.P.Replay.leads l now.value v) (sym c.deref.ensures.value)
-    leads)) all last log led
+    let led_on = next_led g.met.P.Replay.one_end now.invariant.0 batch next all last log led in
+    (c.in_err-redo.ensures.refused other).1 led_on.0
+    (subst (λ l. g.P.Replay.leads l now.value led_on.0) (sym c.deref.ensures.value) led_on.1)
   where
     memory_no_bad : {T : Type 0} {r : Result T Refusal} → r ≡ Err Memory → IsErrOf r BadImage → ⊥
     memory_no_bad is bad = absurd cc
@@ -52,16 +49,9 @@ loop-batch-preserved g c =
     let count : c.len.result ≡ length batch.items = c.len.ensures ∙ batch.ok.0 in
     let led = subst (λ l. g.P.Replay.leads l now.value c.redo.new.value) c.deref.ensures.value
     c.in_ok-redo.ensures.led in (
-      (
-        now.invariant.0.0 ++ batch.items ∷ [],
-        read_one c.args.at now.end c.in-Some-checked_add.next now.invariant.0.0 batch.items held
-            now.invariant.0.1 next.0 next.1
-            (omega (arith, c.in-Some-checked_add.ensures.1, count)),
-        lead_more g.P.Replay.leads now.invariant.0.0 batch.items c.args.value.now now.value
-            c.redo.new.value now.invariant.0.2 led,
-      ),
-      both_unmoved seen g.D.Disk.may_leave g.D.Disk.moment g.D.Disk.left_since c.args.disk.now
-          now.disk c.next_batch.new.disk now.invariant.1 c.next_batch.ensures.quiet,
+      performed_more now.invariant.0 batch next led
+          (omega (arith, c.in-Some-checked_add.ensures.1, count)),
+      both_unmoved now.invariant.1 c.next_batch.ensures.quiet,
       c.in_ok-batch.ensures.cause.fine ok_no_err ∙ now.invariant.2,
     )
 
@@ -74,10 +64,10 @@ returns-clause-led g c =
     subst (λ d. IsNext (drop now.end (part c.args.area d)) None) now.invariant.1.same
     (subst (IsNext (drop now.end (part c.args.area (seen now.disk)))) c.in_default.is
     c.in_ok-batch.ensures.batch) in (
-      now.invariant.0.0,
+      now.invariant.0.batches,
       record {
-        log = read_all c.args.at now.end now.invariant.0.0 held now.invariant.0.1 next;
-        offset = now.invariant.0.1.reached;
-        led = now.invariant.0.2;
+        log = read_all now.invariant.0.read next;
+        offset = now.invariant.0.read.reached;
+        led = now.invariant.0.led;
       },
     )

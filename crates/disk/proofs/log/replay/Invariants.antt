@@ -1,14 +1,12 @@
-use Rattle.std.proofs.Common.{◌≡◌, ◌-◌, ℕ, List, length}
+use Rattle.std.proofs.Common.{◌≡◌, ◌-◌, length}
 use Rattle.disk.specs.Areas.{part}
 use Rattle.disk.specs.Crashes.{Unmoved}
-use Rattle.disk.specs.Journal.{LeadAll}
-use Rattle.disk.proofs.Logs.{Read}
+use Rattle.disk.proofs.Values.{Performed}
 use Rattle.disk.proofs.log.replay.Given as goal
 
 abbrev pub invariant-loop-batch : goal.invariant-loop-batch
 invariant-loop-batch g l =
-    ((batches : List (List ℕ)) × Read l.at l.end batches (part l.area (g.D.Disk.seen l.fn.disk))
-    × LeadAll g.P.Replay.leads batches l.fn.value l.value)
+    Performed g.P.Replay.leads l.at l.end (part l.area (g.D.Disk.seen l.fn.disk)) l.fn.value l.value
     × Unmoved g.D.Disk.seen g.D.Disk.may_leave g.D.Disk.moment g.D.Disk.left_since l.fn.disk l.disk
     × (g.D.Disk.faults l.disk ≡ g.D.Disk.faults l.fn.disk)
 

@@ -1,9 +1,7 @@
 use Rattle.std.proofs.Common.{inl, length, not}
 use Rattle.std.proofs.lemmas.Bool.{false≢true}
 use Rattle.std.proofs.lemmas.Result.{on_ok_weaker}
-use Rattle.disk.specs.Areas.{Changes, Torn}
-use Rattle.disk.specs.Journal.{OldOrWhole}
-use Rattle.disk.specs.declared.device.Area.TheVariants.{Select}
+use Rattle.disk.specs.Areas.{Torn}
 use Rattle.disk.proofs.Logs.{logged_by}
 use Rattle.disk.proofs.Turns.{Turning, aside_kept, turn_torn, turned}
 use Rattle.disk.proofs.Moments.{joined, weaker}
@@ -20,29 +18,25 @@ returns-in_err-put-clause-any_moment g c logged old batches opens =
       spelled = c.requires.spelled;
       fits = c.requires.fits;
     } in
-    weaker g.D.Disk.moment g.D.Disk.left_since c.args.disk.now c.put.new.disk
-    (Changes c.half.result step s) (OldOrWhole logged old batches c.args.image.now)
-    c.put.ensures.any_moment (λ x torn. inl (aside_kept turning step logged old batches opens x torn))
+    weaker c.put.ensures.any_moment
+    (λ x torn. inl (aside_kept turning step logged old batches opens x torn))
 
 pub returns-clause-any_moment : goal.returns-clause-any_moment
 returns-clause-any_moment g c logged old batches opens =
     let s = g.D.Disk.seen c.args.disk.now in
     let t = g.D.Disk.seen c.put.new.disk in
     let step = Torn 0 (length c.args.bytes.now) in
-    let P = OldOrWhole logged old batches c.args.image.now in
     let turning : Turning c.args.in_b c.half.result c.args.image.now c.args.bytes.now s = record {
       other = c.half.ensures;
       selected = c.requires.selected;
       spelled = c.requires.spelled;
       fits = c.requires.fits;
     } in
-    joined g.D.Disk.moment g.D.Disk.left_since c.args.disk.now c.put.new.disk c.put-2.new.disk P
-    (weaker g.D.Disk.moment g.D.Disk.left_since c.args.disk.now c.put.new.disk
-    (Changes c.half.result step s) P c.put.ensures.any_moment
+    joined
+    (weaker c.put.ensures.any_moment
     (λ x torn. inl (aside_kept turning step logged old batches opens x torn)))
-    (weaker g.D.Disk.moment g.D.Disk.left_since c.put.new.disk c.put-2.new.disk
-    (Changes Select (Torn 0 1) t) P c.put-2.ensures.any_moment
-    (λ x torn. turn_torn turning t c.in_ok-put.ensures.written logged old batches opens x torn))
+    (weaker c.put-2.ensures.any_moment
+    (λ x torn. turn_torn turning t c.in_ok-put.ensures.written opens x torn))
 
 pub returns-clause-turned : goal.returns-clause-turned
 returns-clause-turned g c =

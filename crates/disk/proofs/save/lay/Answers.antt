@@ -3,7 +3,7 @@ use Rattle.std.proofs.lemmas.Result.{on_ok_weaker}
 use Rattle.disk.specs.Areas.{Holds}
 use Rattle.disk.proofs.Moments.{laid}
 use Rattle.disk.proofs.Records.{recorded_holds}
-use Rattle.disk.proofs.Sides.{settled_by, written_selector}
+use Rattle.disk.proofs.Sides.{on_ok_all, settled_by, written_selector}
 use Rattle.disk.proofs.save.lay.Goals as goal
 
 pub returns-clause-any_moment : goal.returns-clause-any_moment
@@ -14,8 +14,8 @@ returns-clause-any_moment g c =
     let on = λ (old new : List ℕ). λ (h : Holds 0 c.args.bytes.now old new).
     recorded_holds image old new c.requires.fits
     (subst (λ l. Holds 0 l old new) c.requires.spelled h) in
-    laid g.D.Disk.moment g.D.Disk.left_since c.args.disk.now c.put_both.new.disk c.put.new.disk s
-    image written.any_moment (on _ s.a written.a, on _ s.b written.b) c.put.ensures.any_moment
+    laid s image written.any_moment
+    (on _ s.a written.a, on _ s.b written.b) c.put.ensures.any_moment
 
 pub returns-clause-opened : goal.returns-clause-opened
 returns-clause-opened g c =
@@ -28,6 +28,6 @@ returns-clause-opened g c =
 
 pub returns-clause-settled : goal.returns-clause-settled
 returns-clause-settled g c =
-    settled_by g.D.Disk.seen g.D.Disk.may_leave _ c.mark-choice.result
-    c.args.image.now (g.D.Disk.seen c.put_both.new.disk) c.put.new.disk c.put.result
-    c.mark-choice.ensures c.put.ensures.durable c.put.ensures.written (returns-clause-opened g c)
+    on_ok_all c.put.result
+    (settled_by c.mark-choice.result (g.D.Disk.seen c.put_both.new.disk) c.mark-choice.ensures)
+    c.put.ensures.durable c.put.ensures.written (returns-clause-opened g c)

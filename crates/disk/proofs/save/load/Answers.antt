@@ -29,21 +29,15 @@ returns-clause-image g c =
 
 pub returns-in_err-read_whole-clause-quiet : goal.returns-in_err-read_whole-clause-quiet
 returns-in_err-read_whole-clause-quiet g c =
-    both_unmoved g.D.Disk.seen g.D.Disk.may_leave g.D.Disk.moment g.D.Disk.left_since
-    c.args.disk.now c.told_length.new.disk c.read_whole.new.disk c.told_length.ensures.quiet
-    c.read_whole.ensures.quiet
+    both_unmoved c.told_length.ensures.quiet c.read_whole.ensures.quiet
 
 pub returns-then-not-branch-clause-quiet : goal.returns-then-not-branch-clause-quiet
 returns-then-not-branch-clause-quiet g c =
-    both_unmoved g.D.Disk.seen g.D.Disk.may_leave g.D.Disk.moment g.D.Disk.left_since
-    c.args.disk.now c.told_length.new.disk c.read_whole.new.disk c.told_length.ensures.quiet
-    c.read_whole.ensures.quiet
+    both_unmoved c.told_length.ensures.quiet c.read_whole.ensures.quiet
 
 pub returns-clause-quiet : goal.returns-clause-quiet
 returns-clause-quiet g c =
-    both_unmoved g.D.Disk.seen g.D.Disk.may_leave g.D.Disk.moment g.D.Disk.left_since
-    c.args.disk.now c.told_length.new.disk c.read_whole.new.disk c.told_length.ensures.quiet
-    c.read_whole.ensures.quiet
+    both_unmoved c.told_length.ensures.quiet c.read_whole.ensures.quiet
 
 pub returns-in_err-len-clause-cause : goal.returns-in_err-len-clause-cause
 returns-in_err-len-clause-cause g c =

@@ -9,23 +9,19 @@ use Rattle.disk.proofs.save.put.Goals as goal
 
 pub returns-in_err-write_at-clause-any_moment : goal.returns-in_err-write_at-clause-any_moment
 returns-in_err-write_at-clause-any_moment g c =
-    wrote g.D.Disk.moment g.D.Disk.left_since c.args.disk.now c.write_at.new.self
-    (g.D.Disk.seen c.args.disk.now) (g.D.Disk.may_leave c.args.disk.now)
-    (g.D.Disk.may_leave c.write_at.new.self) c.args.area c.args.at (length c.args.bytes.now)
-    c.requires.durable (λ x left. g.met.D.Disk.only_now c.args.disk.now x left) c.write_at.ensures.crash
-    c.write_at.ensures.time
+    wrote (g.D.Disk.seen c.args.disk.now) c.args.area c.args.at (length c.args.bytes.now)
+    c.requires.durable (λ x left. g.met.D.Disk.only_now c.args.disk.now x left)
+    c.write_at.ensures.crash c.write_at.ensures.time
 
 pub returns-clause-any_moment : goal.returns-clause-any_moment
 returns-clause-any_moment g c =
     let s = g.D.Disk.seen c.args.disk.now in
     let step = Changes c.args.area (Torn c.args.at (length c.args.bytes.now)) in
-    let first = wrote g.D.Disk.moment g.D.Disk.left_since c.args.disk.now c.write_at.new.self
-    (g.D.Disk.seen c.args.disk.now) (g.D.Disk.may_leave c.args.disk.now)
-    (g.D.Disk.may_leave c.write_at.new.self) c.args.area c.args.at (length c.args.bytes.now)
-    c.requires.durable (λ x left. g.met.D.Disk.only_now c.args.disk.now x left) c.write_at.ensures.crash
-    c.write_at.ensures.time in
-    goes_on g.D.Disk.moment g.D.Disk.left_since c.args.disk.now c.write_at.new.self c.sync.new.self
-    (λ x. step s x) (g.D.Disk.may_leave c.sync.new.self) first c.sync.ensures.time
+    goes_on
+    (wrote s c.args.area c.args.at (length c.args.bytes.now) c.requires.durable
+    (λ x left. g.met.D.Disk.only_now c.args.disk.now x left) c.write_at.ensures.crash
+    c.write_at.ensures.time)
+    c.sync.ensures.time
     (λ x left.
     let from = c.write_at.ensures.crash x (c.sync.ensures.crash x left) in
     subst (λ d. step d x) (c.requires.durable from.0 from.1) from.2)

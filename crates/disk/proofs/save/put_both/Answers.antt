@@ -9,9 +9,8 @@ use Rattle.disk.proofs.save.put_both.Goals as goal
 
 pub returns-clause-any_moment : goal.returns-clause-any_moment
 returns-clause-any_moment g c =
-    goes_on g.D.Disk.moment g.D.Disk.left_since c.args.disk.now c.write_both.new.disk
-    c.sync.new.self _ (g.D.Disk.may_leave c.sync.new.self) c.write_both.ensures.any_moment
-    c.sync.ensures.time (λ x left. c.write_both.ensures.crash x (c.sync.ensures.crash x left))
+    goes_on c.write_both.ensures.any_moment c.sync.ensures.time
+    (λ x left. c.write_both.ensures.crash x (c.sync.ensures.crash x left))
 
 pub returns-clause-a : goal.returns-clause-a
 returns-clause-a g c =

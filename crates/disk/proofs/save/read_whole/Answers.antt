@@ -6,14 +6,12 @@ use Rattle.disk.proofs.save.read_whole.Goals as goal
 
 pub returns-in_err-found-clause-quiet : goal.returns-in_err-found-clause-quiet
 returns-in_err-found-clause-quiet g c =
-    unmoved g.D.Disk.seen g.D.Disk.may_leave g.D.Disk.moment g.D.Disk.left_since
-    c.args.disk.now c.read.new.self (λ x left. g.met.D.Disk.only_now c.args.disk.now x left)
+    unmoved (λ x left. g.met.D.Disk.only_now c.args.disk.now x left)
     c.read.ensures.seen c.read.ensures.crash c.read.ensures.time
 
 pub returns-clause-quiet : goal.returns-clause-quiet
 returns-clause-quiet g c =
-    unmoved g.D.Disk.seen g.D.Disk.may_leave g.D.Disk.moment g.D.Disk.left_since
-    c.args.disk.now c.read.new.self (λ x left. g.met.D.Disk.only_now c.args.disk.now x left)
+    unmoved (λ x left. g.met.D.Disk.only_now c.args.disk.now x left)
     c.read.ensures.seen c.read.ensures.crash c.read.ensures.time
 
 pub returns-clause-whole : goal.returns-clause-whole

@@ -1,7 +1,7 @@
 use Rattle.std.proofs.Common.{◌∙◌}
 use Rattle.std.proofs.lemmas.Result.{on_ok_weaker}
 use Rattle.disk.proofs.Moments.{swapped}
-use Rattle.disk.proofs.Sides.{Aside, is_there, settled_by, written_selector}
+use Rattle.disk.proofs.Sides.{on_ok_all, Aside, is_there, settled_by, written_selector}
 use Rattle.disk.proofs.save.swap.Goals as goal
 
 pub returns-clause-any_moment : goal.returns-clause-any_moment
@@ -14,8 +14,7 @@ returns-clause-any_moment g c =
       fits = c.requires.fits;
       written = c.in_ok-put.ensures.written;
     } in
-    swapped g.D.Disk.moment g.D.Disk.left_since c.args.disk.now c.put.new.disk c.put-2.new.disk
-    aside c.put.ensures.any_moment c.put-2.ensures.any_moment
+    swapped aside c.put.ensures.any_moment c.put-2.ensures.any_moment
 
 pub returns-clause-opened : goal.returns-clause-opened
 returns-clause-opened g c =
@@ -34,6 +33,6 @@ returns-clause-opened g c =
 
 pub returns-clause-settled : goal.returns-clause-settled
 returns-clause-settled g c =
-    settled_by g.D.Disk.seen g.D.Disk.may_leave _ c.mark-choice.result
-    c.args.image.now (g.D.Disk.seen c.put.new.disk) c.put-2.new.disk c.put-2.result
-    c.mark-choice.ensures c.put-2.ensures.durable c.put-2.ensures.written (returns-clause-opened g c)
+    on_ok_all c.put-2.result
+    (settled_by c.mark-choice.result (g.D.Disk.seen c.put.new.disk) c.mark-choice.ensures)
+    c.put-2.ensures.durable c.put-2.ensures.written (returns-clause-opened g c)

@@ -1,7 +1,7 @@
-use Rattle.std.proofs.Common.{◌≡◌, [], length, true, false, sym, subst}
+use Rattle.std.proofs.Common.{length, true, false, sym, subst}
 use Rattle.std.proofs.lemmas.Result.{on_ok_weaker}
 use Rattle.std.proofs.lemmas.Bool.{false≢true}
-use Rattle.disk.specs.Areas.{Areas, Holds, Torn}
+use Rattle.disk.specs.Areas.{Holds, Torn}
 use Rattle.disk.proofs.Moments.{goes_on, started}
 use Rattle.disk.proofs.Sides.{still_blank}
 use Rattle.disk.proofs.Quiet.{err_cause, later_cause}
@@ -15,14 +15,7 @@ returns-in_err-write_at-clause-crash g c =
 
 pub returns-in_err-write_at-clause-any_moment : goal.returns-in_err-write_at-clause-any_moment
 returns-in_err-write_at-clause-any_moment g c =
-    let old = c.args.disk.now in
-    let new = c.write_at.new.self in
-    let moment = g.D.Disk.moment in
-    let since = g.D.Disk.left_since in
-    let blank = λ (s : Areas). s.select ≡ [] in
-    goes_on moment since old old new blank (g.D.Disk.may_leave new)
-    (started moment since old blank
-    (λ s left. c.requires s (g.met.D.Disk.only_now old s left)))
+    goes_on (started (λ s left. c.requires s (g.met.D.Disk.only_now c.args.disk.now s left)))
     c.write_at.ensures.time (returns-in_err-write_at-clause-crash g c)
 
 pub returns-clause-crash : goal.returns-clause-crash
@@ -36,18 +29,11 @@ returns-clause-crash g c =
 pub returns-clause-any_moment : goal.returns-clause-any_moment
 returns-clause-any_moment g c =
     let old = c.args.disk.now in
-    let mid = c.write_at.new.self in
-    let new = c.write_at-2.new.self in
-    let moment = g.D.Disk.moment in
-    let since = g.D.Disk.left_since in
     let leaves = g.D.Disk.may_leave in
-    let blank = λ (s : Areas). s.select ≡ [] in
-    goes_on moment since old mid new blank (leaves new)
-    (goes_on moment since old old mid blank (leaves mid)
-    (started moment since old blank
-    (λ s left. c.requires s (g.met.D.Disk.only_now old s left)))
+    goes_on
+    (goes_on (started (λ s left. c.requires s (g.met.D.Disk.only_now old s left)))
     c.write_at.ensures.time
-    (still_blank false (Torn 0 (length c.args.bytes.now)) (leaves old) (leaves mid)
+    (still_blank false (Torn 0 (length c.args.bytes.now)) (leaves old) (leaves c.write_at.new.self)
     c.write_at.ensures.crash c.requires))
     c.write_at-2.ensures.time (returns-clause-crash g c)
 

@@ -20,15 +20,11 @@ returns-clause-tells g c =
 
 pub returns-in_err-image-clause-quiet : goal.returns-in_err-image-clause-quiet
 returns-in_err-image-clause-quiet g c =
-    both_unmoved g.D.Disk.seen g.D.Disk.may_leave g.D.Disk.moment g.D.Disk.left_since
-    c.args.disk.now c.synced_side.new.disk c.load.new.disk c.synced_side.ensures.quiet
-    c.load.ensures.quiet
+    both_unmoved c.synced_side.ensures.quiet c.load.ensures.quiet
 
 pub returns-clause-quiet : goal.returns-clause-quiet
 returns-clause-quiet g c =
-    both_unmoved g.D.Disk.seen g.D.Disk.may_leave g.D.Disk.moment g.D.Disk.left_since
-    c.args.disk.now c.synced_side.new.disk c.load.new.disk c.synced_side.ensures.quiet
-    c.load.ensures.quiet
+    both_unmoved c.synced_side.ensures.quiet c.load.ensures.quiet
 
 pub returns-clause-durable : goal.returns-clause-durable
 returns-clause-durable g c x left =

@@ -4,5 +4,4 @@ use Rattle.disk.proofs.shelf.synced_side.Goals as goal
 
 pub returns-clause-durable : goal.returns-clause-durable
 returns-clause-durable g c =
-    still_only g.D.Disk.seen g.D.Disk.may_leave g.D.Disk.moment g.D.Disk.left_since
-    c.chosen.result c.chosen.ensures.quiet (search rules)
+    still_only c.chosen.result c.chosen.ensures.quiet (search rules)

@@ -10,9 +10,7 @@ invariant_of-self-2 g c =
     let next : c.args.end + 9 + length c.args.batch.now ≡ c.in-Some.next =
     omega (arith, c.in-Some.ensures.1) in
     record {
-      kept = λ _. kept_more g.D.Disk.seen g.D.Disk.may_leave g.P.Replay.logs in_b c.args.end
-          c.in-Some.next c.args.batch.now (g.D.Disk.seen c.args.self.now.disk) kept.selected
-          kept.behind c.requires.end
+      kept = λ _. kept_more c.args.batch.now kept.selected kept.behind c.requires.end
           (subst (IsLoggedTo g.D.Disk.seen g.D.Disk.may_leave c.extend.new.disk in_b) next
           c.in_ok-extend.ensures.logged) c.in_ok-extend.ensures.added;
     }

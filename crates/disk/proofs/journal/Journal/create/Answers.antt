@@ -1,6 +1,6 @@
 use Rattle.std.proofs.Common.{◌≡◌, ◌-◌, ◌+◌, ◌∙◌, ⊎_elim, [], inl, inr, ap, arith, false, length, subst}
 use Rattle.disk.specs.Crashes.{LeavesOnly}
-use Rattle.disk.specs.Journal.{IsLoggedTo, NoneOrLog, Opens, RestoresNone}
+use Rattle.disk.specs.Journal.{IsLoggedTo, NoneOrLog, Opens}
 use Rattle.disk.proofs.Moments.{weaker}
 use Rattle.disk.proofs.Records.{shut_again, shut_image, shut_length}
 use Rattle.disk.proofs.Values.{kept_whole, restores_image}
@@ -30,35 +30,28 @@ returns-in-Err-begin-clause-any_moment g c =
     let image = g.P.Persist.image c.args.value.now in
     let same : c.image_before_gate.result.now ≡ image =
     shut_image c.deref.ensures.value c.in-Ok.ensures.bytes c.image_before_gate.ensures in
-    let P = NoneOrLog image in
-    let Q = RestoresNone g.P.Replay.logs g.P.Persist.reads g.P.Replay.leads
-    (g.P.Persist.saved c.args.value.now) in
-    weaker g.D.Disk.moment g.D.Disk.left_since c.args.disk c.begin.new.disk P Q
+    weaker
     (subst (λ l. LeavesOnly g.D.Disk.moment g.D.Disk.left_since c.args.disk c.begin.new.disk
     (NoneOrLog l)) same c.begin.ensures.any_moment)
-    (λ x. ⊎_elim inl (λ opens. inr (restores_image g.P.Replay.logs g.P.Persist.reads
-    g.P.Replay.leads (g.met.P.Replay.followed c.args.value.now) c.in-Ok.ensures.readable opens)))
+    (λ x. ⊎_elim inl (λ opens. inr
+    (restores_image (g.met.P.Replay.followed c.args.value.now) c.in-Ok.ensures.readable opens)))
 
 pub returns-clause-any_moment : goal.returns-clause-any_moment
 returns-clause-any_moment g c =
     let image = g.P.Persist.image c.args.value.now in
     let same : c.image_before_gate.result.now ≡ image =
     shut_image c.deref.ensures.value c.in-Ok.ensures.bytes c.image_before_gate.ensures in
-    let P = NoneOrLog image in
-    let Q = RestoresNone g.P.Replay.logs g.P.Persist.reads g.P.Replay.leads
-    (g.P.Persist.saved c.args.value.now) in
-    weaker g.D.Disk.moment g.D.Disk.left_since c.args.disk c.begin.new.disk P Q
+    weaker
     (subst (λ l. LeavesOnly g.D.Disk.moment g.D.Disk.left_since c.args.disk c.begin.new.disk
     (NoneOrLog l)) same c.begin.ensures.any_moment)
-    (λ x. ⊎_elim inl (λ opens. inr (restores_image g.P.Replay.logs g.P.Persist.reads
-    g.P.Replay.leads (g.met.P.Replay.followed c.args.value.now) c.in-Ok.ensures.readable opens)))
+    (λ x. ⊎_elim inl (λ opens. inr
+    (restores_image (g.met.P.Replay.followed c.args.value.now) c.in-Ok.ensures.readable opens)))
 
 pub returns-clause-created : goal.returns-clause-created
 returns-clause-created g c =
     let same : c.image_before_gate.result.now ≡ g.P.Persist.image c.args.value.now =
     shut_image c.deref.ensures.value c.in-Ok.ensures.bytes c.image_before_gate.ensures in
-    restores_image g.P.Replay.logs g.P.Persist.reads g.P.Replay.leads
-    (g.met.P.Replay.followed c.args.value.now) c.in-Ok.ensures.readable
+    restores_image (g.met.P.Replay.followed c.args.value.now) c.in-Ok.ensures.readable
     (subst (λ l. Opens l [] (g.D.Disk.seen c.begin.new.disk)) same c.in-Ok-begin.ensures.begun)
 
 pub invariant_of-result : goal.invariant_of-result
@@ -74,8 +67,7 @@ invariant_of-result g c =
       shut_length image c.in-Ok.ensures.bytes,
     ) in
     record {
-      kept = λ _. kept_whole g.D.Disk.seen g.D.Disk.may_leave g.P.Replay.logs false
-          (c.len-start.result - 1)
+      kept = λ _. kept_whole
           (subst (IsLoggedTo g.D.Disk.seen g.D.Disk.may_leave c.begin.new.disk false) end
           c.in-Ok-begin.ensures.logged)
           (subst (λ l. Opens l [] (g.D.Disk.seen c.begin.new.disk)) same

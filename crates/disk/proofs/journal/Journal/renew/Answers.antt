@@ -1,9 +1,9 @@
-use Rattle.std.proofs.Common.{◌≡◌, ◌-◌, ◌+◌, ◌∙◌, ⊎_elim, [], inl, inr, ap, arith, not, length, subst, sym}
+use Rattle.std.proofs.Common.{◌≡◌, ◌-◌, ◌+◌, ◌∙◌, [], inl, ap, arith, not, length, subst, sym}
 use Rattle.disk.specs.Crashes.{LeavesOnly}
-use Rattle.disk.specs.Journal.{IsLoggedTo, OldOrWhole, Opens, Restores, RestoresEither}
+use Rattle.disk.specs.Journal.{IsLoggedTo, OldOrWhole, Opens, Restores}
 use Rattle.disk.proofs.Moments.{started, weaker}
 use Rattle.disk.proofs.Records.{shut_again, shut_image, shut_length}
-use Rattle.disk.proofs.Values.{kept_whole, restores_image, restores_still}
+use Rattle.disk.proofs.Values.{kept_whole, restores_image, restores_turned}
 use Rattle.disk.proofs.journal.Journal.renew.Goals as goal
 
 pub image_before_gate-requires : goal.image_before_gate-requires
@@ -30,8 +30,7 @@ returns-in_err-bytes-clause-any_moment g c old r =
     let was = c.args.self.now.disk in
     let kept = c.args.self.now.kept c.requires.ready in
     let Q = Restores g.P.Replay.logs g.P.Persist.reads g.P.Replay.leads old in
-    started g.D.Disk.moment g.D.Disk.left_since was _
-    (λ x left. inl (subst Q (sym (kept.only x (g.met.D.Disk.only_now was x left))) r))
+    started (λ x left. inl (subst Q (sym (kept.only x (g.met.D.Disk.only_now was x left))) r))
 
 pub returns-in_err-turn-clause-any_moment : goal.returns-in_err-turn-clause-any_moment
 returns-in_err-turn-clause-any_moment g c old r =
@@ -40,17 +39,12 @@ returns-in_err-turn-clause-any_moment g c old r =
     shut_image c.deref.ensures.value c.in_ok-bytes.ensures.bytes c.image_before_gate.ensures in
     let was = c.args.self.now.disk in
     let logged = g.P.Replay.logs r.image in
-    weaker g.D.Disk.moment g.D.Disk.left_since was c.turn.new.disk
-    (OldOrWhole logged r.image r.batches image)
-    (RestoresEither g.P.Replay.logs g.P.Persist.reads g.P.Replay.leads old
-    (g.P.Persist.saved c.args.value.now))
+    weaker
     (subst (λ l. LeavesOnly g.D.Disk.moment g.D.Disk.left_since was c.turn.new.disk
     (OldOrWhole logged r.image r.batches l)) same
     (c.turn.ensures.any_moment logged r.image r.batches r.found))
-    (λ x. ⊎_elim
-    (λ still. inl (restores_still g.P.Replay.logs g.P.Persist.reads g.P.Replay.leads r still))
-    (λ opens. inr (restores_image g.P.Replay.logs g.P.Persist.reads g.P.Replay.leads
-    (g.met.P.Replay.followed c.args.value.now) c.in_ok-bytes.ensures.readable opens)))
+    (λ x. restores_turned r (g.met.P.Replay.followed c.args.value.now)
+    c.in_ok-bytes.ensures.readable)
 
 pub returns-clause-any_moment : goal.returns-clause-any_moment
 returns-clause-any_moment g c old r =
@@ -59,24 +53,18 @@ returns-clause-any_moment g c old r =
     shut_image c.deref.ensures.value c.in_ok-bytes.ensures.bytes c.image_before_gate.ensures in
     let was = c.args.self.now.disk in
     let logged = g.P.Replay.logs r.image in
-    weaker g.D.Disk.moment g.D.Disk.left_since was c.turn.new.disk
-    (OldOrWhole logged r.image r.batches image)
-    (RestoresEither g.P.Replay.logs g.P.Persist.reads g.P.Replay.leads old
-    (g.P.Persist.saved c.args.value.now))
+    weaker
     (subst (λ l. LeavesOnly g.D.Disk.moment g.D.Disk.left_since was c.turn.new.disk
     (OldOrWhole logged r.image r.batches l)) same
     (c.turn.ensures.any_moment logged r.image r.batches r.found))
-    (λ x. ⊎_elim
-    (λ still. inl (restores_still g.P.Replay.logs g.P.Persist.reads g.P.Replay.leads r still))
-    (λ opens. inr (restores_image g.P.Replay.logs g.P.Persist.reads g.P.Replay.leads
-    (g.met.P.Replay.followed c.args.value.now) c.in_ok-bytes.ensures.readable opens)))
+    (λ x. restores_turned r (g.met.P.Replay.followed c.args.value.now)
+    c.in_ok-bytes.ensures.readable)
 
 pub returns-clause-saved : goal.returns-clause-saved
 returns-clause-saved g c =
     let same : c.image_before_gate.result.now ≡ g.P.Persist.image c.args.value.now =
     shut_image c.deref.ensures.value c.in_ok-bytes.ensures.bytes c.image_before_gate.ensures in
-    restores_image g.P.Replay.logs g.P.Persist.reads g.P.Replay.leads
-    (g.met.P.Replay.followed c.args.value.now) c.in_ok-bytes.ensures.readable
+    restores_image (g.met.P.Replay.followed c.args.value.now) c.in_ok-bytes.ensures.readable
     (subst (λ l. Opens l [] (g.D.Disk.seen c.turn.new.disk)) same c.in_ok-turn.ensures.turned)
 
 pub invariant_of-self-2 : goal.invariant_of-self-2
@@ -93,8 +81,7 @@ invariant_of-self-2 g c =
       shut_length image c.in_ok-bytes.ensures.bytes,
     ) in
     record {
-      kept = λ _. kept_whole g.D.Disk.seen g.D.Disk.may_leave g.P.Replay.logs in_b
-          (c.len-start.result - 1)
+      kept = λ _. kept_whole
           (subst (IsLoggedTo g.D.Disk.seen g.D.Disk.may_leave c.turn.new.disk in_b) end
           c.in_ok-turn.ensures.logged)
           (subst (λ l. Opens l [] (g.D.Disk.seen c.turn.new.disk)) same

@@ -1,6 +1,6 @@
-use Rattle.std.proofs.Common.{◌++◌, ◌∷◌, ⊎_elim, [], IfSome, inl, inr, subst, sym}
+use Rattle.std.proofs.Common.{⊎_elim, IfSome, inl, inr, subst, sym}
 use Rattle.std.proofs.lemmas.Result.{on_ok_weaker}
-use Rattle.disk.specs.Journal.{OldOrNewLog, OpensIf, RestoresEither}
+use Rattle.disk.specs.Journal.{OpensIf}
 use Rattle.disk.proofs.Moments.{weaker}
 use Rattle.disk.proofs.Values.{found_log, restores_more, restores_still}
 use Rattle.disk.proofs.journal.Journal.save.Goals as goal
@@ -11,10 +11,8 @@ returns-clause-saved g c =
     let kept = was.kept c.if-not-self.false in
     let saved = g.P.Persist.saved c.args.value.now in
     on_ok_weaker c.append.result (λ added old r led.
-    let log = found_log g.P.Replay.logs g.P.Persist.reads g.P.Replay.leads c.in-Some-place_for.end
-    was.tail.in_b (g.D.Disk.seen was.disk) kept.selected kept.behind
-    c.in-Some-place_for.ensures.here r in
-    restores_more g.P.Replay.logs g.P.Persist.reads g.P.Replay.leads r log.0
+    let log = found_log kept.selected kept.behind c.in-Some-place_for.ensures.here r in
+    restores_more r log.0
     (subst (λ o. IfSome o (λ b. g.P.Replay.leads b.now old saved)) c.in-Some.is led)
     (added r.image r.batches log.1)) c.append.ensures.added
 
@@ -23,21 +21,13 @@ returns-clause-any_moment g c is old r led =
     let was = c.args.self.now in
     let kept = was.kept is in
     let saved = g.P.Persist.saved c.args.value.now in
-    let logs = g.P.Replay.logs in
-    let reads = g.P.Persist.reads in
-    let leads = g.P.Replay.leads in
-    let batch = c.in-Some.batch.now in
-    let log = found_log logs reads leads c.in-Some-place_for.end was.tail.in_b
-    (g.D.Disk.seen was.disk) kept.selected kept.behind c.in-Some-place_for.ensures.here r in
-    weaker g.D.Disk.moment g.D.Disk.left_since was.disk c.append.new.self.disk
-    (OldOrNewLog r.image r.batches r.image (r.batches ++ batch ∷ []))
-    (RestoresEither logs reads leads old saved)
-    (c.append.ensures.any_moment r.image r.batches log.1)
+    let log = found_log kept.selected kept.behind c.in-Some-place_for.ensures.here r in
+    weaker (c.append.ensures.any_moment r.image r.batches log.1)
     (λ x. ⊎_elim
-    (λ still. inl (restores_still logs reads leads r
+    (λ still. inl (restores_still r
     (subst (λ b. OpensIf b r.image r.batches x) (sym log.0) still)))
-    (λ more. inr (restores_more logs reads leads r log.0
-    (subst (λ o. IfSome o (λ b. leads b.now old saved)) c.in-Some.is led) more)))
+    (λ more. inr (restores_more r log.0
+    (subst (λ o. IfSome o (λ b. g.P.Replay.leads b.now old saved)) c.in-Some.is led) more)))
 
 pub returns-in_default-clause-any_moment : goal.returns-in_default-clause-any_moment
 returns-in_default-clause-any_moment g c is old r led = c.renew.ensures.any_moment old r

@@ -28,8 +28,7 @@ returns-clause-created g c =
 
 pub returns-in-Err-clause-any_moment : goal.returns-in-Err-clause-any_moment
 returns-in-Err-clause-any_moment g c =
-    started g.D.Disk.moment g.D.Disk.left_since c.args.disk _
-    (λ x left. inl (c.requires x (g.met.D.Disk.only_now c.args.disk x left)))
+    started (λ x left. inl (c.requires x (g.met.D.Disk.only_now c.args.disk x left)))
 
 pub returns-in-Err-lay-clause-any_moment : goal.returns-in-Err-lay-clause-any_moment
 returns-in-Err-lay-clause-any_moment g c =

@@ -11,8 +11,7 @@ pub returns-in_err-bytes-clause-any_moment : goal.returns-in_err-bytes-clause-an
 returns-in_err-bytes-clause-any_moment g c is =
     let old = c.args.self.now.disk in
     let settled = c.args.self.now.settled is in
-    started g.D.Disk.moment g.D.Disk.left_since old _
-    (λ x left. inl (ap opened (settled.0 x (g.met.D.Disk.only_now old x left))))
+    started (λ x left. inl (ap opened (settled.0 x (g.met.D.Disk.only_now old x left))))
 
 pub returns-in_err-swap-clause-any_moment : goal.returns-in_err-swap-clause-any_moment
 returns-in_err-swap-clause-any_moment g c is =

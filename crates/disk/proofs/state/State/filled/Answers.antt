@@ -11,7 +11,5 @@ returns c =
 pub loop-range-preserved : goal.loop-range-preserved
 loop-range-preserved c =
     let read = c.deref-range-items in
-    filled_next c.args.fill c.loop-range.range-index read.result.now c.args.self.now.ranges.items
-    c.range-item.result (areas_of c.loop-range.left) (areas_of c.fill.new.self)
-    read.ensures.value c.loop-range-test.true c.range-item.is c.in_ok-fill.ensures
-    c.loop-range.invariant
+    filled_next c.args.fill c.loop-range.range-index (areas_of c.loop-range.left) read.ensures.value
+    c.loop-range-test.true c.range-item.is c.in_ok-fill.ensures c.loop-range.invariant

@@ -21,8 +21,7 @@ returns-in-Ok-clause-any_moment g c old keeps =
     let n = c.args.node.now in
     let was = c.args.self.now in
     let seen = g.D.Disk.seen was.shelf.disk in
-    weaker g.D.Disk.moment g.D.Disk.left_since was.shelf.disk c.save.new.self.disk
-    (OldOrNew (opened seen) (whole_image n)) (KeepsEither old (saved_whole n))
+    weaker
     (c.in-Ok.ensures.any_moment (open_before was.shelf.ready c.in-Ok.ensures.closed.1))
     (λ x. either_kept old (saved_whole n) (whole_image n) seen x
     (was.plain seen (g.met.D.Disk.reads_left was.shelf.disk)) keeps c.in-Ok.ensures.readable)
@@ -32,8 +31,7 @@ returns-in-Err-clause-any_moment g c is old keeps =
     let n = c.args.node.now in
     let was = c.args.self.now in
     let seen = g.D.Disk.seen was.shelf.disk in
-    weaker g.D.Disk.moment g.D.Disk.left_since was.shelf.disk c.save.new.self.disk
-    (OldOrNew (opened seen) (whole_image n)) (KeepsEither old (saved_whole n))
+    weaker
     (c.in-Err.ensures.any_moment (failed_before was.shelf.ready is c.in-Err.ensures.closed.1))
     (λ x. either_kept old (saved_whole n) (whole_image n) seen x
     (was.plain seen (g.met.D.Disk.reads_left was.shelf.disk)) keeps (c.in-Err.ensures.readable is))
