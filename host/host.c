@@ -85,9 +85,13 @@ int host_create(const host_shape *shape, store_value *value)
     int status = markring_node_new(
         &it->node, shape->nodes, shape->registers, shape->slots, shape->own, shape->limit);
     if (status == MARKRING_OK) {
+        status = markring_node_log(&it->node, 1);
+    }
+    if (status == MARKRING_OK) {
         status = markring_node_image_size(&it->node, &image);
     }
     if (status == MARKRING_OK) {
+        value->is_entry = false;
         value->length = saved_size(it, image);
         value->room = STORE_HEAD + value->length + STORE_TAIL;
         value->buffer = malloc(value->room);
@@ -130,6 +134,9 @@ int host_open(host **opened, const store_value *value, uint64_t number, uint64_t
     if (options->image_most == 0) {
         it->options.image_most = IMAGE_MOST;
     }
+    if (options->entries_least == 0) {
+        it->options.entries_least = ENTRIES_LEAST;
+    }
     it->calls = *calls;
     it->last = &it->first;
     it->nonce = nonce;
@@ -140,8 +147,7 @@ int host_open(host **opened, const store_value *value, uint64_t number, uint64_t
     // Each process begins with a save, whose number is its own.
     it->changed = true;
     it->has_work = true;
-    reader from = reader_of(value->buffer + STORE_HEAD, value->length);
-    int status = read_saved(it, &from);
+    int status = read_saved(it, value);
     if (status != MARKRING_OK) {
         host_free(it);
         return status;
@@ -187,6 +193,39 @@ static bool make_room(host *it, size_t length)
     return true;
 }
 
+// Whether an entry of this length may be added behind the whole value. If not, the save is a whole
+// value: so twice the bytes of the entries are written in the long run, and an opening performs no
+// more events than fit there.
+static bool has_room(const host *it, size_t length)
+{
+    size_t least = it->options.entries_least, most = it->whole > least ? it->whole : least;
+    return it->entries <= most && STORE_HEAD + length + STORE_TAIL <= most - it->entries;
+}
+
+// Takes a batch, with what else has changed; or returns MARKRING_NO_LOG if an image has to be taken.
+// What is saved by batches may become an image at any time, so it has to fit.
+static int take_batch(host *it)
+{
+    size_t batch = 0;
+    if (it->whole_due > 0 || it->size > IMAGE_LIMIT) {
+        return MARKRING_NO_LOG;
+    }
+    int status = markring_node_batch_size(&it->node, &batch);
+    if (status != MARKRING_OK) {
+        return status;
+    }
+    size_t length = entry_size(it, batch);
+    if (!has_room(it, length)) {
+        return MARKRING_NO_LOG;
+    }
+    if (!make_room(it, length)) {
+        return MARKRING_MEMORY;
+    }
+    it->value.is_entry = true;
+    writer to = writer_of(it->value.buffer + STORE_HEAD, length);
+    return write_entry(it, &to, batch) ? MARKRING_OK : MARKRING_MEMORY;
+}
+
 // Takes an image, with what else lasts.
 static int take_image(host *it)
 {
@@ -198,6 +237,7 @@ static int take_image(host *it)
     if (!make_room(it, saved_size(it, image))) {
         return MARKRING_MEMORY;
     }
+    it->value.is_entry = false;
     writer to = writer_of(it->value.buffer + STORE_HEAD, it->value.length);
     if (!write_saved(it, &to, image)) {
         return MARKRING_MEMORY;
@@ -211,7 +251,10 @@ static void save(host *it, uint64_t now)
     if (!it->changed || it->saving || now < it->save_at) {
         return;
     }
-    int status = take_image(it);
+    int status = take_batch(it);
+    if (status == MARKRING_NO_LOG) {
+        status = take_image(it);
+    }
     if (status == MARKRING_IMAGE_TOO_LARGE) {
         end_with(it, HOST_TOO_LARGE,
             "the node's image exceeds 67,108,864 bytes, so nothing new can be saved; start it "
@@ -228,6 +271,18 @@ static void save(host *it, uint64_t now)
     it->images++;
     it->save_began = now;
     it->calls.save(it->calls.context, &it->value);
+}
+
+// The value or the entry is stored.
+static void note_length(host *it)
+{
+    if (it->value.is_entry) {
+        it->entries += STORE_HEAD + it->value.length + STORE_TAIL;
+    } else {
+        it->whole = it->value.length;
+        it->entries = 0;
+        it->whole_due -= it->whole_due > 0;
+    }
 }
 
 // Acknowledgements are due for what this save holds for the first time.
@@ -257,10 +312,11 @@ void host_saved(host *it, uint64_t now, store_status status, uint64_t number)
         end_with(it, HOST_UNSURE,
             "a sync of the saved node failed; when the disk is well, start it again");
     } else if (markring_node_kept(&it->node, it->mark) != MARKRING_OK) {
-        end_with(it, HOST_BROKEN, "the library refused the mark of an image");
+        end_with(it, HOST_BROKEN, "the library refused the mark of an image or a batch");
     } else {
         it->counts.saves++;
         it->kept = it->images;
+        note_length(it);
         it->stored = number;
         it->saved_at = now;
         it->save_took = now - it->save_began;

@@ -29,7 +29,8 @@ enum {
     // An image has at most 67,108,864 bytes. It has at most 19 for a letter; what is left above
     // both limits is for the collector.
     LETTERS_MOST = 800000,
-    IMAGE_MOST = 41943040
+    IMAGE_MOST = 41943040,
+    ENTRIES_LEAST = 1 << 20
 };
 
 typedef enum host_end {
@@ -68,6 +69,9 @@ typedef struct host_options {
     // While the node's image has more bytes, events of programs that make it grow are refused; 0
     // for IMAGE_MOST.
     size_t image_most;
+    // The entries behind a whole value may have as many bytes as the value, or this many; 0 for
+    // ENTRIES_LEAST.
+    size_t entries_least;
 } host_options;
 
 typedef struct host_calls {

@@ -16,11 +16,13 @@ enum {
     SWEEPS = 4096,
     // What one event or one message adds to an image, at most.
     GROWTH = 320,
+    // An image has at most this many bytes.
+    IMAGE_LIMIT = 67108864,
     HELD_ANSWERS = 1024
 };
 
 typedef struct peer {
-    process known;
+    process known, saved_known; // now, and in the last save
     uint64_t sent;         // the last message that was sent since the window was last sent again
     uint64_t acknowledged; // as it was at the last turn
     uint64_t saved;        // what was received and saved, at the last turn
@@ -33,6 +35,8 @@ typedef struct peer {
 typedef struct program {
     // `round`: how many processes have opened it. `number`: of its last request.
     uint64_t session, round, number;
+    // What the last save holds of these.
+    uint64_t saved_session, saved_round, saved_number;
     uint8_t *results; // those of the last request
     uint16_t count;
     uint64_t due; // the image that holds the last request
@@ -72,6 +76,10 @@ struct host {
     bool changed, saving, stopping, has_work;
     uint64_t save_at, work_at; // not before these times
     store_value value;
+    // The bytes of the last whole value, and of the entries behind it; and how many saves have to be
+    // whole values.
+    size_t whole, entries;
+    int whole_due;
     size_t size;        // of the last image, with what may have been added since
     uint32_t told_live; // as last told to node 0
     bool needs_cycle;
@@ -110,6 +118,11 @@ uint64_t count_objects(const host *it, uint32_t own_live);
 // The value that is saved: all of the host that lasts, and the image.
 size_t saved_size(const host *it, size_t image);
 bool write_saved(host *it, writer *to, size_t image);
-int read_saved(host *it, reader *from);
+
+// An entry behind it: what of that has changed since the last save, and a batch.
+size_t entry_size(const host *it, size_t batch);
+bool write_entry(host *it, writer *to, size_t batch);
+
+int read_saved(host *it, const store_value *value);
 
 #endif

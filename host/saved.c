@@ -1,31 +1,67 @@
-// The value that a host saves: all of it that lasts, and the image of its node.
+// The value that a host saves: all of it that lasts, and the image of its node. An entry behind it has
+// what has changed of that, and a batch of the node's events.
 #include "inside.h"
 
 #include <stdlib.h>
 
 enum { FIXED = 1 + SPACE_ID + 1 + 1 + 8, KNOWN = 24, RECORD = 27 };
 
+static size_t program_size(const program *at)
+{
+    return RECORD + at->count * (size_t)RESULT_BYTES;
+}
+
+static bool is_opened(const program *at)
+{
+    return at->session != 0;
+}
+
+static bool is_program_new(const program *at)
+{
+    return at->session != at->saved_session || at->round != at->saved_round
+        || at->number != at->saved_number;
+}
+
+static bool is_known_new(const peer *at)
+{
+    return at->known.nonce != at->saved_known.nonce || at->known.run != at->saved_known.run
+        || at->known.saves != at->saved_known.saves;
+}
+
 size_t saved_size(const host *it, size_t image)
 {
     size_t size = FIXED + strlen(it->shape.name) + it->shape.nodes * (size_t)KNOWN + 1 + 8 + image;
     for (int i = 0; i < PROGRAMS; i++) {
-        if (it->programs[i].session != 0) {
-            size += RECORD + it->programs[i].count * (size_t)RESULT_BYTES;
+        if (is_opened(&it->programs[i])) {
+            size += program_size(&it->programs[i]);
         }
     }
     return size;
 }
 
-static void write_programs(const host *it, writer *to)
+size_t entry_size(const host *it, size_t batch)
+{
+    size_t size = 1 + 1 + 8 + batch;
+    for (int i = 0; i < it->shape.nodes; i++) {
+        size += is_known_new(&it->peers[i]) ? 1 + (size_t)KNOWN : 0;
+    }
+    for (int i = 0; i < PROGRAMS; i++) {
+        size += is_program_new(&it->programs[i]) ? program_size(&it->programs[i]) : 0;
+    }
+    return size;
+}
+
+// Writes the programs that meet the test.
+static void write_programs(const host *it, writer *to, bool (*meets)(const program *at))
 {
     uint8_t count = 0;
     for (int i = 0; i < PROGRAMS; i++) {
-        count = (uint8_t)(count + (it->programs[i].session != 0));
+        count = (uint8_t)(count + meets(&it->programs[i]));
     }
     write_number(to, count, 1);
     for (int i = 0; i < PROGRAMS; i++) {
         const program *at = &it->programs[i];
-        if (at->session != 0) {
+        if (meets(at)) {
             write_number(to, (uint64_t)i, 1);
             write_number(to, at->session, 8);
             write_number(to, at->round, 8);
@@ -34,6 +70,52 @@ static void write_programs(const host *it, writer *to)
             write_bytes(to, at->results, at->count * (size_t)RESULT_BYTES);
         }
     }
+}
+
+static void write_known(writer *to, const process *known)
+{
+    write_number(to, known->nonce, 8);
+    write_number(to, known->run, 8);
+    write_number(to, known->saves, 8);
+}
+
+// The save that was written has all that lasts. If it fails, the next one is a whole value.
+static void note_written(host *it)
+{
+    for (int i = 0; i < it->shape.nodes; i++) {
+        it->peers[i].saved_known = it->peers[i].known;
+    }
+    for (int i = 0; i < PROGRAMS; i++) {
+        program *at = &it->programs[i];
+        at->saved_session = at->session;
+        at->saved_round = at->round;
+        at->saved_number = at->number;
+    }
+}
+
+bool write_entry(host *it, writer *to, size_t batch)
+{
+    size_t needed = 0;
+    uint8_t count = 0;
+    for (int i = 0; i < it->shape.nodes; i++) {
+        count = (uint8_t)(count + is_known_new(&it->peers[i]));
+    }
+    write_number(to, count, 1);
+    for (int i = 0; i < it->shape.nodes; i++) {
+        if (is_known_new(&it->peers[i])) {
+            write_number(to, (uint64_t)i, 1);
+            write_known(to, &it->peers[i].known);
+        }
+    }
+    write_programs(it, to, is_program_new);
+    write_number(to, batch, 8);
+    bool done = to->ok && to->room - to->length == batch
+        && markring_node_batch(&it->node, to->start + to->length, batch, &needed, &it->mark)
+            == MARKRING_OK;
+    if (done) {
+        note_written(it);
+    }
+    return done;
 }
 
 bool write_saved(host *it, writer *to, size_t image)
@@ -46,15 +128,17 @@ bool write_saved(host *it, writer *to, size_t image)
     write_number(to, it->shape.nodes, 1);
     write_number(to, it->shape.limit, 8);
     for (int i = 0; i < it->shape.nodes; i++) {
-        write_number(to, it->peers[i].known.nonce, 8);
-        write_number(to, it->peers[i].known.run, 8);
-        write_number(to, it->peers[i].known.saves, 8);
+        write_known(to, &it->peers[i].known);
     }
-    write_programs(it, to);
+    write_programs(it, to, is_opened);
     write_number(to, image, 8);
-    return to->ok && to->room - to->length == image
+    bool done = to->ok && to->room - to->length == image
         && markring_node_image(&it->node, to->start + to->length, image, &needed, &it->mark)
-        == MARKRING_OK;
+            == MARKRING_OK;
+    if (done) {
+        note_written(it);
+    }
+    return done;
 }
 
 static bool read_shape(host_shape *it, reader *from)
@@ -73,13 +157,25 @@ static bool read_shape(host_shape *it, reader *from)
     return from->ok && it->nodes <= NODES && it->own < it->nodes;
 }
 
+static void read_known(host *it, uint64_t node, reader *from)
+{
+    process *known = &it->peers[node].known;
+    known->nonce = read_number(from, 8);
+    known->run = read_number(from, 8);
+    known->saves = read_number(from, 8);
+}
+
+// Reads a program, which replaces what was read of it before.
 static int read_program(host *it, reader *from)
 {
     uint64_t number = read_number(from, 1);
     program *at = &it->programs[number < PROGRAMS ? number : 0];
-    if (number >= PROGRAMS || at->session != 0) {
+    if (number >= PROGRAMS) {
         return MARKRING_BAD_IMAGE;
     }
+    free(at->results);
+    at->results = NULL;
+    at->count = 0;
     at->session = read_number(from, 8);
     at->round = read_number(from, 8);
     at->number = read_number(from, 8);
@@ -100,14 +196,50 @@ static int read_program(host *it, reader *from)
     return MARKRING_OK;
 }
 
-static int read_image(host *it, reader *from)
+static int read_programs(host *it, reader *from)
 {
-    markring_state state;
-    size_t image = read_number(from, 8);
-    if (!from->ok || image != from->left) {
+    uint64_t count = read_number(from, 1);
+    int status = MARKRING_OK;
+    for (uint64_t i = 0; i < count && status == MARKRING_OK; i++) {
+        status = read_program(it, from);
+    }
+    return status;
+}
+
+// Reads what is last in a value or an entry, after its length: an image or a batch.
+static const uint8_t *read_last(reader *from, size_t *length)
+{
+    *length = (size_t)read_number(from, 8);
+    return from->ok && *length == from->left ? read_bytes(from, *length) : NULL;
+}
+
+// Reads an entry, whose batch goes behind the others.
+static int read_entry(host *it, reader *from, writer *batches)
+{
+    size_t length = 0;
+    uint64_t count = read_number(from, 1);
+    for (uint64_t i = 0; i < count; i++) {
+        uint64_t node = read_number(from, 1);
+        if (!from->ok || node >= it->shape.nodes) {
+            return MARKRING_BAD_IMAGE;
+        }
+        read_known(it, node, from);
+    }
+    int status = read_programs(it, from);
+    const uint8_t *batch = status == MARKRING_OK ? read_last(from, &length) : NULL;
+    if (status == MARKRING_OK && batch == NULL) {
         return MARKRING_BAD_IMAGE;
     }
-    int status = markring_node_from_image(&it->node, from->at, image, it->shape.limit);
+    write_bytes(batches, batch, length);
+    return status;
+}
+
+// Makes the node of its image and its batches.
+static int read_node(host *it, const uint8_t *image, size_t length, const writer *batches)
+{
+    markring_state state;
+    int status = markring_node_from_batches(
+        &it->node, image, length, batches->start, batches->length, it->shape.limit);
     if (status != MARKRING_OK) {
         return status;
     }
@@ -117,24 +249,55 @@ static int read_image(host *it, reader *from)
     }
     it->shape.registers = state.registers;
     it->shape.slots = state.slots;
-    it->size = image;
+    return status == MARKRING_OK ? markring_node_image_size(&it->node, &it->size) : status;
+}
+
+// Reads the entries behind a value, and makes the node.
+static int read_entries(host *it, const store_value *value, const uint8_t *image, size_t length)
+{
+    size_t at = 0, size = 0;
+    int status = MARKRING_OK;
+    uint8_t *room = malloc(it->entries + 1);
+    if (room == NULL) {
+        return MARKRING_MEMORY;
+    }
+    writer batches = writer_of(room, it->entries);
+    const uint8_t *entry = store_next(value, &at, &size);
+    while (entry != NULL && status == MARKRING_OK) {
+        reader from = reader_of(entry, size);
+        status = read_entry(it, &from, &batches);
+        entry = store_next(value, &at, &size);
+    }
+    if (status == MARKRING_OK) {
+        status = read_node(it, image, length, &batches);
+    }
+    free(room);
     return status;
 }
 
-int read_saved(host *it, reader *from)
+int read_saved(host *it, const store_value *value)
 {
-    if (!read_shape(&it->shape, from)) {
+    size_t image_length = 0;
+    reader from = reader_of(value->buffer + STORE_HEAD, value->length);
+    if (!read_shape(&it->shape, &from)) {
         return MARKRING_BAD_IMAGE;
     }
     for (int i = 0; i < it->shape.nodes; i++) {
-        it->peers[i].known.nonce = read_number(from, 8);
-        it->peers[i].known.run = read_number(from, 8);
-        it->peers[i].known.saves = read_number(from, 8);
+        read_known(it, (uint64_t)i, &from);
     }
-    uint64_t count = read_number(from, 1);
-    int status = MARKRING_OK;
-    for (uint64_t i = 0; i < count && status == MARKRING_OK; i++) {
-        status = read_program(it, from);
+    int status = read_programs(it, &from);
+    const uint8_t *image = status == MARKRING_OK ? read_last(&from, &image_length) : NULL;
+    if (status == MARKRING_OK && image == NULL) {
+        status = MARKRING_BAD_IMAGE;
     }
-    return status == MARKRING_OK ? read_image(it, from) : status;
+    it->whole = value->length;
+    it->whole_due = value->whole;
+    it->entries = value->end - STORE_HEAD - value->length - STORE_TAIL;
+    if (status == MARKRING_OK) {
+        status = read_entries(it, value, image, image_length);
+    }
+    if (status == MARKRING_OK) {
+        note_written(it);
+    }
+    return status;
 }

@@ -8,12 +8,17 @@
 #define XXH_INLINE_ALL
 #include <xxhash.h>
 
-static const uint8_t MAGIC[4] = {0x4D, 0x52, 0x53, 0x01};
+// The last byte is the version. Entries are behind values of version 2 alone.
+static const uint8_t MAGIC[4] = {0x4D, 0x52, 0x53, 0x02};
 static const char *const NAMES[2] = {"a", "b"};
 
-// A slot as it was read: its number and its bytes, or nothing.
+// Before an entry: its length and its number.
+enum { ENTRY_HEAD = 16, FIRST_VERSION = 1 };
+
+// A slot as it was read: its bytes, or nothing; the number of its last save, and the last checksum.
 typedef struct slot {
-    uint64_t number;
+    uint64_t number, seal;
+    int version;
     store_value value;
 } slot;
 
@@ -21,7 +26,7 @@ static void forget(store *it)
 {
     it->folder = it->slots[0] = it->slots[1] = -1;
     it->counts = 1;
-    it->number = 0;
+    it->number = it->end = it->seal = 0;
 }
 
 void store_close(store *it)
@@ -74,12 +79,13 @@ static store_status sync_file(store *it, int file)
     return status == 0 ? STORE_OK : STORE_UNKNOWN;
 }
 
-static store_status write_all(store *it, int file, const uint8_t *bytes, size_t length)
+static store_status write_all(
+    store *it, int file, const uint8_t *bytes, size_t length, uint64_t offset)
 {
     size_t done = 0;
     while (done < length) {
-        int64_t count =
-            it->calls.write_at(it->calls.context, file, bytes + done, length - done, done);
+        int64_t count = it->calls.write_at(
+            it->calls.context, file, bytes + done, length - done, offset + done);
         if (count == 0 || (count < 0 && count != -EINTR)) {
             return STORE_FAILED;
         }
@@ -88,23 +94,54 @@ static store_status write_all(store *it, int file, const uint8_t *bytes, size_t 
     return STORE_OK;
 }
 
+// Adds an entry. Its checksum begins with the one before it, so bytes of earlier saves that follow
+// aren't taken for entries.
+static store_status add_entry(store *it, store_value *value)
+{
+    uint8_t *entry = value->buffer + STORE_HEAD - ENTRY_HEAD;
+    writer head = writer_of(entry, ENTRY_HEAD);
+    write_number(&head, value->length, 8);
+    write_number(&head, it->number + 1, 8);
+    size_t length = ENTRY_HEAD + value->length;
+    uint64_t seal = XXH3_64bits_withSeed(entry, length, it->seal);
+    writer tail = writer_of(entry + length, STORE_TAIL);
+    write_number(&tail, seal, 8);
+    int file = it->slots[it->counts];
+    store_status status = write_all(it, file, entry, length + STORE_TAIL, it->end);
+    if (status == STORE_OK) {
+        status = sync_file(it, file);
+    }
+    if (status == STORE_OK) {
+        it->number++;
+        it->seal = seal;
+        it->end += length + STORE_TAIL;
+    }
+    return status;
+}
+
 store_status store_save(store *it, store_value *value)
 {
+    if (value->is_entry) {
+        return add_entry(it, value);
+    }
     writer head = writer_of(value->buffer, STORE_HEAD);
     write_bytes(&head, MAGIC, sizeof MAGIC);
     write_number(&head, value->length, 8);
     write_number(&head, it->number + 1, 8);
     size_t length = STORE_HEAD + value->length;
+    uint64_t seal = XXH3_64bits(value->buffer, length);
     writer tail = writer_of(value->buffer + length, STORE_TAIL);
-    write_number(&tail, XXH3_64bits(value->buffer, length), 8);
+    write_number(&tail, seal, 8);
     int other = 1 - it->counts;
-    store_status status = write_all(it, it->slots[other], value->buffer, length + STORE_TAIL);
+    store_status status = write_all(it, it->slots[other], value->buffer, length + STORE_TAIL, 0);
     if (status == STORE_OK) {
         status = sync_file(it, it->slots[other]);
     }
     if (status == STORE_OK) {
         it->counts = other;
         it->number++;
+        it->seal = seal;
+        it->end = length + STORE_TAIL;
     }
     return status;
 }
@@ -158,24 +195,53 @@ static store_status read_all(store *it, int file, uint8_t *bytes, size_t length)
     return STORE_OK;
 }
 
-// Finds out whether the bytes of a file are a whole slot.
-static int is_whole(const uint8_t *bytes, size_t size, slot *found)
+// Reads the checksum behind this many bytes. Returns whether it is theirs.
+static bool is_sealed(reader *from, uint64_t length, uint64_t seal, uint64_t *found)
 {
-    reader head = reader_of(bytes, size);
+    const uint8_t *start = from->at;
+    if (!from->ok || length > SIZE_MAX || read_bytes(from, (size_t)length) == NULL) {
+        return false;
+    }
+    *found = read_number(from, STORE_TAIL);
+    return from->ok && *found == XXH3_64bits_withSeed(start, (size_t)length, seal);
+}
+
+// Finds the entries behind a value.
+static void find_entries(slot *found)
+{
+    store_value *value = &found->value;
+    for (;;) {
+        reader rest = reader_of(value->buffer + value->end, value->room - value->end), whole = rest;
+        uint64_t length = read_number(&rest, 8), number = read_number(&rest, 8), seal;
+        if (!rest.ok || length > rest.left || number != found->number + 1
+            || !is_sealed(&whole, ENTRY_HEAD + length, found->seal, &seal)) {
+            return;
+        }
+        found->number = number;
+        found->seal = seal;
+        value->end += ENTRY_HEAD + (size_t)length + STORE_TAIL;
+    }
+}
+
+// Finds out whether the bytes of a file are a whole slot, and where its entries end.
+static bool is_whole(slot *found)
+{
+    store_value *value = &found->value;
+    reader head = reader_of(value->buffer, value->room), whole = head;
     const uint8_t *magic = read_bytes(&head, sizeof MAGIC);
     uint64_t length = read_number(&head, 8), number = read_number(&head, 8);
-    if (magic == NULL || memcmp(magic, MAGIC, sizeof MAGIC) != 0 || !head.ok
-        || head.left < STORE_TAIL || length > head.left - STORE_TAIL) {
-        return 0;
+    if (magic == NULL || memcmp(magic, MAGIC, sizeof MAGIC - 1) != 0 || !head.ok
+        || length > head.left || !is_sealed(&whole, STORE_HEAD + length, 0, &found->seal)) {
+        return false;
     }
-    head.at += length;
-    head.left -= length;
-    if (read_number(&head, 8) != XXH3_64bits(bytes, STORE_HEAD + length)) {
-        return 0;
-    }
+    found->version = magic[sizeof MAGIC - 1];
     found->number = number;
-    found->value.length = length;
-    return 1;
+    value->length = (size_t)length;
+    value->end = STORE_HEAD + value->length + STORE_TAIL;
+    if (found->version == MAGIC[sizeof MAGIC - 1]) {
+        find_entries(found);
+    }
+    return found->version == FIRST_VERSION || found->version == MAGIC[sizeof MAGIC - 1];
 }
 
 // Reads a slot. `found->value.buffer` is NULL if it isn't whole.
@@ -195,7 +261,7 @@ static store_status read_slot(store *it, int file, slot *found)
         return STORE_MEMORY;
     }
     store_status status = read_all(it, file, found->value.buffer, found->value.room);
-    if (status != STORE_OK || !is_whole(found->value.buffer, found->value.room, found)) {
+    if (status != STORE_OK || !is_whole(found)) {
         free(found->value.buffer);
         found->value.buffer = NULL;
     }
@@ -220,15 +286,22 @@ static store_status choose(store *it, slot *found, store_value *value)
         return STORE_DAMAGED;
     }
     it->counts = !has[0] || (has[1] && found[1].number > found[0].number);
-    it->number = found[it->counts].number;
-    *value = found[it->counts].value;
-    found[it->counts].value.buffer = NULL;
+    slot *last = &found[it->counts];
+    it->number = last->number;
+    it->seal = last->seal;
+    it->end = last->value.end;
+    *value = last->value;
+    value->whole = last->version == FIRST_VERSION ? 2
+        : has[1 - it->counts] && found[1 - it->counts].version == FIRST_VERSION ? 1
+                                                                                : 0;
+    last->value.buffer = NULL;
     return STORE_OK;
 }
 
 static store_status read_both(store *it, store_value *value)
 {
-    slot found[2] = {{0, {NULL, 0, 0}}, {0, {NULL, 0, 0}}};
+    slot found[2];
+    memset(found, 0, sizeof found);
     store_status status = STORE_OK;
     for (int i = 0; i < 2 && status == STORE_OK; i++) {
         status = read_synced(it, it->slots[i], &found[i]);
@@ -249,7 +322,8 @@ store_status store_open(store *it, const store_calls *calls, const char *path, s
 {
     it->calls = *calls;
     forget(it);
-    store_value found = {NULL, 0, 0};
+    store_value found;
+    memset(&found, 0, sizeof found);
     store_status status = enter(it, path);
     if (status == STORE_OK) {
         status = open_slots(it, 0);
@@ -269,6 +343,18 @@ store_status store_open(store *it, const store_calls *calls, const char *path, s
     }
     *value = found;
     return STORE_OK;
+}
+
+const uint8_t *store_next(const store_value *value, size_t *at, size_t *length)
+{
+    size_t start = *at != 0 ? *at : STORE_HEAD + value->length + STORE_TAIL;
+    if (start >= value->end) {
+        return NULL;
+    }
+    reader head = reader_of(value->buffer + start, value->end - start);
+    *length = (size_t)read_number(&head, 8);
+    *at = start + ENTRY_HEAD + *length + STORE_TAIL;
+    return value->buffer + start + ENTRY_HEAD;
 }
 
 const char *store_text(store_status status)

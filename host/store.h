@@ -1,17 +1,20 @@
-// A folder in which one process keeps a value, which a save replaces as a whole. It has two files,
-// the slots `a` and `b`, and each save overwrites the one that doesn't count. The slot that counts
-// is the whole one with the higher number; whether a slot is whole is shown by a checksum of 64
-// bits. docs/PROCESSES.md ("The folder") has the bytes.
+// A folder in which one process keeps a value. It has two files, the slots `a` and `b`. A save
+// overwrites the slot that doesn't count with a whole value, or adds an entry behind the value that
+// counts, and behind its entries. The slot that counts is the whole one whose last save has the
+// higher number; whether a value or an entry is whole is shown by a checksum of 64 bits. What a
+// crash leaves of an entry that was being added isn't one, unless all of it is there.
+// docs/PROCESSES.md ("The folder") has the bytes.
 //
 // Nothing here waits for another process, starts a thread or reads a clock. All system calls go
 // through a table, so a test can put its own file system in their place.
 #ifndef HOST_STORE_H
 #define HOST_STORE_H
 
+#include <stdbool.h>
 #include <stddef.h>
 #include <stdint.h>
 
-// Room that a save needs before the value and behind it.
+// Room that a save needs before the value or the entry, and behind it.
 enum { STORE_HEAD = 20, STORE_TAIL = 8 };
 
 typedef enum store_status {
@@ -65,13 +68,24 @@ typedef struct store {
     int slots[2];
     int counts;      // the slot that counts, 0 or 1
     uint64_t number; // of the save that counts
+    uint64_t end;    // where the next entry goes, in the slot that counts
+    uint64_t seal;   // the checksum before that
 } store;
 
 // A value with room around it: it begins at `buffer + STORE_HEAD`. `room` counts the value and the
 // room around it.
+//
+// `is_entry` says that it isn't a value, but is to be added behind the one that counts.
+//
+// If it was read, the entries behind it end at `buffer + end`; store_next reads them. `whole` is how
+// many saves have to be whole values before an entry may be added: a slot of an earlier version
+// can't have entries, and shouldn't stay either, since earlier versions would open it.
 typedef struct store_value {
     uint8_t *buffer;
     size_t length, room;
+    bool is_entry;
+    size_t end;
+    int whole;
 } store_value;
 
 // Makes the folder, unless it exists, and saves the first value in it. The folder is locked then,
@@ -87,9 +101,13 @@ store_status store_create(
 // STORE_ABSENT; STORE_LOCKED; STORE_DAMAGED; STORE_MEMORY; STORE_FAILED; STORE_UNKNOWN.
 store_status store_open(store *it, const store_calls *calls, const char *path, store_value *value);
 
-// Saves a value, with the next number. The bytes around the value are overwritten.
+// Saves a value, or adds an entry, with the next number. The bytes around it are overwritten.
 // STORE_FAILED, STORE_UNKNOWN.
 store_status store_save(store *it, store_value *value);
+
+// The next entry behind a value that was read, or NULL. `*at` is where the search goes on, and 0 at
+// first.
+const uint8_t *store_next(const store_value *value, size_t *at, size_t *length);
 
 // Closes the folder, which another process may then lock.
 void store_close(store *it);

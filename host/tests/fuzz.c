@@ -14,7 +14,6 @@ static uint64_t seed = 88172645463325252u;
 static uint8_t sent[SENT][PACKET_BYTES];
 static size_t lengths[SENT];
 static int sent_count;
-static store_value stored;
 static unsigned long passed, failed;
 
 static uint32_t below(uint32_t limit)
@@ -43,17 +42,41 @@ static void on_answer(void *context, const char *reply, const uint8_t *bytes, si
     }
 }
 
-static unsigned long answers;
-static host *hosts[2];
+// A host, what it answered, and the last value with its entries.
+typedef struct station {
+    unsigned long answers;
+    host *host;
+    store_value stored;
+} station;
 
-// Keeps the last value, and says that it is stored.
+static station stations[2];
+
+// Adds an entry, as a store does.
+static void add_entry(store_value *stored, const store_value *entry)
+{
+    size_t end = stored->end + 16 + entry->length + STORE_TAIL;
+    stored->buffer = realloc(stored->buffer, end);
+    writer to = writer_of(stored->buffer + stored->end, end - stored->end);
+    write_number(&to, entry->length, 8);
+    write_number(&to, 0, 8);
+    write_bytes(&to, entry->buffer + STORE_HEAD, entry->length);
+    write_number(&to, 0, STORE_TAIL);
+    stored->end = stored->room = end;
+}
+
+// Keeps the last value with its entries, and says that it is stored.
 static void on_save(void *context, store_value *value)
 {
-    (void)context;
-    free(stored.buffer);
-    stored = *value;
-    stored.buffer = malloc(stored.room);
-    memcpy(stored.buffer, value->buffer, value->room);
+    store_value *stored = &((station *)context)->stored;
+    if (value->is_entry) {
+        add_entry(stored, value);
+        return;
+    }
+    free(stored->buffer);
+    *stored = *value;
+    stored->end = stored->room = STORE_HEAD + value->length + STORE_TAIL;
+    stored->buffer = malloc(stored->room);
+    memcpy(stored->buffer, value->buffer, stored->room);
 }
 
 static void turn(host *it, uint64_t now)
@@ -64,10 +87,10 @@ static void turn(host *it, uint64_t now)
 
 static host *open_host(uint8_t own)
 {
-    static const host_options options = {0, 0, 0, 0};
-    static const host_calls calls = {&answers, on_send, on_answer, on_save};
+    static const host_options options = {.entries_least = 4096};
+    host_calls calls = {&stations[own], on_send, on_answer, on_save};
     host_shape shape = {.name = "fuzz", .own = own, .nodes = 2, .registers = 8, .slots = 32};
-    store_value value = {NULL, 0, 0};
+    store_value value = {NULL, 0, 0, false, 0, 0};
     host *it = NULL;
     if (host_create(&shape, &value) != MARKRING_OK
         || host_open(&it, &value, 1, 100u + own, &options, &calls, 1) != MARKRING_OK) {
@@ -133,26 +156,48 @@ static void try_request(host *it, uint64_t now)
     free(exact);
 }
 
+// Damages a value without entries, or changes bytes of the entries behind it.
+static void damage_value(store_value *value)
+{
+    size_t start = STORE_HEAD + value->length + STORE_TAIL, at = 0, length = 0;
+    if (value->end == start) {
+        value->length = damage(value->buffer + STORE_HEAD, value->length, value->length + 32);
+        value->end = STORE_HEAD + value->length + STORE_TAIL;
+        return;
+    }
+    const uint8_t *entry = store_next(value, &at, &length);
+    while (entry != NULL) {
+        for (uint32_t times = below(3); times > 0 && length > 0; times--) {
+            value->buffer[(size_t)(entry - value->buffer) + below((uint32_t)length)] ^=
+                (uint8_t)(1u << below(8));
+        }
+        entry = store_next(value, &at, &length);
+    }
+}
+
 // An opening of a damaged value succeeds or is refused; without damage it succeeds.
 static void try_value(void)
 {
-    static const host_options options = {0, 0, 0, 0};
-    static const host_calls calls = {&answers, on_send, on_answer, on_save};
-    store_value value = stored;
+    static const host_options options = {0};
+    static station other;
+    static const host_calls calls = {&other, on_send, on_answer, on_save};
+    const store_value *stored = &stations[below(2)].stored;
+    store_value value = *stored;
     host *it = NULL;
-    if (stored.buffer == NULL) {
+    if (stored->buffer == NULL) {
         return;
     }
-    value.room = stored.room + 64;
+    value.room = stored->room + 64;
     value.buffer = malloc(value.room);
-    memcpy(value.buffer, stored.buffer, stored.room);
-    value.length = damage(value.buffer + STORE_HEAD, stored.length, stored.length + 32);
+    memcpy(value.buffer, stored->buffer, stored->room);
+    damage_value(&value);
     int status = host_open(&it, &value, 5, 7, &options, &calls, 1);
     if (status == MARKRING_OK) {
         host_free(it);
     }
-    bool is_same = value.length == stored.length
-        && memcmp(value.buffer + STORE_HEAD, stored.buffer + STORE_HEAD, stored.length) == 0;
+    bool is_same = value.end == stored->end
+        && memcmp(value.buffer + STORE_HEAD, stored->buffer + STORE_HEAD, stored->end - STORE_HEAD)
+            == 0;
     bool is_right = status == MARKRING_OK || (status == MARKRING_BAD_IMAGE && !is_same);
     passed += is_right;
     failed += !is_right;
@@ -162,10 +207,10 @@ static void try_value(void)
 int main(int count, char **given)
 {
     unsigned long rounds = count > 1 ? strtoul(given[1], NULL, 10) : 100000;
-    hosts[0] = open_host(0);
-    hosts[1] = open_host(1);
+    stations[0].host = open_host(0);
+    stations[1].host = open_host(1);
     for (uint64_t now = 2; now < rounds + 2; now++) {
-        host *it = hosts[below(2)];
+        host *it = stations[below(2)].host;
         try_request(it, now);
         if (sent_count > 0) {
             try_packet(it, now);
@@ -177,16 +222,18 @@ int main(int count, char **given)
         }
         for (uint8_t i = 0; i < 2; i++) {
             // A forged packet may say that the folder is old. Then there is a new node.
-            if (host_ended(hosts[i]) != HOST_RUNS) {
-                failed += host_ended(hosts[i]) != HOST_OLDER;
-                host_free(hosts[i]);
-                hosts[i] = open_host(i);
+            host **at = &stations[i].host;
+            if (host_ended(*at) != HOST_RUNS) {
+                failed += host_ended(*at) != HOST_OLDER;
+                host_free(*at);
+                *at = open_host(i);
             }
         }
     }
-    host_free(hosts[0]);
-    host_free(hosts[1]);
-    free(stored.buffer);
+    for (int i = 0; i < 2; i++) {
+        host_free(stations[i].host);
+        free(stations[i].stored.buffer);
+    }
     printf("%lu passed, %lu failed\n", passed, failed);
     return failed != 0 || passed == 0;
 }

@@ -378,7 +378,7 @@ static host_options options;
 
 static int start(station *at)
 {
-    store_value value = {NULL, 0, 0};
+    store_value value = {NULL, 0, 0, false, 0, 0};
     store_calls calls = disk_calls(&at->disk);
     host_calls events = {at, on_send, on_answer, on_save};
     arm(at);
@@ -1113,7 +1113,7 @@ static void create(uint8_t node)
     shape.limit = limit;
     at->disk.seed = &seed;
     for (bool done = false; !done && failures == 0;) {
-        store_value value = {NULL, 0, 0};
+        store_value value = {NULL, 0, 0, false, 0, 0};
         store_calls calls = disk_calls(&at->disk);
         if (!HOLDS(host_create(&shape, &value) == MARKRING_OK)) {
             return;
@@ -1189,7 +1189,9 @@ static void run(unsigned long steps)
 {
     nodes = (uint8_t)(2 + below(MOST - 1));
     limit = below(2) == 0 ? 0 : 8 + below(60);
-    options = (host_options){0, 40, 0, 0};
+    options = (host_options){0, 40, 0, 0, 0};
+    // Whole values now and then.
+    options.entries_least = below(3) != 0 ? 1 + below(8000) : 0;
     if (below(3) == 0) {
         options.letters_most = 5 + below(60);
         options.image_most = 1500 + below(6000);

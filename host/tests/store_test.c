@@ -1,5 +1,6 @@
-// The store: what each failing call leaves, every crash of a creation, an opening and a save, each
-// byte of a slot changed; and locks and refusals on the file system.
+// The store: what each failing call leaves, every crash of a creation, an opening and a save, of whole
+// values and of entries, each byte of a slot changed; folders of the first version; and locks and
+// refusals on the file system.
 //
 //     store_test [CRASHES]
 #include "../bytes.h"
@@ -9,6 +10,9 @@
 #include <stdlib.h>
 #include <sys/stat.h>
 #include <unistd.h>
+
+#define XXH_INLINE_ALL
+#include <xxhash.h>
 
 enum { LENGTH = 1000, CALLS = 40 };
 
@@ -26,27 +30,42 @@ static void check(bool holds, const char *text, int line)
 
 #define HOLDS(condition) check((condition), #condition, __LINE__)
 
+// How values are saved: whole, as entries, or at random.
+static enum { WHOLE, ENTRIES, MIXED } way;
+
 // A value whose bytes show its number.
 static store_value value_of(uint8_t number)
 {
-    store_value it = {
-        malloc(STORE_HEAD + LENGTH + STORE_TAIL), LENGTH, STORE_HEAD + LENGTH + STORE_TAIL};
+    size_t room = STORE_HEAD + LENGTH + STORE_TAIL;
+    seed = seed * UINT64_C(6364136223846793005) + 1;
+    bool is_entry = way == ENTRIES || (way == MIXED && seed >> 63 != 0);
+    store_value it = {malloc(room), LENGTH, room, is_entry, 0, 0};
     memset(it.buffer + STORE_HEAD, number, LENGTH);
     return it;
 }
 
-// The number of the value that is read; -1 if it isn't one of ours.
-static int number_in(const store_value *it)
+// The number that all of these bytes are; -1 if they aren't those of a value of ours.
+static int number_of(const uint8_t *bytes, size_t length)
 {
-    if (it->length != LENGTH) {
-        return -1;
-    }
-    for (size_t i = 1; i < LENGTH; i++) {
-        if (it->buffer[STORE_HEAD + i] != it->buffer[STORE_HEAD]) {
+    for (size_t i = 1; i < LENGTH && length == LENGTH; i++) {
+        if (bytes[i] != bytes[0]) {
             return -1;
         }
     }
-    return it->buffer[STORE_HEAD];
+    return length == LENGTH ? bytes[0] : -1;
+}
+
+// The number of the value that is read, or of the last entry behind it; -1 if one isn't ours, or
+// doesn't follow the one before.
+static int number_in(const store_value *it)
+{
+    int number = number_of(it->buffer + STORE_HEAD, it->length);
+    size_t at = 0, length = 0;
+    for (const uint8_t *entry = store_next(it, &at, &length); entry != NULL && number > 0;
+         entry = store_next(it, &at, &length)) {
+        number = number_of(entry, length) == number + 1 ? number + 1 : -1;
+    }
+    return number;
 }
 
 static disk fresh(void)
@@ -62,6 +81,7 @@ static store_status create(disk *at, uint8_t number)
     store it;
     store_calls calls = disk_calls(at);
     store_value value = value_of(number);
+    value.is_entry = false;
     store_status status = store_create(&it, &calls, "folder", &value);
     if (status == STORE_OK) {
         HOLDS(it.number == 1);
@@ -76,7 +96,7 @@ static int found(disk *at)
 {
     store it;
     store_calls calls = disk_calls(at);
-    store_value value = {NULL, 0, 0};
+    store_value value = {NULL, 0, 0, false, 0, 0};
     store_status status = store_open(&it, &calls, "folder", &value);
     int number = status == STORE_OK ? number_in(&value) : -100 - (int)status;
     if (status == STORE_OK) {
@@ -92,7 +112,7 @@ static int work(disk *at, bool *unsure)
 {
     store it;
     store_calls calls = disk_calls(at);
-    store_value old = {NULL, 0, 0};
+    store_value old = {NULL, 0, 0, false, 0, 0};
     store_status status = store_open(&it, &calls, "folder", &old);
     int saved = 0;
     *unsure = status == STORE_UNKNOWN;
@@ -197,6 +217,7 @@ static void test_changes(void)
 {
     disk it = fresh();
     bool unsure;
+    way = WHOLE;
     HOLDS(create(&it, 1) == STORE_OK && work(&it, &unsure) == 2 && found(&it) == 3);
     int last = it.files[0].seen[STORE_HEAD] == 3 ? 0 : 1;
     disk_file *file = &it.files[last];
@@ -217,12 +238,78 @@ static void test_changes(void)
     disk_free(&it);
 }
 
+// What is found if an entry is changed or cut off: what was saved before it.
+static void test_entries(void)
+{
+    disk it = fresh();
+    bool unsure;
+    size_t head = STORE_HEAD + LENGTH + STORE_TAIL, entry = 16 + LENGTH + STORE_TAIL;
+    way = ENTRIES;
+    HOLDS(create(&it, 1) == STORE_OK && work(&it, &unsure) == 2 && found(&it) == 3);
+    disk_file *file = &it.files[0];
+    HOLDS(file->seen_length == head + 2 * entry && it.files[1].seen_length == 0);
+    for (size_t at = 0; at < file->seen_length; at++) {
+        int left = at < head ? -100 - STORE_DAMAGED : at < head + entry ? 1 : 2;
+        file->seen[at] ^= (uint8_t)(1 + at % 255);
+        memcpy(file->durable, file->seen, file->seen_length);
+        HOLDS(found(&it) == left);
+        file->seen[at] ^= (uint8_t)(1 + at % 255);
+    }
+    memcpy(file->durable, file->seen, file->seen_length);
+    for (size_t length = head; length <= head + 2 * entry; length++) {
+        disk cut;
+        disk_copy(&cut, &it);
+        cut.files[0].durable_length = cut.files[0].seen_length = length;
+        HOLDS(found(&cut) == 1 + (int)((length - head) / entry));
+        disk_free(&cut);
+    }
+    // A whole value goes into the other slot; entries of an earlier save aren't taken for its own.
+    way = WHOLE;
+    HOLDS(work(&it, &unsure) == 2 && found(&it) == 3);
+    HOLDS(file->seen_length == head + 2 * entry);
+    disk_free(&it);
+}
+
+// Makes a slot one of the first version.
+static void make_old(disk_file *file)
+{
+    file->seen[3] = 1;
+    uint64_t seal = XXH3_64bits(file->seen, STORE_HEAD + LENGTH);
+    for (int i = 0; i < STORE_TAIL; i++) {
+        file->seen[STORE_HEAD + LENGTH + i] = (uint8_t)(seal >> 8 * (STORE_TAIL - 1 - i));
+    }
+    memcpy(file->durable, file->seen, file->seen_length);
+}
+
+// A folder of the first version opens. It has no slot of that version once two values were saved.
+static void test_versions(void)
+{
+    disk it = fresh();
+    store at;
+    store_calls calls = disk_calls(&it);
+    way = WHOLE;
+    HOLDS(create(&it, 1) == STORE_OK);
+    make_old(&it.files[0]);
+    for (int whole = 2; whole >= 0; whole--) {
+        store_value value = {NULL, 0, 0, false, 0, 0}, next = value_of((uint8_t)(4 - whole));
+        HOLDS(store_open(&at, &calls, "folder", &value) == STORE_OK);
+        HOLDS(number_in(&value) == 3 - whole && value.whole == whole);
+        HOLDS(store_save(&at, &next) == STORE_OK);
+        store_close(&at);
+        free(value.buffer);
+        free(next.buffer);
+    }
+    it.files[0].seen[3] = it.files[0].durable[3] = 3;
+    HOLDS(it.files[1].seen[3] == 2 && it.files[0].seen[STORE_HEAD] == 3 && found(&it) == 4);
+    disk_free(&it);
+}
+
 // On the file system.
 static void test_system(void)
 {
     char place[] = "/tmp/store-XXXXXX", folder[64];
     store first, second;
-    store_value value = value_of(1), got = {NULL, 0, 0};
+    store_value value = value_of(1), got = {NULL, 0, 0, false, 0, 0};
     HOLDS(mkdtemp(place) != NULL);
     snprintf(folder, sizeof folder, "%s/node", place);
     HOLDS(store_open(&first, &STORE_SYSTEM, folder, &got) == STORE_ABSENT);
@@ -245,10 +332,14 @@ static void test_system(void)
 int main(int count, char **given)
 {
     unsigned long times = count > 1 ? strtoul(given[1], NULL, 10) : 100;
-    test_crashes(times);
+    for (way = WHOLE; way <= MIXED; way++) {
+        test_crashes(times);
+        test_failures(10 * times);
+    }
     test_creations(times);
-    test_failures(10 * times);
     test_changes();
+    test_entries();
+    test_versions();
     test_system();
     printf("%lu passed, %lu failed\n", passed, failed);
     return failed != 0 || passed == 0;

@@ -258,6 +258,82 @@ static bytes over_nodes(void)
     return all;
 }
 
+// What is stored of node 0: an image, and the batches behind it.
+static bytes stored, behind;
+
+static void store_image(void)
+{
+    MAY(markring_node_image(&nodes[0], image, sizeof image, &needed, &mark));
+    SPARES(markring_node_kept(&nodes[0], mark));
+    stored.length = behind.length = 0;
+    add(&stored, image, needed);
+}
+
+// Saves node 0 by a batch; or by an image, if memory was refused to its log.
+static void store_batch(void)
+{
+    unsigned long requested = requests;
+    within = 1;
+    int status = markring_node_batch_size(&nodes[0], &size);
+    within = 0;
+    HOLDS(requests == requested);
+    if (status == MARKRING_NO_LOG) {
+        refusals++;
+        store_image();
+        return;
+    }
+    OK(status);
+    MAY(markring_node_batch(&nodes[0], image, sizeof image, &needed, &mark));
+    EQUAL(size, needed);
+    add(&behind, image, needed);
+    SPARES(markring_node_kept(&nodes[0], mark));
+}
+
+// An event that needs memory for the log alone isn't refused.
+#define LOGS(call) \
+    do { \
+        within = 1; \
+        int outcome = (call); \
+        within = 0; \
+        IS(MARKRING_OK, outcome); \
+    } while (0)
+
+// A scenario over nodes of which one is saved by batches. A log to which memory is refused is lost.
+static bytes with_log(void)
+{
+    markring_node *zero = &nodes[0], *one = &nodes[1];
+    MAY(markring_node_new(zero, 2, 4, 64, 0, 0));
+    MAY(markring_node_new(one, 2, 4, 64, 1, 0));
+    SPARES(markring_node_log(zero, 1));
+    store_image();
+    for (int round = 0; round < 6; round++) {
+        MAY(markring_node_alloc(zero, 0, 8, &answer));
+        LOGS(markring_node_set_word(zero, 0, (uint64_t)round, &answer));
+        LOGS(markring_node_copy(zero, 1, 0, &answer));
+        LOGS(markring_node_store(zero, 0, 1, 1, &answer));
+        LOGS(markring_node_clear(zero, 0, 0, &answer));
+        LOGS(markring_node_drop(zero, 1, &answer));
+        SPARES(markring_node_word(zero, 0, &answer));
+        MAY(markring_node_give(zero, 1, (uint32_t)round, 0, &answer));
+        store_batch();
+        SPARES(markring_node_frame_at(zero, 1, 0, frame, sizeof frame, &needed));
+        MAY(markring_node_take(one, frame, needed, &answer));
+        SPARES(markring_node_release(one));
+        SPARES(markring_node_ack_for(one, 0, frame, sizeof frame, &needed));
+        LOGS(markring_node_take(zero, frame, needed, &answer));
+    }
+    store_batch();
+    SPARES(markring_node_free(zero));
+    uint8_t *from = behind.length > 0 ? behind.at : frame;
+    MAY(markring_node_from_batches(zero, stored.at, stored.length, from, behind.length, 0));
+    bytes all = image_of(zero);
+    SPARES(markring_node_free(zero));
+    SPARES(markring_node_free(one));
+    drop_bytes(&stored);
+    drop_bytes(&behind);
+    return all;
+}
+
 // Saves a cell. No memory is refused to the save itself, see `saves`.
 static void save_cell(int own_number)
 {
@@ -455,6 +531,7 @@ static void refuse_each(bytes (*scenario)(void))
 int main(void)
 {
     refuse_each(over_nodes);
+    refuse_each(with_log);
     refuse_each(over_cells);
     saves();
     return report();

@@ -9,11 +9,12 @@ package, beside it, or in a folder in which the system looks for libraries.
 Calls keep the interpreter's lock, so any thread may use any of these objects.
 """
 from . import errors
-from ._space import Again, Cell, Ended, Freed, Image, Letter, Link, Node, Passed, Ref, Space, State, Taken, Watch
+from ._space import Again, Batch, Cell, Ended, Freed, Image, Letter, Link, Node, Passed, Ref, Space, State, Taken, Watch
 from .errors import Refusal
 
 __all__ = [
     "Again",
+    "Batch",
     "Cell",
     "Ended",
     "Freed",

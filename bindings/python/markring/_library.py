@@ -107,6 +107,10 @@ FUNCTIONS = {
         "kept": (U64,),
         "release": (),
         "from_image": (c_char_p, SIZE, U64),
+        "log": (U8,),
+        "batch_size": (TO_SIZE,),
+        "batch": (c_char_p, SIZE, TO_SIZE, TO_NUMBER),
+        "from_batches": (c_char_p, SIZE, c_char_p, SIZE, U64),
         "waiting": (U8, TO_NUMBER),
     },
     "space": {

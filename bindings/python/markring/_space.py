@@ -73,6 +73,13 @@ class Image(NamedTuple):
     mark: int
 
 
+class Batch(NamedTuple):
+    """What happened to a node since its last save: the bytes to store, and the mark to pass to `kept` then."""
+
+    data: bytes
+    mark: int
+
+
 class State(NamedTuple):
     """A node in numbers. `black` is the node's colour."""
 
@@ -292,6 +299,34 @@ class Node(_Events):
         node._call("from_image", data, len(data), limit)
         return node
 
+    @classmethod
+    def from_batches(cls, image: bytes, batches: bytes, limit: int = 0) -> Node:
+        """The node of an image and of the batches that were stored behind it, one after another.
+
+        It has a log: its next batch may be stored behind these.
+        """
+        node = cls.__new__(cls)
+        _Handle.__init__(node)
+        node._call("from_batches", image, len(image), batches, len(batches), limit)
+        return node
+
+    def log(self, on: bool = True) -> None:
+        """Begins a log of the node's events, or ends it. It is of use from the next image on."""
+        self._call("log", int(on))
+
+    def batch_size(self) -> int:
+        """The number of bytes of the next batch."""
+        size = ctypes.c_size_t()
+        self._call("batch_size", size)
+        return size.value
+
+    def batch(self) -> Batch:
+        """The events since the last image or batch, with a mark. After `NoLog`, take an image."""
+        buffer = ctypes.create_string_buffer(self.batch_size())
+        needed, mark = ctypes.c_size_t(), ctypes.c_uint64()
+        self._call("batch", buffer, len(buffer), needed, mark)
+        return Batch(buffer.raw[: needed.value], mark.value)
+
     def take(self, frame: bytes) -> Taken:
         """Gives the node a frame from another node. After EARLY, call `next` once its turn has come."""
         answer = c.RawAnswer()
@@ -325,7 +360,7 @@ class Node(_Events):
         return found_frames
 
     def kept(self, mark: int) -> None:
-        """Says that the image with this mark is stored. What that image holds counts as saved."""
+        """Says that the image or batch with this mark is stored. What it holds counts as saved."""
         self._call("kept", mark)
 
     def release(self) -> None:

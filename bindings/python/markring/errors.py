@@ -187,9 +187,9 @@ class WrongDisks(Refusal):
 
 
 class WrongMark(Refusal):
-    """The mark isn't that of the last image."""
+    """The mark isn't that of the last image or batch."""
 
-    status, text = 106, "the mark isn't that of the last image"
+    status, text = 106, "the mark isn't that of the last image or batch"
 
 
 class Congested(Refusal):
@@ -207,6 +207,12 @@ class Ages(Refusal):
     status, text = 109, "the images of two nodes aren't of one moment"
     sender: int = 0
     receiver: int = 0
+
+
+class NoLog(Refusal):
+    """There is no log of the events since the last image or batch, or that isn't kept yet: take an image."""
+
+    status, text = 110, "there is no log: take an image"
 
 
 OK = 0

@@ -133,6 +133,23 @@ extern "C" {
         length: usize,
         limit: u64,
     ) -> c_int;
+    pub(crate) fn markring_node_log(node: Place, on: u8) -> c_int;
+    pub(crate) fn markring_node_batch_size(node: Place, size: *mut usize) -> c_int;
+    pub(crate) fn markring_node_batch(
+        node: Place,
+        buffer: *mut u8,
+        length: usize,
+        needed: *mut usize,
+        mark: *mut u64,
+    ) -> c_int;
+    pub(crate) fn markring_node_from_batches(
+        node: Place,
+        image: *const u8,
+        image_length: usize,
+        batches: *const u8,
+        batches_length: usize,
+        limit: u64,
+    ) -> c_int;
     pub(crate) fn markring_node_waiting(node: Place, from: u8, number: *mut u64) -> c_int;
 }
 

@@ -87,5 +87,5 @@ pub use root::{Accepted, Root, Roots};
 #[cfg(feature = "spaces")]
 pub use space::{Cell, Space, Watch};
 pub use value::{
-    Answer, Colour, Event, Frame, Freed, Image, Letter, Link, Passed, Ref, State, Taken,
+    Answer, Batch, Colour, Event, Frame, Freed, Image, Letter, Link, Passed, Ref, State, Taken,
 };

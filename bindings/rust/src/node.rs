@@ -3,8 +3,8 @@
 use crate::events::events;
 use crate::ffi;
 use crate::refusal::{checked, found};
-use crate::{Answer, Event, Events, Frame, Freed, Image, Letter, Link, Passed, Ref, Refusal};
-use crate::{Result, State, Taken};
+use crate::{Answer, Batch, Event, Events, Frame, Freed, Image, Letter, Link, Passed, Ref};
+use crate::{Refusal, Result, State, Taken};
 use alloc::vec::Vec;
 use core::cell::UnsafeCell;
 use core::ffi::c_int;
@@ -118,6 +118,27 @@ impl Node {
         })
     }
 
+    /// Makes the node of an image and of the batches that were stored behind it, one after another
+    /// and in their order. All that it sent and received counts as saved, and it has a log: its
+    /// next batch may be stored behind these. If the image is that of a node without a log, there
+    /// must be no batches, and the next save is an image. `limit` is as for [`Node::with_limit`].
+    ///
+    /// # Errors
+    ///
+    /// `BadImage`, `Memory`.
+    pub fn from_batches(image: &[u8], batches: &[u8], limit: u64) -> Result<Self> {
+        Node::made(|at| unsafe {
+            ffi::markring_node_from_batches(
+                at,
+                image.as_ptr(),
+                image.len(),
+                batches.as_ptr(),
+                batches.len(),
+                limit,
+            )
+        })
+    }
+
     fn made(make: impl FnOnce(*mut ffi::Handle) -> c_int) -> Result<Self> {
         let at = UnsafeCell::new(ffi::Handle::empty());
         checked(make(at.get()))?;
@@ -222,13 +243,81 @@ impl Node {
         Ok(bytes)
     }
 
-    /// Says that the image with this mark is stored. What that image holds counts as saved: the
-    /// messages in it are released, and what it received is acknowledged. Events after the image
-    /// stay unsaved until a later image is kept.
+    /// Begins a log of the node's events, or ends it. It has the events since the last image or
+    /// batch, so it is of use from the next image on. If there is one already, to begin it changes
+    /// nothing. Only [`Node::from_batches`] reads an image of a node with a log.
+    ///
+    /// The log is lost if an allocation for it fails, if it would become longer than 1,048,576
+    /// bytes, and by [`Node::release`]; no event fails because of that. A new one begins at the
+    /// next image.
+    pub fn log(&self, on: bool) -> Result<()> {
+        checked(unsafe { ffi::markring_node_log(self.at.get(), u8::from(on)) })
+    }
+
+    /// The number of bytes of the next batch.
     ///
     /// # Errors
     ///
-    /// `WrongMark` if it isn't the mark of the last image.
+    /// `NoLog`.
+    pub fn batch_size(&self) -> Result<usize> {
+        let mut size = 0;
+        checked(unsafe { ffi::markring_node_batch_size(self.at.get(), &mut size) })?;
+        Ok(size)
+    }
+
+    /// The events since the last image or batch, as a batch. Store it behind the image and the
+    /// batches before it, and call [`Node::kept`] with its mark.
+    ///
+    /// ```
+    /// use markring::{Events, Node};
+    ///
+    /// # fn main() -> markring::Result<()> {
+    /// let node = Node::new(2, 4, 16, 0)?;
+    /// node.log(true)?;
+    /// let image = node.image()?;
+    /// // (Here the bytes of the image are stored.)
+    /// node.kept(image.mark)?;
+    ///
+    /// node.alloc(0, 1)?;
+    /// node.set_word(0, 7)?;
+    /// let batch = node.batch()?;
+    /// // (Here the bytes of the batch are stored behind the image.)
+    /// node.kept(batch.mark)?;
+    ///
+    /// let again = Node::from_batches(&image.bytes, &batch.bytes, 0)?;
+    /// assert_eq!(again.word(0)?, 7);
+    /// # Ok(())
+    /// # }
+    /// ```
+    ///
+    /// # Errors
+    ///
+    /// `NoLog` if there is no log, if it is lost, or if what the last image or batch holds doesn't
+    /// count as saved: take an image. `Memory`.
+    pub fn batch(&self) -> Result<Batch> {
+        let mut bytes = filled(self.batch_size()?)?;
+        let (mut needed, mut mark) = (0, 0);
+        // SAFETY: the buffer has the length that is passed.
+        checked(unsafe {
+            ffi::markring_node_batch(
+                self.at.get(),
+                bytes.as_mut_ptr(),
+                bytes.len(),
+                &mut needed,
+                &mut mark,
+            )
+        })?;
+        bytes.truncate(needed);
+        Ok(Batch { bytes, mark })
+    }
+
+    /// Says that the image or batch with this mark is stored. What it holds counts as saved: the
+    /// messages in it are released, and what it received is acknowledged. Events after it stay
+    /// unsaved until a later image or batch is kept.
+    ///
+    /// # Errors
+    ///
+    /// `WrongMark` if it isn't the mark of the last image or batch.
     pub fn kept(&self, mark: u64) -> Result<()> {
         checked(unsafe { ffi::markring_node_kept(self.at.get(), mark) })
     }

@@ -107,12 +107,15 @@ refusals! {
     BadArgument = 104, "an argument is out of range";
     /// An image is of another node or of a space of another shape.
     WrongDisks = 105, "an image is of another node or another space";
-    /// The mark isn't that of the last image.
-    WrongMark = 106, "the mark isn't that of the last image";
+    /// The mark isn't that of the last image or batch.
+    WrongMark = 106, "the mark isn't that of the last image or batch";
     /// As many messages on the link as the node's limit allows aren't acknowledged.
     Congested = 107, "the link is congested";
     /// The images of two nodes aren't of one moment.
     Ages = 109, "the images of two nodes aren't of one moment";
+    /// There is no log of the events since the last image or batch, or that isn't kept yet: take an
+    /// image.
+    NoLog = 110, "there is no log: take an image";
 }
 
 impl Refusal {

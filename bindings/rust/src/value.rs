@@ -379,6 +379,16 @@ pub struct Image {
     pub mark: u64,
 }
 
+/// What happened to a node since its last image or batch, as bytes, and its mark.
+#[derive(Clone, Debug, PartialEq, Eq)]
+#[must_use = "a batch that isn't stored saves nothing"]
+pub struct Batch {
+    /// What to store behind the image and the batches before it.
+    pub bytes: alloc::vec::Vec<u8>,
+    /// What to pass to [`Node::kept`](crate::Node::kept) once the bytes are stored.
+    pub mark: u64,
+}
+
 /// A released message as bytes.
 #[derive(Clone, Debug, PartialEq, Eq)]
 #[must_use]

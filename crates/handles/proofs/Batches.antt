@@ -1,6 +1,7 @@
 -- Batches that are stored one after another.
-use Rattle.std.proofs.Common.{◌≡◌, inl, inr, ℕ, ◌+◌, ◌≤◌, ◌<◌, Bool, true, false, cond, List, [], ◌∷◌, ◌++◌, length, take, drop, Option, Some, None, refl, ap, sym, ◌∙◌, subst, arith}
+use Rattle.std.proofs.Common.{◌≡◌, inl, inr, ℕ, ◌+◌, ◌%◌, ◌^◌, ◌≤◌, ◌<◌, Bool, true, false, cond, List, [], ◌∷◌, ◌++◌, length, take, drop, Option, Some, None, refl, ap, sym, ◌∙◌, subst, arith}
 use Rattle.std.proofs.Common.{length-append, length-drop}
+use Rattle.std.specs.Global.{Vec}
 use Rattle.std.specs.Int.{w64, from_be_bytes}
 use Rattle.std.specs.Prelude.{nat_le}
 use Rattle.std.proofs.lemmas.Bool.{cond_both, leb-true, true≢false}
@@ -13,12 +14,16 @@ use Rattle.disk.proofs.Records.{recorded_cut, recorded_front, recorded_is, recor
 use Rattle.disk.proofs.Values.{lead_more}
 use Rattle.grammar.specs.Logs.{begins_logged}
 use Rattle.model.specs.View.{NodeView, kept_view}
+use Rattle.node.specs.Invariant.{IsNode}
 use Rattle.node.specs.Keeping.{WholeNode}
 use Rattle.image.specs.Wholes.{saved_whole}
 use Rattle.replays.specs.Laws.{one_led, one_whole}
 use Rattle.replays.specs.Values.{LeadsWhole}
 use Rattle.replays.specs.declared.log.TheConstants.{GREATEST_LOG}
-use Rattle.handles.specs.Batches.{AreBatches, IsStored, LogLeads, batch_of, short}
+use Rattle.handles.specs.Batches.{AreBatches, GaveBatch, IsStored, LogLeads, batch_of, short}
+use Rattle.handles.specs.Images.{counts_of}
+use Rattle.handles.specs.declared.lone.images.Counts.{Counts}
+use Rattle.handles.proofs.Logs.{begun_led, within_sent}
 use Rattle.handles.specs.Logs.{LedIf, LogsFrom, log_of}
 use Rattle.handles.specs.declared.lone.LoneNode.{LoneNode}
 
@@ -30,6 +35,10 @@ some_none some none = absurd cc
 
 none_recorded : (batch : List ℕ) → recorded [] ≡ Some batch → ⊥
 none_recorded batch is = some_none is (recorded_short [] (omega arith))
+
+pub nil_of : (l : List ℕ) → length l ≡ 0 → l ≡ []
+nil_of [] is = refl
+nil_of (x ∷ l) is = absurd (omega (arith, is))
 
 -- ---- one more batch
 
@@ -121,9 +130,9 @@ stored_more n bytes image batches first is logged stored logs =
       plain = λ plain. absurd (true≢false (sym logged ∙ plain));
       led = (
         stored.led.0 ++ bytes ∷ [],
-        batches_more stored.led.0 bytes batches (omega (arith, found.1)) stored.led.1.0,
+        batches_more stored.led.0 bytes batches (omega (arith, found.1)) stored.led.1,
         lead_more LeadsWhole stored.led.0 bytes stored.first first (saved_whole n.node)
-            stored.led.1.1 leads,
+            stored.led.2 leads,
       );
     }
 
@@ -131,21 +140,21 @@ stored_more n bytes image batches first is logged stored logs =
 
 pub led_once : (bytes : List ℕ) (first m n : WholeNode) → LogLeads bytes first m
     → LogLeads bytes first n → m ≡ n
-led_once bytes first m n a b = by_batches a.0 b.0 bytes first a.1.0 b.1.0 a.1.1 b.1.1
+led_once bytes first m n a b = by_batches a.0 b.0 bytes first a.1 b.1 a.2 b.2
   where
     by_batches : (bs cs : List (List ℕ)) (rest : List ℕ) (now : WholeNode) → AreBatches bs rest
         → AreBatches cs rest → LeadAll LeadsWhole bs now m → LeadAll LeadsWhole cs now n → m ≡ n
-    by_batches [] [] rest now are as led other = sym led ∙ other
-    by_batches [] (c ∷ cs) rest now are as led other =
-        absurd (none_recorded c (ap recorded (sym are) ∙ as.0))
-    by_batches (b ∷ bs) [] rest now are as led other =
-        absurd (none_recorded b (ap recorded (sym as) ∙ are.0))
-    by_batches (b ∷ bs) (c ∷ cs) rest now are as led other =
-        let same : c ≡ b = some_one (sym as.0 ∙ are.0) in
+    by_batches [] [] rest now are also led other = sym led ∙ other
+    by_batches [] (c ∷ cs) rest now are also led other =
+        absurd (none_recorded c (ap recorded (sym are) ∙ also.0))
+    by_batches (b ∷ bs) [] rest now are also led other =
+        absurd (none_recorded b (ap recorded (sym also) ∙ are.0))
+    by_batches (b ∷ bs) (c ∷ cs) rest now are also led other =
+        let same : c ≡ b = some_one (sym also.0 ∙ are.0) in
         let one : other.0 ≡ led.0 =
         one_led b now other.0 led.0 (subst (λ l. LeadsWhole l now other.0) same other.1) led.1 in
         by_batches bs cs (drop (8 + length b) rest) led.0 are.1
-        (subst (λ (l : List ℕ). AreBatches cs (drop (8 + length l) rest)) same as.1) led.2
+        (subst (λ (l : List ℕ). AreBatches cs (drop (8 + length l) rest)) same also.1) led.2
         (subst (λ w. LeadAll LeadsWhole cs w n) one other.2)
 
 pub stored_one : (image batches : List ℕ) (m n : WholeNode) → IsStored image batches m
@@ -211,5 +220,31 @@ module _ {batches rest batch : List ℕ} {first now : WholeNode} (left : IsLeft 
         let found = first_of last (left.ahead last led) in
         subst (λ w. LogLeads (drop (8 + length batch) rest) w last)
         (one_led batch now found.0 next found.1 leads) found.2;
-    back = λ last led. left.back last (batch ∷ led.0, (is, led.1.0), (next, leads, led.1.1));
+    back = λ last led. left.back last (batch ∷ led.0, (is, led.1), (next, leads, led.2));
   }
+
+-- ---- a batch that is given
+
+-- what is kept for its mark
+pub gave_batch : (old new : LoneNode) (mark : ℕ) (bytes : List ℕ) (counts : Vec Counts)
+    → batch_of old ≡ Some bytes → counts.items ≡ counts_of old.node.core → IsNode old.node.core
+    → mark ≡ (old.mark + 1) % 2 ^ 64 → new ≡ record old {
+      counts = Some counts;
+      mark = mark;
+      is_changed = false;
+      log = Some [];
+      is_kept = false;
+    } → GaveBatch old new mark bytes
+gave_batch old new mark bytes counts is counted node next stays = record {
+  counts = counts;
+  counted = counted;
+  stays = stays;
+  next = next;
+  stored = λ image batches first. stored_more old bytes image batches first is;
+  logs = subst (LogsFrom (kept_view old.node.core)) (sym stays) (begin_at old.logs);
+}
+  where
+    begin_at : (logs : Bool)
+        → LedIf (cond logs (Some []) None) (kept_view old.node.core) old.node.core (Some counts)
+    begin_at true = begun_led old.node.core counts counted (within_sent old.node.core node)
+    begin_at false = λ found none. absurd cc

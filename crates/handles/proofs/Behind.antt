@@ -154,12 +154,15 @@ also n new m e a behind h =
 unchanged-link : (l : Link) (number : ℕ) → number ≤ l.base → trimmed l number ≡ l
 unchanged-link l number old =
     let none : number - l.base ≡ 0 = omega (arith, old) in
+    let still : l.base + min (number - l.base) (length l.unacknowledged) ≡ l.base =
+    omega (arith, none, min-le_left (number - l.base) (length l.unacknowledged)) in
+    let all : drop (number - l.base) l.unacknowledged ≡ l.unacknowledged =
+    ap (λ (k : ℕ). drop k l.unacknowledged) none in
     ap (λ (k : ℕ). record l {
-      base = l.base + min k (length l.unacknowledged);
-      unacknowledged = drop k l.unacknowledged;
-    }) none
-    ∙ ap (λ (k : ℕ). record l { base = k })
-    (let e : l.base + 0 ≡ l.base = omega arith in e)
+      base = k;
+      unacknowledged = drop (number - l.base) l.unacknowledged;
+    }) still
+    ∙ ap (λ (ms : List Message). record l { unacknowledged = ms }) all
 
 pub old_ack : (n new : NodeView) (a : Ack) (x : Answer) → view_act n (event.Ack a) ≡ Ok (new, x)
     → a.number ≤ (link_to n a.from).base → new ≡ n

@@ -1,17 +1,38 @@
 -- What becomes of a log.
-use Rattle.std.proofs.Common.{◌≡◌, ℕ, zero, suc, ◌≤◌, ◌<◌, Bool, true, false, cond, List, [], ◌∷◌, ◌++◌, length, get_or, Option, Some, None, Ok, refl, ap, sym, ◌∙◌, subst, arith}
+use Rattle.std.proofs.Common.{◌≡◌, ℕ, zero, suc, ◌+◌, ◌%◌, ◌^◌, ◌≤◌, Bool, true, false, cond, List, [], ◌∷◌, ◌++◌, length, get_or, Option, Some, None, Ok, refl, ap, sym, ◌∙◌, subst, arith}
 use Rattle.std.specs.Global.{Vec}
 use Rattle.std.proofs.Common.{length-append}
 use Rattle.std.proofs.Math.ListN.{get_or-map}
 use Rattle.model.specs.declared.event.Event.{Event}
 use Rattle.model.specs.declared.event.Answer.{Answer}
-use Rattle.model.specs.View.{NodeView, all_kept, kept_of, kept_view, link_to, no_link, used, view_act}
+use Rattle.model.specs.declared.event.Answer.TheVariants as answer
+use Rattle.model.specs.declared.event.Event.TheVariants as event
+use Rattle.ids.specs.declared.refusal.Refusal.{Refusal}
+use Rattle.ids.specs.declared.refusal.Refusal.TheVariants.{AckBeyond, LinkSpent, WrongNode}
+use Rattle.msg.specs.declared.frame.Ack.{Ack}
+use Rattle.model.specs.Checks.{guarded}
+use Rattle.model.specs.Effects.{Effect, unchanged}
+use Rattle.model.specs.Steps.{is_addressed}
+use Rattle.model.proofs.Checks.{guarded-ok}
+use Rattle.model.proofs.Shown.{view-ok}
+use Rattle.std.proofs.Common.{Result, Err, OnOk, replicate, drop, take}
+use Rattle.std.specs.Prelude.{nat_le, ◌||◌, ◌-◌}
+use Rattle.std.proofs.lemmas.Bool.{false≢true, true≢false}
+use Rattle.std.proofs.lemmas.List.{take_all}
+use Rattle.replays.proofs.Stores.{image_plain}
+use Rattle.image.specs.Logged.{IsEither}
+use Rattle.image.specs.Wholes.{IsWholeOf}
+use Rattle.handles.specs.Lone.{is_counted}
+use Rattle.model.specs.View.{NodeView, all_kept, kept_of, kept_view, let_go, link_to, no_link, used, view_act}
+use Rattle.node.specs.Invariant.{IsNode}
 use Rattle.node.specs.Keeping.{WholeNode}
 use Rattle.replays.specs.Logs.{IsDone, Logged, is_quiet}
 use Rattle.replays.specs.Noted.{Noted}
 use Rattle.replays.proofs.Ends.{logged_more, logged_none}
 use Rattle.handles.specs.declared.lone.images.Counts.{Counts}
-use Rattle.handles.specs.Images.{after_kept, counted, counts_below, counts_of, keeps, keeps_below}
+use Rattle.image.specs.Logged.{IsAnyWholeOf}
+use Rattle.image.specs.Wholes.{saved_whole}
+use Rattle.handles.specs.Images.{Took, after_kept, counted, counts_below, counts_of, image_in, keeps, keeps_below}
 use Rattle.handles.specs.Logs.{AreSaved, IsBehind, KeepsLog, Led, LedIf, LogsFrom, begun, no_counts}
 use Rattle.handles.specs.declared.lone.LoneNode.{LoneNode}
 use Rattle.handles.proofs.Behind.{also, behind_all, behind_kept}
@@ -21,7 +42,7 @@ pub if_kept : {first n m : NodeView} {counts others : Option (Vec Counts)} (logs
     (old new : Option (List ℕ)) → (LedIf old first n counts → LedIf new first m others)
     → LedIf (cond logs old None) first n counts → LedIf (cond logs new None) first m others
 if_kept true old new f = f
-if_kept false old new f led bytes is = absurd cc
+if_kept false old new f = λ led bytes is. absurd cc
 
 -- ---- an event
 
@@ -48,6 +69,71 @@ led_noted first n new counts e a log log' acts now noted led bytes is =
       saved = saved_still counts was.last next.after next.kept was.saved;
     }
 
+-- what counts as a change is what isn't quiet
+pub counted_now : (a : Answer) → is_counted a ≡ true → is_quiet a ≡ false
+counted_now (answer.Word word) is = absurd (false≢true is)
+counted_now answer.Repeat is = absurd (false≢true is)
+counted_now answer.Early is = absurd (false≢true is)
+counted_now a is = refl
+
+pub uncounted_quiet : (a : Answer) → is_counted a ≡ false → is_quiet a ≡ true
+uncounted_quiet (answer.Word word) is = refl
+uncounted_quiet answer.Repeat is = refl
+uncounted_quiet answer.Early is = refl
+uncounted_quiet a is = absurd (true≢false is)
+
+or-true : (b : Bool) → (b || true) ≡ true
+or-true true = refl
+or-true false = refl
+
+or-false : (b : Bool) → (b || false) ≡ b
+or-false true = refl
+or-false false = refl
+
+-- a node after an event
+abbrev after : LoneNode → WholeNode → Option (List ℕ) → Bool → Bool → LoneNode
+after n node log changed unsaved =
+    record n { node = node; is_changed = changed; is_unsaved = unsaved; log = log }
+
+pub after_counted : (n : LoneNode) (node : WholeNode) (log : Option (List ℕ)) (b : Bool)
+    → b ≡ true → record n { node = node; is_changed = true; is_unsaved = true; log = log }
+    ≡ record n {
+      node = node;
+      is_changed = n.is_changed || b;
+      is_unsaved = n.is_unsaved || b;
+      log = log;
+    }
+after_counted n node log b is =
+    sym (ap (λ (c : Bool). after n node log (n.is_changed || c) (n.is_unsaved || c)) is
+    ∙ ap (λ (c : Bool). after n node log c (n.is_unsaved || true)) (or-true n.is_changed)
+    ∙ ap (λ (c : Bool). after n node log true c) (or-true n.is_unsaved))
+
+pub after_uncounted : (n : LoneNode) (node : WholeNode) (b : Bool)
+    → b ≡ false → record n { node = node }
+    ≡ record n {
+      node = node;
+      is_changed = n.is_changed || b;
+      is_unsaved = n.is_unsaved || b;
+    }
+after_uncounted n node b is =
+    sym (ap (λ (c : Bool). after n node n.log (n.is_changed || c) (n.is_unsaved || c)) is
+    ∙ ap (λ (c : Bool). after n node n.log c (n.is_unsaved || false)) (or-false n.is_changed)
+    ∙ ap (λ (c : Bool). after n node n.log n.is_changed c) (or-false n.is_unsaved))
+
+-- an acknowledgement that is answered isn't quiet
+pub ack_now : (n new : NodeView) (a : Ack) (x : Answer) → view_act n (event.Ack a) ≡ Ok (new, x)
+    → is_quiet x ≡ false
+unfolding view_act
+ack_now n new a x h =
+    let ts : List (Bool × Refusal) =
+    (is_addressed n.local a.from a.to, WrongNode)
+    ∷ (nat_le a.number (link_to n a.from).kept, AckBeyond) ∷ (true, LinkSpent) ∷ [] in
+    let found =
+    view-ok n new (let_go n.links (Some a)) (guarded ts (unchanged n.local answer.Done)) x h in
+    let same : unchanged n.local answer.Done ≡ found.0 =
+    guarded-ok ts (unchanged n.local answer.Done) found.0 found.1 in
+    ap is_quiet (found.3 ∙ ap (λ (z : Effect). z.answer) (sym same))
+
 -- ---- more counts as saved
 
 keeps_behind : (counts : List Counts) (k : ℕ) (n : WholeNode) (last : NodeView)
@@ -61,13 +147,13 @@ keeps_behind counts (suc peer) n last saved behind =
 
 pub kept_logs : (n : LoneNode) (counts : Option (Vec Counts)) (same : Bool) → n.counts ≡ counts
     → KeepsLog n (after_kept counts same n)
-kept_logs n None same is first led = led
-kept_logs n (Some counts) false is first led = led
-kept_logs n (Some counts) true is first led bytes log = kept_led (led bytes log)
+unfolding keeps
+kept_logs n None same is = λ first led. led
+kept_logs n (Some counts) false is = λ first led. led
+kept_logs n (Some counts) true is = λ first led bytes log. kept_led (led bytes log)
   where
-    kept_led : Led bytes first n.node.core n.counts
+    kept_led : {bytes : List ℕ} {first : NodeView} → Led bytes first n.node.core n.counts
         → Led bytes first (keeps counts.items n.node).core n.counts
-    unfolding keeps
     kept_led was = record {
       last = was.last;
       logged = was.logged;
@@ -147,4 +233,50 @@ fresh_led n bytes log = record {
   logged = subst (λ l. Logged l n n) (some_one log) (logged_none n);
   behind = record { same = refl; less = λ i. omega arith };
   saved = tt;
+}
+
+-- ---- images
+
+-- an image that no log follows
+pub any_plain : (bytes : List ℕ) (n : WholeNode) → IsWholeOf bytes n → IsAnyWholeOf bytes n
+any_plain bytes n is = (
+  subst (λ b. IsEither b bytes n.core) (sym (image_plain bytes n.core is.0)) is.0,
+  is.1,
+)
+
+pub on_ok : {A E P Q : Type 0} (r : Result A E) → (P → Q) → OnOk r P → OnOk r Q
+on_ok (Ok a) f p = f p
+on_ok (Err e) f p = tt
+
+-- what follows the zeros
+pub behind_zeros : (bytes image : List ℕ) → bytes ≡ replicate 8 0 ++ image
+    → take (length bytes - 8) (drop 8 bytes) ≡ image
+behind_zeros bytes image is =
+    let rest : drop 8 bytes ≡ image = ap (drop 8) is in
+    let count : length image ≤ length bytes - 8 = omega (arith, ap length is) in
+    ap (take (length bytes - 8)) rest ∙ take_all (length bytes - 8) image count
+
+-- no more counts as saved than was sent
+pub within_sent : (n : NodeView) → IsNode n → (i : ℕ) → (link_to n i).kept ≤ used (link_to n i)
+within_sent n is i = (is.links.links.links i).kept
+
+-- what is kept for the mark of an image
+pub took : (old new : LoneNode) (mark : ℕ) (counts : Vec Counts)
+    → counts.items ≡ counts_of old.node.core → IsNode old.node.core
+    → IsAnyWholeOf (image_in old) (saved_whole old.node) → mark ≡ (old.mark + 1) % 2 ^ 64
+    → new ≡ record old {
+      counts = Some counts;
+      mark = mark;
+      is_changed = false;
+      log = begun old.logs;
+      is_kept = false;
+    } → Took old new mark
+took old new mark counts counted is read next stays = record {
+  counts = counts;
+  counted = counted;
+  stays = stays;
+  next = next;
+  read = read;
+  logs = subst (LogsFrom (kept_view old.node.core)) (sym stays)
+      (begun_if old.logs old.node.core counts counted (within_sent old.node.core is));
 }

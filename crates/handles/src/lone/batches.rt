@@ -54,6 +54,8 @@ impl LoneNode {
         };
         let counts = counts_of(alloc, self.node.core())?;
         put_batch(events, buffer, needed)?;
+        // (called for its contract: no more counts as saved than was sent)
+        let _summary = self.node.state();
         self.counts = Some(counts);
         self.mark = self.mark.wrapping_add(1);
         self.is_changed = false;

@@ -1,5 +1,5 @@
 //! Makes a node of its image and the batches that its caller stored behind it.
-ghost use Rattle.std.specs.Prelude.{◌≡◌, ◌≢◌, ◌<◌, ◌≤◌, ◌+◌, List, ℕ, None, Some, drop, length, IfErr, IfSome, OnOk};
+ghost use Rattle.std.specs.Prelude.{◌≡◌, ◌≢◌, ◌≤◌, ◌+◌, List, ℕ, drop, length, IfErr, IfOk, IfSome, OnOk};
 ghost use Rattle.std.specs.Option.{option_map};
 ghost use Rattle.disk.specs.Shelf.{recorded};
 ghost use Rattle.node.specs.Keeping.{WholeNode};
@@ -54,10 +54,13 @@ fn stored(alloc: Global, image: &[u8], batches: &[u8]) -> Result<Node, Refusal>
     ensures refused { IfErr result (λ e. e ≢ Refusal.Memory → (e ≡ Refusal.BadImage)
         × ((n : WholeNode) → IsStored image.now batches.now n → ⊥)) }
 {
-    if !LoggedImages::has_log(image) && !batches.is_empty() {
+    let mut node = LoggedImages::from_bytes(alloc, image)?;
+    if batches.len() == 0 {
+        return Ok(node);
+    }
+    if !LoggedImages::has_log(image) {
         return Err(Refusal::BadImage);
     }
-    let mut node = LoggedImages::from_bytes(alloc, image)?;
     redo_all(&mut node, batches)?;
     Ok(node)
 }
@@ -69,32 +72,42 @@ fn redo_all(node: &mut Node, batches: &[u8]) -> Result<(), Refusal>
     ensures refused { IfErr result (λ e. e ≢ Refusal.Memory → (e ≡ Refusal.BadImage)
         × ((last : WholeNode) → LogLeads batches.now node.old last → ⊥)) }
 {
-    let mut at = 0;
-    while at < batches.len() {
-        let Some(batch) = batch_at(batches, at) else {
+    let mut rest = batches;
+    while rest.len() > 0 {
+        let Some(batch) = first_batch(rest) else {
             return Err(Refusal::BadImage);
         };
         LoggedImages::redo(node, batch)?;
-        at = at + HEAD + batch.len();
+        rest = behind(rest, HEAD + batch.len());
     }
     Ok(())
 }
 
-// The batch at an offset, after its length. None if there is no whole one.
-fn batch_at(batches: &[u8], at: usize) -> Option<&[u8]>
-    requires { at ≤ length batches.now }
-    ensures found { option_map (λ b. b.now) result ≡ recorded (drop at batches.now) }
-    ensures within { IfSome result (λ b. at + 8 + length b.now ≤ length batches.now) }
+// What follows the first bytes.
+fn behind(bytes: &[u8], count: usize) -> &[u8]
+    requires { count ≤ length bytes.now }
+    ensures { result.now ≡ drop count bytes.now }
 {
-    let rest = &batches[at..];
-    if rest.len() < HEAD {
+    &bytes[count..]
+}
+
+// The first of these batches, which comes after its length. None if there is no whole one.
+fn first_batch(bytes: &[u8]) -> Option<&[u8]>
+    ensures found { option_map (λ b. b.now) result ≡ recorded bytes.now }
+    ensures within { IfSome result (λ b. 8 + length b.now ≤ length bytes.now) }
+{
+    if bytes.len() < HEAD {
         return None;
     }
     let mut head = [0; HEAD];
-    head.copy_from_slice(&rest[..HEAD]);
+    head.copy_from_slice(&bytes[..HEAD]);
     let len = u64::from_be_bytes(head);
-    if len > GREATEST_IMAGE || rest.len() - HEAD < len as usize {
+    if len > GREATEST_IMAGE {
         return None;
     }
-    Some(&rest[HEAD..HEAD + len as usize])
+    let left = bytes.len() as u64 - HEAD as u64;
+    if left < len {
+        return None;
+    }
+    Some(&bytes[HEAD..HEAD + len as usize])
 }
