@@ -142,10 +142,7 @@ fn opens_to(found: &Result<Option<Vec<u8>>, Refusal>, old: &[u8], new: &[u8]) ->
 }
 
 // The image of the node that a shelf or a journal finds on a disk, unless the disk is blank.
-fn found_on(
-    alloc: Global,
-    left: Result<MemoryDisk, Refusal>,
-) -> Result<Option<Vec<u8>>, Refusal> {
+fn found_on(alloc: Global, left: Result<MemoryDisk, Refusal>) -> Result<Option<Vec<u8>>, Refusal> {
     let mut disk = left?;
     if is_blank(&mut disk) == Ok(true) {
         return Ok(None);

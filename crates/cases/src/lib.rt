@@ -17,8 +17,9 @@ mod parsing;
 mod shelves;
 mod sizes;
 
-pub use case::{CaseError, CaseLine, Subject, number, read, read_lines, saves_at, take_all};
-pub use case::{verb, word};
+pub use case::{
+    CaseError, CaseLine, Subject, number, read, read_lines, saves_at, take_all, verb, word,
+};
 pub use folders::disks_in;
 pub use lent::Lent;
 pub use out::Out;

@@ -11,10 +11,10 @@ use Rattle.cell.proofs.Places.{mapped-from, mapped-there, pushed-at, some_at}
 use Rattle.cell.proofs.Surveying.{same-there}
 
 -- one more element of the second list
-pub beside-next : {X Y : Type 0} {Is : X → Y → Type 0} {xs : List X} {ys zs : List Y} (place : ℕ)
+pub beside-next : {X Y : Type 0} (Is : X → Y → Type 0) (xs : List X) (ys zs : List Y) (place : ℕ)
     (x : X) (y : Y) → AreBeside (λ k. Is) xs ys → length ys ≡ place → slice_get xs place ≡ Some x
     → Is x y → zs ≡ ys ++ y ∷ [] → AreBeside (λ k. Is) xs zs
-beside-next {Is = Is} {xs = xs} {ys = ys} place x y h count there is more = λ k u v at also.
+beside-next Is xs ys zs place x y h count there is more = λ k u v at also.
     ⊎_elim (λ old. h k u v at old)
     (λ last.
     let here : k ≡ place = last.0 ∙ count in
@@ -25,18 +25,18 @@ beside-next {Is = Is} {xs = xs} {ys = ys} place x y h count there is more = λ k
 
 -- by a list between the two
 pub beside-by : {X Y Z : Type 0} {P : X → Y → Type 0} {Q : Y → Z → Type 0} {R : X → Z → Type 0}
-    {xs : List X} (ys : List Y) {zs : List Z} → length ys ≡ length xs
+    (xs : List X) (ys : List Y) (zs : List Z) → length ys ≡ length xs
     → ((x : X) (y : Y) (z : Z) → P x y → Q y z → R x z) → AreBeside (λ k. P) xs ys
     → AreBeside (λ k. Q) ys zs → AreBeside (λ k. R) xs zs
-beside-by {xs = xs} ys count both first second = λ k x z at also.
+beside-by xs ys zs count both first second = λ k x z at also.
     let between = some_at ys k (omega (arith, count, slice_get_within xs k x at)) in
     both x between.0 z (first k x between.0 at between.1) (second k between.0 z between.1 also)
 
 -- of lists of which the second is mapped to the same as another
-pub beside-mapped : {X Y Z C : Type 0} {Is : X → C → Type 0} (f : Y → C) (h : Z → C)
-    {xs : List X} {ys : List Y} {zs : List Z} → map h zs ≡ map f ys
+pub beside-mapped : {X Y Z C : Type 0} (Is : X → C → Type 0) (f : Y → C) (h : Z → C)
+    (xs : List X) (ys : List Y) (zs : List Z) → map h zs ≡ map f ys
     → AreBeside (λ k x y. Is x (f y)) xs ys → AreBeside (λ k x z. Is x (h z)) xs zs
-beside-mapped {Is = Is} f h {xs = xs} {ys = ys} {zs = zs} same beside = λ k x z at also.
+beside-mapped Is f h xs ys zs same beside = λ k x z at also.
     let from = mapped-from f ys k (h z)
     (ap (λ l. slice_get l k) (sym same) ∙ mapped-there h zs k z also) in
     subst (Is x) (sym from.2) (beside k x from.0 at from.1)

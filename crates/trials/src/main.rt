@@ -18,8 +18,9 @@ mod spaces;
 mod turns;
 
 use cases::nodes::shape_of;
-use cases::{CaseError, CaseLine, Out, arenas, disks, files, nodes, read, read_lines};
-use cases::{saves_at, verb};
+use cases::{
+    CaseError, CaseLine, Out, arenas, disks, files, nodes, read, read_lines, saves_at, verb,
+};
 use std::alloc::Global;
 use std::fs::File;
 use std::io;

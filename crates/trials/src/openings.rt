@@ -7,8 +7,9 @@ ghost use Rattle.model.specs.Steps.{is_own};
 
 use crate::spaces::config_of;
 use cases::crashes::{change, put_crashes};
-use cases::{CaseError, CaseLine, Lent, Out, Size, blank_disks, event_of, number, read, saves_at};
-use cases::verb;
+use cases::{
+    CaseError, CaseLine, Lent, Out, Size, blank_disks, event_of, number, read, saves_at, verb,
+};
 use cell::Naming;
 use disk::{Disk, MemoryDisk};
 use ids::{Refusal, Saves};
@@ -110,7 +111,14 @@ impl<R: Threads + Wait> Openings<'_, R> {
         };
         let node = read(node)?;
         let event = event_of(self.alloc, words)?;
-        match close_at_once(self.rt, self.alloc, &mut self.disks, self.saves, node, event) {
+        match close_at_once(
+            self.rt,
+            self.alloc,
+            &mut self.disks,
+            self.saves,
+            node,
+            event,
+        ) {
             Ok(once) => {
                 out.answer(once.answer);
                 out.debug(&once.closed);

@@ -79,7 +79,8 @@ returns-clause-logs g c =
     let logs = subst
     (λ l. AreBeside (λ k place s. logs_in s ≡ logs_at saves place) l c.in_ok-stores.stores.items)
     c.as_slice-3.ensures.value c.in_ok-stores.ensures.logs in
-    beside-by areas (c.in_ok-nodes.ensures.found.places_count ∙ sym many)
+    beside-by old areas c.in_ok-stores.stores.items
+    (c.in_ok-nodes.ensures.found.places_count ∙ sym many)
     (λ d place s. chosen-as saves (seen d) place (logs_in s)) chosen logs
 
 pub returns-clause-read : goal.returns-clause-read

@@ -1,5 +1,7 @@
 use Rattle.std.proofs.Common.{get_or, ◌∙◌, arith, length-set}
 use Rattle.std.proofs.lemmas.Result.{err_from_is_err_and}
+use Rattle.cell.specs.Looking.{logs_at}
+use Rattle.cell.specs.Opened.{IsChosen}
 use Rattle.cell.proofs.Beside.{beside-next}
 use Rattle.cell.proofs.Causes.{why-there}
 use Rattle.cell.proofs.Looking.{looked-at, read-there, unmoved-at}
@@ -55,7 +57,9 @@ loop-number-preserved g c =
           (c.in_ok-keep.ensures.kept, c.in_ok-keep-2.ensures.kept);
       count = length-set c.loop-number.disks c.from.result c.look_at.new.disk
           ∙ c.loop-number.invariant.count;
-      chosen = beside-next c.loop-number.number x c.in_ok-node.area c.loop-number.invariant.chosen
-          c.loop-number.invariant.looked.places_count there c.in_ok-node.ensures.chosen
-          c.in_ok-keep-2.ensures.kept;
+      chosen = beside-next
+          (λ d place. IsChosen c.args.saves (g.D.Disk.seen d) (logs_at c.args.saves place))
+          c.args.disks.now c.loop-number.areas.items _ c.loop-number.number x c.in_ok-node.area
+          c.loop-number.invariant.chosen c.loop-number.invariant.looked.places_count there
+          c.in_ok-node.ensures.chosen c.in_ok-keep-2.ensures.kept;
     }

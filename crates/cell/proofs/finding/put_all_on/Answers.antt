@@ -1,7 +1,8 @@
 use Rattle.std.proofs.Common.{◌≡◌, ℕ, ◌<◌, ◌+◌, ◌∙◌, true, refl, ap, arith, drop, get_or, length, length-append, subst, sym, Some, None, slice_get}
 use Rattle.std.proofs.lemmas.List.{drop-drop}
 use Rattle.std.proofs.lemmas.Option.{slice_get-get_or, slice_get_read}
-use Rattle.replays.specs.Stores.{disk_of, is_ready_in}
+use Rattle.replays.specs.Stores.{disk_of, is_ready_in, logs_in}
+use Rattle.cell.specs.Looking.{logs_at}
 use Rattle.cell.specs.Disks.{OpensToNode}
 use Rattle.cell.proofs.Beside.{beside-next}
 use Rattle.cell.proofs.Causes.{all-read-then, why-failed, why-there}
@@ -53,8 +54,10 @@ loop-number-preserved g c =
     (slice_get-get_or c.args.areas.now c.loop-number.number None
     (omega (arith, inside, many, placed))) in
     record {
-      logs = beside-next c.loop-number.number _ c.in-Ok.store c.loop-number.invariant.logs
-          c.loop-number.invariant.count at c.in-Ok.ensures.logs c.in_ok-keep-in-Ok.ensures.kept;
+      logs = beside-next (λ place s. logs_in s ≡ logs_at c.args.saves place) c.args.areas.now
+          c.loop-number.stores.items _ c.loop-number.number _ c.in-Ok.store
+          c.loop-number.invariant.logs c.loop-number.invariant.count at c.in-Ok.ensures.logs
+          c.in_ok-keep-in-Ok.ensures.kept;
       made = shelf-next (λ n s. (is_ready_in s ≡ true) × OpensToNode n (g.D.Disk.seen (disk_of s))) _ _ _ _ _ _
           c.loop-number.invariant.made c.loop-number.invariant.count stands
           (c.in-Ok.ensures.ready, c.in-Ok.ensures.opens) c.in_ok-keep-in-Ok.ensures.kept;

@@ -7,7 +7,7 @@ use Rattle.node.specs.Keeping.{WholeNode}
 use Rattle.replays.specs.Stores.{logs_in}
 use Rattle.replays.proofs.Stores.{keeps_kept}
 use Rattle.cell.specs.Ages.{AreOfOneAge}
-use Rattle.cell.specs.Opened.{AreBeside, IsNodeOf, IsReadFrom, cores, world_of}
+use Rattle.cell.specs.Opened.{AreBeside, IsChosen, IsNodeOf, IsReadFrom, cores, world_of}
 use Rattle.cell.specs.Reached.{IsReached}
 use Rattle.cell.proofs.Beside.{beside-mapped}
 use Rattle.cell.proofs.Causes.{same-error}
@@ -35,7 +35,8 @@ returns-in-Ok-clause-read g c =
 
 pub returns-in-Ok-clause-logs : goal.returns-in-Ok-clause-logs
 returns-in-Ok-clause-logs g c =
-    beside-mapped logs_in (λ v. v.logs) c.in-Ok.ensures.logs c.in_ok-nodes.ensures.logs
+    beside-mapped (λ d logs. IsChosen c.args.saves (g.D.Disk.seen d) logs) logs_in (λ v. v.logs)
+    c.args.disks.items c.in_ok-nodes.stores.items _ c.in-Ok.ensures.logs c.in_ok-nodes.ensures.logs
 
 pub returns-in-Ok-clause-shaped : goal.returns-in-Ok-clause-shaped
 returns-in-Ok-clause-shaped g c =
