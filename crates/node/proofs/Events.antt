@@ -6,12 +6,11 @@ use Rattle.ids.specs.declared.refusal.Refusal.{Refusal}
 use Rattle.ids.specs.declared.refusal.Refusal.TheVariants.{LinkSpent, Memory}
 use Rattle.msg.specs.declared.body.Message.{Message}
 use Rattle.model.specs.declared.event.Answer.{Answer}
-use Rattle.model.specs.Checks.{guarded, AllPass, IsFirstRefusal, IsOkOrSpent, IsReplaced}
+use Rattle.model.specs.Checks.{guarded, IsFirstRefusal, IsOkOrSpent}
 use Rattle.model.specs.Effects.{Effect, Work, answers}
 use Rattle.model.specs.State.{Heap, Phases, Ring, LocalState}
 use Rattle.model.specs.Steps.{checked, fits}
 use Rattle.model.specs.View.{NodeView, Performed, append_to, used, view_after, view_done}
-use Rattle.model.proofs.Checks.{guarded-passed}
 use Rattle.link.specs.Links.{LinksView}
 use Rattle.node.specs.Errands.{IsRun, Runs}
 use Rattle.node.specs.Invariant.{links_of}
@@ -79,79 +78,40 @@ module _ (n : NodeView) (h : Heap) (asked : List Ref) (ring : Ring) (l : LinksVi
 abbrev pub okay : NodeView → Answer → Result (NodeView × Answer) Refusal
 okay m a = Ok (m, a)
 
-module _ (n : NodeView) (ts : List (Bool × Refusal)) (x : Effect) where
-  pub past_tests : AllPass ts → judged_view n ts x ≡ judged_view n [] x
-  past_tests all =
-      ap (view_after n n.links)
-      (guarded-passed ts ((fits (map used n.links) x.sends, LinkSpent) ∷ []) x all)
-
-  pub answered : AllPass ts → fits (map used n.links) x.sends ≡ true
-      → judged_view n ts x ≡ Ok (after_step n x.local x.sends, x.answer)
-  answered all fit = past_tests all ∙ rw fit refl
-
-  spent : AllPass ts → fits (map used n.links) x.sends ≡ false → judged_view n ts x ≡ Err LinkSpent
-  spent all none = past_tests all ∙ rw none refl
-
-  -- one of the event's own tests fails
-  pub test_refused : {A : Type 0} (shading : Bool) (y : A) (e : Refusal) → guarded ts y ≡ Err e
-      → e ≢ Memory → IsFirstRefusal shading e (judged_view n ts x)
-  test_refused shading y e h never = (
-    λ other. ap (view_after n n.links)
-        (guarded-err ts ((fits (map used n.links) x.sends, LinkSpent) ∷ []) y x e h),
-    λ memory. absurd (never memory),
-  )
-
-  -- a message could not be appended, and the event shades
-  pub shading_refused : (e : Refusal) → AllPass ts
-      → (e ≢ Memory → (e ≡ LinkSpent) × (fits (map used n.links) x.sends ≡ false))
-      → IsFirstRefusal true e (judged_view n ts x)
-  shading_refused e all h = (
-    λ other. spent all (h other).1
-        ∙ ap (λ (z : Refusal). Err z) (sym (h other).0),
-    λ memory. subst (IsReplaced true) (sym (past_tests all))
-        (either (fits (map used n.links) x.sends)),
-  )
-    where
-      either : (b : Bool) → IsOkOrSpent (view_after n n.links (guarded ((b, LinkSpent) ∷ []) x))
-      either true = tt
-      either false = refl
-
-  -- the same for an event that doesn't shade, which can run out of memory only after all tests
-  pub sending_refused : (e : Refusal) → AllPass ts
-      → (e ≢ Memory → (e ≡ LinkSpent) × (fits (map used n.links) x.sends ≡ false))
-      → (e ≡ Memory → fits (map used n.links) x.sends ≡ true)
-      → IsFirstRefusal false e (judged_view n ts x)
-  sending_refused e all h last = (
-    λ other. spent all (h other).1
-        ∙ ap (λ (z : Refusal). Err z) (sym (h other).0),
-    λ memory. subst (IsReplaced false) (sym (answered all (last memory))) refl,
-  )
+-- one of an event's own tests fails
+pub test_refused : {A : Type 0} (n : NodeView) (ts : List (Bool × Refusal)) (x : Effect) (y : A)
+    (e : Refusal) → spares ts ≡ true → guarded ts y ≡ Err e
+    → IsFirstRefusal false e (judged_view n ts x)
+test_refused n ts x y e safe h = (
+  λ other. ap (view_after n n.links)
+      (guarded-err ts ((fits (map used n.links) x.sends, LinkSpent) ∷ []) y x e h),
+  λ memory. absurd (spared ts y e safe h memory),
+)
 
 -- ---- an event that shades: the effect of its errand, and its answer
 
-module _ {n new : NodeView} (ts : List (Bool × Refusal)) {x : Effect} {w : Work} {a : Answer}
-    (passed : AllPass ts) (is : x ≡ answers w a) where
-  pub shaded : IsRun w n new → Performed true (Ok a) n new (judged_view n ts x)
+module _ {n new : NodeView} {x : Effect} {w : Work} {a : Answer} (is : x ≡ answers w a) where
+  pub shaded : IsRun w n new → Performed true (Ok a) n new (view_done n x)
   shaded run =
-      subst (λ (z : Effect). Performed true (Ok a) n new (judged_view n ts z)) (sym is)
+      subst (λ (z : Effect). Performed true (Ok a) n new (view_done n z)) (sym is)
       (record {
-        performs = answered n ts (answers w a) passed run.fits
-            ∙ ap (λ (m : NodeView). okay m a) (sym run.now);
+        performs = rw run.fits (ap (λ (m : NodeView). okay m a) (sym run.now));
         unchanged = tt;
       })
 
   pub shaded-refused : {e : Refusal} → Runs (Err e) w n new
-      → Performed true (Err e) n new (judged_view n ts x)
+      → Performed true (Err e) n new (view_done n x)
   shaded-refused {e = e} runs =
-      subst (λ (z : Effect). Performed true (Err e) n new (judged_view n ts z)) (sym is)
+      subst (λ (z : Effect). Performed true (Err e) n new (view_done n z)) (sym is)
       (record {
-        performs = shading_refused n ts (answers w a) e passed runs.refused;
+        performs = (
+          λ other. let spent = runs.refused other in rw (spent.1, spent.0) refl,
+          λ memory. either (fits (map used n.links) w.sends),
+        );
         unchanged = runs.unchanged;
       })
-
--- one of its own tests fails
-pub shading-tested : {A : Type 0} (n : NodeView) (ts : List (Bool × Refusal)) (x : Effect) (y : A)
-    (e : Refusal) → spares ts ≡ true → guarded ts y ≡ Err e
-    → Performed true (Err e) n n (judged_view n ts x)
-shading-tested n ts x y e safe h =
-    record { performs = test_refused n ts x true y e h (spared ts y e safe h); unchanged = refl }
+    where
+      either : (b : Bool)
+          → IsOkOrSpent (view_after n n.links (guarded ((b, LinkSpent) ∷ []) (answers w a)))
+      either true = tt
+      either false = refl

@@ -13,6 +13,7 @@ use Rattle.model.specs.declared.event.Answer.TheVariants as answer
 use Rattle.model.specs.State.{got_from}
 use Rattle.model.specs.Steps.{is_addressed, is_memory_free, is_shading}
 use Rattle.model.specs.View.{NodeView, Performed, view_act}
+use Rattle.model.proofs.Shown.{act-shown}
 use Rattle.model.proofs.Leaving.{Turned, again, ahead, due, got_after, act-got, act-leaves, data-turned}
 use Rattle.model.proofs.Lookups.{at_set_if, both_set_if, get_or-replicate_any}
 use Rattle.link.specs.Early.{no_early, shifted, emptied}
@@ -252,3 +253,5 @@ other-handled n m es (event.Data d) r h waits comes p free = absurd (comes d ref
 other-handled n m es (event.Next from) r h waits comes p free = absurd (waits from refl)
 other-handled n m es e r h waits comes p free =
     record { before = h; performed = p; memory_free = free; early = refl }
+
+pub ruleset handled = (handled-kept, handled-turn, other-handled, act-shown, act-leaves)

@@ -76,12 +76,12 @@ module _ (n : NodeView) (from stamp : ℕ) (b : Body) where
   pub taken-performed : {mid new : NodeView} → IsRun (followed from stamp b n.local) n mid
       → new ≡ record mid { local = counts mid.local }
       → Performed true (Ok answer.Received) n new (view_taken n from stamp b)
-  taken-performed run step = shaded [] tt taken-is (run-then counts run step)
+  taken-performed run step = shaded taken-is (run-then counts run step)
 
   pub taken-refused : {e : Refusal} {new : NodeView}
       → Runs (Err e) (followed from stamp b n.local) n new
       → Performed true (Err e) n new (view_taken n from stamp b)
-  taken-refused runs = shaded-refused [] tt taken-is (runs-refused refl runs)
+  taken-refused runs = shaded-refused taken-is (runs-refused refl runs)
 
 -- ---- the tests
 

@@ -6,7 +6,7 @@ use Rattle.model.specs.Checks.{guarded, IsFirstRefusal}
 use Rattle.model.specs.State.{register_at}
 use Rattle.model.specs.Heaps.{heap_store, load_tests, named, place_loaded, store_tests, with_place}
 use Rattle.model.specs.View.{NodeView, Performed, view_act, used}
-use Rattle.node.proofs.Events.{shading-tested, spared, test_refused}
+use Rattle.node.proofs.Events.{test_refused}
 use Rattle.model.specs.Steps.{made}
 
 module _ (n : NodeView) (object place register : ℕ) (e : Refusal) where
@@ -17,6 +17,4 @@ module _ (n : NodeView) (object place register : ℕ) (e : Refusal) where
       let p = n.local in
       let ts = store_tests p.own p.heap object place register in
       let new = with_place p.heap (named p.heap object) place (register_at p.heap register) in
-      test_refused n ts (made p (map used n.links) (event.Store object place register))
-      false new e h
-      (spared ts new e refl h)
+      test_refused n ts (made p (map used n.links) (event.Store object place register)) new e refl h

@@ -1,9 +1,10 @@
 //! A node together with its early messages. These are kept apart from what is saved, and are in no
 //! state. So each clause about the core is about the event that reaches the core.
-ghost use Rattle.std.specs.Prelude.{◌≡◌, ◌≢◌, ◌<◌, ◌≤◌, IsTrue, Ok, Some, IfOk, IfErr, OnErr};
+ghost use Rattle.std.specs.Prelude.{◌≡◌, ◌≢◌, ℕ, ◌<◌, ◌≤◌, IsTrue, Ok, Some, IfOk, IfErr, OnErr};
 ghost use Rattle.std.specs.Option.{option_map};
 ghost use Rattle.ids.specs.declared.refusal.Refusal.TheVariants.{Memory, NoNode};
 ghost use Rattle.msg.specs.Frames.{plain};
+ghost use Rattle.msg.specs.declared.frame.Data.{Data};
 ghost use Rattle.model.specs.State.{NodeState};
 ghost use Rattle.model.specs.Steps.{act, is_memory_free, is_shading};
 ghost use Rattle.model.specs.View.{Shows, Follows, Performs, Leaves, view_act};
@@ -103,6 +104,7 @@ impl Node {
     /// that waits, as if it arrived now, and fails with `NothingToDo` if none does. If that message
     /// is refused, it has left its place, unless memory ran out.
     #[inline(always)]
+    #[tactic(auto, using(crate::proofs::Held::handled))]
     pub fn act(&mut self, event: Event) -> Result<Answer, Refusal>
         ensures performs { Performs (is_shading (met self.old.early event)) result self.new.core
             (view_act self.old.core (met self.old.early event)) }
@@ -119,15 +121,8 @@ impl Node {
             → IfOk result (λ a. a ≡ answer.Received) }
         ensures kept { AreKeptIn self.new }
     {
-        self.handle(event)
-    }
-
-    // (Separate variables for what the two calls write, so that the answers of all other events
-    // need not go through memory.)
-    #[inline(always)]
-    fn handle(&mut self, event: Event) -> Result<Answer, Refusal>
-        ensures { Handled self.old self.new event result }
-    {
+        // (Separate variables for what the two calls write, so that the answers of all other
+        // events need not go through memory.)
         match event {
             Event::Data(frame) => {
                 let taken = self.take(frame);
@@ -137,8 +132,18 @@ impl Node {
                 let taken = self.next(from);
                 taken
             }
-            _ => self.core.perform(event),
+            _ => self.handle(event),
         }
+    }
+
+    /// Performs an event to which early messages mean nothing.
+    #[inline(always)]
+    fn handle(&mut self, other: Event) -> Result<Answer, Refusal>
+        requires waits { (from : ℕ) → other ≢ event.Next from }
+        requires comes { (frame : Data) → other ≢ event.Data frame }
+        ensures { Handled self.old self.new other result }
+    {
+        self.core.perform(other)
     }
 
     #[inline(never)]

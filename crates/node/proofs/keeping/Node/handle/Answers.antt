@@ -3,7 +3,7 @@ use Rattle.node.proofs.keeping.Node.handle.Goals as goal
 
 pub invariant_of-self : goal.invariant_of-self
 invariant_of-self c =
-    handled-kept _ _ c.args.event c.perform.result
-    (other-handled c.self.inside.core c.perform.new.self c.self.inside.early.items c.args.event
-    c.perform.result c.self.invariant c.in_default.not-Next c.in_default.not-Data
+    handled-kept _ _ c.args.other c.perform.result
+    (other-handled c.self.inside.core c.perform.new.self c.self.inside.early.items c.args.other
+    c.perform.result c.self.invariant c.requires.waits c.requires.comes
     c.perform.ensures.performed c.perform.ensures.memory_free)

@@ -1,4 +1,4 @@
-use Rattle.std.proofs.Common.{◌<◌, ◌≤◌, List, length, ap, ◌∙◌, Option, subst, sym, arith, le_refl}
+use Rattle.std.proofs.Common.{◌<◌, List, length, ap, ◌∙◌, Option, subst, sym, arith}
 use Rattle.ids.specs.Limits.{Shaped}
 use Rattle.ids.specs.declared.names.Ref.{Ref}
 use Rattle.model.specs.References.{IfAny, IsWithin}

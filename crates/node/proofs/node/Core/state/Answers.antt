@@ -1,6 +1,5 @@
-use Rattle.std.proofs.Common.{refl, subst}
+use Rattle.std.proofs.Common.{subst}
 use Rattle.heap.specs.Heap.{IsSlotted}
-use Rattle.link.specs.Links.{kept_links}
 use Rattle.link.proofs.EveryLink.{links-kept}
 use Rattle.model.specs.View.{NodeView, kept_view}
 use Rattle.node.specs.Inside.{view_of}
