@@ -116,6 +116,30 @@ class Nodes(unittest.TestCase):
         with Node.from_image(image.data) as again:
             self.assertEqual(again.link(1), Link(1, 1, 0, 0, 0))
 
+    def test_batches_lead_on_from_an_image(self) -> None:
+        zero = self.zero
+        self.assertRaises(errors.NoLog, zero.batch)
+        zero.log()
+        image = zero.image()
+        self.assertRaises(errors.NoLog, zero.batch_size)
+        zero.kept(image.mark)
+        zero.alloc(0, 1)
+        zero.give(1, 7, 0)
+        first = zero.batch()
+        zero.set_word(0, 5)
+        zero.kept(first.mark)
+        second = zero.batch()
+        self.assertEqual(second.data, bytes([0] * 7 + [11, 8, 0, 0] + [0] * 7 + [5]))
+        zero.kept(second.mark)
+        with Node.from_batches(image.data, first.data + second.data) as again:
+            self.assertEqual((again.word(0), again.link(1)), (5, Link(1, 1, 0, 0, 0)))
+            self.assertEqual(again.batch().data, bytes(8))
+        self.assertRaises(errors.BadImage, Node.from_batches, image.data, second.data[:-1])
+        self.assertRaises(errors.BadImage, Node.from_image, image.data)
+        zero.log(False)
+        with Node.from_image(zero.image().data) as again:
+            self.assertEqual(again.word(0), 5)
+
     def test_a_release_needs_no_image(self) -> None:
         self.zero.give(1, 1, 0)
         self.assertEqual(self.zero.frames(1), [])

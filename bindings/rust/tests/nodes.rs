@@ -256,6 +256,51 @@ fn kept_releases_what_the_image_holds() -> Result<()> {
 }
 
 #[test]
+fn batches_lead_on_from_an_image() -> Result<()> {
+    let (zero, one) = pair()?;
+    assert_eq!(zero.batch(), Err(Refusal::NoLog));
+    zero.log(true)?;
+    let image = zero.image()?;
+    assert_eq!(zero.batch_size(), Err(Refusal::NoLog));
+    zero.kept(image.mark)?;
+    zero.alloc(0, 1)?;
+    zero.give(1, 7, 0)?;
+    let mut batches = Vec::new();
+    let batch = zero.batch()?;
+    // What happens in between is in the next batch.
+    zero.set_word(0, 5)?;
+    zero.kept(batch.mark)?;
+    assert!(zero.unsaved()?);
+    batches.extend_from_slice(&batch.bytes);
+    for frame in zero.frames(1, 0)? {
+        assert_eq!(one.take(&frame.bytes)?, Taken::Received);
+    }
+    let batch = zero.batch()?;
+    assert_eq!(
+        batch.bytes,
+        [&[0, 0, 0, 0, 0, 0, 0, 11, 8, 0, 0][..], &[0; 7], &[5]].concat()
+    );
+    assert_eq!(zero.batch(), Err(Refusal::NoLog));
+    zero.kept(batch.mark)?;
+    assert_eq!(zero.kept(batch.mark - 1), Err(Refusal::WrongMark));
+    batches.extend_from_slice(&batch.bytes);
+
+    let again = Node::from_batches(&image.bytes, &batches, 0)?;
+    assert_eq!((again.word(0)?, again.link(1)?.released), (5, 1));
+    assert_eq!(again.batch()?.bytes, [0; 8]);
+    let refused = |batches| Node::from_batches(&image.bytes, batches, 0).err();
+    assert_eq!(refused(&batches[1..]), Some(Refusal::BadImage));
+    assert_eq!(
+        Node::from_image(&image.bytes, 0).err(),
+        Some(Refusal::BadImage)
+    );
+    zero.log(false)?;
+    let image = zero.image()?;
+    assert_eq!(Node::from_image(&image.bytes, 0)?.word(0)?, 5);
+    Ok(())
+}
+
+#[test]
 fn a_release_needs_no_image() -> Result<()> {
     let (zero, one) = pair()?;
     zero.give(1, 1, 0)?;

@@ -50,12 +50,16 @@ image_by false n = image_of n
 abbrev pub image_in : LoneNode → List ℕ
 image_in n = image_by n.logs n.node.core
 
--- the length of the image, or the reason why it has no length
-abbrev pub Sized : List ℕ → Result ℕ Fault → Type 0
-Sized image (Ok size) = size ≡ length image
-Sized image (Err (fault.Refused ImageTooLarge)) = GREATEST_IMAGE < length image
-Sized image (Err (fault.Refused Memory)) = length image ≤ GREATEST_IMAGE
-Sized image (Err e) = ⊥
+-- the length of an image, or the reason why it has no length
+abbrev pub SizedAs : List ℕ → Result ℕ Fault → Type 0
+SizedAs image (Ok size) = size ≡ length image
+SizedAs image (Err (fault.Refused ImageTooLarge)) = GREATEST_IMAGE < length image
+SizedAs image (Err (fault.Refused Memory)) = length image ≤ GREATEST_IMAGE
+SizedAs image (Err e) = ⊥
+
+-- the same of the image of a node without a log
+abbrev pub Sized : NodeView → Result ℕ Fault → Type 0
+Sized n = SizedAs (image_of n)
 
 -- What is kept for the mark of an image. The image is read as the node, as it is once it is saved,
 -- and a log begins, if the node is to keep one.
@@ -80,7 +84,8 @@ Imaged old new (Ok mark) held now before needed =
 Imaged old new (Err fault.ShortBuffer) held now before needed =
     (new ≡ old) × Wrote (image_in old) (Err fault.ShortBuffer) held now needed
 Imaged old new (Err (fault.Refused e)) held now before needed =
-    (new ≡ old) × Sized (image_in old) (Err (fault.Refused e)) × (now ≡ held) × (needed ≡ before)
+    (new ≡ old) × SizedAs (image_in old) (Err (fault.Refused e)) × (now ≡ held)
+    × (needed ≡ before)
 Imaged old new (Err e) held now before needed = ⊥
 
 -- What the last image or batch holds counts as saved, if this is its mark.
@@ -119,7 +124,7 @@ Logs on old new r = (new ≡ logging on old) × (r ≡ Ok tt)
 -- ---- The same for what a handle holds
 
 abbrev pub SizedSame : LoneNode → LoneNode → Result ℕ Fault → Type 0
-SizedSame old new r = (new ≡ old) × Sized (image_in old) r
+SizedSame old new r = (new ≡ old) × SizedAs (image_in old) r
 
 -- bytes of what a handle holds are written
 abbrev pub HandleWrites : (LoneNode → LoneNode → Result ℕ Fault → List ℕ → List ℕ → ℕ → ℕ → Type 0)

@@ -5,7 +5,7 @@ ghost use Rattle.ids.specs.declared.refusal.Refusal.TheVariants.{ImageTooLarge, 
 ghost use Rattle.disk.specs.declared.persist.TheConstants.{HEAD};
 ghost use Rattle.image.specs.Logged.{IsAnyWholeOf};
 ghost use Rattle.image.specs.Wholes.{saved_whole};
-ghost use Rattle.handles.specs.Images.{Imaged, Kept, Sized, counts_of, image_in, keeps, released};
+ghost use Rattle.handles.specs.Images.{Imaged, Kept, SizedAs, counts_of, image_in, keeps, released};
 
 use super::LoneNode;
 use disk::{HEAD, Persist};
@@ -70,7 +70,7 @@ impl LoneNode {
 
     /// The number of bytes of the node's image. Fails with `ImageTooLarge`, and with `Memory`.
     pub fn image_size(&self, alloc: Global) -> Result<usize, Fault>
-        ensures { Sized (image_in self.now) result }
+        ensures { SizedAs (image_in self.now) result }
     {
         let bytes = self.image_behind(alloc)?;
         Ok(bytes.len() - HEAD)

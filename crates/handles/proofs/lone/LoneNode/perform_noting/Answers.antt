@@ -15,22 +15,22 @@ returns-then-is_counted c =
     let counts : is_counted c.in_ok-answer.answer ≡ true =
     sym c.is_counted.ensures ∙ c.if-is_counted.true in
     record {
-    acts = record {
-      performs = c.in_ok-answer.ensures.performs;
-      states = c.in_ok-answer.ensures.states;
-      unchanged = c.in_ok-answer.ensures.unchanged;
-      leaves = c.in_ok-answer.ensures.leaves;
-      memory_free = c.in_ok-answer.ensures.memory_free;
-      early = c.in_ok-answer.ensures.early;
-      turn = c.in_ok-answer.ensures.turn;
-    };
-    stays = after_counted old new c.note-lost.new.self (is_counted c.in_ok-answer.answer) counts;
-    logs = λ first.
-        if_kept old.logs old.log c.note-lost.new.self
-        (led_noted first old.node.core new.core old.counts c.meant-meant.result
-        c.in_ok-answer.answer old.log c.note-lost.new.self
-        (ap (view_act old.node.core) c.meant-meant.ensures ∙ acts)
-        (counted_now c.in_ok-answer.answer counts) c.note-lost.ensures.noted);
+      acts = record {
+        performs = c.in_ok-answer.ensures.performs;
+        states = c.in_ok-answer.ensures.states;
+        unchanged = c.in_ok-answer.ensures.unchanged;
+        leaves = c.in_ok-answer.ensures.leaves;
+        memory_free = c.in_ok-answer.ensures.memory_free;
+        early = c.in_ok-answer.ensures.early;
+        turn = c.in_ok-answer.ensures.turn;
+      };
+      stays = after_counted old new c.note-lost.new.self (is_counted c.in_ok-answer.answer) counts;
+      logs = λ first.
+          if_kept old.logs old.log c.note-lost.new.self
+          (led_noted first old.node.core new.core old.counts c.meant-meant.result
+          c.in_ok-answer.answer old.log c.note-lost.new.self
+          (ap (view_act old.node.core) c.meant-meant.ensures ∙ acts)
+          (counted_now c.in_ok-answer.answer counts) c.note-lost.ensures.noted);
     }
 
 pub returns-else-is_counted : goal.returns-else-is_counted
@@ -44,16 +44,16 @@ returns-else-is_counted c =
     quiet-same old.node.core new.core (met old.node.early c.args.event) c.in_ok-answer.answer acts
     (uncounted_quiet c.in_ok-answer.answer counts) in
     record {
-    acts = record {
-      performs = c.in_ok-answer.ensures.performs;
-      states = c.in_ok-answer.ensures.states;
-      unchanged = c.in_ok-answer.ensures.unchanged;
-      leaves = c.in_ok-answer.ensures.leaves;
-      memory_free = c.in_ok-answer.ensures.memory_free;
-      early = c.in_ok-answer.ensures.early;
-      turn = c.in_ok-answer.ensures.turn;
-    };
-    stays = after_uncounted old new (is_counted c.in_ok-answer.answer) counts;
-    logs = λ first led bytes is.
-        subst (λ n. Led bytes first n old.counts) (sym same) (led bytes is);
+      acts = record {
+        performs = c.in_ok-answer.ensures.performs;
+        states = c.in_ok-answer.ensures.states;
+        unchanged = c.in_ok-answer.ensures.unchanged;
+        leaves = c.in_ok-answer.ensures.leaves;
+        memory_free = c.in_ok-answer.ensures.memory_free;
+        early = c.in_ok-answer.ensures.early;
+        turn = c.in_ok-answer.ensures.turn;
+      };
+      stays = after_uncounted old new (is_counted c.in_ok-answer.answer) counts;
+      logs = λ first led bytes is.
+          subst (λ n. Led bytes first n old.counts) (sym same) (led bytes is);
     }
