@@ -12,7 +12,7 @@ use Rattle.node.specs.Keeping.{WholeNode, alone}
 use Rattle.image.specs.Nodes.{IsImageOf}
 use Rattle.image.specs.Wholes.{IsWholeOf}
 use Rattle.disk.specs.Areas.{Areas}
-use Rattle.disk.specs.Memory.{held_by}
+use Rattle.disk.specs.Memory.{blank, held_by}
 use Rattle.disk.specs.Shelf.{record_of, recorded}
 use Rattle.disk.specs.declared.memory.MemoryDisk.{MemoryDisk}
 use Rattle.disk.proofs.Records.{recorded_holds}
