@@ -1,4 +1,7 @@
 -- Tests of all elements of a list, and of elements that occur once, in other words.
+use Rattle.std.proofs.Math.ListN.{get_or-map}
+use Rattle.std.proofs.lemmas.List.{length-map}
+use Rattle.std.proofs.lemmas.List.Folds.{list_all_at, list_all_more, list_all-map}
 use Rattle.std.proofs.Common.{◌≡◌, ◌≢◌, ℕ, zero, suc, ◌<◌, Bool, true, false, eqb, List, [], ◌∷◌}
 use Rattle.std.proofs.Common.{length, take, get_or, refl, ◌∙◌, arith}
 use Rattle.std.specs.Prelude.{◌↔◌}
@@ -110,3 +113,5 @@ module _ {A : Type 0} (same : A → A → Bool) (flip : (a b : A) → same a b �
         (or_parts (same (get_or xs j d) x) (list_any (same (get_or xs j d)) (take j xs))
         (new (suc j) (omega (arith, inside)) d)).1),
   )
+
+pub ruleset tested = (list_all_more, list_all_at, list_all-map, get_or-map, length-map)

@@ -116,3 +116,5 @@ again-refused n d within there are = true≢false (sym there ∙ are.once n with
 pub was_there : (known new : Bool) → new ≡ not known → new ≡ false → known ≡ true
 was_there true new is old = refl
 was_there false new is old = absurd (true≢false (sym is ∙ old))
+
+pub ruleset refusing = (again-refused, was_there)

@@ -1,14 +1,13 @@
 -- What node 0 concludes from the token, and what it announces then.
-use Rattle.std.proofs.Common.{◌≡◌, ℕ, Bool, true, false, cond, ap, sym, ◌∙◌, refl}
+use Rattle.std.proofs.Common.{◌≡◌, ℕ, Bool, true, false, cond, sym, ◌∙◌, refl}
 use Rattle.msg.specs.declared.body.Body.TheVariants as body
 use Rattle.msg.specs.declared.body.Token.{Token}
 use Rattle.model.specs.Collecting.{is_concluded, new_token, without_token}
-use Rattle.model.specs.Counting.{stamped, to_others}
+use Rattle.model.specs.Counting.{to_others}
 use Rattle.model.specs.State.{Ring, LocalState}
 use Rattle.control.specs.Phases.{with_ended}
 use Rattle.safra.specs.declared.verdict.Verdict.TheVariants.{Ended, Probe}
 use Rattle.safra.specs.Verdicts.{verdict_of}
-use Rattle.link.specs.Links.{for_others}
 use Rattle.link.proofs.Announcing.{to_others-is}
 
 pub concluded : (r : Ring) → verdict_of r ≡ Ended → is_concluded r ≡ true

@@ -1,5 +1,5 @@
 -- What the tests of a message and the limits of its frame imply.
-use Rattle.std.proofs.Common.{◌≡◌, ℕ, ◌+◌, ◌<◌, ◌≤◌, ◌%◌, Bool, true, false, ◌==◌, ◌&&◌, not, Option, Some, None, option_to_list, eq-eqb, refl, ap, sym, ◌∙◌, arith}
+use Rattle.std.proofs.Common.{◌≡◌, ℕ, ◌+◌, ◌<◌, true, false, ◌==◌, ◌&&◌, not, Option, Some, None, option_to_list, eq-eqb, refl, ap, sym, ◌∙◌, arith}
 use Rattle.std.specs.Prelude.{is_none, is_some, nat_lt, nat_le}
 use Rattle.std.specs.List.{AllByRecursion}
 use Rattle.std.proofs.lemmas.Bool.{and_parts, cond-true, cond_both, le-leb, lt-ltb, ltb-false, ltb-true, ne_eqb}
@@ -14,7 +14,7 @@ use Rattle.msg.specs.declared.body.Body.TheVariants as body
 use Rattle.model.specs.State.{LocalState, Phases, got_from}
 use Rattle.model.specs.Effects.{Work, at_rest}
 use Rattle.model.specs.Shading.{filled, is_calm, join, joined, roots, stays_calm}
-use Rattle.model.specs.Steps.{is_addressed, is_marking, is_within, are_within, mentioned, may_reach, may_follow, may_settle, may_take}
+use Rattle.model.specs.Steps.{is_addressed, is_marking, is_within, are_within, mentioned, may_reach, may_take}
 use Rattle.model.specs.References.{IsWithin}
 use Rattle.model.proofs.Joining.{join-calm, join-phases, join-token}
 use Rattle.control.specs.Phases.{IsPhases}

@@ -1,11 +1,11 @@
 -- If the heap refuses an event, so does its node.
-use Rattle.std.proofs.Common.{◌≡◌, ℕ, true, false, Err, refl, map}
+use Rattle.std.proofs.Common.{◌≡◌, ℕ, false, Err, refl, map}
 use Rattle.ids.specs.declared.refusal.Refusal.{Refusal}
 use Rattle.model.specs.declared.event.Event.TheVariants as event
-use Rattle.model.specs.Checks.{guarded, IsFirstRefusal}
+use Rattle.model.specs.Checks.{IsFirstRefusal}
 use Rattle.model.specs.State.{register_at}
-use Rattle.model.specs.Heaps.{heap_store, load_tests, named, place_loaded, store_tests, with_place}
-use Rattle.model.specs.View.{NodeView, Performed, view_act, used}
+use Rattle.model.specs.Heaps.{heap_store, named, store_tests, with_place}
+use Rattle.model.specs.View.{NodeView, view_act, used}
 use Rattle.node.proofs.Events.{test_refused}
 use Rattle.model.specs.Steps.{made}
 

@@ -1,12 +1,10 @@
 -- Messages that are sent one after the other: whether all of them get numbers.
-use Rattle.std.proofs.Common.{◌≡◌, sym, ℕ, ◌-◌, true, false, List, [], ◌∷◌, ◌++◌, length, map, ap, ◌∙◌, subst, refl}
-use Rattle.msg.specs.declared.body.Body.{Body}
+use Rattle.std.proofs.Common.{◌≡◌, ℕ, ◌-◌, true, false, List, [], ◌∷◌, ◌++◌, length, map, ap, ◌∙◌, subst, refl}
 use Rattle.msg.specs.declared.body.Body.TheVariants as body
 use Rattle.msg.specs.declared.body.Message.{Message}
 use Rattle.model.specs.Collecting.{new_token}
-use Rattle.model.specs.Counting.{announce, stamped}
 use Rattle.model.specs.Steps.{fits}
-use Rattle.model.specs.View.{NodeView, used}
+use Rattle.model.specs.View.{used}
 use Rattle.model.proofs.Appending.{fits-append}
 use Rattle.link.specs.Links.{LinksView, appended_to, fits_others, fits_to, for_others}
 use Rattle.link.proofs.EveryLink.{retracted_to-appended_to}

@@ -1,31 +1,29 @@
 -- The program's and the collector's events that see to references, each by an errand: Load, Begin
 -- and Scan.
-use Rattle.std.proofs.Common.{◌≡◌, ◌≤◌, ℕ, ◌+◌, ◌-◌, Bool, true, false, List, [], ◌∷◌, ◌++◌, Option, option_to_list, Result, Ok, Err, append-nil, append_assoc, ap, refl, sym, ◌∙◌, subst, arith, le_refl}
+use Rattle.std.proofs.Common.{◌≡◌, ◌≤◌, ℕ, ◌+◌, ◌-◌, true, false, List, [], ◌∷◌, ◌++◌, Option, option_to_list, Result, Ok, Err, append-nil, append_assoc, ap, refl, sym, ◌∙◌, subst, arith, le_refl}
 use Rattle.std.specs.List.{AllByRecursion}
 use Rattle.ids.specs.declared.names.Ref.{Ref}
 use Rattle.std.specs.Prelude.{IfOk}
 use Rattle.ids.specs.declared.refusal.Refusal.{Refusal}
-use Rattle.ids.specs.declared.refusal.Refusal.TheVariants.{NothingToDo}
 use Rattle.msg.specs.declared.body.Body.TheVariants as body
 use Rattle.msg.specs.declared.body.Message.{Message}
 use Rattle.model.specs.declared.event.Answer.TheVariants as answer
-use Rattle.model.specs.declared.event.Event.TheVariants as event
-use Rattle.model.specs.Checks.{guarded, AllPass}
-use Rattle.model.specs.Collecting.{begin_tests, begun, new_token, places_in, probe, scan, scan_tests, scanned, scanned_reference, whitened}
+use Rattle.model.specs.Checks.{guarded}
+use Rattle.model.specs.Collecting.{begun, new_token, places_in, probe, scan, scanned, scanned_reference, whitened}
 use Rattle.model.specs.Counting.{announce, append, stamped}
 use Rattle.model.specs.Effects.{Effect, Work, answers, then}
 use Rattle.model.specs.Heaps.{load_tests, named, place_loaded, with_register}
 use Rattle.model.specs.References.{IfAny, IsWithin}
-use Rattle.model.specs.Shading.{filled, is_calm, join, last_grey, see_to}
+use Rattle.model.specs.Shading.{filled, join, last_grey, see_to}
 use Rattle.model.specs.State.{LocalState, slot_at}
 use Rattle.model.specs.Steps.{with_loaded}
-use Rattle.model.specs.View.{NodeView, Performed, used, view_act}
-use Rattle.model.proofs.Checks.{guarded-ok, guarded-passes}
+use Rattle.model.specs.View.{NodeView}
+use Rattle.model.proofs.Checks.{guarded-ok}
 use Rattle.model.proofs.References.{holds-place_of, holds-places}
 use Rattle.model.proofs.Shading.{see_to-none}
 use Rattle.link.specs.Links.{for_others}
 use Rattle.link.proofs.Announcing.{to_others-is}
-use Rattle.node.specs.Errands.{IsRun, Runs, errand, errand_here, extra_work}
+use Rattle.node.specs.Errands.{errand, errand_here, extra_work}
 use Rattle.node.specs.Invariant.{IsNode}
 use Rattle.node.specs.declared.node.errands.Extra.TheVariants as extra
 use Rattle.node.proofs.Receiving.{filled-one}
@@ -126,3 +124,5 @@ loaded-within n register object place (Ok v) old is =
     old.references)
 
 pub ruleset shading = (begun-errand, scanned-errand, load-errand)
+
+pub ruleset reading = (holds-place_of, loaded-within)

@@ -173,3 +173,5 @@ module _ (n : NodeView) (old : IsNode n) where
 pub sound-heap : {m : Inside} {h : HeapView} → IsSound m → IsNode (with_heap (view_of m) h.heap)
     → h.limit ≡ m.heap.limit → IsSound (record m { heap = h })
 sound-heap was node same = record { node = node; limit = same ∙ was.limit }
+
+pub ruleset allocated = (alloc-answered)

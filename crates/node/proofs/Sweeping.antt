@@ -1,29 +1,15 @@
 -- The next slots are swept.
-use Rattle.std.proofs.Common.{◌≡◌, ◌≢◌, ℕ, zero, suc, ◌+◌, ◌<◌, ◌≤◌, ◌==◌, ◌&&◌, not, Bool, true, false, cond, List, [], ◌∷◌, length, map, Result, Ok, Err, ap, sym, ◌∙◌, subst, refl, arith}
-use Rattle.std.proofs.lemmas.Bool.{cond_both, eq-eqb, lt-ltb, le-ltb, ne_eqb}
-use Rattle.std.proofs.Math.Nat.{min-eq_left, min-eq_right}
+use Rattle.std.proofs.Common.{◌≡◌, ℕ, zero, suc, ◌+◌, ◌<◌, ◌≤◌, List, length, sym, ◌∙◌, subst, refl, arith}
+use Rattle.std.proofs.lemmas.Bool.{cond_both}
 use Rattle.std.proofs.lemmas.List.{length-set}
-use Rattle.ids.specs.declared.refusal.Refusal.{Refusal}
-use Rattle.ids.specs.declared.refusal.Refusal.TheVariants.{LinkSpent, Memory, NothingToDo}
-use Rattle.msg.specs.declared.body.Body.TheVariants as body
-use Rattle.msg.specs.declared.body.Message.{Message}
-use Rattle.model.specs.declared.event.Answer.TheVariants as answer
-use Rattle.model.specs.declared.event.Event.TheVariants as event
-use Rattle.model.specs.declared.event.Answer.{Answer}
-use Rattle.model.specs.Checks.{IsFirstRefusal}
-use Rattle.model.specs.Counting.{stamped}
-use Rattle.model.specs.Effects.{Effect}
-use Rattle.model.specs.State.{Heap, Phases, LocalState, Slot, slot_at}
-use Rattle.model.specs.Collecting.{Sweeping, generation_in, is_garbage, looked_at, sweep_one, sweep_some, sweep_tests, swept_slots, unswept, vacated}
+use Rattle.model.specs.State.{Heap, Phases, Slot, slot_at}
+use Rattle.model.specs.Collecting.{Sweeping, generation_in, is_garbage, sweep_one, sweep_some, vacated}
 use Rattle.model.specs.References.{IsWithin}
-use Rattle.model.specs.Steps.{fits}
-use Rattle.model.specs.View.{NodeView, Performed, used, view_act, view_done}
+use Rattle.model.specs.View.{NodeView}
 use Rattle.model.proofs.References.{holds-sweep_some}
 use Rattle.model.proofs.Stocks.{stocked-swept}
-use Rattle.control.specs.Phases.{IsPhases, advanced, all_swept}
+use Rattle.control.specs.Phases.{IsPhases}
 use Rattle.heap.specs.Heap.{swept}
-use Rattle.node.specs.Cycles.{reports, slots_swept}
-use Rattle.node.specs.Errands.{IsRun}
 use Rattle.node.specs.Invariant.{IsNode}
 use Rattle.node.proofs.Nodes.{moved, node-moved, with_swept}
 

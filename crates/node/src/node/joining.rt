@@ -90,6 +90,7 @@ impl Core {
 
 /// Asks for what the node's program holds, into a new set. Then it does what else of the errand can
 /// fail. All of it or nothing is done.
+#[tactic(auto, using(crate::proofs::Sends::sending))]
 fn send_joining(
     alloc: Global,
     heap: &Heap,

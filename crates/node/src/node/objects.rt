@@ -14,7 +14,7 @@ use model::Answer;
 
 impl Core {
     #[inline(always)]
-    #[tactic(auto, unfolding(model::specs::View::view_act, model::specs::Heaps::heap_alloc))]
+    #[tactic(auto, using(crate::proofs::Sound::allocated), unfolding(model::specs::View::view_act, model::specs::Heaps::heap_alloc))]
     pub(crate) fn allocate(&mut self, register: u16, places: u8) -> Result<Answer, Refusal>
         ensures { Performed false result self.old self.new
             (view_act self.old (event.Alloc register places)) }

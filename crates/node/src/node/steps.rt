@@ -95,6 +95,7 @@ impl Core {
 
     /// What is in a place of an object of this node. `None` if the place is empty, or there is no
     /// such place or object.
+    #[tactic(auto, using(crate::proofs::Shading::reading))]
     pub(super) fn place(&self, object: Ref, place: u8) -> Option<Ref>
         ensures value { result ≡ place_of (object_at self.now.local.heap object) place }
         ensures within { IfAny (IsWithin self.now.local.shape) result }
@@ -104,6 +105,7 @@ impl Core {
 
     /// What the register gets by a Load of this place.
     #[inline(always)]
+    #[tactic(auto, using(crate::proofs::Shading::reading))]
     pub(super) fn loaded(
         &self,
         register: u16,

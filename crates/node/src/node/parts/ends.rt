@@ -32,6 +32,7 @@ pub(super) fn are_at_ends(shape: Shape, own: u8, cycle: u64, links: &[LinkParts]
 }
 
 // Whether a node in this cycle may have sent the messages on every link.
+#[tactic(auto, using(crate::proofs::Listed::tested))]
 fn are_sent(shape: Shape, cycle: u64, links: &[LinkParts]) -> bool
     ensures { result ≡ list_all (are_messages shape cycle) (map link_given links.now) }
 {

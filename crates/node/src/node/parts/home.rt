@@ -115,6 +115,7 @@ fn is_object(shape: Shape, cycle: u64, object: &Object) -> bool
         && are_any_named(shape, places)
 }
 
+#[tactic(auto, using(crate::proofs::Listed::tested))]
 fn are_slots(shape: Shape, cycle: u64, slots: &Slots<Object>) -> bool
     ensures { result ≡ list_all (is_slot shape cycle) (map slot_of slots.now.items) }
 {

@@ -19,6 +19,7 @@ fn is_foreign(shape: Shape, own: u8, reference: Ref) -> bool
 
 /// Makes the set of these references, in their order. It fails with [`Refusal::BadImage`] if one of
 /// them isn't another node's or occurs twice, and with [`Refusal::Memory`] if an allocation fails.
+#[tactic(auto, using(crate::proofs::Lists::refusing))]
 pub(super) fn asked_once(
     alloc: Global,
     shape: Shape,

@@ -1,7 +1,7 @@
 use Rattle.std.proofs.Common.{◌≡◌, ℕ, ◌<◌, Bool, List, map, length, get_or, refl, sym, ap, ◌∙◌, arith}
 use Rattle.std.proofs.Math.ListN.{get_or-map}
 use Rattle.std.proofs.lemmas.List.{length-map}
-use Rattle.std.proofs.lemmas.List.Folds.{list_all_at, list_all_more}
+use Rattle.std.proofs.lemmas.List.Folds.{list_all_more}
 use Rattle.arena.specs.declared.Slot as stored
 use Rattle.arena.specs.declared.Slot.TheVariants as slot
 use Rattle.heap.specs.Heap.{slot_of}
@@ -24,13 +24,3 @@ loop-number-preserved c =
     omega (arith, c.loop-number-test.true, c.len-number-end.ensures, length-map ss slot_of) in
     let is = answered P ss _ n c.slot.ensures c.is_slot.ensures ∙ c.if-not-is_slot.false in
     list_all_more P (map slot_of ss) n Retired within ∙ rw (c.loop-number.invariant, is) refl
-
-pub returns-then-not-is_slot : goal.returns-then-not-is_slot
-returns-then-not-is_slot c =
-    let ss = c.args.slots.now.items in
-    let n = c.loop-number.number in
-    let P = is_slot c.args.shape c.args.cycle in
-    let within : n < length (map slot_of ss) =
-    omega (arith, c.loop-number-test.true, c.len-number-end.ensures, length-map ss slot_of) in
-    sym (list_all_at P (map slot_of ss) n Retired within
-    (answered P ss _ n c.slot.ensures c.is_slot.ensures ∙ c.if-not-is_slot.true))
