@@ -145,13 +145,15 @@ module _ {E : Type 0} where
             ∙ ap (λ (ys : List E). ys ++ x ∷ [])
             (sym (ap (λ (ys : List E). c₀.items ++ ys) (none (flat cs) ends)
             ∙ append-nil c₀.items));
-        packed = (p.0, omega arith, omega (arith, at.is, at.few), (λ more. absurd (omega arith)), p.4);
+        packed = (p.0, omega arith, omega (arith, at.is, at.few),
+            (λ more. absurd (omega arith)), p.4);
       })
   extends (c₀ ∷ cs) p (suc q) at some is x =
       let both : length (c₀.items ++ flat cs) ≡ length c₀.items + length (flat cs) =
       length-append c₀.items (flat cs) in
       let full : length c₀.items ≡ CHUNK = p.3 (omega (arith, p.2)) in
-      let behind : IsAt q _ (length (flat cs)) = record { is = omega (arith, at.is); few = at.few } in
+      let behind : IsAt q _ (length (flat cs)) =
+      record { is = omega (arith, at.is); few = at.few } in
       let rest = extends cs p.4 q behind some is x in
       record {
         room = rest.room;

@@ -20,7 +20,8 @@ module _ {T : Type 0} where
   some_of (Some b) o e is = subst IsSome e refl
 
   pub there : {es : List (Entry T)} {first vacant len limit : ℕ} {e : Entry T}
-      → IsLinked es first vacant len limit → (key : Key) (r : Option (Bor T)) → key.slot < length (map slot_of es) → e ≡ get_or es key.slot e
+      → IsLinked es first vacant len limit → (key : Key) (r : Option (Bor T))
+      → key.slot < length (map slot_of es) → e ≡ get_or es key.slot e
       → option_copied r ≡ value_of (slot_of e) key.generation → is_some r ≡ true
       → IsSome (get (arena_of es first vacant limit) key)
   there {es} {e = e} linked key r within read found is =

@@ -21,7 +21,8 @@ pub number_taken : {old new : Reader} {bytes first rest : List ℕ} (n : ℕ) �
 number_taken {bytes = bytes} n old_is new_is there is_first is_rest =
     let long : ltb (length bytes) n ≡ false = le-ltb _ _ there in
     record {
-      is = rw (old_is, new_is, long, is_first, is_rest, big_from-take 0 n n bytes (omega arith)) refl;
+      is = rw (old_is, new_is, long, is_first, is_rest, big_from-take 0 n n bytes (omega arith))
+          refl;
     }
 
 -- what comes after a value
@@ -69,7 +70,8 @@ module _ {A B : Type 0} where
 
 -- ---- tests
 
-module _ {A : Type 0} {F : Format A} (test : A → Bool) {a b : Reader} {x : A} (took : Reads F a b x) where
+module _ {A : Type 0} {F : Format A} (test : A → Bool) {a b : Reader} {x : A}
+    (took : Reads F a b x) where
   abbrev keep : A × List ℕ → Option (A × List ℕ)
   keep z = if test z.0 then Some z else None
 
@@ -174,7 +176,8 @@ module _ {A : Type 0} (F : Format A) where
         one bytes false is = rw is refl
 
         by : (o : Option (List ℕ))
-            → (o >>= (many F n).read) ≡ (o >>= λ bytes. enough n bytes >>= λ u. each_at F.read n u.1)
+            → (o >>= (many F n).read)
+            ≡ (o >>= λ bytes. enough n bytes >>= λ u. each_at F.read n u.1)
         by None = refl
         by (Some bytes) = one bytes (ltb (length bytes) n) refl
 
@@ -232,7 +235,8 @@ pub ruleset lists = (too_many, none_yet, one_more, all_of, stopped)
 -- ---- the whole
 
 -- what is read, and whether it is the whole
-whole_if : {A : Type 0} (read : codec.Reader A) (bytes : List ℕ) (o : Option A) (q : Option (List ℕ))
+whole_if : {A : Type 0} (read : codec.Reader A) (bytes : List ℕ) (o : Option A)
+    (q : Option (List ℕ))
     → read bytes ≡ (o >>= λ x. with_rest x q) → whole_of q ≡ true → whole_at read bytes ≡ o
 unfolding whole_at
 whole_if read bytes o None e h = absurd cc

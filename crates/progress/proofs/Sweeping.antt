@@ -14,7 +14,7 @@ use Rattle.model.specs.Counting.{stamped}
 use Rattle.model.specs.Shading.{is_open}
 use Rattle.model.specs.Collecting.{swept_slots, sweeps_last, reports_sweep, looked_at}
 use Rattle.model.specs.World.{World, run}
-use Rattle.model.specs.Cuts.{Cut, taken, IsInFlight}
+use Rattle.model.specs.Cuts.{Cut, IsInFlight}
 use Rattle.laws.proofs.Turns.{at_turn}
 use Rattle.laws.proofs.Flights.{load_sent}
 use Rattle.laws.proofs.Inner.{resting-joined}

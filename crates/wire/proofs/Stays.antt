@@ -98,10 +98,11 @@ same-mail n b mail v =
       board = λ a. refl;
     }
 
--- A node's seat still is as the rule says when only its visits have changed, and what it has loaded,
--- shown or learned.
+-- A node's seat is still as the rule says if only its visits have changed, and what it loaded,
+-- showed or learned.
 pub still-node : {opening : World} {log seen : List Step} {old new j number shown : ℕ}
-    {mail : Mail} {v : Known} {all : ℕ → List Visit} {visits : List Visit} → NodeOk opening log old mail j v
+    {mail : Mail} {v : Known} {all : ℕ → List Visit} {visits : List Visit}
+    → NodeOk opening log old mail j v
     → ((m : ℕ) → m < mailboxes opening → by_node v.me (all m) ≡ on_box m visits)
     → (v.me ≡ 0 → new ≡ shown)
     → NodeOk opening log new (record mail { visits = all }) j

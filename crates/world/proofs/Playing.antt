@@ -357,14 +357,15 @@ finishes (Ok k) new plays shape limits steps shown room =
     let w : World = run (new_world shape) steps in
     let c = cycle-can-end shape limits steps room in
     let h : Collects shape.nodes (current_cycle w) k w new =
-    subst (λ (z : ℕ). Collects z (current_cycle w) k w new) (shape-width shape steps shown) (plays w shown) in
+    subst (λ (z : ℕ). Collects z (current_cycle w) k w new) (shape-width shape steps shown)
+    (plays w shown) in
     (few-moves h c c.then, tt)
 finishes (Err e) new plays shape limits steps shown room =
     let w : World = run (new_world shape) steps in
     let c = cycle-can-end shape limits steps room in
     let h : StopsShort shape.nodes (current_cycle w) e w new =
-    subst (λ (z : ℕ). StopsShort z (current_cycle w) e w new) (shape-width shape steps shown) (plays w shown)
-    in
+    subst (λ (z : ℕ). StopsShort z (current_cycle w) e w new) (shape-width shape steps shown)
+    (plays w shown) in
     (tt, code-fails h c (omega (arith, room 0 0, limits.least_nodes)) c.then)
 
 pub collects : {old : SpaceView} (result : Result ℕ Refusal) (new : SpaceView)

@@ -55,7 +55,8 @@ all-go (k ∷ ks) [] shown calls same are oks taken = absurd cc
 all-go (k ∷ ks) (s ∷ ss) {w} {old} shown calls same are oks taken =
     let this : k.step ≡ s = cc in
     let rest : map step_of ks ≡ ss = cc in
-    let met : step_met old.early k.step ≡ s = ap (step_met old.early) this ∙ met-same old.early s are.0
+    let met : step_met old.early k.step ≡ s =
+    ap (step_met old.early) this ∙ met-same old.early s are.0
     in
     let goes : Goes w s k.result k.space =
     one-goes w s k.result k.space

@@ -19,7 +19,8 @@ loop-done-preserved c =
     sym (take-add done (end - done) xs) ∙ ap (λ (n : ℕ). take n xs) further in
     record {
       within = omega (arith, c.min-end.ensures);
-      written = subst (λ (ys : List (Option Ref)). PutsAll F c.args.out.now c.put_few.new.out ys) more
+      written =
+          subst (λ (ys : List (Option Ref)). PutsAll F c.args.out.now c.put_few.new.out ys) more
           (written_also F.spell F.IsWide (take done xs) _ c.loop-done.invariant.written
           c.put_few.ensures);
     }

@@ -14,7 +14,8 @@ pub loop-slot-preserved : goal.loop-slot-preserved
 loop-slot-preserved c =
     let slots = c.args.heap.now.heap.slots in
     let k = c.loop-slot.slot in
-    let within : k < length slots = omega (arith, c.slots-slot-end.ensures, c.loop-slot-test.true) in
+    let within : k < length slots =
+    omega (arith, c.slots-slot-end.ensures, c.loop-slot-test.true) in
     written_more (slot_format Second).spell (slot_format Second).IsWide (map stored_slot slots) k
     (omega (arith, within, length-map slots stored_slot))
     (slot_there slots k _ within c.slot.ensures) c.loop-slot.invariant c.put_slot.ensures

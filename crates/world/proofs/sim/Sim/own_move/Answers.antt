@@ -8,8 +8,10 @@ use Rattle.world.proofs.sim.Sim.own_move.Goals as goal
 pub returns-then-unswept-count-clause-is : goal.returns-then-unswept-count-clause-is
 returns-then-unswept-count-clause-is c = λ w shown.
     let ended = c.ended.ensures ∙ ap (λ (p : Phases). p.ended) c.phases-phases.ensures.value in
-    let cycle = c.cycle.ensures.value ∙ ap (λ (p : Phases). p.cycle) c.phases-phases.ensures.value in
-    let again = c.cycle-2.ensures.value ∙ ap (λ (p : Phases). p.cycle) c.phases-phases.ensures.value in
+    let cycle =
+    c.cycle.ensures.value ∙ ap (λ (p : Phases). p.cycle) c.phases-phases.ensures.value in
+    let again =
+    c.cycle-2.ensures.value ∙ ap (λ (p : Phases). p.cycle) c.phases-phases.ensures.value in
     sweep-shown shown.world
     (shut (local_at c.args.self.now.sites 0) c.ended.result c.cycle.result ended cycle
     c.if-ended-cycle.false)
