@@ -203,14 +203,17 @@ static bool has_room(const host *it, size_t length)
 }
 
 // Takes a batch, with what else has changed; or returns MARKRING_NO_LOG if an image has to be taken.
-// What is saved by batches may become an image at any time, so it has to fit.
+// What is saved by batches may have to become an image at any time, so its size is looked at.
 static int take_batch(host *it)
 {
     size_t batch = 0;
-    if (it->whole_due > 0 || it->size > IMAGE_LIMIT) {
+    if (it->whole_due > 0) {
         return MARKRING_NO_LOG;
     }
     int status = markring_node_batch_size(&it->node, &batch);
+    if (status == MARKRING_OK && it->size > IMAGE_LIMIT) {
+        status = markring_node_image_size(&it->node, &it->size);
+    }
     if (status != MARKRING_OK) {
         return status;
     }

@@ -223,7 +223,7 @@ static void find_entries(slot *found)
     }
 }
 
-// Finds out whether the bytes of a file are a whole slot, and where its entries end.
+// Finds out whether the bytes of a file are a whole slot, and finds the end of its entries.
 static bool is_whole(slot *found)
 {
     store_value *value = &found->value;

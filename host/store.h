@@ -68,7 +68,7 @@ typedef struct store {
     int slots[2];
     int counts;      // the slot that counts, 0 or 1
     uint64_t number; // of the save that counts
-    uint64_t end;    // where the next entry goes, in the slot that counts
+    uint64_t end;    // the offset of the next entry, in the slot that counts
     uint64_t seal;   // the checksum before that
 } store;
 
@@ -105,8 +105,8 @@ store_status store_open(store *it, const store_calls *calls, const char *path, s
 // STORE_FAILED, STORE_UNKNOWN.
 store_status store_save(store *it, store_value *value);
 
-// The next entry behind a value that was read, or NULL. `*at` is where the search goes on, and 0 at
-// first.
+// The next entry behind a value that was read, or NULL. `*at` is 0 for the first entry, and is then
+// moved on.
 const uint8_t *store_next(const store_value *value, size_t *at, size_t *length);
 
 // Closes the folder, which another process may then lock.

@@ -476,7 +476,8 @@ int markring_node_from_image(markring_node *node, const uint8_t *bytes, size_t l
 
 // Begins a log of the node's events, or ends it if `on` is 0. It has the events since the last
 // image or batch, so it is of use from the next image on. If there is one already, to begin it
-// changes nothing. Each event takes 1 to 48 bytes of memory, until the next image or batch.
+// changes nothing. Each event takes 1 to 48 bytes of memory, until the next image or batch, also one
+// that takes no memory by its comment.
 //
 // The log is lost if an allocation for it fails, if it would become longer than 1,048,576 bytes,
 // and by markring_node_release; no event fails because of that. A new one begins at the next image.
@@ -490,9 +491,9 @@ int markring_node_batch_size(markring_node *node, size_t *size);
 
 // Writes the events since the last image or batch, as a batch. `*mark` is its mark; see
 // markring_node_image. With any other status there is no new mark, and the log is as it was.
-// MARKRING_NO_LOG: there is no log or it is lost; or what the last image or batch holds doesn't
-// count as saved; or there was neither since the handle was filled, unless it was filled by
-// markring_node_from_batches and an image of a node with a log. Take an image.
+// MARKRING_NO_LOG: there is no log, or it is lost, or what the last image or batch holds doesn't
+// count as saved. The same if there was neither since the handle was filled, except after
+// markring_node_from_batches of an image of a node with a log. Take an image.
 // MARKRING_SHORT_BUFFER.
 int markring_node_batch(markring_node *node, uint8_t *buffer, size_t length, size_t *needed,
     uint64_t *mark);

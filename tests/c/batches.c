@@ -15,7 +15,7 @@ typedef struct site {
     bytes image, batches, reference;
     // The marks of what is stored and doesn't count as saved yet, or 0.
     uint64_t mark, twin_mark;
-    // Where each batch ends, and the twin's image then.
+    // The end of each batch, and the twin's image then.
     bytes ends, references[256];
     size_t count;
 } site;
@@ -276,7 +276,7 @@ static void step(void)
 
 // ## Damage
 
-// A batch that is cut off is none, and what was stored before it is as it was.
+// A batch that is cut off isn't one, and what was stored before it is as it was.
 static void cut(site *it)
 {
     size_t start = 0;

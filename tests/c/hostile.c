@@ -63,6 +63,9 @@ static void no_node(markring_node *at)
     NONE(markring_node_frames(at, 1, 0, buffer, 512, TO(size_t), TO(size_t) + 1));
     NONE(markring_node_kept(at, 1));
     NONE(markring_node_release(at));
+    NONE(markring_node_log(at, 1));
+    NONE(markring_node_batch_size(at, TO(size_t)));
+    NONE(markring_node_batch(at, buffer, 512, TO(size_t), TO(uint64_t) + 1));
     NONE(markring_node_waiting(at, 1, TO(uint64_t)));
 }
 
@@ -182,6 +185,7 @@ static void sizes(void)
             void *before = node.at;
             IS(MARKRING_IN_USE, markring_node_new(&node, 1, 1, 1, 0, 0));
             IS(MARKRING_IN_USE, markring_node_from_image(&node, clean, 3, 0));
+            IS(MARKRING_IN_USE, markring_node_from_batches(&node, clean, 3, clean, 3, 0));
             HOLDS(node.at == before);
             OK(markring_node_free(&node));
         }
