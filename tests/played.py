@@ -1,5 +1,6 @@
 """What tests/ends and tests/kills share: the disks of a space as docs/DISK.md and docs/FORMATS.md define them, what the
-nodes on them reach, and programs that act at random."""
+nodes on them reach, and programs that act at random. And what tests/run and tests/memory share: cases whose saves write
+events."""
 import random
 import subprocess
 from dataclasses import dataclass, field
@@ -179,6 +180,13 @@ def check_disks(folder: Path, count: int, cycle: int) -> int:
         missing, left = sorted(reached - objects.keys()), sorted(objects.keys() - reached)
         raise Wrong(f"missing: {missing}, left: {left}, in flight: {waiting}, not swept: {late}")
     return len(objects)
+
+
+def with_events(case: str) -> str:
+    """The commands of a case, with cells or spaces whose saves write events."""
+    lines = case.split("\n")
+    made = [len(it.split()) > 1 and it.split()[0] in ("cells", "fresh", "open") for it in lines]
+    return "\n".join(f"{line} events" if makes else line for line, makes in zip(lines, made))
 
 
 def ask(work: Path, lines: list[str], seconds: float) -> list[str]:

@@ -60,7 +60,8 @@ module _ {D : Type 0} (seen : D → Areas) (may_leave : D → Areas → Type 0) 
       → AreLookedAt seen may_leave faults shape (number + 1) old (set new number y) ns bs
   looked-next number old new nodes areas ns bs x y n area h there it more also = record {
     nodes_count = ap length more ∙ length-append nodes (n ∷ []) ∙ ap (λ i. i + 1) h.nodes_count;
-    places_count = ap length also ∙ length-append areas (area ∷ []) ∙ ap (λ i. i + 1) h.places_count;
+    places_count = ap length also ∙ length-append areas (area ∷ [])
+        ∙ ap (λ i. i + 1) h.places_count;
     each = λ k d e m b was is stands at.
         ⊎_elim
         (λ first.
@@ -203,7 +204,8 @@ shelves-found Lies seen may_leave shape disks nodes areas shelves on count h = r
       (let inside = slice_get_within nodes k n stands in
       let d = some_at disks k (let many = on.nodes_count in omega (arith, inside, many)) in
       let area = some_at areas k
-      (let many = on.nodes_count in let also = on.places_count in omega (arith, inside, many, also)) in
+      (let many = on.nodes_count in let also = on.places_count in
+      omega (arith, inside, many, also)) in
       ((on.each k d.0 n area.0 d.1 stands area.1).0, h k s n there stands));
 }
 

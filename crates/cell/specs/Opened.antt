@@ -84,8 +84,8 @@ abbrev pub AreBeside : {X Y : Type 0} → (ℕ → X → Y → Type 0) → List 
 AreBeside {X} {Y} Is xs ys =
     (k : ℕ) (x : X) (y : Y) → slice_get xs k ≡ Some x → slice_get ys k ≡ Some y → Is k x y
 
--- Whether saves add events to a log, on a disk that read as `seen` when it was opened: as the caller
--- chose, except that a disk that has a log keeps it.
+-- Whether saves add events to a log, on a disk that read as `seen` when it was opened: as the
+-- caller chose, except that a disk that has a log keeps it.
 pub record IsChosen (saves : Saves) (seen : Areas) (logs : Bool) : Type 0 where
   pub events : saves ≡ Events → logs ≡ true
   pub images : saves ≡ Images → IsPlain seen → logs ≡ false

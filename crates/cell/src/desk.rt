@@ -71,7 +71,8 @@ impl Desk {
         &self.node
     }
 
-    // The events since the last save or reopening, which lead from the saved node to the current one.
+    // The events since the last save or reopening. They lead from the saved node to the current
+    // one.
     #[inline(always)]
     pub(crate) fn log(&self) -> &Log
         ensures { ∥ IsLogged result.now self.now.saved self.now.node.core ∥₁ }

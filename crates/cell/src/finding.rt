@@ -246,8 +246,8 @@ fn put_all_on<D: Disk + Drop>(
 }
 
 /// The nodes of a space, in order, each in its store: new ones for disks on which nothing was ever
-/// created, else those that the disks hold. A save adds events to a log if the caller chose that, or
-/// if a log follows the image on the disk; otherwise it writes the image.
+/// created, else those that the disks hold. A save adds events to a log if the caller chose that,
+/// or if a log follows the image on the disk; otherwise it writes the image.
 ///
 /// Fails with `Disks` exactly if the number of disks is not the number of nodes; with `Memory` if
 /// an allocation failed. The other errors name the node of the disk that is their cause:

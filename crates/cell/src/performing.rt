@@ -73,7 +73,8 @@ impl Desk {
         ensures given { Given event (met self.old.node.early event)
             (own_step self.old.node.early (known self.old.seat).me event) result
             self.old.node self.new.node (known self.old.seat) (known self.new.seat) }
-        ensures memory_free { IsTrue (is_memory_free self.old.node.core.local (met self.old.node.early event))
+        ensures memory_free { IsTrue (is_memory_free self.old.node.core.local
+            (met self.old.node.early event))
             → IfErr result (λ e. e ≢ Memory) }
         ensures unsaved { self.new.unsaved ≡ unsaved_after result self.old.unsaved }
         ensures same { IsSame self.old.seat self.new.seat }

@@ -192,8 +192,8 @@ fn folder_in(value: Option<&Value>) -> Option<Option<&str>>
     }
 }
 
-// What the string says that a save writes, if there is a value. The outer `None` is for a value that
-// says nothing of the kind.
+// What the string says that a save writes, if there is a value. The outer `None` is for a value
+// that says nothing of the kind.
 fn saves_in(value: Option<&Value>) -> Option<Option<Saves>>
     ensures { result ≡ saves_in (option_map (λ v. view v.now) value.entry) }
 {

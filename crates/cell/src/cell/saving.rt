@@ -55,9 +55,9 @@ impl<D: Disk> Cell<D> {
     /// history.
     ///
     /// Fails with `Closed` exactly if the cell is closed, with `ImageTooLarge` if the node's image
-    /// is written and is longer than an image may be, and with `Memory`; these change nothing. Fails
-    /// with `Disk` if the device failed: this closes the cell, and no event enters. Either way a
-    /// line is added to the trace.
+    /// is written and is longer than an image may be, and with `Memory`; these change nothing.
+    /// Fails with `Disk` if the device failed: this closes the cell, and no event enters. Either
+    /// way a line is added to the trace.
     pub fn save(&mut self, wire: &Wire) -> Result<(), Refusal>
         requires wire { IsSeatOf wire.now self.old.seat }
         ensures done { OnOk result (self.new ≡ record self.old {

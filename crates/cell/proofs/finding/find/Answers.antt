@@ -100,7 +100,8 @@ returns-clause-read g c =
 
 pub returns-in_err-stores-clause-why : goal.returns-in_err-stores-clause-why
 returns-in_err-stores-clause-why g c =
-    let p = err_from_is_err_and c.from_residual-in_err-stores.result c.from_residual-in_err-stores.ensures.1 in
+    let p = err_from_is_err_and c.from_residual-in_err-stores.result
+    c.from_residual-in_err-stores.ensures.1 in
     let old = c.args.disks.now.items in
     let new = c.look_at_all.new.disks in
     let many : length old ≡ c.args.shape.nodes = omega (arith, c.args.disks.now.ok) in
@@ -122,5 +123,6 @@ returns-in_err-stores-clause-why g c =
 
 pub returns-in_err-stores-clause-untouched : goal.returns-in_err-stores-clause-untouched
 returns-in_err-stores-clause-untouched g c =
-    let p = err_from_is_err_and c.from_residual-in_err-stores.result c.from_residual-in_err-stores.ensures.1 in
+    let p = err_from_is_err_and c.from_residual-in_err-stores.result
+    c.from_residual-in_err-stores.ensures.1 in
     rw (p.1, p.2) (λ reading. absurd (c.in_err-stores.ensures.all_read reading))

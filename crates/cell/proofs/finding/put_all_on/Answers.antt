@@ -58,7 +58,8 @@ loop-number-preserved g c =
           c.loop-number.stores.items _ c.loop-number.number _ c.in-Ok.store
           c.loop-number.invariant.logs c.loop-number.invariant.count at c.in-Ok.ensures.logs
           c.in_ok-keep-in-Ok.ensures.kept;
-      made = shelf-next (λ n s. (is_ready_in s ≡ true) × OpensToNode n (g.D.Disk.seen (disk_of s))) _ _ _ _ _ _
+      made = shelf-next
+          (λ n s. (is_ready_in s ≡ true) × OpensToNode n (g.D.Disk.seen (disk_of s))) _ _ _ _ _ _
           c.loop-number.invariant.made c.loop-number.invariant.count stands
           (c.in-Ok.ensures.ready, c.in-Ok.ensures.opens) c.in_ok-keep-in-Ok.ensures.kept;
       count = ap length c.in_ok-keep-in-Ok.ensures.kept
@@ -71,8 +72,8 @@ loop-number-preserved g c =
 
 pub returns-clause-found : goal.returns-clause-found
 returns-clause-found g c =
-    shelves-found (λ n s. (is_ready_in s ≡ true) × OpensToNode n (g.D.Disk.seen (disk_of s))) g.D.Disk.seen
-    g.D.Disk.may_leave c.args.shape c.args.disks.items c.args.nodes.now c.args.areas.now _
+    shelves-found (λ n s. (is_ready_in s ≡ true) × OpensToNode n (g.D.Disk.seen (disk_of s)))
+    g.D.Disk.seen g.D.Disk.may_leave c.args.shape c.args.disks.items c.args.nodes.now c.args.areas.now _
     c.requires.on (omega (arith, c.loop-number.invariant.count)) c.loop-number.invariant.made
 
 pub put_on-requires : goal.put_on-requires

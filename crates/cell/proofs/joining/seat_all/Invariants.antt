@@ -7,8 +7,8 @@ use Rattle.cell.proofs.joining.seat_all.Given as goal
 
 abbrev pub invariant-loop : goal.invariant-loop
 invariant-loop g l = record {
-  ready : AreReady (λ n s. (is_ready_in s ≡ true) × OpensToNode n (g.D.Disk.seen (disk_of s))) l.nodes.items
-      l.stores.items l.seats.items;
+  ready : AreReady (λ n s. (is_ready_in s ≡ true) × OpensToNode n (g.D.Disk.seen (disk_of s)))
+      l.nodes.items l.stores.items l.seats.items;
   left : vec_len l.nodes + l.counter ≡ l.end;
   all : l.end ≡ vec_len l.fn.nodes;
   nodes : map (λ c. c.node) l.cells.items ++ l.nodes.items ≡ l.fn.nodes.items;

@@ -10,3 +10,6 @@ returns-in-Ok-clause-one_age g c =
 
 pub returns-in-Ok-clause-places : goal.returns-in-Ok-clause-places
 returns-in-Ok-clause-places g c = λ k n there. (c.in-Ok.ensures.shaped k n there).numbered
+
+pub returns-in-Ok-clause-watches : goal.returns-in-Ok-clause-watches
+returns-in-Ok-clause-watches g c = λ k x there. (c.in-Ok.ensures.made.each_watch k x there).of

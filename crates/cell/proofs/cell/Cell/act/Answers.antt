@@ -14,7 +14,8 @@ pub invariant_of-self-inside-2 : goal.invariant_of-self-inside-2
 invariant_of-self-inside-2 g c =
     let cell = c.self.inside in
     let desk = c.act-answered.new.self in
-    let ready : is_ready_in cell.store ≡ true = sym c.is_ready.ensures.ready ∙ c.if-not-is_ready.false in
+    let ready : is_ready_in cell.store ≡ true =
+    sym c.is_ready.ensures.ready ∙ c.if-not-is_ready.false in
     let v = known cell.desk.seat in
     let w = known desk.seat in
     let given = c.act-answered.ensures.given in
@@ -49,6 +50,7 @@ returns-clause-goes_on g c =
     record {
       same = said.same;
       marked = marked-after _ _ c.act-answered.result _ _ _ _ said.given.acted.known said.unsaved;
-      stays = ap (cell_at cell.first.value (disk_of cell.store) (is_ready_in cell.store) (logs_in cell.store) c.push-2.new.self)
+      stays = ap (cell_at cell.first.value (disk_of cell.store) (is_ready_in cell.store)
+          (logs_in cell.store) c.push-2.new.self)
           said.stays;
     }

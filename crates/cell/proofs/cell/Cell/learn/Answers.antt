@@ -35,7 +35,8 @@ returns-clause-learned g c =
     rw (← c.self.view_is)
     record {
       same = said.same;
-      stays = ap (cell_at cell.first.value (disk_of cell.store) (is_ready_in cell.store) (logs_in cell.store) cell.trace) said.stays;
+      stays = ap (cell_at cell.first.value (disk_of cell.store) (is_ready_in cell.store)
+          (logs_in cell.store) cell.trace) said.stays;
       known = said.learned.known
           ∙ ap (λ l. learns l (known cell.desk.seat)) (sym (ap (λ v. v.seen) said.learned.known));
     }

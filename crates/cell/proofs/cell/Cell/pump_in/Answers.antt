@@ -26,7 +26,8 @@ returns-then-is_some-clause-pumped g c = λ _ _. c.next.ensures.pumped
 
 pub returns-then-is_some-clause-shut : goal.returns-then-is_some-clause-shut
 returns-then-is_some-clause-shut g c = λ shut. (let never : ◌≡◌ {A = Bool} true false =
-    sym c.if-not-is_ready.false ∙ c.is_ready.ensures.ready ∙ ap (λ v. v.is_open) c.self.view_is ∙ shut in
+    sym c.if-not-is_ready.false ∙ c.is_ready.ensures.ready ∙ ap (λ v. v.is_open) c.self.view_is
+    ∙ shut in
     absurd cc)
 
 pub returns-then-is_some-clause-no_node : goal.returns-then-is_some-clause-no_node
@@ -39,7 +40,8 @@ returns-clause-pumped g c = λ _ _. c.receive.ensures.pumped
 
 pub returns-clause-shut : goal.returns-clause-shut
 returns-clause-shut g c = λ shut. (let never : ◌≡◌ {A = Bool} true false =
-    sym c.if-not-is_ready.false ∙ c.is_ready.ensures.ready ∙ ap (λ v. v.is_open) c.self.view_is ∙ shut in
+    sym c.if-not-is_ready.false ∙ c.is_ready.ensures.ready ∙ ap (λ v. v.is_open) c.self.view_is
+    ∙ shut in
     absurd cc)
 
 pub returns-clause-no_node : goal.returns-clause-no_node

@@ -15,7 +15,8 @@ pub invariant_of-self-inside : goal.invariant_of-self-inside
 invariant_of-self-inside g c =
     let cell = c.self.inside in
     let desk = c.send.new.self in
-    let ready : is_ready_in cell.store ≡ true = sym c.is_ready.ensures.ready ∙ c.if-not-is_ready.false in
+    let ready : is_ready_in cell.store ≡ true =
+    sym c.is_ready.ensures.ready ∙ c.if-not-is_ready.false in
     let said = c.send.ensures in
     let v = known cell.desk.seat in
     let w = known desk.seat in
@@ -36,20 +37,23 @@ pub returns-clause-stays : goal.returns-clause-stays
 returns-clause-stays g c =
     let cell = c.self.inside in
     rw (← c.self.view_is)
-    (ap (cell_at cell.first.value (disk_of cell.store) (is_ready_in cell.store) (logs_in cell.store) cell.trace) c.send.ensures.stays)
+    (ap (cell_at cell.first.value (disk_of cell.store) (is_ready_in cell.store)
+    (logs_in cell.store) cell.trace) c.send.ensures.stays)
 
 pub returns-in_err-is_sent-clause-stays : goal.returns-in_err-is_sent-clause-stays
 returns-in_err-is_sent-clause-stays g c =
     let cell = c.self.inside in
     rw (← c.self.view_is)
-    (ap (cell_at cell.first.value (disk_of cell.store) (is_ready_in cell.store) (logs_in cell.store) cell.trace) c.send.ensures.stays)
+    (ap (cell_at cell.first.value (disk_of cell.store) (is_ready_in cell.store)
+    (logs_in cell.store) cell.trace) c.send.ensures.stays)
 
 pub returns-in_err-is_sent-clause-refused : goal.returns-in_err-is_sent-clause-refused
 returns-in_err-is_sent-clause-refused g c =
     let cell = c.self.inside in
     let p = err_from_is_err_and c.from_residual.result c.from_residual.ensures.1 in
     rw (p.1, ← c.self.view_is)
-    (ap (cell_at cell.first.value (disk_of cell.store) (is_ready_in cell.store) (logs_in cell.store) cell.trace)
+    (ap (cell_at cell.first.value (disk_of cell.store) (is_ready_in cell.store)
+    (logs_in cell.store) cell.trace)
     c.in_err-is_sent.ensures.refused.1)
 
 pub returns-clause-sent : goal.returns-clause-sent

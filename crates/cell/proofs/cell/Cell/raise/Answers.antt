@@ -10,7 +10,8 @@ pub invariant_of-self-inside : goal.invariant_of-self-inside
 invariant_of-self-inside g c =
     let cell = c.self.inside in
     let desk = c.raise.new.self in
-    let ready : is_ready_in cell.store ≡ true = sym c.is_ready.ensures.ready ∙ c.if-not-is_ready.false in
+    let ready : is_ready_in cell.store ≡ true =
+    sym c.is_ready.ensures.ready ∙ c.if-not-is_ready.false in
     let said = c.raise.ensures in
     let v = known cell.desk.seat in
     let w = known desk.seat in
@@ -31,5 +32,6 @@ pub returns-clause-stays : goal.returns-clause-stays
 returns-clause-stays g c =
     let cell = c.self.inside in
     rw (← c.self.view_is)
-    (ap (cell_at cell.first.value (disk_of cell.store) (is_ready_in cell.store) (logs_in cell.store) cell.trace)
+    (ap (cell_at cell.first.value (disk_of cell.store) (is_ready_in cell.store)
+    (logs_in cell.store) cell.trace)
     c.raise.ensures.stays)

@@ -23,7 +23,8 @@ returns-in-Err-clause-others g c =
     ⊎_elim inl
     (⊎_elim
     (λ bad. absurd (never-bad cell.desk.saved cell.desk.node.core seen
-    (cell.left seen (g.met.D.Disk.reads_left (disk_of cell.store))) (c.in-Err.ensures.bad (ap Err bad))))
+    (cell.left seen (g.met.D.Disk.reads_left (disk_of cell.store)))
+    (c.in-Err.ensures.bad (ap Err bad))))
     inr)
     c.in-Err.ensures.others
 
@@ -68,7 +69,8 @@ invariant_of-self-inside g c =
         subst (HasDropped first w) (sym (ap (λ d. d.saved) said.done)) kept,
         stays-open found.core desk.saved desk.node.core
             (g.D.Disk.may_leave (disk_of store)) (ap (λ d. d.saved) said.done)
-            (open-holds found.core seen (g.D.Disk.may_leave (disk_of store)) c.in-Ok.ensures.only opens)
+            (open-holds found.core seen (g.D.Disk.may_leave (disk_of store)) c.in-Ok.ensures.only
+            opens)
             (imaged-found found.core seen (g.D.Disk.may_leave (disk_of store))
             (g.met.D.Disk.reads_left (disk_of store))
             (λ none. c.logs-logs.ensures.plain (c.logs-logs.ensures.value ∙ none)) opens),

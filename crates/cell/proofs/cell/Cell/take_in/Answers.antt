@@ -23,7 +23,8 @@ pub invariant_of-self-inside : goal.invariant_of-self-inside
 invariant_of-self-inside g c =
     let cell = c.self.inside in
     let desk = c.take.new.self in
-    let ready : is_ready_in cell.store ≡ true = ap (λ v. v.is_open) c.self.view_is ∙ c.requires.ready in
+    let ready : is_ready_in cell.store ≡ true =
+    ap (λ v. v.is_open) c.self.view_is ∙ c.requires.ready in
     let said = c.take.ensures in
     let v = known cell.desk.seat in
     let w = known desk.seat in
@@ -45,7 +46,8 @@ pub invariant_of-self-inside-2 : goal.invariant_of-self-inside-2
 invariant_of-self-inside-2 g c =
     let cell = c.self.inside in
     let desk = c.handle-answered.new.self in
-    let ready : is_ready_in cell.store ≡ true = ap (λ v. v.is_open) c.self.view_is ∙ c.requires.ready in
+    let ready : is_ready_in cell.store ≡ true =
+    ap (λ v. v.is_open) c.self.view_is ∙ c.requires.ready in
     let took = c.take.ensures in
     let said = c.handle-answered.ensures in
     let u = known cell.desk.seat in
@@ -139,7 +141,8 @@ returns-clause-goes_on g c =
           (ap (λ d. d.unsaved) took.stays)
           (subst (λ (u : Known). IsMarked u (known desk.seat) c.take.new.self.unsaved desk.unsaved)
           c.in_ok-frame.ensures.taken.3.2 said.unsaved);
-      stays = ap (cell_at cell.first.value (disk_of cell.store) (is_ready_in cell.store) (logs_in cell.store) c.push.new.self)
+      stays = ap (cell_at cell.first.value (disk_of cell.store) (is_ready_in cell.store)
+          (logs_in cell.store) c.push.new.self)
           (said.stays ∙ ap (λ (d : DeskView). record d {
             node = desk.node;
             seat = desk.seat;

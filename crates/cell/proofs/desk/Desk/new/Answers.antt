@@ -50,8 +50,10 @@ invariant_of-result c =
                     (sym (ap (λ (m : WholeNode). m.early) c.requires.alone))
                     (taken-none (known c.args.seat).taken n.local.shape.nodes),
                 (
-                  subst (λ (m : NodeView). ∥ IsLogged c.begin.new.self m n ∥₁) (sym (c.of.ensures ∙ c.core.ensures.value))
-                      ∣ begun_log c.begin.new.self c.args.logs n c.begin.ensures.kept c.begin.ensures.lost ∣₁,
+                  subst (λ (m : NodeView). ∥ IsLogged c.begin.new.self m n ∥₁)
+                      (sym (c.of.ensures ∙ c.core.ensures.value))
+                      ∣ begun_log c.begin.new.self c.args.logs n c.begin.ensures.kept
+                      c.begin.ensures.lost ∣₁,
                   tt,
                 ),
               ),

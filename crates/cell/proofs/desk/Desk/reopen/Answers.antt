@@ -73,8 +73,10 @@ invariant_of-self-inside c =
                     (sym (ap (λ (m : WholeNode). m.early) c.requires.alone))
                     (taken-none (known c.enter_found.new.seat).taken found_core.local.shape.nodes),
                 (
-                  subst (λ (m : NodeView). ∥ IsLogged c.begin.new.self m found_core ∥₁) (sym (c.of.ensures ∙ c.core-2.ensures.value))
-                      ∣ begun_log c.begin.new.self desk.logs found_core c.begin.ensures.kept c.begin.ensures.lost ∣₁,
+                  subst (λ (m : NodeView). ∥ IsLogged c.begin.new.self m found_core ∥₁)
+                      (sym (c.of.ensures ∙ c.core-2.ensures.value))
+                      ∣ begun_log c.begin.new.self desk.logs found_core c.begin.ensures.kept
+                      c.begin.ensures.lost ∣₁,
                   tt,
                 ),
               ),
