@@ -93,7 +93,8 @@ int host_create(const host_shape *shape, store_value *value)
     if (status == MARKRING_OK) {
         value->is_entry = false;
         value->length = saved_size(it, image);
-        value->room = STORE_HEAD + value->length + STORE_TAIL;
+        value->room = value->end = STORE_HEAD + value->length + STORE_TAIL;
+        value->whole = 0;
         value->buffer = malloc(value->room);
         status = value->buffer != NULL ? MARKRING_OK : MARKRING_MEMORY;
     }

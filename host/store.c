@@ -96,12 +96,12 @@ static store_status write_all(
 
 // Adds an entry. Its checksum begins with the one before it, so bytes of earlier saves that follow
 // aren't taken for entries.
-static store_status add_entry(store *it, store_value *value)
+static store_status add_entry(store *it, store_value *value, uint64_t number)
 {
     uint8_t *entry = value->buffer + STORE_HEAD - ENTRY_HEAD;
     writer head = writer_of(entry, ENTRY_HEAD);
     write_number(&head, value->length, 8);
-    write_number(&head, it->number + 1, 8);
+    write_number(&head, number, 8);
     size_t length = ENTRY_HEAD + value->length;
     uint64_t seal = XXH3_64bits_withSeed(entry, length, it->seal);
     writer tail = writer_of(entry + length, STORE_TAIL);
@@ -112,22 +112,18 @@ static store_status add_entry(store *it, store_value *value)
         status = sync_file(it, file);
     }
     if (status == STORE_OK) {
-        it->number++;
         it->seal = seal;
         it->end += length + STORE_TAIL;
     }
     return status;
 }
 
-store_status store_save(store *it, store_value *value)
+static store_status replace(store *it, store_value *value, uint64_t number)
 {
-    if (value->is_entry) {
-        return add_entry(it, value);
-    }
     writer head = writer_of(value->buffer, STORE_HEAD);
     write_bytes(&head, MAGIC, sizeof MAGIC);
     write_number(&head, value->length, 8);
-    write_number(&head, it->number + 1, 8);
+    write_number(&head, number, 8);
     size_t length = STORE_HEAD + value->length;
     uint64_t seal = XXH3_64bits(value->buffer, length);
     writer tail = writer_of(value->buffer + length, STORE_TAIL);
@@ -139,11 +135,16 @@ store_status store_save(store *it, store_value *value)
     }
     if (status == STORE_OK) {
         it->counts = other;
-        it->number++;
         it->seal = seal;
         it->end = length + STORE_TAIL;
     }
     return status;
+}
+
+store_status store_save(store *it, store_value *value)
+{
+    it->number++;
+    return value->is_entry ? add_entry(it, value, it->number) : replace(it, value, it->number);
 }
 
 // Whether the folder has no slot with a byte in it.
@@ -213,7 +214,7 @@ static void find_entries(slot *found)
     for (;;) {
         reader rest = reader_of(value->buffer + value->end, value->room - value->end), whole = rest;
         uint64_t length = read_number(&rest, 8), number = read_number(&rest, 8), seal;
-        if (!rest.ok || length > rest.left || number != found->number + 1
+        if (!rest.ok || length > rest.left || number <= found->number
             || !is_sealed(&whole, ENTRY_HEAD + length, found->seal, &seal)) {
             return;
         }

@@ -67,7 +67,7 @@ typedef struct store {
     int folder;
     int slots[2];
     int counts;      // the slot that counts, 0 or 1
-    uint64_t number; // of the save that counts
+    uint64_t number; // of the last save, also of one that failed
     uint64_t end;    // the offset of the next entry, in the slot that counts
     uint64_t seal;   // the checksum before that
 } store;
@@ -102,7 +102,8 @@ store_status store_create(
 store_status store_open(store *it, const store_calls *calls, const char *path, store_value *value);
 
 // Saves a value, or adds an entry, with the next number. The bytes around it are overwritten.
-// STORE_FAILED, STORE_UNKNOWN.
+// STORE_FAILED, STORE_UNKNOWN. After STORE_FAILED its number isn't used again: all of it may have been
+// written, and it counts if the process ends before another save.
 store_status store_save(store *it, store_value *value);
 
 // The next entry behind a value that was read, or NULL. `*at` is 0 for the first entry, and is then

@@ -96,7 +96,9 @@ static host *open_host(uint8_t own)
         || host_open(&it, &value, 1, 100u + own, &options, &calls, 1) != MARKRING_OK) {
         exit(2);
     }
-    free(value.buffer);
+    store_value *stored = &stations[own].stored;
+    free(stored->buffer);
+    *stored = value;
     return it;
 }
 

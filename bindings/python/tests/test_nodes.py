@@ -63,7 +63,7 @@ class Nodes(unittest.TestCase):
                 call()
             self.assertIsInstance(caught.exception, Refusal)
             self.assertEqual(caught.exception.status, kind.status)
-        self.assertEqual(len(errors.CLASSES), 24 + 8)
+        self.assertEqual(len(errors.CLASSES), 24 + 9)
 
     def test_a_closed_node_is_refused(self) -> None:
         with Node(2, 4, 16, 0) as node:
