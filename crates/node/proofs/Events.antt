@@ -64,7 +64,7 @@ with_parts n h asked phases ring l =
       acks = l.acks;
     }
 
-module _ (n : NodeView) (h : Heap) (asked : List Ref) (ring : Ring) (l : LinksView) where
+module _ (n : NodeView) {h : Heap} {asked : List Ref} {ring : Ring} {l : LinksView} where
   -- nothing changed
   pub parts-same : h ≡ n.local.heap → asked ≡ n.local.asked → ring ≡ n.local.ring → l ≡ links_of n
       → with_parts n h asked n.local.phases ring l ≡ n

@@ -126,7 +126,7 @@ data-kept n new es d (Ok a) h p =
         subst Goal (sym says) (kept-due _ _ n.local.got es d.from d.number h turn)
 
 -- the frame that waits is the next one of its node, so it is received unless it is refused
-module _ (n new : NodeView) (es : Rings) (from : ℕ) (d : Data)
+module _ (n : NodeView) (es : Rings) (from : ℕ) (d : Data)
     (h : AreKept n.local.shape.nodes n.local.own n.local.got es) (waits : waiting es from ≡ Some d)
   where
     its-turn : d.number ≡ get_or n.local.got from 0 + 1
@@ -135,8 +135,8 @@ module _ (n new : NodeView) (es : Rings) (from : ℕ) (d : Data)
     as-told : got_from n.local d.from ≡ get_or n.local.got from 0
     as-told = ap (λ (z : ℕ). get_or n.local.got z 0) (h.named from 0 d waits).sender
 
-    turn-received : (a : Answer) → view_act n (event.Data d) ≡ Ok (new, a) → a ≡ answer.Received
-    turn-received a answered = by (data-turned n new d a answered).1
+    turn-received : {new : NodeView} (a : Answer) → view_act n (event.Data d) ≡ Ok (new, a) → a ≡ answer.Received
+    turn-received {new = new} a answered = by (data-turned n new d a answered).1
       where
         by : Turned n.local d a → a ≡ answer.Received
         by (again old says) = absurd (omega (arith, old, its-turn, as-told))
@@ -151,7 +151,7 @@ module _ (n new : NodeView) (es : Rings) (from : ℕ) (d : Data)
         (emptied-fills (IsInPlace n.local.own (get_or n.local.got from 0) from) (ring_of es from)
         (h.named from))
 
-    waited-kept : (r : Result Answer Refusal) → Performed true r n new (view_act n (event.Data d))
+    waited-kept : {new : NodeView} (r : Result Answer Refusal) → Performed true r n new (view_act n (event.Data d))
         → KeptAfter n (event.Data d) r (after_next es from (Some d) r)
     waited-kept (Err f) p = refused-kept f
     waited-kept (Ok a) p =
@@ -164,19 +164,19 @@ module _ (n new : NodeView) (es : Rings) (from : ℕ) (d : Data)
         (kept-due _ _ n.local.got es from d.number h its-turn))
 
 -- Next, by what waits
-next-kept : (n new : NodeView) (es : Rings) (from : ℕ) (o : Option Data) (r : Result Answer Refusal)
+next-kept : (n : NodeView) {new : NodeView} (es : Rings) (from : ℕ) (o : Option Data) (r : Result Answer Refusal)
     → AreKept n.local.shape.nodes n.local.own n.local.got es → waiting es from ≡ o
     → Performed (is_shading (next_event from o)) r n new (view_act n (next_event from o))
     → KeptAfter n (next_event from o) r (after_next es from o r)
-next-kept n new es from None r h waits p = h
-next-kept n new es from (Some d) r h waits p = waited-kept n new es from d h waits r p
+next-kept n es from None r h waits p = h
+next-kept n es from (Some d) r h waits p = waited-kept n es from d h waits r p
 
 event-kept : (n new : NodeView) (es : Rings) (e : Event) (r : Result Answer Refusal)
     → AreKept n.local.shape.nodes n.local.own n.local.got es
     → Performed (is_shading (met es e)) r n new (view_act n (met es e))
     → KeptAfter n (met es e) r (early_after n.local es e r)
 event-kept n new es (event.Data d) r h p = data-kept n new es d r h p
-event-kept n new es (event.Next from) r h p = next-kept n new es from (waiting es from) r h refl p
+event-kept n new es (event.Next from) r h p = next-kept n es from (waiting es from) r h refl p
 event-kept n new es e r h p = h
 
 pub handled-kept : (old new : WholeNode) (e : Event) (r : Result Answer Refusal)
@@ -194,19 +194,19 @@ handled-kept old new e r x =
     }
 
 -- the answer to Next, when a frame waits
-next-turn : (n new : NodeView) (es : Rings) (from : ℕ) (o : Option Data) (r : Result Answer Refusal)
+next-turn : (n : NodeView) {new : NodeView} (es : Rings) {from : ℕ} (o : Option Data) (r : Result Answer Refusal)
     → AreKept n.local.shape.nodes n.local.own n.local.got es → waiting es from ≡ o
     → Performed (is_shading (next_event from o)) r n new (view_act n (next_event from o))
     → next_event from o ≢ event.Next from → IfOk r (λ a. a ≡ answer.Received)
-next-turn n new es from None r h waits p differs = absurd (differs refl)
-next-turn n new es from (Some d) (Ok a) h waits p differs =
-    turn-received n new es from d h waits a p.performs
-next-turn n new es from (Some d) (Err f) h waits p differs = tt
+next-turn n es None r h waits p differs = absurd (differs refl)
+next-turn n es {from = from} (Some d) (Ok a) h waits p differs =
+    turn-received n es from d h waits a p.performs
+next-turn n es (Some d) (Err f) h waits p differs = tt
 
 pub handled-turn : (old new : WholeNode) (e : Event) (r : Result Answer Refusal)
     → Handled old new e r → met old.early e ≢ e → IfOk r (λ a. a ≡ answer.Received)
 handled-turn old new (event.Next from) r x =
-    next-turn old.core new.core old.early from (waiting old.early from) r x.before refl x.performed
+    next-turn old.core old.early (waiting old.early from) r x.before refl x.performed
 handled-turn old new e r x = λ differs. absurd (differs refl)
 
 -- ---- what the code does

@@ -8,6 +8,11 @@ use Rattle.std.specs.Prelude.{◌↔◌}
 use Rattle.std.specs.List.{AllByRecursion, IsDistinct, list_all, list_any}
 use Rattle.std.proofs.lemmas.Bool.{and_parts, and_from, eqb-false, ne_eqb, or_from, or_parts}
 
+first-or : {A : Type 0} (P : A → Type 0) (x : A) (xs : List A) (d : A) → P x
+    → ((k : ℕ) → P (get_or xs k d)) → (k : ℕ) → P (get_or (x ∷ xs) k d)
+first-or P x xs d first rest zero = first
+first-or P x xs d first rest (suc k) = rest k
+
 -- what a test says of one element it says of all, also past the end
 module _ {A : Type 0} (P : A → Type 0) (p : A → Bool) (is : (x : A) → p x ≡ true ↔ P x) where
   pub listed-is : (xs : List A) → list_all p xs ≡ true ↔ AllByRecursion P xs
@@ -18,11 +23,6 @@ module _ {A : Type 0} (P : A → Type 0) (p : A → Bool) (is : (x : A) → p x 
     λ all. and_from (p x) (list_all p xs) ((is x).1 all.0) ((listed-is xs).1 all.1),
   )
 
-  first-or : (x : A) (xs : List A) (d : A) → P x → ((k : ℕ) → P (get_or xs k d)) → (k : ℕ)
-      → P (get_or (x ∷ xs) k d)
-  first-or x xs d first rest zero = first
-  first-or x xs d first rest (suc k) = rest k
-
   pub each-is : (xs : List A) (d : A) → P d
       → list_all p xs ≡ true ↔ ((k : ℕ) → P (get_or xs k d))
   each-is [] d none = (λ _ k. none, λ _. refl)
@@ -30,7 +30,7 @@ module _ {A : Type 0} (P : A → Type 0) (p : A → Bool) (is : (x : A) → p x 
       let rest = each-is xs d none in (
         λ all.
             let parts = and_parts (p x) (list_all p xs) all in
-            first-or x xs d ((is x).0 parts.0) (rest.0 parts.1),
+            first-or P x xs d ((is x).0 parts.0) (rest.0 parts.1),
         λ each.
             and_from (p x) (list_all p xs) ((is x).1 (each 0)) (rest.1 (λ k. each (suc k))),
       )

@@ -147,11 +147,11 @@ module _ (from stamp : ℕ) (p : LocalState) where
   abbrev late : Bool
   late = nat_lt stamp p.phases.cycle
 
-  by-errand : (b : Body) (due : Bool) (rs : List Ref) (x : Extra) (f : LocalState → LocalState)
-      → then (take_carried stamp b q) (take_body from stamp b) ≡ stepped (errand_here due rs x q) f
-      → followed from stamp b p ≡ stepped (errand stamp due rs x p) f
-  unfolding followed errand
-  by-errand b due rs x f same =
+  by-errand : (b : Body) {v : Work} → then (take_carried stamp b q) (take_body from stamp b) ≡ v
+      → followed from stamp b p
+      ≡ record { local = v.local; sends = (joined p stamp).sends ++ v.sends }
+  unfolding followed
+  by-errand b same =
       ap (λ (w : Work). record { local = w.local; sends = (joined p stamp).sends ++ w.sends }) same
 
   quiet : (f : LocalState → LocalState)
@@ -163,40 +163,40 @@ module _ (from stamp : ℕ) (p : LocalState) where
       (see_to-none (nat_lt stamp q.phases.cycle) q ∙ sym (see_to-none false q))
 
   pub begin-followed : followed from stamp body.Begin p ≡ errand stamp false [] extra.Nothing p
-  unfolding take_body
-  begin-followed = by-errand body.Begin false [] extra.Nothing (λ z. z) (quiet (λ z. z))
+  unfolding take_body errand
+  begin-followed = by-errand body.Begin (quiet (λ z. z))
 
   pub token-followed : (token : Token) → followed from stamp (body.Token token) p
       ≡ stepped (errand stamp false [] extra.Nothing p)
       (λ z. record z { ring = record z.ring { token = Some token } })
-  unfolding take_body
+  unfolding take_body errand
   token-followed token =
       let f : LocalState → LocalState =
       λ z. record z { ring = record z.ring { token = Some token } } in
-      by-errand (body.Token token) false [] extra.Nothing f (quiet f)
+      by-errand (body.Token token) (quiet f)
 
   pub ended-followed : followed from stamp body.Ended p
       ≡ stepped (errand stamp false [] extra.Nothing p)
       (λ z. record z { phases = with_ended z.phases })
-  unfolding take_body
+  unfolding take_body errand
   ended-followed =
       let f : LocalState → LocalState = λ z. record z { phases = with_ended z.phases } in
-      by-errand body.Ended false [] extra.Nothing f (quiet f)
+      by-errand body.Ended (quiet f)
 
   pub swept-followed : followed from stamp body.Swept p
       ≡ stepped (errand stamp false [] extra.Nothing p)
       (λ z. record z { phases = with_report from stamp z.phases })
-  unfolding take_body
+  unfolding take_body errand
   swept-followed =
       let f : LocalState → LocalState =
       λ z. record z { phases = with_report from stamp z.phases } in
-      by-errand body.Swept false [] extra.Nothing f (quiet f)
+      by-errand body.Swept (quiet f)
 
   pub mark-followed : (target : Ref) → followed from stamp (body.Mark target) p
       ≡ errand stamp true (filled (Some target ∷ [])) extra.Nothing p
-  unfolding take_body errand_here
+  unfolding take_body errand errand_here
   mark-followed target =
-      by-errand (body.Mark target) true (target ∷ []) extra.Nothing (λ z. z) same
+      by-errand (body.Mark target) same
     where
       same : then (take_carried stamp (body.Mark target) q) (take_body from stamp (body.Mark target))
           ≡ errand_here true (target ∷ []) extra.Nothing q
@@ -211,9 +211,9 @@ module _ (from stamp : ℕ) (p : LocalState) where
       → followed from stamp (body.Give label v) p
       ≡ errand stamp due (filled (v ∷ []))
       (extra.Letter (record { from = from; label = label; reference = v })) p
-  unfolding take_body errand_here
+  unfolding take_body errand errand_here
   give-followed due label v is =
-      by-errand (body.Give label v) due (filled (v ∷ [])) l (λ z. z) same
+      by-errand (body.Give label v) same
     where
       l : Extra
       l = extra.Letter (record { from = from; label = label; reference = v })
@@ -226,21 +226,21 @@ module _ (from stamp : ℕ) (p : LocalState) where
       → followed from stamp (body.Put target place v) p
       ≡ stepped (errand stamp due (filled (Some target ∷ v ∷ [])) extra.Nothing p)
       (λ z. record z { heap = with_place z.heap target place v })
-  unfolding take_body errand_here
+  unfolding take_body errand errand_here
   put-followed due target place v is =
-      by-errand (body.Put target place v) due (filled (Some target ∷ v ∷ [])) extra.Nothing
-      (λ (z : LocalState). record z { heap = with_place z.heap target place v })
+      by-errand (body.Put target place v)
+      {v = stepped (errand_here due (filled (Some target ∷ v ∷ [])) extra.Nothing q)
+      (λ z. record z { heap = with_place z.heap target place v })}
       (rw (is, joined-cycle p stamp, filled-one v) refl)
 
   -- What is in the place is read before the node joins. Marking doesn't change it.
-  pub get-followed : (target : Ref) (place label : ℕ) (v : Option Ref)
+  pub get-followed : (target : Ref) (place label : ℕ) {v : Option Ref}
       → (target.node == p.own) ≡ true → v ≡ place_of (object_at p.heap target) place
       → followed from stamp (body.Get target place label) p
       ≡ errand stamp true (filled (Some target ∷ v ∷ [])) (extra.Answer from label v) p
-  unfolding take_body errand_here append
-  get-followed target place label v own is =
-      by-errand (body.Get target place label) true (filled (Some target ∷ v ∷ []))
-      (extra.Answer from label v) (λ z. z) same
+  unfolding take_body errand errand_here append
+  get-followed target place label {v = v} own is =
+      by-errand (body.Get target place label) same
     where
       same : then (take_carried stamp (body.Get target place label) q)
           (take_body from stamp (body.Get target place label))

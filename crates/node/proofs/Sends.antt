@@ -24,7 +24,7 @@ spent-after {was = was} {mid = mid} ms ns first second = fits-then was mid ms ns
 
 -- ---- a cycle begins: the token goes to the last node, and Begin to all others
 
-module _ (v : LinksView) (own cycle last : ℕ) (last-is : last ≡ length v.links - 1) where
+module _ (v : LinksView) (own cycle : ℕ) {last : ℕ} (last-is : last ≡ length v.links - 1) where
   abbrev told : Message
   told = record { stamp = cycle; body = body.Begin }
 

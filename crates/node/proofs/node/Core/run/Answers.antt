@@ -106,7 +106,7 @@ returns-in_err-marks c =
     (record {
       done = tt;
       refused = subst (λ ms. IsRefused (links_of n) ms c.in_err-marks.field-0.0) sends told;
-      unchanged = parts-same n _ _ _ _ c.make_room.ensures.same.heap left.unchanged.0 refl
+      unchanged = parts-same n c.make_room.ensures.same.heap left.unchanged.0 refl
           left.unchanged.1;
     })))
 

@@ -178,7 +178,7 @@ returns-in_err-asked c =
             joining-refused n cycle (before at) c.args.due c.args.references.now c.args.extra
                 c.self.invariant.node.links.width spent.1,
           );
-      unchanged = parts-same n _ _ _ _ c.make_room.ensures.same.heap refl refl left.unchanged;
+      unchanged = parts-same n c.make_room.ensures.same.heap refl refl left.unchanged;
     }))
 
 pub join-requires-2 : goal.join-requires-2
