@@ -123,7 +123,7 @@ def read_image(data: bytes) -> Saved:
 
 
 def part_of(data: bytes, at: int) -> tuple[bytes, int]:
-    """An image or a batch with its length before it, and where the next byte is."""
+    """An image or a batch with its length before it, and the place of the next byte."""
     start = at + 8
     end = start + int.from_bytes(data[at:start], "big")
     if end > len(data):

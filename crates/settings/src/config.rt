@@ -45,8 +45,8 @@ struct Found<'a> {
 impl Config {
     /// Reads a TOML document that has these keys at its top level and no others: `nodes`, 2 to 64;
     /// `registers`, 1 to 256; `slots`, 1 to 1,048,576; `turns`, 1 to 1,000,000; and optionally
-    /// `saves`, which is `"images"` or `"events"`, and `folder`, a string. Without `saves`, a save
-    /// writes the image.
+    /// `saves` and `folder`. `saves` is `"images"` or `"events"`; without it, a save writes the
+    /// image. `folder` is a string.
     ///
     /// `Config` exactly if the text isn't such a document. `Memory` may come instead of either
     /// result.
