@@ -12,8 +12,9 @@
 static const uint8_t MAGIC[4] = {0x4D, 0x52, 0x53, 0x02};
 static const char *const NAMES[2] = {"a", "b"};
 
-// Before an entry: its length and its number.
-enum { ENTRY_HEAD = 16, FIRST_VERSION = 1 };
+// Before an entry: its length and its number. An entry that makes its file longer has zeros behind it
+// up to a multiple of STEP, since a sync is slower if the file's length has changed.
+enum { ENTRY_HEAD = 16, FIRST_VERSION = 1, STEP = 65536, ZEROS = 4096 };
 
 // A slot as it was read: its bytes, or nothing; the number of its last save, and the last checksum.
 typedef struct slot {
@@ -26,7 +27,7 @@ static void forget(store *it)
 {
     it->folder = it->slots[0] = it->slots[1] = -1;
     it->counts = 1;
-    it->number = it->end = it->seal = 0;
+    it->number = it->end = it->seal = it->size = 0;
 }
 
 void store_close(store *it)
@@ -94,6 +95,21 @@ static store_status write_all(
     return STORE_OK;
 }
 
+// Makes the slot that counts longer, if the next entry will. If that fails, the file stays shorter.
+static void lengthen(store *it, uint64_t end)
+{
+    static const uint8_t zeros[ZEROS];
+    it->size = it->size > end ? it->size : end;
+    while (it->size == end && end % STEP != 0) {
+        size_t count = ZEROS - (size_t)(end % ZEROS);
+        if (write_all(it, it->slots[it->counts], zeros, count, end) != STORE_OK) {
+            return;
+        }
+        end += count;
+        it->size = end;
+    }
+}
+
 // Adds an entry. Its checksum begins with the one before it, so bytes of earlier saves that follow
 // aren't taken for entries.
 static store_status add_entry(store *it, store_value *value, uint64_t number)
@@ -109,6 +125,7 @@ static store_status add_entry(store *it, store_value *value, uint64_t number)
     int file = it->slots[it->counts];
     store_status status = write_all(it, file, entry, length + STORE_TAIL, it->end);
     if (status == STORE_OK) {
+        lengthen(it, it->end + length + STORE_TAIL);
         status = sync_file(it, file);
     }
     if (status == STORE_OK) {
@@ -136,7 +153,7 @@ static store_status replace(store *it, store_value *value, uint64_t number)
     if (status == STORE_OK) {
         it->counts = other;
         it->seal = seal;
-        it->end = length + STORE_TAIL;
+        it->end = it->size = length + STORE_TAIL;
     }
     return status;
 }
@@ -291,6 +308,7 @@ static store_status choose(store *it, slot *found, store_value *value)
     it->number = last->number;
     it->seal = last->seal;
     it->end = last->value.end;
+    it->size = last->value.room;
     *value = last->value;
     value->whole = last->version == FIRST_VERSION ? 2
         : has[1 - it->counts] && found[1 - it->counts].version == FIRST_VERSION ? 1

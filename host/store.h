@@ -70,6 +70,7 @@ typedef struct store {
     uint64_t number; // of the last save, also of one that failed
     uint64_t end;    // the offset of the next entry, in the slot that counts
     uint64_t seal;   // the checksum before that
+    uint64_t size;   // of the file of that slot, at least
 } store;
 
 // A value with room around it: it begins at `buffer + STORE_HEAD`. `room` counts the value and the

@@ -1,5 +1,5 @@
 -- Batches that are stored one after another.
-use Rattle.std.proofs.Common.{◌≡◌, inl, inr, ℕ, ◌+◌, ◌%◌, ◌^◌, ◌≤◌, ◌<◌, Bool, true, false, cond, List, [], ◌∷◌, ◌++◌, length, take, drop, Option, Some, None, refl, ap, sym, ◌∙◌, subst, arith}
+use Rattle.std.proofs.Common.{◌≡◌, inl, inr, ℕ, ◌+◌, ◌%◌, ◌^◌, ◌≤◌, Bool, true, false, cond, List, [], ◌∷◌, ◌++◌, length, take, drop, Option, Some, None, refl, ap, sym, ◌∙◌, subst, arith}
 use Rattle.std.proofs.Common.{length-append, length-drop}
 use Rattle.std.specs.Global.{Vec}
 use Rattle.std.specs.Int.{w64, from_be_bytes}
@@ -13,7 +13,7 @@ use Rattle.disk.specs.Shelf.{record_of, recorded, told}
 use Rattle.disk.proofs.Records.{recorded_cut, recorded_front, recorded_is, recorded_short, recorded_tells, record_length}
 use Rattle.disk.proofs.Values.{lead_more}
 use Rattle.grammar.specs.Logs.{begins_logged}
-use Rattle.model.specs.View.{NodeView, kept_view}
+use Rattle.model.specs.View.{kept_view}
 use Rattle.node.specs.Invariant.{IsNode}
 use Rattle.node.specs.Keeping.{WholeNode}
 use Rattle.image.specs.Wholes.{saved_whole}

@@ -1,5 +1,5 @@
 -- A node of which less counts as saved does what the other one does.
-use Rattle.std.proofs.Common.{◌≡◌, ℕ, ◌+◌, ◌-◌, ◌≤◌, drop, Bool, true, false, List, [], ◌∷◌, ◌++◌, map, get_or, set, length, Option, Some, None, Result, Ok, refl, ap, sym, ◌∙◌, subst, arith}
+use Rattle.std.proofs.Common.{◌≡◌, ℕ, ◌+◌, ◌-◌, ◌≤◌, drop, Bool, List, [], ◌∷◌, ◌++◌, map, get_or, set, length, Option, Some, None, Ok, refl, ap, sym, ◌∙◌, subst, arith}
 use Rattle.std.specs.Prelude.{max, min}
 use Rattle.std.proofs.lemmas.Bool.{cond_both, le-leb}
 use Rattle.std.proofs.lemmas.List.{map-set, set-get_or}
@@ -15,7 +15,7 @@ use Rattle.model.specs.declared.event.Event.TheVariants as event
 use Rattle.model.specs.declared.event.Answer.{Answer}
 use Rattle.model.specs.Effects.{Effect}
 use Rattle.model.specs.State.{LocalState, got_from}
-use Rattle.model.specs.Steps.{ack_of, checked, is_shading, made, tests}
+use Rattle.model.specs.Steps.{ack_of, checked, made, tests}
 use Rattle.model.specs.View.{Link, NodeView, ack_tests, all_kept, append_to, appended, kept_of, kept_to, kept_view, kept_with, is_other, let_go, link_to, no_link, trimmed, used, view_act, view_after}
 use Rattle.model.proofs.Leaving.{act-leaves}
 use Rattle.model.proofs.Lookups.{at_set_if, map-set_same}

@@ -1,11 +1,11 @@
 -- Batches: the events of a node since its last image or batch, as bytes.
-use Rattle.std.specs.Prelude.{◌≡◌, ℕ, ◌+◌, ◌≤◌, ◌%◌, ◌^◌, nat_le, cond, Bool, true, false, List, [], ◌∷◌, ◌++◌, length, drop, Option, Some, None, Result, Ok, Err}
+use Rattle.std.specs.Prelude.{◌≡◌, ℕ, ◌+◌, ◌%◌, ◌^◌, nat_le, cond, Bool, true, false, List, [], ◌∷◌, ◌++◌, length, drop, Option, Some, None, Result, Ok, Err}
 use Rattle.std.specs.Global.{Vec}
 use Rattle.ids.specs.declared.refusal.Refusal.TheVariants.{BadImage, Memory}
 use Rattle.disk.specs.Journal.{LeadAll}
 use Rattle.disk.specs.Shelf.{record_of, recorded}
 use Rattle.grammar.specs.Logs.{begins_logged}
-use Rattle.model.specs.View.{NodeView, kept_view}
+use Rattle.model.specs.View.{kept_view}
 use Rattle.node.specs.Keeping.{WholeNode}
 use Rattle.image.specs.Logged.{IsAnyWholeOf}
 use Rattle.image.specs.Wholes.{saved_whole}

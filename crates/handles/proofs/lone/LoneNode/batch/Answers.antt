@@ -1,4 +1,4 @@
-use Rattle.std.proofs.Common.{rules, ap, sym, ◌≡◌, ◌∙◌, Option, List, ℕ, Some}
+use Rattle.std.proofs.Common.{rules, ap, sym, ◌≡◌, ◌∙◌, Some}
 use Rattle.std.specs.Option.{option_map}
 use Rattle.handles.specs.Batches.{batch_of}
 use Rattle.handles.specs.Images.{counts_of}
