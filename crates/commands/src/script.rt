@@ -2,7 +2,6 @@
 //! printed; a line outside the grammar is the last. The status is that of the worst reply.
 ghost use Rattle.std.specs.Prelude.{◌≡◌, ◌≤◌, ℕ, List, Some, IfOk, OnOk, IfErr, IsTrue, ◌≢◌, string_bytes};
 ghost use Rattle.std.specs.Io.KnownBytes.{Appends};
-ghost use Rattle.model.specs.Steps.{is_own};
 ghost use Rattle.model.specs.declared.event.Event.{Event};
 ghost use Rattle.model.specs.declared.step.Outcome.TheVariants as outcome;
 ghost use Rattle.model.specs.declared.step.Step.{Step};
@@ -162,35 +161,18 @@ fn run_step<W: Write>(
         State::Unopened => print_no_command(out, number),
         State::Refused(refusal) => print_refusal(out, *refusal),
         State::Open { space, freed } => match step {
-            Step::Act(node, event) => run_event(space, freed, printer, *node, event, out),
+            Step::Act(node, event) => {
+                let swept = sweeper(*node, event);
+                match &space.act(*node, *event) {
+                    Ok(answer) => {
+                        note(space, freed, swept, freed_by(answer));
+                        print_answer(printer, out, answer)
+                    }
+                    Err(refusal) => print_refusal(out, *refusal),
+                }
+            }
             _ => run_move(space, freed, step, out),
         },
-    }
-}
-
-/// Gives a node an event, and prints the outcome.
-#[inline(always)]
-fn run_event<W: Write>(
-    space: &mut Sim,
-    freed: &mut Freed,
-    printer: &mut Printer,
-    node: u8,
-    event: &Event,
-    out: &mut W,
-) -> Result<u8, Lost>
-    requires { IsTrue (is_own event.now) }
-    ensures { (number : ℕ) → IfOk result (PrintsReply
-        (λ h r later. TakesStep h (steps.Act node event.now) r later) number
-        (state.Open space.old freed.old) (state.Open space.new freed.new)
-        (W.contents out.old) (W.contents out.new)) }
-{
-    let swept = sweeper(node, event);
-    match &space.act(node, *event) {
-        Ok(answer) => {
-            note(space, freed, swept, freed_by(answer));
-            print_answer(printer, out, answer)
-        }
-        Err(refusal) => print_refusal(out, *refusal),
     }
 }
 

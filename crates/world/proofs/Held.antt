@@ -221,7 +221,7 @@ module _ {n m : SpaceView} {i : ℕ} {q p : KeepingSite} (c : SpaceChanges n m i
       c.early ∙ ap (λ (z : KeepingSite). set n.early i z.early) is
       ∙ ap (λ k. set n.early i (no_rings k)) ((saved-was h).nodes ∙ shown.world.width)
 
-  pub sim-acted : {r : Result Answer Refusal} {e : Event} → IsSim n.sites
+  sim-acted : {r : Result Answer Refusal} {e : Event} → IsSim n.sites
       → Acted r q.site p.site e → IsSim m.sites
   sim-acted h a =
       let was = current-was h in
@@ -267,10 +267,12 @@ module _ {n m : SpaceView} {i : ℕ} {q p : KeepingSite} (c : SpaceChanges n m i
 
 -- ---- a node is given an event
 
-pub given-space : {n m : SpaceView} {i : ℕ} {q p : KeepingSite} {e : Event}
-    {r : Result Answer Refusal} → SpaceChanges n m i q p → ActedKeeping r q p e
-    → GivenSpace r n m i e
-given-space {n = n} {i = i} {q = q} {p = p} {e = e} {r = r} c acted =
+pub given-space : {n : SpaceView} {i place : ℕ} {q p : KeepingSite} {e : Event}
+    {r : Result Answer Refusal} (seen : List KeepingSite) → space_of seen ≡ n → place ≡ i
+    → i < length n.sites → q ≡ get_or seen place q → ActedKeeping r q p e
+    → GivenSpace r n (space_of (set seen place p)) i e
+given-space {n = n} {i = i} {q = q} {p = p} {e = e} {r = r} seen view named less read acted =
+    let c = space-changes {p = p} seen view named less read in
     let same : q ≡ keeping_at n i =
     ap₂ (λ (a : SiteView) (b : Rings). record { site = a; early = b }) c.sites.old c.was in
     record {
@@ -297,6 +299,11 @@ given-changes h = record {
   early = h.early;
   was = refl;
 }
+
+-- the sites are still those of a space
+pub given-sim : {n m : SpaceView} {i : ℕ} {e : Event} {r : Result Answer Refusal} → IsSim n.sites
+    → GivenSpace r n m i e → IsSim m.sites
+given-sim h given = sim-acted (given-changes given) h given.acted.acted
 
 keeps-given : {n m : SpaceView} {i : ℕ} {e : Event} {r : Result Answer Refusal}
     → GivenSpace r n m i e

@@ -19,7 +19,6 @@ ghost use Rattle.world.specs.Shows.{
 ghost use Rattle.world.specs.Spaces.{
   ShowsSpace,
   SteppedSpace,
-  GivenSpace,
   outcome_by,
 };
 
@@ -115,7 +114,8 @@ impl Sim {
         if node >= self.count() {
             return Err(Refusal::NoNode);
         }
-        self.give(node, event)
+        let site = &mut self.sites[usize::from(node)];
+        site.act(event)
     }
 
     /// The current node of this number, if there is one.
@@ -218,7 +218,8 @@ impl Sim {
         let Frame::Data(message) = decode(bytes)? else {
             return Err(Refusal::BadFrame);
         };
-        let answer = self.give(to, Event::Data(message))?;
+        let site = &mut self.sites[usize::from(to)];
+        let answer = site.act(Event::Data(message))?;
         Ok(Outcome::Answer(answer))
     }
 
@@ -234,19 +235,9 @@ impl Sim {
             return Ok(Outcome::NoFrame);
         }
         let ack = self.acknowledgement(from, to);
-        self.give(from, Event::Ack(ack))?;
+        let site = &mut self.sites[usize::from(from)];
+        site.act(Event::Ack(ack))?;
         Ok(Outcome::Handed(ack.number))
-    }
-
-    /// Gives the current node of this number an event, and fails with whatever the node refuses. If
-    /// it fails, nothing changes, except that an early message may have left its place.
-    #[inline(always)]
-    fn give(&mut self, node: u8, event: Event) -> Result<Answer, Refusal>
-        requires { node < length self.old.sites }
-        ensures { GivenSpace result self.old self.new node event }
-    {
-        let site = &mut self.sites[usize::from(node)];
-        site.act(event)
     }
 
     /// The bytes of the frame of this number from one node to another, if it was released.

@@ -1,8 +1,10 @@
-use Rattle.std.proofs.Common.{◌≡◌, inl, inr, refl, sym, arith}
+use Rattle.std.proofs.Common.{◌≡◌, inl, inr, refl, subst, sym, arith}
+use Rattle.world.specs.Shows.{IsSim}
+use Rattle.world.specs.Spaces.{SpaceView}
 use Rattle.std.proofs.lemmas.Result.{err_from_is_err_and}
 use Rattle.msg.specs.Frames.{plain_ack}
 use Rattle.world.proofs.Deliveries.{deliver-to-itself, deliver-missing, deliver-never}
-use Rattle.world.proofs.Held.{delivered-space, same-space}
+use Rattle.world.proofs.Held.{delivered-space, given-sim, given-space, same-space}
 use Rattle.world.proofs.Steps.{no-node}
 use Rattle.world.proofs.sim.Sim.deliver.Goals as goal
 
@@ -51,10 +53,30 @@ returns-in_err-answer c =
     rw (p.1, p.2)
     (delivered-space _ _ _ c.if-from-to.false (sym c.in-Some.ensures)
     (λ x fits spelled. rw c.in-Data.is at (c.in_ok-message.ensures.only x fits spelled))
-    (omega (arith, c.count-count.ensures.value)) c.in_err-answer.ensures)
+    (omega (arith, c.count-count.ensures.value))
+    (given-space c.self.inside.sites.items c.self.view_is c.from.ensures
+    (omega (arith, c.count-count.ensures.value)) c.index_mut-site.ensures.value
+    c.in_err-answer.ensures))
 
 pub returns : goal.returns
 returns c =
     delivered-space _ _ _ c.if-from-to.false (sym c.in-Some.ensures)
     (λ x fits spelled. rw c.in-Data.is at (c.in_ok-message.ensures.only x fits spelled))
-    (omega (arith, c.count-count.ensures.value)) c.in_ok-answer.ensures
+    (omega (arith, c.count-count.ensures.value))
+    (given-space c.self.inside.sites.items c.self.view_is c.from.ensures
+    (omega (arith, c.count-count.ensures.value)) c.index_mut-site.ensures.value
+    c.in_ok-answer.ensures)
+
+pub invariant_of-self : goal.invariant_of-self
+invariant_of-self c =
+    given-sim (subst (λ (n : SpaceView). IsSim n.sites) c.self.view_is c.self.invariant)
+    (given-space c.self.inside.sites.items c.self.view_is c.from.ensures
+    (omega (arith, c.count-count.ensures.value)) c.index_mut-site.ensures.value
+    c.in_err-answer.ensures)
+
+pub invariant_of-self-2 : goal.invariant_of-self-2
+invariant_of-self-2 c =
+    given-sim (subst (λ (n : SpaceView). IsSim n.sites) c.self.view_is c.self.invariant)
+    (given-space c.self.inside.sites.items c.self.view_is c.from.ensures
+    (omega (arith, c.count-count.ensures.value)) c.index_mut-site.ensures.value
+    c.in_ok-answer.ensures)
