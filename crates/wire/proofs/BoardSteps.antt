@@ -7,7 +7,7 @@ use lib.Seq.{set-get_or}
 use Rattle.atomic_table.specs.Table.{Me, step, keeps, Allows}
 use Rattle.ids.specs.declared.limits.TheConstants.{GREATEST_CYCLE}
 use Rattle.model.specs.World.{World, run}
-use Rattle.wire.specs.Views.{Role, dealer, node, watch, Pair, Known, marks, raises, pair_at}
+use Rattle.wire.specs.Views.{node, watch, Pair, Known, marks, raises, pair_at}
 use Rattle.wire.specs.Rule.{ended_of, WatchOk, SeatOk, Holds}
 use Rattle.wire.specs.Plays.{HasEnded, raised, looked}
 use Rattle.wire.proofs.Boxes.{mailboxes, board_at}
@@ -58,7 +58,6 @@ module _ {S : Type 0} {bytes : S → List ℕ} {opening : World} where
               (sym role)
               (still-node ok ok.visited
               (λ _. same ∙ ap (λ (z : ℕ). max z k) (ok.shows first)));
-          no_dealer = λ d. (let never : ◌≡◌ {A = Role} node dealer = sym role ∙ d in absurd cc);
           seen = h.learned id v at;
         }),
         (
@@ -104,8 +103,6 @@ module _ {S : Type 0} {bytes : S → List ℕ} {opening : World} where
                   (SeatOk opening h.log r (set s.views id (marks r v)) h.mail id (marks r v))
                   (sym role)
                   (record { opening_is = ok.opening_is; loaded = le_refl r });
-              no_dealer = λ d.
-                  (let never : ◌≡◌ {A = Role} watch dealer = sym role ∙ d in absurd cc);
               seen = h.learned id v at;
             })),
         (

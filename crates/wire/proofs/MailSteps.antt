@@ -12,7 +12,7 @@ use Rattle.model.specs.State.{NodeState, node_at, got_from, sent_to}
 use Rattle.model.specs.World.{World, run, numbered, IsInNet}
 use Rattle.laws.proofs.Lookups.{slice_get-push}
 use Rattle.wire.specs.Lists.{has, found}
-use Rattle.wire.specs.Views.{Role, dealer, node, Pair, Known, notes, claims, takes_in, posts, clears}
+use Rattle.wire.specs.Views.{node, Pair, Known, notes, claims, takes_in, posts, clears}
 use Rattle.wire.specs.Rule.{nodes_of, Box, empty, full, filling_by, emptying_by, face, lying, Content, NodeOk, SeatOk, Holds, Spells, sender, receiver}
 use Rattle.wire.specs.Plays.{Releases, Owns, IsFresh}
 use Rattle.wire.proofs.Lists.{has-here, has-more, has-gone, has-stays, found-here, found-more, found-gone, found-stays}
@@ -114,7 +114,6 @@ module _ {S : Type 0} {bytes : S → List ℕ} {opening : World} where
               (record h.mail { visits = visits.all }) id w)
               (sym role)
               (still-node ok (visits.mine role) ok.shows);
-          no_dealer = λ d. (let never : ◌≡◌ {A = Role} node dealer = sym role ∙ d in absurd cc);
           seen = h.learned id v p.at;
         }))
 

@@ -8,7 +8,7 @@ use Rattle.atomic_table.proofs.Lists.{set_again, set_else}
 use Rattle.model.specs.declared.step.Step.{Step}
 use Rattle.model.specs.World.{World}
 use Rattle.wire.specs.Lists.{Continues}
-use Rattle.wire.specs.Views.{Role, dealer, node, Known, learns}
+use Rattle.wire.specs.Views.{node, Known, learns}
 use Rattle.wire.specs.Rule.{IsOpening, SeatOk, Holds}
 use Rattle.wire.specs.Plays.{Learns, learned}
 use Rattle.wire.proofs.Lists.{continues-itself}
@@ -47,7 +47,6 @@ module _ {S : Type 0} {bytes : S → List ℕ} {opening : World} where
             (set p.state.views p.id w) h.mail p.id w)
             (sym role)
             (still-node ok ok.visited ok.shows);
-        no_dealer = λ d. (let never : ◌≡◌ {A = Role} node dealer = sym role ∙ d in absurd cc);
         seen = begins;
       })
 

@@ -240,7 +240,6 @@ module _ {S : Type 0} {bytes : S → List ℕ} {opening : World} where
         → mail.boxes m ≡ p.holds.mail.boxes m
     pub mine : SeatOk opening log (slice_index words (board_at opening)) (after p w) mail p.id
         w w.role
-    pub no_dealer : p.view.role ≢ dealer
     pub seen : Continues w.seen log
 
   module _ {p : Standing bytes opening} {w : Known} {words : List ℕ} {homes : Homes S}
@@ -510,7 +509,6 @@ module _ {S : Type 0} {bytes : S → List ℕ} {opening : World} where
     pub visits : Visits p w p.holds.mail.boxes
     pub mine : SeatOk opening log (slice_index words (board_at opening)) (after p w)
         (record p.holds.mail { visits = visits.all }) p.id w w.role
-    pub no_dealer : p.view.role ≢ dealer
     pub seen : Continues w.seen log
 
   pub noted : (p : Standing bytes opening) (w : Known) (log : List Step)
@@ -548,6 +546,5 @@ module _ {S : Type 0} {bytes : S → List ℕ} {opening : World} where
         });
         theirs = λ j apart m held. refl;
         mine = t.mine;
-        no_dealer = t.no_dealer;
         seen = t.seen;
       })
