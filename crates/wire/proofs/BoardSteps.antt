@@ -11,7 +11,7 @@ use Rattle.wire.specs.Views.{node, watch, Pair, Known, marks, raises, pair_at}
 use Rattle.wire.specs.Rule.{ended_of, WatchOk, SeatOk, Holds}
 use Rattle.wire.specs.Plays.{HasEnded, raised, looked}
 use Rattle.wire.proofs.Boxes.{mailboxes, board_at}
-use Rattle.wire.proofs.Stays.{Standing, still-node, noted, node-of, same-log, none-more}
+use Rattle.wire.proofs.Stays.{Standing, still-node, noted, remarked, node-of, same-log, none-more}
 
 module _ {S : Type 0} {bytes : S → List ℕ} {opening : World} where
   raise-at : (slots id k : ℕ) (me : Me S Known) → me.0.role ≡ node → me.0.me ≡ 0
@@ -85,26 +85,13 @@ module _ {S : Type 0} {bytes : S → List ℕ} {opening : World} where
             Holds bytes opening
             (record { words = ws; homes = s.homes; views = set s.views id (marks r v) }))
             (sym (set-get_or s.words (board_at opening) 0))
-            (noted here (marks r v) h.log s.words (record {
-              alike = record { role = refl; me = refl };
-              filling = refl;
-              emptying = refl;
-              extends = same-log;
-              wide = refl;
-              boxes = λ m below. refl;
-              events = h.events;
-              count = h.count;
-              board = h.board;
-              fits = h.fits;
-              higher = le_refl r;
-              shown = λ _. refl;
-              visits = none-more (record { role = refl; me = refl }) refl;
-              mine = subst
-                  (SeatOk opening h.log r (set s.views id (marks r v)) h.mail id (marks r v))
-                  (sym role)
-                  (record { opening_is = ok.opening_is; loaded = le_refl r });
-              seen = h.learned id v at;
-            })),
+            (remarked here (marks r v) (record { role = refl; me = refl }) refl refl
+            (none-more (record { role = refl; me = refl }) refl)
+            (subst
+            (SeatOk opening h.log r (set s.views id (marks r v)) h.mail id (marks r v))
+            (sym role)
+            (record { opening_is = ok.opening_is; loaded = le_refl r }))
+            (h.learned id v at)),
         (
           refl,
           refl,

@@ -19,7 +19,7 @@ use Rattle.wire.proofs.Lists.{has-here, has-more, has-gone, has-stays, found-her
 use Rattle.wire.proofs.InOrder.{box-number, box-here, box-else}
 use Rattle.wire.proofs.Boxes.{mailboxes, board_at, holder, is-empty, is-full, none-from, set-at}
 use Rattle.wire.proofs.Events.{count}
-use Rattle.wire.proofs.Stays.{Standing, still-node, Visits, still-seat, noted, same-log, node-of, one-more}
+use Rattle.wire.proofs.Stays.{Standing, still-node, Visits, still-seat, remarked, node-of, one-more}
 use Rattle.wire.proofs.Moves.{moved}
 
 -- what a saved state releases is in the net
@@ -94,28 +94,13 @@ module _ {S : Type 0} {bytes : S → List ℕ} {opening : World} where
         (λ (ws : List ℕ).
         Holds bytes opening (record { words = ws; homes = s.homes; views = set s.views id w }))
         (sym (set-get_or s.words m 0) ∙ ap (set s.words m) (sym is))
-        (noted p w h.log s.words (record {
-          alike = record { role = refl; me = refl };
-          filling = refl;
-          emptying = refl;
-          extends = same-log;
-          wide = refl;
-          boxes = λ k inside. refl;
-          events = h.events;
-          count = h.count;
-          board = h.board;
-          fits = h.fits;
-          higher = (let z : ℕ = slice_index s.words (board_at opening) in
-              let le : z ≤ z = omega arith in le);
-          shown = λ _. refl;
-          visits = visits;
-          mine = subst
-              (SeatOk opening h.log (slice_index s.words (board_at opening)) (set s.views id w)
-              (record h.mail { visits = visits.all }) id w)
-              (sym role)
-              (still-node ok (visits.mine role) ok.shows);
-          seen = h.learned id v p.at;
-        }))
+        (remarked p w (record { role = refl; me = refl }) refl refl visits
+        (subst
+        (SeatOk opening h.log (slice_index s.words (board_at opening)) (set s.views id w)
+        (record h.mail { visits = visits.all }) id w)
+        (sym role)
+        (still-node ok (visits.mine role) ok.shows))
+        (h.learned id v p.at))
 
     pub claim-hit : (m : ℕ) → m < mailboxes opening → v.me ≡ m / nodes_of opening
         → get_or s.words m 0 ≡ 0 → (c : List (ℕ × S))
