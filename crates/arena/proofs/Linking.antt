@@ -5,7 +5,7 @@ use Rattle.std.specs.Prelude.{IsTrue, ◌↔◌, ◌&&◌}
 use Rattle.std.proofs.Common.{refl, sym, ap, ◌∙◌, subst, inl, inr, arith, true≢false}
 use Rattle.std.proofs.lemmas.Bool.{cases_lt, ne_eqb, and_parts, and_from, cases_Bool}
 use Rattle.std.proofs.Math.ListN.{get_or-map, length-append}
-use Rattle.std.proofs.lemmas.List.Sums.{sum_by-set, sum_by-cons, sum_by_push, count_by-le-length}
+use Rattle.std.proofs.lemmas.List.Sums.{sum_by-set, sum_by-cons, sum_by_push}
 use Rattle.std.proofs.Math.Seq.{map-set_same, drop-nil, drop-cons}
 use Rattle.std.proofs.lemmas.List.{get_or_past, get_or_read, get_or-set_same, map_push, length-map}
 use Rattle.arena.specs.Arena.{Has, Once, IsFree, IsBorn, IsSound, plain, is_occupied}
@@ -107,19 +107,6 @@ module _ {T : Type 0} where
         );
         short = before.short;
       }
-
-  -- the counts are at most the number of entries
-  pub counts_fit : {es : Row (Entry T)} {occupied vacant : ℕ} {born : Bool}
-      → AreCounted es occupied vacant born → (occupied ≤ length es.items) × (vacant ≤ length es.items)
-  counts_fit {es} is = (
-    omega (
-      arith,
-      is.occupied_ones,
-      count_by-le-length is_occupied (map slot_of es.items),
-      length-map es.items slot_of,
-    ),
-    omega (arith, is.vacant_ones, count_by-le-length is_unlinked es.items),
-  )
 
   -- at first none is linked
   pub starts : (ss : List (Slot T)) → IsLinking (map unlinked_of ss) [] 0

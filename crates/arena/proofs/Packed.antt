@@ -145,8 +145,13 @@ module _ {E : Type 0} where
             ∙ ap (λ (ys : List E). ys ++ x ∷ [])
             (sym (ap (λ (ys : List E). c₀.items ++ ys) (none (flat cs) ends)
             ∙ append-nil c₀.items));
-        packed = (p.0, omega arith, omega (arith, at.is, at.few),
-            (λ more. absurd (omega arith)), p.4);
+        packed = (
+          p.0,
+          omega arith,
+          omega (arith, at.is, at.few),
+          (λ more. absurd (omega arith)),
+          p.4,
+        );
       })
   extends (c₀ ∷ cs) p (suc q) at some is x =
       let both : length (c₀.items ++ flat cs) ≡ length c₀.items + length (flat cs) =

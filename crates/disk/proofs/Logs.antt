@@ -14,7 +14,7 @@ use Rattle.disk.specs.Crashes.{Only}
 use Rattle.disk.specs.Journal.{EndsAt, HasLog, IsLogged, IsLoggedIf, IsLoggedTo, log_length, OldOrNewLog}
 use Rattle.disk.specs.Journal.{Opens, OpensIf}
 use Rattle.disk.specs.declared.device.Area.{Area}
-use Rattle.disk.specs.Shelf.{told, recorded, record_of, side, half, SelectsLength}
+use Rattle.disk.specs.Shelf.{told, recorded, record_of, side, half}
 use Rattle.disk.proofs.Records.{recorded_cut, recorded_front, recorded_is, recorded_tells}
 use Rattle.disk.proofs.Records.{record_length}
 use Rattle.disk.proofs.Sides.{some_length}
@@ -320,12 +320,6 @@ one_meaning i j bs cs d first second =
   where
     some_same : {x y : List ℕ} → ◌≡◌ {A = Option (List ℕ)} (Some x) (Some y) → x ≡ y
     some_same both = cc both
-
--- the selected area says how long its image is
-pub opens_tells : {image : List ℕ} {batches : List (List ℕ)} {d : Areas} → Opens image batches d →
-    SelectsLength d
-opens_tells {image} {batches} {d} opens =
-    (opens.in_b, opens.selected, recorded_tells (part (half opens.in_b) d) image opens.holds.0)
 
 -- the end that was found is that of this log
 pub same_end : (end : ℕ) (image : List ℕ) (batches : List (List ℕ)) (in_b : Bool) (d : Areas) →

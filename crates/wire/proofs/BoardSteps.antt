@@ -7,11 +7,11 @@ use lib.Seq.{set-get_or}
 use Rattle.atomic_table.specs.Table.{Me, step, keeps, Allows}
 use Rattle.ids.specs.declared.limits.TheConstants.{GREATEST_CYCLE}
 use Rattle.model.specs.World.{World, run}
-use Rattle.wire.specs.Views.{Role, dealer, node, watch, Pair, Known, marks, raises, pair_at}
+use Rattle.wire.specs.Views.{node, watch, Pair, Known, marks, raises, pair_at}
 use Rattle.wire.specs.Rule.{ended_of, WatchOk, SeatOk, Holds}
 use Rattle.wire.specs.Plays.{HasEnded, raised, looked}
 use Rattle.wire.proofs.Boxes.{mailboxes, board_at}
-use Rattle.wire.proofs.Stays.{Standing, still-node, noted, node-of, same-log, none-more}
+use Rattle.wire.proofs.Stays.{Standing, still-node, noted, remarked, node-of, same-log, none-more}
 
 module _ {S : Type 0} {bytes : S → List ℕ} {opening : World} where
   raise-at : (slots id k : ℕ) (me : Me S Known) → me.0.role ≡ node → me.0.me ≡ 0
@@ -58,7 +58,6 @@ module _ {S : Type 0} {bytes : S → List ℕ} {opening : World} where
               (sym role)
               (still-node ok ok.visited
               (λ _. same ∙ ap (λ (z : ℕ). max z k) (ok.shows first)));
-          no_dealer = λ d. (let never : ◌≡◌ {A = Role} node dealer = sym role ∙ d in absurd cc);
           seen = h.learned id v at;
         }),
         (
@@ -86,28 +85,13 @@ module _ {S : Type 0} {bytes : S → List ℕ} {opening : World} where
             Holds bytes opening
             (record { words = ws; homes = s.homes; views = set s.views id (marks r v) }))
             (sym (set-get_or s.words (board_at opening) 0))
-            (noted here (marks r v) h.log s.words (record {
-              alike = record { role = refl; me = refl };
-              filling = refl;
-              emptying = refl;
-              extends = same-log;
-              wide = refl;
-              boxes = λ m below. refl;
-              events = h.events;
-              count = h.count;
-              board = h.board;
-              fits = h.fits;
-              higher = le_refl r;
-              shown = λ _. refl;
-              visits = none-more (record { role = refl; me = refl }) refl;
-              mine = subst
-                  (SeatOk opening h.log r (set s.views id (marks r v)) h.mail id (marks r v))
-                  (sym role)
-                  (record { opening_is = ok.opening_is; loaded = le_refl r });
-              no_dealer = λ d.
-                  (let never : ◌≡◌ {A = Role} watch dealer = sym role ∙ d in absurd cc);
-              seen = h.learned id v at;
-            })),
+            (remarked here (marks r v) (record { role = refl; me = refl }) refl refl
+            (none-more (record { role = refl; me = refl }) refl)
+            (subst
+            (SeatOk opening h.log r (set s.views id (marks r v)) h.mail id (marks r v))
+            (sym role)
+            (record { opening_is = ok.opening_is; loaded = le_refl r }))
+            (h.learned id v at)),
         (
           refl,
           refl,

@@ -7,7 +7,7 @@ use Rattle.ids.specs.declared.limits.TheConstants.{GREATEST_CYCLE}
 use Rattle.model.specs.declared.step.Step.{Step}
 use Rattle.model.specs.World.{World, run, happens}
 use Rattle.model.proofs.Runs.{run-push}
-use Rattle.wire.specs.Views.{Role, dealer, node, Pair, Known, ticks, pair_at}
+use Rattle.wire.specs.Views.{node, Pair, Known, ticks, pair_at}
 use Rattle.wire.specs.Rule.{nodes_of, ended_of, AreEvents, NodeOk, SeatOk, Holds}
 use Rattle.wire.specs.Plays.{Happens, Enters, ticked}
 use Rattle.wire.proofs.Events.{count, width, net-push, ended-push, are-push, events-push_same, events-push_other, IsLocal, happens-local}
@@ -134,7 +134,6 @@ module _ {S : Type 0} {bytes : S → List ℕ} {opening : World} where
               (sym role)
               (subst (λ (z : ℕ). NodeOk opening (h.log ++ e ∷ []) z h.mail id (ticks e q v))
               (sym board) mine);
-          no_dealer = λ d. (let never : ◌≡◌ {A = Role} node dealer = sym role ∙ d in absurd cc);
           seen = continues-both v.seen h.log (h.log ++ e ∷ []) (h.learned id v p.at)
               (e ∷ [], refl);
         })

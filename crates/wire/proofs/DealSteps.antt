@@ -69,7 +69,6 @@ record Deal {S : Type 0} (bytes : S → List ℕ) (opening : World) : Type 0 whe
   pub at : get_elem? s.views id ≡ some v
   pub was : v.role ≡ dealer
   pub role : left.role ≡ dealer
-  pub no_dealer : right.role ≢ dealer
   pub left_ok : DealerOk opening h.log (slice_index s.words (board_at opening)) h.mail
       (Seats s.views left right id) id left
   pub right_ok : SeatOk opening h.log (slice_index s.words (board_at opening))
@@ -256,7 +255,6 @@ module _ {S : Type 0} {bytes : S → List ℕ} {opening : World} where
         at = at;
         was = role;
         role = role;
-        no_dealer = λ e. (let never : ◌≡◌ {A = Role} node dealer = e in absurd cc);
         left_ok = record {
           nodes_is = ok.nodes_is;
           opening_is = ok.opening_is;

@@ -12,14 +12,14 @@ use Rattle.model.specs.State.{NodeState, node_at, got_from, sent_to}
 use Rattle.model.specs.World.{World, run, numbered, IsInNet}
 use Rattle.laws.proofs.Lookups.{slice_get-push}
 use Rattle.wire.specs.Lists.{has, found}
-use Rattle.wire.specs.Views.{Role, dealer, node, Pair, Known, notes, claims, takes_in, posts, clears}
+use Rattle.wire.specs.Views.{node, Pair, Known, notes, claims, takes_in, posts, clears}
 use Rattle.wire.specs.Rule.{nodes_of, Box, empty, full, filling_by, emptying_by, face, lying, Content, NodeOk, SeatOk, Holds, Spells, sender, receiver}
 use Rattle.wire.specs.Plays.{Releases, Owns, IsFresh}
 use Rattle.wire.proofs.Lists.{has-here, has-more, has-gone, has-stays, found-here, found-more, found-gone, found-stays}
 use Rattle.wire.proofs.InOrder.{box-number, box-here, box-else}
 use Rattle.wire.proofs.Boxes.{mailboxes, board_at, holder, is-empty, is-full, none-from, set-at}
 use Rattle.wire.proofs.Events.{count}
-use Rattle.wire.proofs.Stays.{Standing, still-node, Visits, still-seat, noted, same-log, node-of, one-more}
+use Rattle.wire.proofs.Stays.{Standing, still-node, Visits, still-seat, remarked, node-of, one-more}
 use Rattle.wire.proofs.Moves.{moved}
 
 -- what a saved state releases is in the net
@@ -94,29 +94,13 @@ module _ {S : Type 0} {bytes : S → List ℕ} {opening : World} where
         (λ (ws : List ℕ).
         Holds bytes opening (record { words = ws; homes = s.homes; views = set s.views id w }))
         (sym (set-get_or s.words m 0) ∙ ap (set s.words m) (sym is))
-        (noted p w h.log s.words (record {
-          alike = record { role = refl; me = refl };
-          filling = refl;
-          emptying = refl;
-          extends = same-log;
-          wide = refl;
-          boxes = λ k inside. refl;
-          events = h.events;
-          count = h.count;
-          board = h.board;
-          fits = h.fits;
-          higher = (let z : ℕ = slice_index s.words (board_at opening) in
-              let le : z ≤ z = omega arith in le);
-          shown = λ _. refl;
-          visits = visits;
-          mine = subst
-              (SeatOk opening h.log (slice_index s.words (board_at opening)) (set s.views id w)
-              (record h.mail { visits = visits.all }) id w)
-              (sym role)
-              (still-node ok (visits.mine role) ok.shows);
-          no_dealer = λ d. (let never : ◌≡◌ {A = Role} node dealer = sym role ∙ d in absurd cc);
-          seen = h.learned id v p.at;
-        }))
+        (remarked p w (record { role = refl; me = refl }) refl refl visits
+        (subst
+        (SeatOk opening h.log (slice_index s.words (board_at opening)) (set s.views id w)
+        (record h.mail { visits = visits.all }) id w)
+        (sym role)
+        (still-node ok (visits.mine role) ok.shows))
+        (h.learned id v p.at))
 
     pub claim-hit : (m : ℕ) → m < mailboxes opening → v.me ≡ m / nodes_of opening
         → get_or s.words m 0 ≡ 0 → (c : List (ℕ × S))

@@ -11,7 +11,7 @@ use Rattle.msg.specs.Grammar.{Plain}
 use Rattle.model.specs.declared.step.Step.{Step}
 use Rattle.model.specs.World.{World, run, IsInNet}
 use Rattle.wire.specs.Lists.{has, found, Continues}
-use Rattle.wire.specs.Views.{Role, dealer, node, Known, visits_with, pair_at}
+use Rattle.wire.specs.Views.{node, Known, visits_with, pair_at}
 use Rattle.wire.specs.Rule.{nodes_of, ended_of, events_of, Box, Mail, filling_by, emptying_by, face, lying, in_box, Content, BoxOk, NodeOk, SeatOk, Holds}
 use Rattle.wire.proofs.Boxes.{mailboxes, board_at, put, at_put, put-here, put-other, holder}
 use Rattle.wire.proofs.Stays.{board_of, IsSeat, IsLike, Apart, Standing, Visits, same-log, turned, box-stays, node-of, one-more}
@@ -206,7 +206,6 @@ module _ {S : Type 0} {bytes : S → List ℕ} {opening : World} where
               (sym (t.seat.alike.role ∙ t.role))
               (subst (λ (z : ℕ). NodeOk opening p.holds.log z then p.id w) (sym board)
               moved-node);
-          no_dealer = λ d. (let never : ◌≡◌ {A = Role} node dealer = sym t.role ∙ d in absurd cc);
           seen = subst (λ (l : List Step). Continues l p.holds.log) (sym t.seat.seen)
               (p.holds.learned p.id p.view p.at);
         })

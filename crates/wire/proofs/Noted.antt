@@ -1,5 +1,5 @@
 -- A seat that learns a beginning of the history keeps the rule.
-use Rattle.std.proofs.Common.{◌≡◌, ℕ, List, refl, sym, ◌∙◌, subst, le_refl}
+use Rattle.std.proofs.Common.{◌≡◌, ℕ, List, refl, sym, ◌∙◌, subst}
 use mathlib.Core.Option.{none, some}
 use lib.ListN.{get_elem?}
 use lib.Seq.{set-get_or}
@@ -8,11 +8,11 @@ use Rattle.atomic_table.proofs.Lists.{set_again, set_else}
 use Rattle.model.specs.declared.step.Step.{Step}
 use Rattle.model.specs.World.{World}
 use Rattle.wire.specs.Lists.{Continues}
-use Rattle.wire.specs.Views.{Role, dealer, node, Known, learns}
+use Rattle.wire.specs.Views.{node, Known, learns}
 use Rattle.wire.specs.Rule.{IsOpening, SeatOk, Holds}
 use Rattle.wire.specs.Plays.{Learns, learned}
 use Rattle.wire.proofs.Lists.{continues-itself}
-use Rattle.wire.proofs.Stays.{board_of, Standing, still-node, noted, node-of, none-more, same-log}
+use Rattle.wire.proofs.Stays.{board_of, Standing, still-node, remarked, node-of, none-more}
 use Rattle.wire.proofs.Supplying.{led}
 use Rattle.std.specs.Prelude.{set}
 
@@ -28,28 +28,14 @@ module _ {S : Type 0} {bytes : S → List ℕ} {opening : World} where
       let h = p.holds in
       let w : Known = learns seen p.view in
       let ok = node-of p role in
-      noted p w h.log p.state.words (record {
-        alike = record { role = refl; me = refl };
-        filling = refl;
-        emptying = refl;
-        extends = same-log;
-        wide = refl;
-        boxes = λ m below. refl;
-        events = h.events;
-        count = h.count;
-        board = h.board;
-        fits = h.fits;
-        higher = le_refl _;
-        shown = λ _. refl;
-        visits = none-more (record { role = refl; me = refl }) refl;
-        mine = subst
-            (SeatOk opening h.log (board_of p)
-            (set p.state.views p.id w) h.mail p.id w)
-            (sym role)
-            (still-node ok ok.visited ok.shows);
-        no_dealer = λ d. (let never : ◌≡◌ {A = Role} node dealer = sym role ∙ d in absurd cc);
-        seen = begins;
-      })
+      remarked p w (record { role = refl; me = refl }) refl refl
+      (none-more (record { role = refl; me = refl }) refl)
+      (subst
+      (SeatOk opening h.log (board_of p)
+      (set p.state.views p.id w) h.mail p.id w)
+      (sym role)
+      (still-node ok ok.visited ok.shows))
+      begins
 
   note-joined : (id other : ℕ) (v w : Known) → v.role ≡ node
       → Joins (Holds bytes opening) id v other w (learns w.seen v) w

@@ -1,5 +1,5 @@
 -- What remains of the rule when one seat takes a step.
-use Rattle.std.proofs.Common.{◌≡◌, ◌≢◌, ℕ, suc, ◌/◌, ◌%◌, ◌^◌, ◌<◌, ◌≤◌, ◌==◌, eq-eqb, ne_eqb, List, [], ◌∷◌, ◌++◌, length, set, refl, sym, ap, ◌∙◌, subst, ⊎_elim, arith, le_trans}
+use Rattle.std.proofs.Common.{◌≡◌, ◌≢◌, ℕ, suc, ◌/◌, ◌%◌, ◌^◌, ◌<◌, ◌≤◌, ◌==◌, eq-eqb, ne_eqb, List, [], ◌∷◌, ◌++◌, length, set, refl, sym, ap, ◌∙◌, subst, ⊎_elim, arith, le_refl, le_trans}
 use Rattle.std.specs.Prelude.{slice_index}
 use mathlib.Core.Option as maybe
 use mathlib.Core.Option.{some, some-injective}
@@ -240,7 +240,6 @@ module _ {S : Type 0} {bytes : S → List ℕ} {opening : World} where
         → mail.boxes m ≡ p.holds.mail.boxes m
     pub mine : SeatOk opening log (slice_index words (board_at opening)) (after p w) mail p.id
         w w.role
-    pub no_dealer : p.view.role ≢ dealer
     pub seen : Continues w.seen log
 
   module _ {p : Standing bytes opening} {w : Known} {words : List ℕ} {homes : Homes S}
@@ -510,7 +509,6 @@ module _ {S : Type 0} {bytes : S → List ℕ} {opening : World} where
     pub visits : Visits p w p.holds.mail.boxes
     pub mine : SeatOk opening log (slice_index words (board_at opening)) (after p w)
         (record p.holds.mail { visits = visits.all }) p.id w w.role
-    pub no_dealer : p.view.role ≢ dealer
     pub seen : Continues w.seen log
 
   pub noted : (p : Standing bytes opening) (w : Known) (log : List Step)
@@ -548,6 +546,33 @@ module _ {S : Type 0} {bytes : S → List ℕ} {opening : World} where
         });
         theirs = λ j apart m held. refl;
         mine = t.mine;
-        no_dealer = t.no_dealer;
         seen = t.seen;
+      })
+
+  -- the same if it changes no word and adds no event
+  pub remarked : (p : Standing bytes opening) (w : Known) → IsAlike p.view w
+      → w.filling ≡ p.view.filling → w.emptying ≡ p.view.emptying
+      → (visits : Visits p w p.holds.mail.boxes)
+      → SeatOk opening p.holds.log (board_of p) (after p w)
+      (record p.holds.mail { visits = visits.all }) p.id w w.role
+      → Continues w.seen p.holds.log
+      → Holds bytes opening
+      (record { words = p.state.words; homes = p.state.homes; views = after p w })
+  remarked p w alike filling emptying visits mine seen =
+      noted p w p.holds.log p.state.words (record {
+        alike = alike;
+        filling = filling;
+        emptying = emptying;
+        extends = same-log;
+        wide = refl;
+        boxes = λ m below. refl;
+        events = p.holds.events;
+        count = p.holds.count;
+        board = p.holds.board;
+        fits = p.holds.fits;
+        higher = le_refl _;
+        shown = λ _. refl;
+        visits = visits;
+        mine = mine;
+        seen = seen;
       })

@@ -116,13 +116,6 @@ all-at P [] i d h less = absurd (omega (arith, less))
 all-at P (x ∷ xs) zero d h less = h.0
 all-at P (x ∷ xs) (suc i) d h less = all-at P xs i d h.1 (omega (arith, less))
 
-pub item-is : (steps : List Step) (place : ℕ) (s : Step)
-    → AllByRecursion (λ z. is_collectors z ≡ true) steps → place < length steps
-    → s ≡ get_or steps place s → is_collectors s ≡ true
-item-is steps place s all less item =
-    subst (λ (z : Step). is_collectors z ≡ true) (sym item)
-    (all-at (λ z. is_collectors z ≡ true) steps place s all less)
-
 -- The steps of the list before this place were taken, and led to the space `old`. The step in this
 -- place, which is next, is the collector's.
 pub record IsAtStep (w : World) (old : SpaceView) (steps : List Step) (place : ℕ) (s : Step)
@@ -131,6 +124,18 @@ pub record IsAtStep (w : World) (old : SpaceView) (steps : List Step) (place : �
   pub item : s ≡ get_or steps place s
   pub own : is_collectors s ≡ true
   pub shown : ShowsSpace old (run w (take place steps))
+
+pub at-step : {old : SpaceView} (w : World) (steps : List Step) (place : ℕ) (s : Step)
+    → AllByRecursion (λ z. is_collectors z ≡ true) steps → place < length steps
+    → s ≡ get_or steps place s → ShowsSpace old (run w (take place steps))
+    → IsAtStep w old steps place s
+at-step w steps place s all less item shown = record {
+  less = less;
+  item = item;
+  own = subst (λ (z : Step). is_collectors z ≡ true) (sym item)
+      (all-at (λ z. is_collectors z ≡ true) steps place s all less);
+  shown = shown;
+}
 
 pub taken-more : {w : World} {old : SpaceView} {steps : List Step} {place : ℕ} {s : Step}
     (new : SpaceView) (o : Outcome) → IsAtStep w old steps place s

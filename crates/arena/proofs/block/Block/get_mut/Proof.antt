@@ -34,49 +34,41 @@ use Rattle.arena.proofs.block.Block.get_mut.Code as code
 
 module _ (E : El) {M : Type 1} {𝓤 : Ura M} (𝓛 : Logic 𝓤) (d : (B E).Denot) (index : ℕ)
     (rb ro b o : ℕ) (ms : List Val) where
-  abbrev s : ℕ
-  s = sz E
-
-  abbrev from : ℕ
-  from = d.emptied * s + o
-
-  abbrev with_it : el_x E → (B E).Denot
-  with_it w = with_values d (set d.values index w)
-
   -- what stays with the block while the value is lent
   abbrev Rest : Fml
-  Rest = fsep (others (shares (R E)) full_share d.values index b from)
+  Rest = fsep (others (shares (R E)) full_share d.values index b (d.emptied * sz E + o))
       (fsep (fsep (room_of (R E) d.emptied b o)
-      (room_of (R E) d.unused b ((d.emptied + length d.values) * s + o)))
+      (room_of (R E) d.unused b ((d.emptied + length d.values) * sz E + o)))
       (fsep ((Fields E).own_val (d.start, tt) ms)
       (cell_at full_share (B E).mir (owner E b o ∷ []) rb ro)))
 
   back : d.start ≡ block_ptr b o → ms ≡ owner E b o ∷ [] → IsSmall E d → index < length d.values
-      → (at : ℕ) → at ≡ place s from index
+      → (at : ℕ) → at ≡ place (sz E) (d.emptied * sz E + o) index
       → (w : el_x E) → ent 𝓤 (sep 𝓤 (sem 𝓛 ((mem (R E)).own_at w b at)) (sem 𝓛 Rest))
-      (sem 𝓛 ((mem (B E)).own_at (with_it w) rb ro))
+      (sem 𝓛 ((mem (B E)).own_at (with_values d (set d.values index w)) rb ro))
   unfolding part_of
   back e word small lt at here w =
       let long : length (set d.values index w) ≡ length d.values = length-set d.values index w in
       qed 𝓛 (‵ (part_at (R E) full_share w b at) ∷ ‵ Rest ∷ []) ∵
       rewrite ! 0 (λ (j : ℕ). ‵ (part_at (R E) full_share w b j)) here refl $
       move ! (1 ∷ []) $ fsplit ! $ move ! (2 ∷ 0 ∷ []) $
-      use2 𝓛 (‵ (row (R E) full_share (set d.values index w) b from))
-      (puts (shares (R E)) full_share 𝓛 d.values index w b from lt) $
+      use2 𝓛 (‵ (row (R E) full_share (set d.values index w) b (d.emptied * sz E + o)))
+      (puts (shares (R E)) full_share 𝓛 d.values index w b (d.emptied * sz E + o) lt) $
       move ! (1 ∷ []) $ fsplit ! $
       rewrite ! 0 (λ (j : ℕ).
       ‵ (fsep (room_of (R E) d.emptied b o)
-      (room_of (R E) d.unused b ((d.emptied + j) * s + o)))) (sym long) refl $
+      (room_of (R E) d.unused b ((d.emptied + j) * sz E + o)))) (sym long) refl $
       move ! (2 ∷ 0 ∷ []) $ fjoin ! $
-      flt_i ! ((d.emptied + length (set d.values index w) + d.unused) * s) (2 ^ 63)
-      (subst (λ (j : ℕ). (d.emptied + j + d.unused) * s < 2 ^ 63) (sym long) small) $ fjoin ! $
+      flt_i ! ((d.emptied + length (set d.values index w) + d.unused) * sz E) (2 ^ 63)
+      (subst (λ (j : ℕ). (d.emptied + j + d.unused) * sz E < 2 ^ 63) (sym long) small) $ fjoin ! $
       rewrite ! 0 (λ (p : Ptr). ‵ (block_owns (R E) p d.emptied (set d.values index w) d.unused))
       (sym e) refl $
       move ! (1 ∷ []) $ fsplit ! $ move ! (0 ∷ 2 ∷ []) $ fjoin ! $ move ! (1 ∷ []) $
       rewrite ! 0 (λ (ws : List Val). ‵ (cell_at full_share (B E).mir ws rb ro)) (sym word) refl $
       fjoin ! $
       fpack ! (List Val) (λ (us : List Val).
-      fsep (cell_at full_share (B E).mir us rb ro) ((B E).own_val (with_it w) us)) ms $ done !
+      fsep (cell_at full_share (B E).mir us rb ro)
+      ((B E).own_val (with_values d (set d.values index w)) us)) ms $ done !
 
 pub get_mut_spec : {M : Type 1} → statement M
 get_mut_spec 𝓤 𝓛 𝓜 𝓡 wired T L =
@@ -125,7 +117,7 @@ get_mut_spec 𝓤 𝓛 𝓜 𝓡 wired T L =
     omega (arith, times_below index (k + length xs + n) s (2 ^ 63) (omega (arith, lt)) small) in
     let way = back E 𝓛 d index rb ro b o ms e word small lt at here in
     let kept : Fml = Rest E 𝓛 d index rb ro b o ms in
-    let with : el_x E → (B E).Denot = with_it E 𝓛 d index rb ro b o ms in
+    let with : el_x E → (B E).Denot = λ w. with_values d (set xs index w) in
     let was = (B E).coded.code d in
     move ! (2 ∷ []) $ use1 𝓛
     (‵ (part_at (R E) full_share x b (place s from index)) ⊛ ‵
