@@ -1,11 +1,11 @@
-// Times saves of a host over a store in files, by batches and whole: requests of 1, 16 and 256 events
-// on a node with this many objects. It counts the bytes and the syncs of each save.
+// Times saves of a host over a store in files, by batches and whole: requests of 1, 16 and 256
+// events on a node with this many objects. It counts the bytes and the syncs of each save.
 //
 //     saved FOLDER OBJECTS TIMES
 //
-// It is compiled with host/{host,saved,taking,sending,programs,packets,store,files}.c, and linked with
-// libmarkring.a. The time of a request goes from its first event to the end of its save; what is
-// printed is the median.
+// It is compiled with host/{host,saved,taking,sending,programs,packets,store,files}.c, and linked
+// with libmarkring.a. The time of a request goes from its first event to the end of its save; what
+// is printed is the median.
 #include "host.h"
 #include "store.h"
 
@@ -99,7 +99,7 @@ static void measure(const char *way, uint32_t objects, int events, int times)
         took[i] = seconds() - began;
     }
     qsort(took, (size_t)times, sizeof *took, compare);
-    printf("%u objects, %s, %d events: %.0f bytes, %.2f syncs, %.3f ms (least %.3f, greatest %.3f)\n",
+    printf("%u objects, %s, %d events: %.0f bytes, %.2f syncs, %.3f ms (least %.3f, most %.3f)\n",
         objects, way, events, (double)written / times, (double)syncs / times,
         1e3 * took[times / 2], 1e3 * took[0], 1e3 * took[times - 1]);
     free(took);

@@ -203,8 +203,9 @@ static bool has_room(const host *it, size_t length)
     return it->entries <= most && STORE_HEAD + length + STORE_TAIL <= most - it->entries;
 }
 
-// Takes a batch, with what else has changed; or returns MARKRING_NO_LOG if an image has to be taken.
-// What is saved by batches may have to become an image at any time, so its size is looked at.
+// Takes a batch, with what else has changed; or returns MARKRING_NO_LOG if an image has to be
+// taken. What is saved by batches may have to become an image at any time, so its size is looked
+// at.
 static int take_batch(host *it)
 {
     size_t batch = 0;

@@ -76,8 +76,8 @@ struct host {
     bool changed, saving, stopping, has_work;
     uint64_t save_at, work_at; // not before these times
     store_value value;
-    // The bytes of the last whole value, and of the entries behind it; and how many saves have to be
-    // whole values.
+    // The bytes of the last whole value, and of the entries behind it; and how many saves have to
+    // be whole values.
     size_t whole, entries;
     int whole_due;
     size_t size;        // of the last image, with what may have been added since

@@ -1,5 +1,5 @@
-// The value that a host saves: all of it that lasts, and the image of its node. An entry behind it has
-// what has changed of that, and a batch of the node's events.
+// The value that a host saves: all of it that lasts, and the image of its node. An entry behind it
+// has what has changed of that, and a batch of the node's events.
 #include "inside.h"
 
 #include <stdlib.h>

@@ -12,8 +12,8 @@
 static const uint8_t MAGIC[4] = {0x4D, 0x52, 0x53, 0x02};
 static const char *const NAMES[2] = {"a", "b"};
 
-// Before an entry: its length and its number. An entry that makes its file longer has zeros behind it
-// up to a multiple of STEP, since a sync is slower if the file's length has changed.
+// Before an entry: its length and its number. An entry that makes its file longer has zeros behind
+// it up to a multiple of STEP, since a sync is slower if the file's length has changed.
 enum { ENTRY_HEAD = 16, FIRST_VERSION = 1, STEP = 65536, ZEROS = 4096 };
 
 // A slot as it was read: its bytes, or nothing; the number of its last save, and the last checksum.

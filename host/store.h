@@ -78,8 +78,8 @@ typedef struct store {
 //
 // `is_entry` says that it isn't a value, but is to be added behind the one that counts.
 //
-// If it was read, the entries behind it end at `buffer + end`; store_next reads them. `whole` is how
-// many saves have to be whole values before an entry may be added: a slot of an earlier version
+// If it was read, the entries behind it end at `buffer + end`; store_next reads them. `whole` is
+// how many saves have to be whole values before an entry may be added: a slot of an earlier version
 // can't have entries, and shouldn't stay either, since earlier versions would open it.
 typedef struct store_value {
     uint8_t *buffer;
@@ -103,8 +103,8 @@ store_status store_create(
 store_status store_open(store *it, const store_calls *calls, const char *path, store_value *value);
 
 // Saves a value, or adds an entry, with the next number. The bytes around it are overwritten.
-// STORE_FAILED, STORE_UNKNOWN. After STORE_FAILED its number isn't used again: all of it may have been
-// written, and it counts if the process ends before another save.
+// STORE_FAILED, STORE_UNKNOWN. After STORE_FAILED its number isn't used again: all of it may have
+// been written, and it counts if the process ends before another save.
 store_status store_save(store *it, store_value *value);
 
 // The next entry behind a value that was read, or NULL. `*at` is 0 for the first entry, and is then

@@ -476,8 +476,8 @@ int markring_node_from_image(markring_node *node, const uint8_t *bytes, size_t l
 
 // Begins a log of the node's events, or ends it if `on` is 0. It has the events since the last
 // image or batch, so it is of use from the next image on. If there is one already, to begin it
-// changes nothing. Each event takes 1 to 48 bytes of memory, until the next image or batch, also one
-// that takes no memory by its comment.
+// changes nothing. Each event takes 1 to 48 bytes of memory, until the next image or batch, also
+// one that takes no memory by its comment.
 //
 // The log is lost if an allocation for it fails, if it would become longer than 1,048,576 bytes,
 // and by markring_node_release; no event fails because of that. A new one begins at the next image.

@@ -11,6 +11,9 @@
 #include <stdio.h>
 #include <stdlib.h>
 
+#define XXH_INLINE_ALL
+#include <xxhash.h>
+
 enum {
     MOST = 4,  // nodes
     PARTS = 2, // programs a node
@@ -1098,6 +1101,23 @@ static void drop_all(void)
 
 // ## A run
 
+// Makes the folder of a new node one of the first version, with the image of a node without a log.
+static void make_old(disk *it, uint8_t node)
+{
+    disk_file *file = &it->files[0];
+    uint8_t image[5] = {0x4D, 0x52, 3, nodes, node};
+    size_t length = file->seen_length - STORE_TAIL, at = length - sizeof image;
+    while (at > 0 && memcmp(file->seen + at, image, sizeof image) != 0) {
+        at--;
+    }
+    HOLDS(at > 0 && file->durable_length == file->seen_length);
+    file->seen[3] = 1;
+    file->seen[at + 2] = 2;
+    writer to = writer_of(file->seen + length, STORE_TAIL);
+    write_number(&to, XXH3_64bits(file->seen, length), STORE_TAIL);
+    memcpy(file->durable, file->seen, file->seen_length);
+}
+
 // A node is created; until that says that it is done, it may be broken off.
 static void create(uint8_t node)
 {
@@ -1131,6 +1151,9 @@ static void create(uint8_t node)
             disk_power_off(&at->disk);
         } else {
             disk_kill(&at->disk);
+        }
+        if (done && below(3) == 0) {
+            make_old(&at->disk, node);
         }
         if (!done) {
             // The operator removes what there is.

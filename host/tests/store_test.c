@@ -1,6 +1,6 @@
-// The store: what each failing call leaves; every crash of a creation, an opening and a save, of whole
-// values and of entries. Each byte of a slot is changed. Then come folders of the first version, and
-// locks and refusals on the file system.
+// The store: what each failing call leaves; every crash of a creation, an opening and a save, of
+// whole values and of entries. Each byte of a slot is changed. Then come folders of the first
+// version, and locks and refusals on the file system.
 //
 //     store_test [CRASHES]
 #include "../bytes.h"

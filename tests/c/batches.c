@@ -1,7 +1,8 @@
-// Batches: the events of a node since its last image or batch. Nodes of a space do random events, and
-// are saved by batches at random moments. Each has a twin that is given the same calls and is saved by
-// images alone. After a crash a node is taken back from its image and its batches, and has to be what
-// the image of its twin says. Then come damaged batches, short buffers, and logs that aren't there.
+// Batches: the events of a node since its last image or batch. Nodes of a space do random events,
+// and are saved by batches at random moments. Each has a twin that is given the same calls and is
+// saved by images alone. After a crash a node is taken back from its image and its batches, and has
+// to be what the image of its twin says. Then come damaged batches, short buffers, and logs that
+// aren't there.
 //
 //     batches SEEDS STEPS
 #include "check.h"
