@@ -242,8 +242,8 @@ module _ {n : NodeView} (m : Plan n) where
         ap (λ (z : Heap). with_these n (record a { heap = z })) done.heap
         ∙ ap (λ (z : List Ref). with_these n (record a { heap = whole.local.heap; asked = z }))
         done.keys
-        ∙ ap (λ (z : Ring). with_parts n whole.local.heap whole.local.asked n.local.phases z a.links)
-        done.ring
+        ∙ ap (λ (z : Ring).
+        with_parts n whole.local.heap whole.local.asked n.local.phases z a.links) done.ring
         ∙ ap (with_parts n whole.local.heap whole.local.asked n.local.phases whole.local.ring)
         sent.sent
 
@@ -345,7 +345,8 @@ module _ (n : NodeView) (cycle : ℕ) (before : (n.local.phases.ended == cycle) 
 
     pub joining-run : {new : NodeView}
         → fits (map used n.links) (marks_for cycle (first_asked n)) ≡ true
-        → IsRun (errand_here due (filled os) x (joined_node n cycle).local) (joined_node n cycle) new
+        → IsRun (errand_here due (filled os) x (joined_node n cycle).local) (joined_node n cycle)
+        new
         → IsRun joins_then n new
     joining-run {new = new} first run =
         run-both n (join n.local cycle) (errand_here due (filled os) x)

@@ -135,7 +135,8 @@ module _ (n : NodeView) (es : Rings) (from : ℕ) (d : Data)
     as-told : got_from n.local d.from ≡ get_or n.local.got from 0
     as-told = ap (λ (z : ℕ). get_or n.local.got z 0) (h.named from 0 d waits).sender
 
-    turn-received : {new : NodeView} (a : Answer) → view_act n (event.Data d) ≡ Ok (new, a) → a ≡ answer.Received
+    turn-received : {new : NodeView} (a : Answer) → view_act n (event.Data d) ≡ Ok (new, a)
+        → a ≡ answer.Received
     turn-received {new = new} a answered = by (data-turned n new d a answered).1
       where
         by : Turned n.local d a → a ≡ answer.Received
@@ -151,7 +152,8 @@ module _ (n : NodeView) (es : Rings) (from : ℕ) (d : Data)
         (emptied-fills (IsInPlace n.local.own (get_or n.local.got from 0) from) (ring_of es from)
         (h.named from))
 
-    waited-kept : {new : NodeView} (r : Result Answer Refusal) → Performed true r n new (view_act n (event.Data d))
+    waited-kept : {new : NodeView} (r : Result Answer Refusal)
+        → Performed true r n new (view_act n (event.Data d))
         → KeptAfter n (event.Data d) r (after_next es from (Some d) r)
     waited-kept (Err f) p = refused-kept f
     waited-kept (Ok a) p =
@@ -164,7 +166,8 @@ module _ (n : NodeView) (es : Rings) (from : ℕ) (d : Data)
         (kept-due _ _ n.local.got es from d.number h its-turn))
 
 -- Next, by what waits
-next-kept : (n : NodeView) {new : NodeView} (es : Rings) (from : ℕ) (o : Option Data) (r : Result Answer Refusal)
+next-kept : (n : NodeView) {new : NodeView} (es : Rings) (from : ℕ) (o : Option Data)
+    (r : Result Answer Refusal)
     → AreKept n.local.shape.nodes n.local.own n.local.got es → waiting es from ≡ o
     → Performed (is_shading (next_event from o)) r n new (view_act n (next_event from o))
     → KeptAfter n (next_event from o) r (after_next es from o r)
@@ -194,7 +197,8 @@ handled-kept old new e r x =
     }
 
 -- the answer to Next, when a frame waits
-next-turn : (n : NodeView) {new : NodeView} (es : Rings) {from : ℕ} (o : Option Data) (r : Result Answer Refusal)
+next-turn : (n : NodeView) {new : NodeView} (es : Rings) {from : ℕ} (o : Option Data)
+    (r : Result Answer Refusal)
     → AreKept n.local.shape.nodes n.local.own n.local.got es → waiting es from ≡ o
     → Performed (is_shading (next_event from o)) r n new (view_act n (next_event from o))
     → next_event from o ≢ event.Next from → IfOk r (λ a. a ≡ answer.Received)

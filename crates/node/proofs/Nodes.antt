@@ -79,9 +79,9 @@ rewired n l r =
       acks = l.acks;
     }
 
-pub node-rewired : (n : NodeView) (v : LinksView) (q : Ring) → IsNode n → q.token ≡ n.local.ring.token
-    → AreLinked n.local.shape n.local.own n.local.phases.cycle v → IsBalanced q v.links v.got
-    → IsNode (rewired n v q)
+pub node-rewired : (n : NodeView) (v : LinksView) (q : Ring) → IsNode n
+    → q.token ≡ n.local.ring.token → AreLinked n.local.shape n.local.own n.local.phases.cycle v
+    → IsBalanced q v.links v.got → IsNode (rewired n v q)
 node-rewired n v q old same linked balance = record {
   shape = old.shape;
   own = old.own;

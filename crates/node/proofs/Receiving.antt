@@ -198,7 +198,8 @@ module _ (from stamp : ℕ) (p : LocalState) where
   mark-followed target =
       by-errand (body.Mark target) same
     where
-      same : then (take_carried stamp (body.Mark target) q) (take_body from stamp (body.Mark target))
+      same : then (take_carried stamp (body.Mark target) q)
+          (take_body from stamp (body.Mark target))
           ≡ errand_here true (target ∷ []) extra.Nothing q
       same =
           let w : Work = see_to true (target ∷ []) q in
@@ -218,7 +219,8 @@ module _ (from stamp : ℕ) (p : LocalState) where
       l : Extra
       l = extra.Letter (record { from = from; label = label; reference = v })
 
-      same : then (take_carried stamp (body.Give label v) q) (take_body from stamp (body.Give label v))
+      same : then (take_carried stamp (body.Give label v) q)
+          (take_body from stamp (body.Give label v))
           ≡ errand_here due (filled (v ∷ [])) l q
       same = rw (is, joined-cycle p stamp, filled-one v) refl
 

@@ -41,7 +41,8 @@ stays : (c : After-is_empty)
 stays c =
     errand-stays _ _ _ _ _ (omega (arith, c.if-cycle-current.false, c.cycle-current.ensures.value))
 
-ready : (c : After-count-arg-1) → Ready (plan (goal.at.count-requires-clause-counted c).After-is_empty)
+ready : (c : After-count-arg-1)
+    → Ready (plan (goal.at.count-requires-clause-counted c).After-is_empty)
 ready c =
     let n : NodeView = view_of c.self.inside in
     let us : List Ref = filled c.while_marking-met.result.now in

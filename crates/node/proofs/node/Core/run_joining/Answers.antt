@@ -216,8 +216,8 @@ invariant_of-self-2 c =
     record {
       node =
           subst
-          (λ (p : Phases). IsNode (with_parts n c.mark.new.heap.heap c.in_ok-asked.field-0.asked.keys p
-          c.count.new.ring c.send_joining.new.links))
+          (λ (p : Phases). IsNode (with_parts n c.mark.new.heap.heap
+          c.in_ok-asked.field-0.asked.keys p c.count.new.ring c.send_joining.new.links))
           (sym c.join.ensures.done)
           (here-stands (plan here.After-count-arg-1) (stands here.After-count-arg-1)
           (done here.After-count) (ready here.After-count-arg-1)
@@ -238,8 +238,8 @@ returns c =
     (marks_for cycle (unasked n.local.own [] (filled (roots h)))) ≡ true)
     c.in_ok-asked.ensures.fits in
     let run : IsRun (then (join n.local cycle) (errand_here c.args.due rs c.args.extra)) n
-    (with_parts n c.mark.new.heap.heap c.in_ok-asked.field-0.asked.keys c.join.new.self c.count.new.ring
-    c.send_joining.new.links) =
+    (with_parts n c.mark.new.heap.heap c.in_ok-asked.field-0.asked.keys c.join.new.self
+    c.count.new.ring c.send_joining.new.links) =
     subst
     (λ (p : Phases). IsRun (then (join n.local cycle) (errand_here c.args.due rs c.args.extra)) n
     (with_parts n c.mark.new.heap.heap c.in_ok-asked.field-0.asked.keys p c.count.new.ring

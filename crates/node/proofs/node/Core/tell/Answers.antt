@@ -7,7 +7,8 @@ pub invariant_of-self-2 : goal.invariant_of-self-2
 invariant_of-self-2 c =
     let left = c.in_ok-announce.ensures in
     let same = c.cycle-stamp.ensures.value in
-    let sendable : IsSendable c.args.self.now.local.shape (stamped c.args.self.now.local c.args.body) =
+    let p = c.args.self.now.local in
+    let sendable : IsSendable p.shape (stamped p c.args.body) =
     record {
       stamp = c.requires.stamp;
       references = c.requires.references;

@@ -13,7 +13,9 @@ use Rattle.node.proofs.node.parts.home.are_slots.Goals as goal
 answered : (P : Slot → Bool) (ss : List (stored.Slot Object)) (s : stored.Slot Object)
     (n : ℕ) {b : Bool} → s ≡ get_or ss n slot.Retired → b ≡ P (slot_of s)
     → P (get_or (map slot_of ss) n Retired) ≡ b
-answered P ss s n at is = ap P (get_or-map slot_of ss n slot.Retired) ∙ sym (is ∙ ap (λ (x : stored.Slot Object). P (slot_of x)) at)
+answered P ss s n at is =
+    ap P (get_or-map slot_of ss n slot.Retired)
+    ∙ sym (is ∙ ap (λ (x : stored.Slot Object). P (slot_of x)) at)
 
 pub loop-number-preserved : goal.loop-number-preserved
 loop-number-preserved c =
