@@ -28,7 +28,7 @@ none : {X : Type 0} (xs : List X) → length xs ≡ 0 → xs ≡ []
 none [] e = refl
 none (x ∷ xs) e = absurd (omega arith)
 
--- the number of an item: it is the r-th of the q-th chunk, if there are so many
+-- the number i is that of the r-th item of the q-th chunk, if there is such an item
 pub record IsAt (q r i : ℕ) : Type 0 where
   pub is : i ≡ CHUNK * q + r
   pub few : r < CHUNK

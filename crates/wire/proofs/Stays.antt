@@ -1,5 +1,5 @@
 -- What remains of the rule when one seat takes a step.
-use Rattle.std.proofs.Common.{◌≡◌, ◌≢◌, ℕ, suc, ◌/◌, ◌%◌, ◌^◌, ◌<◌, ◌≤◌, ◌==◌, eq-eqb, ne_eqb, List, [], ◌∷◌, ◌++◌, length, set, refl, sym, ap, ◌∙◌, subst, ⊎_elim, arith, le_refl, le_trans}
+use Rattle.std.proofs.Common.{◌≡◌, ◌≢◌, ℕ, suc, ◌/◌, ◌%◌, ◌^◌, ◌<◌, ◌≤◌, ◌==◌, eq-eqb, ne_eqb, true, Some, List, [], ◌∷◌, ◌++◌, length, set, refl, sym, ap, ◌∙◌, subst, ⊎_elim, arith, le_refl, le_trans}
 use Rattle.std.specs.Prelude.{slice_index}
 use mathlib.Core.Option as maybe
 use mathlib.Core.Option.{some, some-injective}
@@ -122,6 +122,11 @@ still-node ok visited shows = record {
   shows = shows;
 }
 
+-- the seat with the index j is node i's, and F holds of its view
+abbrev Owner : List Known → ℕ → ℕ → (Known → Type 0) → Type 0
+Owner views j i F =
+    (v : Known) × (get_elem? views j ≡ some v) × (v.role ≡ node) × (v.me ≡ i) × F v
+
 -- a seat in a state that keeps the rule
 pub record Standing {S : Type 0} (bytes : S → List ℕ) (opening : World) : Type 0 where
   pub state : State S Known
@@ -156,26 +161,28 @@ module _ {S : Type 0} {bytes : S → List ℕ} {opening : World} where
         (λ (t : (j ≢ p.id) × (get_elem? p.state.views j ≡ some u)). (u, t.1, refl, refl))
         (at_set p.state.views p.id j w u e)
 
+    owner-stays : (j i : ℕ) (F : Known → Type 0) → (F p.view → F w) → Owner p.state.views j i F
+        → Owner (after p w) j i F
+    owner-stays j i F still c =
+        dite (ℕ_discrete j p.id)
+        (λ e.
+        let is : p.view ≡ c.0 =
+        some-injective p.view c.0
+        (sym p.at ∙ subst (λ (k : ℕ). get_elem? p.state.views k ≡ some c.0) e c.1) in (
+          w,
+          subst (λ (k : ℕ). get_elem? (after p w) k ≡ some w) (sym e)
+              (set-at p.state.views p.id w p.view p.at),
+          alike.role ∙ ap (λ (x : Known). x.role) is ∙ c.2,
+          alike.me ∙ ap (λ (x : Known). x.me) is ∙ c.3,
+          still (subst F (sym is) c.4),
+        ))
+        (λ apart. (c.0, set_else p.state.views p.id j w apart ∙ c.1, c.2, c.3, c.4))
+
     pub still-there : (i : ℕ) → HasSeat p.state.views i → HasSeat (after p w) i
     still-there i seat =
-        dite (ℕ_discrete seat.0 p.id)
-        (λ e.
-        let is : p.view ≡ seat.1 =
-        some-injective p.view seat.1
-        (sym p.at ∙ subst (λ (k : ℕ). get_elem? p.state.views k ≡ some seat.1) e seat.2) in (
-          p.id,
-          w,
-          set-at p.state.views p.id w p.view p.at,
-          alike.role ∙ ap (λ (x : Known). x.role) is ∙ seat.3,
-          alike.me ∙ ap (λ (x : Known). x.me) is ∙ seat.4,
-        ))
-        (λ apart. (
-          seat.0,
-          seat.1,
-          set_else p.state.views p.id seat.0 w apart ∙ seat.2,
-          seat.3,
-          seat.4,
-        ))
+        let now = owner-stays seat.0 i (λ _. Unit {0}) (λ u. u)
+        (seat.1, seat.2, seat.3, seat.4, tt) in
+        (seat.0, now.0, now.1, now.2, now.3)
 
     abbrev IsOne : List Known → Type 0
     IsOne vs =
@@ -332,33 +339,9 @@ module _ {S : Type 0} {bytes : S → List ℕ} {opening : World} where
     content-stays (full f) c =
         ((c.0.0, l.home ∙ c.0.1, c.0.2), l.extends.net f c.1, c.2, c.3)
     content-stays (filling_by j) c =
-        dite (ℕ_discrete j p.id)
-        (λ e.
-        let is : p.view ≡ c.0 =
-        some-injective p.view c.0
-        (sym p.at ∙ subst (λ (k : ℕ). get_elem? p.state.views k ≡ some c.0) e c.1) in (
-          w,
-          subst (λ (k : ℕ). get_elem? (after p w) k ≡ some w) (sym e)
-              (set-at p.state.views p.id w p.view p.at),
-          l.alike.role ∙ ap (λ (x : Known). x.role) is ∙ c.2,
-          l.alike.me ∙ ap (λ (x : Known). x.me) is ∙ c.3,
-          l.like.fills ∙ ap (λ (x : Known). has m x.filling) is ∙ c.4,
-        ))
-        (λ apart. (c.0, set_else p.state.views p.id j w apart ∙ c.1, c.2, c.3, c.4))
+        owner-stays p w l.alike j _ (λ v. has m v.filling ≡ true) (λ e. l.like.fills ∙ e) c
     content-stays (emptying_by j f) c =
-        dite (ℕ_discrete j p.id)
-        (λ e.
-        let is : p.view ≡ c.0 =
-        some-injective p.view c.0
-        (sym p.at ∙ subst (λ (k : ℕ). get_elem? p.state.views k ≡ some c.0) e c.1) in (
-          w,
-          subst (λ (k : ℕ). get_elem? (after p w) k ≡ some w) (sym e)
-              (set-at p.state.views p.id w p.view p.at),
-          l.alike.role ∙ ap (λ (x : Known). x.role) is ∙ c.2,
-          l.alike.me ∙ ap (λ (x : Known). x.me) is ∙ c.3,
-          l.like.empties ∙ ap (λ (x : Known). found m x.emptying) is ∙ c.4,
-        ))
-        (λ apart. (c.0, set_else p.state.views p.id j w apart ∙ c.1, c.2, c.3, c.4))
+        owner-stays p w l.alike j _ (λ v. found m v.emptying ≡ Some f) (λ e. l.like.empties ∙ e) c
 
     pub box-stays : BoxOk bytes (nodes_of opening) (run opening log) words homes (after p w) m
         (p.holds.mail.boxes m)
