@@ -111,7 +111,7 @@ counted (Ok a) = is_counted a
 counted (Err e) = false
 
 -- The event was given to the node, which is changed if the event was answered and counts. The log,
--- if there is one, leads to the node still; or it is lost.
+-- if there is one, leads to the node still; or it is lost, but only by an event that counts.
 pub record Gave (old new : LoneNode) (e : Event) (r : Result Answer Refusal) : Type 0 where
   pub acts : Acts old.node new.node e r
   pub stays : new ≡ record old {
@@ -121,6 +121,7 @@ pub record Gave (old new : LoneNode) (e : Event) (r : Result Answer Refusal) : T
     log = new.log;
   }
   pub logs : KeepsLog old new
+  pub quiet : counted r ≡ false → new.log ≡ old.log
 
 -- The node was given the event, or the link is congested.
 abbrev pub Given : Bool → LoneNode → LoneNode → Event → Result Answer Fault → Type 0
@@ -140,6 +141,7 @@ pub record Heard (old new : LoneNode) (a : Ack) (r : Result Answer Refusal) : Ty
   pub acts : Acts old.node new.node (event.Ack a) r
   pub stays : new ≡ record old { node = new.node; log = new.log }
   pub logs : KeepsLog old new
+  pub still : OnErr r (new.log ≡ old.log)
 
 abbrev pub Acknowledged : LoneNode → LoneNode → Ack → Result Answer Fault → Type 0
 Acknowledged old new a (Ok x) = Heard old new a (Ok x)

@@ -167,13 +167,16 @@ impl LoneNode {
         self.perform(event)
     }
 
-    // Gives the node an event.
+    // Gives the node an event. (Separate variables for what the call reads and writes, so that
+    // without a log events and answers need not go through memory.)
     #[inline(always)]
     fn perform(&mut self, event: Event) -> Result<Answer, Fault>
         ensures { Given false self.old self.new event result }
     {
         if self.logs {
-            return self.perform_noting(event);
+            let noted = event;
+            let answered = self.perform_noting(noted);
+            return answered;
         }
         let answer = self.node.act(event)?;
         let changes = is_counted(&answer);

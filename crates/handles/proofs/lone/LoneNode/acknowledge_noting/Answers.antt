@@ -28,6 +28,7 @@ returns-then-not-is_old c =
           c.in_ok-answer.answer old.log c.note-lost.new.self acts
           (ack_now old.node.core new.core c.args.ack c.in_ok-answer.answer acts)
           c.note-lost.ensures.noted);
+      still = tt;
     }
 
 pub returns-else-not-is_old : goal.returns-else-not-is_old
@@ -51,4 +52,5 @@ returns-else-not-is_old c =
       stays = refl;
       logs = λ first led bytes is.
           subst (λ n. Led bytes first n old.counts) (sym same) (led bytes is);
+      still = tt;
     }

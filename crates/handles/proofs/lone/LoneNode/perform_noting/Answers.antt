@@ -1,4 +1,5 @@
-use Rattle.std.proofs.Common.{◌≡◌, ◌∙◌, ap, subst, sym, true, false}
+use Rattle.std.proofs.Common.{◌≡◌, ◌∙◌, ap, refl, subst, sym, true, false}
+use Rattle.std.proofs.lemmas.Bool.{true≢false}
 use Rattle.model.specs.View.{view_act}
 use Rattle.node.specs.Keeping.{met}
 use Rattle.replays.proofs.Quiet.{quiet-same}
@@ -31,6 +32,7 @@ returns-then-is_counted c =
           c.in_ok-answer.answer old.log c.note-lost.new.self
           (ap (view_act old.node.core) c.meant-meant.ensures ∙ acts)
           (counted_now c.in_ok-answer.answer counts) c.note-lost.ensures.noted);
+      quiet = λ none. absurd (true≢false (sym counts ∙ none));
     }
 
 pub returns-else-is_counted : goal.returns-else-is_counted
@@ -56,4 +58,5 @@ returns-else-is_counted c =
       stays = after_uncounted old new (is_counted c.in_ok-answer.answer) counts;
       logs = λ first led bytes is.
           subst (λ n. Led bytes first n old.counts) (sym same) (led bytes is);
+      quiet = λ none. refl;
     }
