@@ -7,7 +7,7 @@ ghost use Rattle.std.specs.Prelude.{◌≤◌, IfOk};
 mod asking;
 mod running;
 
-use commands::{Unread, decode, print_refusal, print_unread, read_file, read_text, sim};
+use commands::{decode, print_refusal, print_unread, read_file, read_text, sim};
 use ids::Refusal;
 use std::fs::File;
 use std::io::BufWriter;
@@ -37,8 +37,17 @@ where
     let alloc = rt.alloc();
     let words: Vec<String> = env::args(rt)?.collect(alloc)?;
     match Command::read(alloc, words.as_slice())? {
-        Command::Sim { script: None } => Ok(sim_buffered(rt, &read_text(alloc, rt.reader()))),
-        Command::Sim { script: Some(path) } => Ok(sim_buffered(rt, &read_file(rt, alloc, path))),
+        Command::Sim { script } => {
+            let script = match script {
+                Some(path) => read_file(rt, alloc, path),
+                None => read_text(alloc, rt.reader()),
+            };
+            let status = match BufWriter::new(alloc, io::writer(rt)) {
+                Ok(mut out) => sim(alloc, &script, &mut out),
+                Err(_) => print_refusal(&mut io::writer(rt), Refusal::Memory),
+            };
+            Ok(status.unwrap_or(REFUSED))
+        }
         Command::Decode { hex } => Ok(decode(alloc, hex, &mut io::writer(rt)).unwrap_or(REFUSED)),
         Command::Run { config, script } => Ok(run_files(rt, config, script)),
     }
@@ -60,15 +69,4 @@ where
         Ok(script) => running::run(rt, alloc, config.as_str(), script.as_str(), out),
         Err(unread) => print_unread(out, &unread).unwrap_or(REFUSED),
     }
-}
-
-/// Runs a script, with buffered output.
-fn sim_buffered<R: Print + AllocGlobal>(rt: &R, script: &Result<String, Unread>) -> u8
-    ensures { result ≤ 2 }
-{
-    let status = match BufWriter::new(rt.alloc(), io::writer(rt)) {
-        Ok(mut out) => sim(rt.alloc(), script, &mut out),
-        Err(_) => print_refusal(&mut io::writer(rt), Refusal::Memory),
-    };
-    status.unwrap_or(REFUSED)
 }
