@@ -47,9 +47,34 @@ pub fn act(node: &mut Node, log: &mut Log, event: Event) -> Result<Answer, Refus
         → IsLogged log.new first node.new.core }
     ensures still { OnErr result (log.new ≡ log.old) }
 {
-    if !log.is_kept() {
-        return node.act(event);
+    if log.is_kept() {
+        act_noting(node, log, event)
+    } else {
+        node.act(event)
     }
+}
+
+// The same, with a log that isn't lost. It is a function of its own, so that a node without a log
+// doesn't pay for it.
+#[inline(never)]
+fn act_noting(node: &mut Node, log: &mut Log, event: Event) -> Result<Answer, Refusal>
+    ensures performs { Performs (is_shading (met node.old.early event)) result node.new.core
+        (view_act node.old.core (met node.old.early event)) }
+    ensures states { (s : NodeState) → Shows node.old.core s
+        → Follows (met node.old.early event) result node.new.core
+        (act_of s (met node.old.early event)) }
+    ensures unchanged { OnErr result (node.new.core ≡ node.old.core) }
+    ensures leaves { Leaves node.old.core node.new.core (met node.old.early event) }
+    ensures memory_free { IsTrue (is_memory_free node.old.core.local (met node.old.early event))
+        → IfErr result (λ e. e ≢ Memory) }
+    ensures early { node.new.early
+        ≡ early_after node.old.core.local node.old.early event result }
+    ensures turn { met node.old.early event ≢ event → IfOk result (λ a. a ≡ answer.Received) }
+    ensures kept { AreKeptIn node.new }
+    ensures logged { (first : NodeView) → IsLogged log.old first node.old.core
+        → IsLogged log.new first node.new.core }
+    ensures still { OnErr result (log.new ≡ log.old) }
+{
     let meant = meant(node, event);
     let answer = node.act(event)?;
     if !is_quiet(&answer) {

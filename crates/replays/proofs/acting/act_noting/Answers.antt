@@ -4,12 +4,12 @@ use Rattle.node.specs.Keeping.{met}
 use Rattle.replays.specs.Logs.{IsDone, Logged, is_quiet}
 use Rattle.replays.proofs.Quiet.{quiet-same}
 use Rattle.replays.proofs.Ends.{logged_more}
-use Rattle.replays.proofs.acting.act.Goals as goal
+use Rattle.replays.proofs.acting.act_noting.Goals as goal
 
 pub returns-then-not-is_quiet-clause-logged : goal.returns-then-not-is_quiet-clause-logged
 returns-then-not-is_quiet-clause-logged c first logged bytes is =
     let old = c.args.node.now in
-    let new = c.act-2.new.self in
+    let new = c.act.new.self in
     let e = c.meant-meant.result in
     let more = c.note-lost.ensures.noted.more bytes is in
     let done : IsDone old.core e new.core = record {
@@ -23,7 +23,7 @@ returns-then-not-is_quiet-clause-logged c first logged bytes is =
 pub returns-else-not-is_quiet-clause-logged : goal.returns-else-not-is_quiet-clause-logged
 returns-else-not-is_quiet-clause-logged c first logged bytes is =
     let old = c.args.node.now in
-    let new = c.act-2.new.self in
+    let new = c.act.new.self in
     let early : is_quiet c.in_ok-answer.answer ≡ true =
     sym c.is_quiet.ensures ∙ c.if-not-is_quiet.false in
     subst (Logged bytes first)
