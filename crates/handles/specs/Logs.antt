@@ -48,6 +48,11 @@ LogsFrom first n = LedIf (log_of n) first n.node.core n.counts
 abbrev pub KeepsLog : LoneNode → LoneNode → Type 0
 KeepsLog old new = (first : NodeView) → LogsFrom first old → LogsFrom first new
 
+-- whether a handle has a node that keeps a log
+abbrev pub logs_in : Option LoneNode → Bool
+logs_in (Some n) = n.logs
+logs_in None = false
+
 -- an image begins a log, if there is to be one
 abbrev pub begun : Bool → Option (List ℕ)
 begun true = Some []

@@ -167,17 +167,38 @@ impl LoneNode {
         self.perform(event)
     }
 
-    // Gives the node an event. (Separate variables for what the call reads and writes, so that
-    // without a log events and answers need not go through memory.)
+    /// The same of a node that keeps no log, for calls that are inlined.
+    #[inline(always)]
+    pub fn act_plain(&mut self, event: Event) -> Result<Answer, Fault>
+        requires { self.old.logs ≡ false }
+
+        ensures { Given (is_congested self.old event) self.old self.new event result }
+    {
+        if self.is_congested(&event) {
+            return Err(Fault::Congested);
+        }
+        self.perform_plain(event)
+    }
+
+    // Gives the node an event.
     #[inline(always)]
     fn perform(&mut self, event: Event) -> Result<Answer, Fault>
         ensures { Given false self.old self.new event result }
     {
         if self.logs {
-            let noted = event;
-            let answered = self.perform_noting(noted);
-            return answered;
+            self.perform_noting(event)
+        } else {
+            self.perform_plain(event)
         }
+    }
+
+    // Gives the node an event, if it keeps no log.
+    #[inline(always)]
+    fn perform_plain(&mut self, event: Event) -> Result<Answer, Fault>
+        requires { self.old.logs ≡ false }
+
+        ensures { Given false self.old self.new event result }
+    {
         let answer = self.node.act(event)?;
         let changes = is_counted(&answer);
         self.is_changed = self.is_changed || changes;

@@ -1,5 +1,5 @@
 //! A node as C holds it: a pointer to a [`LoneNode`], or null.
-ghost use Rattle.std.specs.Prelude.{◌≡◌, None, Some, Ok, Option};
+ghost use Rattle.std.specs.Prelude.{◌≡◌, false, None, Some, Ok, Option};
 ghost use Rattle.std.specs.Coded.{coded_option};
 ghost use Rattle.held.specs.Holds.{unboxed};
 ghost use Rattle.handles.specs.declared.lone.LoneNode.{LoneNode};
@@ -10,6 +10,7 @@ ghost use Rattle.values.specs.Bytes.{WroteIf};
 ghost use Rattle.handles.specs.Frames.{HandlePacks, ack_bytes, frame_bytes};
 ghost use Rattle.handles.specs.Batches.{HandleBatched, Reopened, batch_of, size_of};
 ghost use Rattle.handles.specs.Images.{HandleImaged, Kept, Logs, Released, SizedSame};
+ghost use Rattle.handles.specs.Logs.{logs_in};
 ghost use Rattle.handles.specs.Lone.{Made, NodeActs, Read, TookIn};
 ghost use Rattle.handles.specs.Reads.{link_of, register_of, waiting_number};
 
@@ -144,6 +145,35 @@ impl NodeHandle {
             Some(_node) => Ok(()),
             None => Err(Fault::NoHandle),
         }
+    }
+
+    /// Whether the handle has a node that keeps a log.
+    #[inline(always)]
+    pub fn logs(&mut self, alloc: Global) -> bool
+        ensures same { self.new.held ≡ self.old.held }
+        ensures value { result ≡ logs_in self.old.held }
+    {
+        let Some(node) = self.take(alloc) else {
+            return false;
+        };
+        let logs = node.logs();
+        self.put(alloc, node);
+        logs
+    }
+
+    /// Gives the node an event of its own; see [`LoneNode::act_plain`].
+    #[inline(always)]
+    pub fn act_plain(&mut self, alloc: Global, event: Event) -> Result<Answer, Fault>
+        requires { logs_in self.old.held ≡ false }
+
+        ensures { Through (NodeActs event) self.old.held self.new.held result }
+    {
+        let Some(mut node) = self.take(alloc) else {
+            return Err(Fault::NoHandle);
+        };
+        let answered = node.act_plain(event);
+        self.put(alloc, node);
+        answered
     }
 
     /// Gives the node an event of its own; see [`LoneNode::act`].

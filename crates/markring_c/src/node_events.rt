@@ -7,6 +7,26 @@ use model::Event;
 use std::alloc::Global;
 use values::{CAnswer, answered};
 
+// Gives the node an event. If it keeps a log, that isn't inlined, so that without one the event and
+// the answer need not go through memory.
+#[inline(always)]
+pub(crate) fn act(alloc: Global, node: &mut NodeHandle, event: Event, answer: &mut CAnswer) -> i32
+    ensures { NodeCalled event node.old.held node.new.held result answer.old answer.new }
+{
+    if node.logs(alloc) {
+        act_noting(alloc, node, event, answer)
+    } else {
+        answered(node.act_plain(alloc, event), answer)
+    }
+}
+
+#[inline(never)]
+fn act_noting(alloc: Global, node: &mut NodeHandle, event: Event, answer: &mut CAnswer) -> i32
+    ensures { NodeCalled event node.old.held node.new.held result answer.old answer.new }
+{
+    answered(node.act(alloc, event), answer)
+}
+
 /// Makes a new object with this many empty places, and puts its reference into the register.
 #[unsafe(no_mangle)]
 pub extern "C" fn markring_node_alloc(
@@ -19,7 +39,7 @@ pub extern "C" fn markring_node_alloc(
     ensures { NodeCalled (event.Alloc register places) node.old.held node.new.held result answer.old
         answer.new }
 {
-    answered(node.act(alloc, Event::Alloc { register, places }), answer)
+    act(alloc, node, Event::Alloc { register, places }, answer)
 }
 
 /// Copies the reference in the source register into the register.
@@ -34,7 +54,7 @@ pub extern "C" fn markring_node_copy(
     ensures { NodeCalled (event.Copy register source) node.old.held node.new.held result answer.old
         answer.new }
 {
-    answered(node.act(alloc, Event::Copy { register, source }), answer)
+    act(alloc, node, Event::Copy { register, source }, answer)
 }
 
 /// Empties the register.
@@ -48,7 +68,7 @@ pub extern "C" fn markring_node_drop(
     ensures { NodeCalled (event.Drop register) node.old.held node.new.held result answer.old
         answer.new }
 {
-    answered(node.act(alloc, Event::Drop { register }), answer)
+    act(alloc, node, Event::Drop { register }, answer)
 }
 
 /// Copies the content of a place of the object into the register.
@@ -64,15 +84,14 @@ pub extern "C" fn markring_node_load(
     ensures { NodeCalled (event.Load register object place) node.old.held node.new.held result
         answer.old answer.new }
 {
-    answered(
-        node.act(
-            alloc,
-            Event::Load {
-                register,
-                object,
-                place,
-            },
-        ),
+    act(
+        alloc,
+        node,
+        Event::Load {
+            register,
+            object,
+            place,
+        },
         answer,
     )
 }
@@ -90,15 +109,14 @@ pub extern "C" fn markring_node_store(
     ensures { NodeCalled (event.Store object place register) node.old.held node.new.held result
         answer.old answer.new }
 {
-    answered(
-        node.act(
-            alloc,
-            Event::Store {
-                object,
-                place,
-                register,
-            },
-        ),
+    act(
+        alloc,
+        node,
+        Event::Store {
+            object,
+            place,
+            register,
+        },
         answer,
     )
 }
@@ -115,7 +133,7 @@ pub extern "C" fn markring_node_clear(
     ensures { NodeCalled (event.Clear object place) node.old.held node.new.held result answer.old
         answer.new }
 {
-    answered(node.act(alloc, Event::Clear { object, place }), answer)
+    act(alloc, node, Event::Clear { object, place }, answer)
 }
 
 /// Reads the word of the object.
@@ -129,7 +147,7 @@ pub extern "C" fn markring_node_word(
     ensures { NodeCalled (event.Word object) node.old.held node.new.held result answer.old
         answer.new }
 {
-    answered(node.act(alloc, Event::Word { object }), answer)
+    act(alloc, node, Event::Word { object }, answer)
 }
 
 /// Writes the word of the object.
@@ -144,7 +162,7 @@ pub extern "C" fn markring_node_set_word(
     ensures { NodeCalled (event.SetWord object word) node.old.held node.new.held result answer.old
         answer.new }
 {
-    answered(node.act(alloc, Event::SetWord { object, word }), answer)
+    act(alloc, node, Event::SetWord { object, word }, answer)
 }
 
 /// Sends a letter to another node.
@@ -160,15 +178,14 @@ pub extern "C" fn markring_node_give(
     ensures { NodeCalled (event.Give to label register) node.old.held node.new.held result
         answer.old answer.new }
 {
-    answered(
-        node.act(
-            alloc,
-            Event::Give {
-                to,
-                label,
-                register,
-            },
-        ),
+    act(
+        alloc,
+        node,
+        Event::Give {
+            to,
+            label,
+            register,
+        },
         answer,
     )
 }
@@ -184,7 +201,7 @@ pub extern "C" fn markring_node_accept(
     ensures { NodeCalled (event.Accept register) node.old.held node.new.held result answer.old
         answer.new }
 {
-    answered(node.act(alloc, Event::Accept { register }), answer)
+    act(alloc, node, Event::Accept { register }, answer)
 }
 
 /// Asks the owner of another node's object to store the register's reference there.
@@ -200,15 +217,14 @@ pub extern "C" fn markring_node_put(
     ensures { NodeCalled (event.Put object place register) node.old.held node.new.held result
         answer.old answer.new }
 {
-    answered(
-        node.act(
-            alloc,
-            Event::Put {
-                object,
-                place,
-                register,
-            },
-        ),
+    act(
+        alloc,
+        node,
+        Event::Put {
+            object,
+            place,
+            register,
+        },
         answer,
     )
 }
@@ -226,15 +242,14 @@ pub extern "C" fn markring_node_get(
     ensures { NodeCalled (event.Get object place label) node.old.held node.new.held result
         answer.old answer.new }
 {
-    answered(
-        node.act(
-            alloc,
-            Event::Get {
-                object,
-                place,
-                label,
-            },
-        ),
+    act(
+        alloc,
+        node,
+        Event::Get {
+            object,
+            place,
+            label,
+        },
         answer,
     )
 }
@@ -248,7 +263,7 @@ pub extern "C" fn markring_node_begin(
 ) -> i32
     ensures { NodeCalled event.Begin node.old.held node.new.held result answer.old answer.new }
 {
-    answered(node.act(alloc, Event::Begin), answer)
+    act(alloc, node, Event::Begin, answer)
 }
 
 /// Shades the references in the places of a grey object.
@@ -260,7 +275,7 @@ pub extern "C" fn markring_node_scan(
 ) -> i32
     ensures { NodeCalled event.Scan node.old.held node.new.held result answer.old answer.new }
 {
-    answered(node.act(alloc, Event::Scan), answer)
+    act(alloc, node, Event::Scan, answer)
 }
 
 /// Passes the token on, or decides whether marking has ended.
@@ -272,7 +287,7 @@ pub extern "C" fn markring_node_pass(
 ) -> i32
     ensures { NodeCalled event.Pass node.old.held node.new.held result answer.old answer.new }
 {
-    answered(node.act(alloc, Event::Pass), answer)
+    act(alloc, node, Event::Pass, answer)
 }
 
 /// Frees the unmarked objects in the next slots, at most this many.
@@ -286,7 +301,7 @@ pub extern "C" fn markring_node_sweep(
     ensures { NodeCalled (event.Sweep count) node.old.held node.new.held result answer.old
         answer.new }
 {
-    answered(node.act(alloc, Event::Sweep { count }), answer)
+    act(alloc, node, Event::Sweep { count }, answer)
 }
 
 /// Receives the message that waits from another node.
@@ -300,5 +315,5 @@ pub extern "C" fn markring_node_next(
     ensures { NodeCalled (event.Next from) node.old.held node.new.held result answer.old
         answer.new }
 {
-    answered(node.act(alloc, Event::Next { from }), answer)
+    act(alloc, node, Event::Next { from }, answer)
 }

@@ -12,6 +12,7 @@ ghost use Rattle.handles.specs.Images.{HandleImaged, Kept, Logs, Released, Sized
 ghost use Rattle.handles.specs.Reads.{link_of, register_of, waiting_number};
 ghost use Rattle.markring_c.specs.Calls.{Answered, Finished, Finishes, NodeActed, Numbered};
 
+use crate::node_events::act;
 use handles::NodeHandle;
 use std::alloc::Global;
 use values::{CAnswer, CEvent, CLink, CRef, CState, Fault, OK, answered, flagged, status, written};
@@ -54,7 +55,7 @@ pub extern "C" fn markring_node_act(
         answer.new }
 {
     match event.event() {
-        Some(it) => answered(node.act(alloc, it), answer),
+        Some(it) => act(alloc, node, it, answer),
         None => Fault::BadArgument.status(),
     }
 }

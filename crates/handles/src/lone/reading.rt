@@ -75,6 +75,14 @@ impl LoneNode {
         self.is_unsaved
     }
 
+    /// Whether the node keeps a log.
+    #[inline(always)]
+    pub fn logs(&self) -> bool
+        ensures { result ≡ self.now.logs }
+    {
+        self.logs
+    }
+
     /// The reference in a register. Fails with `NoRegister`, and with `Nothing` if the register is
     /// empty.
     pub fn register(&self, register: u16) -> Result<Ref, Fault>
