@@ -120,7 +120,8 @@ fn run_lines<W: Write>(alloc: Global, script: &str, out: &mut W) -> Result<u8, L
 
 /// Does what the line of this number says, prints the reply, and returns the line's status. It
 /// fails if the output does. The line is read into a value that all lines share, because a new one
-/// would be zeroed first.
+/// would be zeroed first. Most lines are steps and most steps are events, so their outcomes aren't
+/// moved into replies.
 fn run_line<W: Write>(
     alloc: Global,
     state: &mut State,
@@ -137,26 +138,9 @@ fn run_line<W: Write>(
     if said.read(text).is_none() {
         return print_no_command(out, number);
     }
-    match &*said {
-        Line::Step(step) => run_step(state, printer, number, step, out),
-        other => run_other(alloc, state, number, other, out),
-    }
-}
-
-/// Takes a step of the space, if a line has asked for a space, and prints the outcome. Most lines
-/// are steps and most steps are events, so their outcomes aren't moved into replies.
-fn run_step<W: Write>(
-    state: &mut State,
-    printer: &mut Printer,
-    number: usize,
-    step: &Step,
-    out: &mut W,
-) -> Result<u8, Lost>
-    requires { IsTrue (is_own_step step.now) }
-    ensures { IfOk result (PrintsReply
-        (λ h r later. TakesStep h step.now r later) number
-        state.old state.new (W.contents out.old) (W.contents out.new)) }
-{
+    let Line::Step(step) = &*said else {
+        return run_other(alloc, state, number, said, out);
+    };
     match state {
         State::Unopened => print_no_command(out, number),
         State::Refused(refusal) => print_refusal(out, *refusal),

@@ -1,8 +1,14 @@
-use Rattle.std.proofs.Common.{◌≡◌, ◌∙◌, IfOk, Option, Some, not, sym, ap, subst}
+use Rattle.std.proofs.Common.{◌≡◌, ◌∙◌, IfOk, Option, Some, not, sym, ap, subst, rules}
+use Rattle.model.specs.declared.step.Outcome.TheVariants as outcome
+use Rattle.model.specs.declared.step.Step.{Step}
+use Rattle.model.specs.declared.step.Step.TheVariants as step
 use Rattle.lines.specs.declared.line.Line.{Line}
+use Rattle.lines.specs.declared.line.Line.TheVariants as line
 use Rattle.lines.specs.Grammar.{line_of, words_of}
-use Rattle.commands.specs.Script.{PrintsReply, TakesLine}
-use Rattle.commands.proofs.Replies.{read_some}
+use Rattle.commands.specs.Freed.{KeepsSums, freed_in, freed_with}
+use Rattle.commands.specs.Script.{PrintsReply, ShowsHeld, TakesLine}
+use Rattle.commands.specs.declared.script.Reply.TheVariants as reply
+use Rattle.commands.proofs.Replies.{denied_shows, outcome_shows, printed_as, read_some, refusal_shows}
 use Rattle.commands.proofs.script.run_line.Given as given
 use Rattle.commands.proofs.script.run_line.Goals as goal
 use Rattle.commands.proofs.script.run_line.Goals.{Else-is_none}
@@ -13,15 +19,78 @@ read g c =
     read_some c.read.result c.read.new.self _ c.read.ensures.reads
     (c.is_none.ensures ∙ ap not c.if-is_none.false)
 
-pub returns-in-Step : goal.returns-in-Step
-returns-in-Step g c =
-    subst (λ (l : Option Line). IfOk c.run_step.result (PrintsReply
-    (λ h r later. TakesLine h l r later) c.args.number c.args.state.now c.run_step.new.state
-    (g.W.Write.contents c.args.out.now) (g.W.Write.contents c.run_step.new.out)))
-    (ap (λ (l : Line). Some l) (sym c.in-Step.is)
-    ∙ read g (goal.at.returns-in-Step g c).Else-is_none)
-    c.run_step.ensures
+-- the line says a step
+step_read : (g : given.Over) (c : Else-is_none g) {s : Step} → c.read.new.self ≡ line.Step s
+    → line_of (words_of c.args.text.now) ≡ Some (line.Step s)
+step_read g c is = sym (read g c) ∙ ap (λ (l : Line). Some l) is
 
+pub returns-in-Refused : goal.returns-in-Refused
+returns-in-Refused g c =
+    let e = c.in-Refused.refusal in
+    rw (step_read g (goal.at.returns-in-Refused g c).Else-is_none c.in-Step.is)
+    (printed_as c.print_refusal.result c.print_refusal.ensures.text c.print_refusal.ensures.status
+    (λ text status one. record {
+      reply = reply.Refused e;
+      answers = λ h shown. denied_shows h c.in-Step.step e
+          (subst (λ s. ShowsHeld s h) c.in-Refused.is shown);
+      prints = text;
+      is = one;
+    }))
+
+pub returns-in-Ok : goal.returns-in-Ok
+returns-in-Ok g c =
+    let o = outcome.Answer c.in-Ok.answer in
+    rw (step_read g (goal.at.returns-in-Ok g c).Else-is_none c.in-Step.is, c.in-Act.is, c.in-Open.is)
+    (printed_as c.print_answer.result c.print_answer.ensures.text c.print_answer.ensures.status
+    (λ text status zero. record {
+      reply = reply.Outcome o;
+      answers = λ h shown. outcome_shows h (step.Act c.in-Act.node c.in-Act.event)
+          c.in-Open.space _ c.in-Open.freed _ o shown
+          (rw c.in-Ok.is at c.act.ensures.stepped.follows)
+          (rw c.in-Ok.is at c.act.ensures.stepped.early)
+          (λ w sums there kept. subst (λ s. KeepsSums c.note.new.freed.sums
+          (freed_with w s (freed_in o) sums)) c.sweeper-swept.ensures
+          (subst (λ k. KeepsSums c.note.new.freed.sums
+          (freed_with w c.sweeper-swept.result k sums)) c.freed_by.ensures
+          (c.note.ensures w sums there kept)));
+      prints = text;
+      is = zero;
+    }))
+
+-- what has to hold of the refusal is found by search, so that a different refusal fails at the fact
+-- that it violates
+pub returns-in-Err : goal.returns-in-Err
+returns-in-Err g c =
+    let follows = rw c.in-Err.is at c.act.ensures.stepped.follows in
+    let free = rw c.in-Err.is at c.act.ensures.stepped.memory_free in
+    let small = rw c.in-Err.is at c.act.ensures.small in
+    let early = rw c.in-Err.is at c.act.ensures.stepped.early in
+    rw (step_read g (goal.at.returns-in-Err g c).Else-is_none c.in-Step.is, c.in-Act.is, c.in-Open.is)
+    (printed_as c.print_refusal-in-Err.result c.print_refusal-in-Err.ensures.text
+    c.print_refusal-in-Err.ensures.status
+    (λ text status one. record {
+      reply = reply.Refused c.in-Err.refusal;
+      answers = λ h shown. refusal_shows h (step.Act c.in-Act.node c.in-Act.event)
+          c.in-Open.space _ c.in-Open.freed _ shown
+          (λ w s. (
+            record {
+              first = search (rules, (follows w s).0);
+              memory_free = search (rules, free w s);
+              too_large = λ is. absurd (small is);
+            },
+            early w s,
+            (follows w s).1,
+          ));
+      prints = text;
+      is = one;
+    }))
+
+pub returns-in_default-step : goal.returns-in_default-step
+returns-in_default-step g c =
+    rw (step_read g (goal.at.returns-in_default-step g c).Else-is_none c.in-Step.is, c.in-Open.is)
+    (c.run_move.ensures c.args.number)
+
+-- what isn't a step
 pub returns-in_default : goal.returns-in_default
 returns-in_default g c =
     subst (λ (l : Option Line). IfOk c.run_other.result (PrintsReply
