@@ -78,27 +78,22 @@ pub fn sim<W: Write>(
         PrintsUnread why status (W.contents out.old) (W.contents out.new))) }
     ensures small { IfOk result (λ status. status ≤ 2) }
 {
-    let status = match script {
-        Ok(text) => run_lines(alloc, text.as_str(), out)?,
-        Err(unread) => print_unread(out, unread)?,
+    let text = match script {
+        Ok(text) => text.as_str(),
+        Err(unread) => {
+            let status = print_unread(out, unread)?;
+            flush(out)?;
+            return Ok(status);
+        }
     };
-    flush(out)?;
-    Ok(status)
-}
-
-/// Runs a script's lines, and returns the status. It fails if the output does.
-fn run_lines<W: Write>(alloc: Global, script: &str, out: &mut W) -> Result<u8, Lost>
-    ensures { IfOk result (λ status.
-        PrintsReplies script.now status (W.contents out.old) (W.contents out.new)) }
-{
     let mut state = State::Unopened;
     let mut status = DONE;
     let mut said = Line::Blank;
     let mut printer = Printer::new();
-    let mut rest = script;
+    let mut rest = text;
     let mut number = 0;
     while !rest.is_empty() {
-        let (text, others) = first_line(rest);
+        let (line, others) = first_line(rest);
         rest = others;
         number += 1;
         let reached = run_line(
@@ -107,14 +102,16 @@ fn run_lines<W: Write>(alloc: Global, script: &str, out: &mut W) -> Result<u8, L
             &mut said,
             &mut printer,
             number,
-            text,
+            line,
             out,
         )?;
         status = status.max(reached);
         if reached == UNREADABLE {
+            flush(out)?;
             return Ok(status);
         }
     }
+    flush(out)?;
     Ok(status)
 }
 
