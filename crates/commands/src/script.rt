@@ -119,6 +119,7 @@ pub fn sim<W: Write>(
 /// fails if the output does. The line is read into a value that all lines share, because a new one
 /// would be zeroed first. Most lines are steps and most steps are events, so their outcomes aren't
 /// moved into replies.
+#[inline(always)]
 fn run_line<W: Write>(
     alloc: Global,
     state: &mut State,
