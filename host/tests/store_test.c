@@ -6,6 +6,7 @@
 #include "../bytes.h"
 #include "disk.h"
 
+#include <errno.h>
 #include <stdio.h>
 #include <stdlib.h>
 #include <sys/stat.h>
@@ -274,6 +275,46 @@ static void test_entries(void)
     disk_free(&it);
 }
 
+// The call of a disk that writes, and whether the next write of all its bytes fails.
+static int64_t (*written_at)(void *, int, const uint8_t *, size_t, uint64_t);
+static bool write_fails;
+
+static int64_t write_and_fail(
+    void *context, int file, const uint8_t *bytes, size_t length, uint64_t offset)
+{
+    int64_t moved = written_at(context, file, bytes, length, offset);
+    bool fails = write_fails && moved == (int64_t)length;
+    write_fails = write_fails && !fails;
+    return fails ? -EIO : moved;
+}
+
+// An entry is written as a whole, but the call fails. The value that is saved next is found, since
+// it has another number.
+static void test_failed_write(void)
+{
+    disk it = fresh();
+    store at;
+    store_calls calls = disk_calls(&it);
+    store_value old = {NULL, 0, 0, false, 0, 0};
+    written_at = calls.write_at;
+    calls.write_at = write_and_fail;
+    HOLDS(create(&it, 1) == STORE_OK);
+    HOLDS(store_open(&at, &calls, "folder", &old) == STORE_OK);
+    way = ENTRIES;
+    store_value entry = value_of(2);
+    way = WHOLE;
+    store_value value = value_of(3);
+    write_fails = true;
+    HOLDS(store_save(&at, &entry) == STORE_FAILED && !write_fails);
+    HOLDS(store_save(&at, &value) == STORE_OK);
+    store_close(&at);
+    HOLDS(found(&it) == 3);
+    free(old.buffer);
+    free(entry.buffer);
+    free(value.buffer);
+    disk_free(&it);
+}
+
 // Makes a slot one of the first version.
 static void make_old(disk_file *file)
 {
@@ -343,6 +384,7 @@ int main(int count, char **given)
     test_creations(times);
     test_changes();
     test_entries();
+    test_failed_write();
     test_versions();
     test_system();
     printf("%lu passed, %lu failed\n", passed, failed);
