@@ -5,11 +5,11 @@ ghost use Rattle.std.specs.Prelude.{◌≡◌, true, IsTrue, Some};
 ghost use Rattle.cell.specs.Names.{name_of};
 ghost use Rattle.model.specs.Steps.{is_own};
 
-use crate::spaces::config_of;
-use cases::crashes::{change, put_crashes};
-use cases::{
-    CaseError, CaseLine, Lent, Out, Size, blank_disks, event_of, number, read, saves_at, verb,
-};
+use crate::crashes::put_crashes;
+use crate::lent::Lent;
+use crate::out::Out;
+use crate::sizes::{Size, blank_disks, config_of};
+use crate::words::{CaseError, Subject, event_in, number, rest, saves_in, verb};
 use cell::Naming;
 use disk::{Disk, MemoryDisk};
 use ids::{Refusal, Saves};
@@ -21,9 +21,9 @@ use std::thread::Threads;
 use supervisor::{CloseFault, Config, OpenFault, Opened, Space, SpaceOn};
 use wire::Inbound;
 
-// The disks of a space, what a save writes to them, and the copies that the case has kept.
+/// The disks of a space, what a save writes to them, and the copies that the case has kept.
 #[derive(Drop)]
-struct Openings<'a, R> {
+pub(crate) struct Openings<'a, R> {
     rt: &'a R,
     alloc: Global,
     disks: Vec<MemoryDisk>,
@@ -31,53 +31,48 @@ struct Openings<'a, R> {
     copies: Vec<MemoryDisk>,
 }
 
-/// A case for the disks of spaces.
-pub(crate) fn run<R: Threads + Wait>(
-    rt: &R,
-    alloc: Global,
-    lines: &[CaseLine<'_>],
-    out: &mut Out,
-) -> Result<(), CaseError> {
-    let mut openings = Openings {
-        rt,
-        alloc,
-        disks: Vec::new(alloc),
-        saves: Saves::Images,
-        copies: Vec::new(alloc),
-    };
-    for line in lines {
-        openings.take(out.at(line), out)?;
+impl<'a, R> Openings<'a, R> {
+    /// No disks yet.
+    pub(crate) fn new(rt: &'a R, alloc: Global) -> Openings<'a, R> {
+        Openings {
+            rt,
+            alloc,
+            disks: Vec::new(alloc),
+            saves: Saves::Images,
+            copies: Vec::new(alloc),
+        }
     }
-    Ok(())
 }
 
-impl<R: Threads + Wait> Openings<'_, R> {
-    fn take(&mut self, words: &[&str], out: &mut Out) -> Result<(), CaseError> {
-        match verb(words) {
+impl<R: Threads + Wait> Subject for Openings<'_, R> {
+    fn take(&mut self, line: &str, out: &mut Out) -> Result<(), CaseError> {
+        match verb(line) {
             "fresh" => {
-                self.disks = blank_disks(self.alloc, number(words, 1)?)?;
-                self.saves = saves_at(words, 2)?;
+                self.disks = blank_disks(self.alloc, number(line, 1)?)?;
+                self.saves = saves_in(line);
                 out.text("ok");
             }
             "saves" => {
-                self.saves = saves_at(words, 1)?;
+                self.saves = saves_in(line);
                 out.text("ok");
             }
             "open" => self.open(out),
-            "act" => return self.act(words, out),
-            "carry" => return self.carry(words, out),
-            "once" => return self.once(words, out),
-            "keep" => return self.keep(number(words, 1)?, out),
-            "restore" => return self.restore(number(words, 1)?, number(words, 2)?, out),
+            "act" => return self.act(line, out),
+            "carry" => return self.carry(line, out),
+            "once" => return self.once(line, out),
+            "keep" => return self.keep(number(line, 1)?, out),
+            "restore" => return self.restore(number(line, 1)?, number(line, 2)?, out),
             "crashes" => {
-                let node = number(words, 1)?;
-                put_crashes(self.alloc, disk_of(&mut self.disks, node)?, node, out);
+                let disk = disk_of(&mut self.disks, number(line, 1)?)?;
+                return put_crashes(self.alloc, disk, out);
             }
-            _ => change(disk_of(&mut self.disks, number(words, 1)?)?, words, out)?,
+            _ => return change(disk_of(&mut self.disks, number(line, 1)?)?, line, out),
         }
         Ok(())
     }
+}
 
+impl<R: Threads + Wait> Openings<'_, R> {
     // Opens a space on the disks, and drops it.
     fn open(&mut self, out: &mut Out) {
         match opened(self.alloc, &mut self.disks, self.saves) {
@@ -90,12 +85,9 @@ impl<R: Threads + Wait> Openings<'_, R> {
     }
 
     // Opens a space, and gives a node an event and saves it.
-    fn act(&mut self, words: &[&str], out: &mut Out) -> Result<(), CaseError> {
-        let [_, node, words @ ..] = words else {
-            return Err(CaseError::Unknown);
-        };
-        let node = read(node)?;
-        let event = event_of(self.alloc, words)?;
+    fn act(&mut self, line: &str, out: &mut Out) -> Result<(), CaseError> {
+        let node = number(line, 1)?;
+        let event = event_in(rest(line))?;
         match opened(self.alloc, &mut self.disks, self.saves) {
             Ok(space) => out.answer(act_on(self.rt, &space, node, event)),
             Err(fault) => out.show(&fault),
@@ -105,12 +97,9 @@ impl<R: Threads + Wait> Openings<'_, R> {
 
     // Opens a space, gives a node an event and saves it, and closes the space at once: the answer,
     // and whether the disks were given out.
-    fn once(&mut self, words: &[&str], out: &mut Out) -> Result<(), CaseError> {
-        let [_, node, words @ ..] = words else {
-            return Err(CaseError::Unknown);
-        };
-        let node = read(node)?;
-        let event = event_of(self.alloc, words)?;
+    fn once(&mut self, line: &str, out: &mut Out) -> Result<(), CaseError> {
+        let node = number(line, 1)?;
+        let event = event_in(rest(line))?;
         match close_at_once(
             self.rt,
             self.alloc,
@@ -129,10 +118,10 @@ impl<R: Threads + Wait> Openings<'_, R> {
     }
 
     // Opens a space, in which a node sends another one some frames, and saves the receiver.
-    fn carry(&mut self, words: &[&str], out: &mut Out) -> Result<(), CaseError> {
-        let from = number(words, 1)?;
-        let to = number(words, 2)?;
-        let count = number(words, 3)?;
+    fn carry(&mut self, line: &str, out: &mut Out) -> Result<(), CaseError> {
+        let from = number(line, 1)?;
+        let to = number(line, 2)?;
+        let count = number(line, 3)?;
         match opened(self.alloc, &mut self.disks, self.saves) {
             Ok(space) => out.answer(carry_on(self.rt, &space, from, to, count)),
             Err(fault) => out.show(&fault),
@@ -196,6 +185,24 @@ fn lent<'a>(
         }
     }
     Ok((config, lent))
+}
+
+// Makes a disk fail or crash: the verb, the disk's node and a number.
+fn change(disk: &mut MemoryDisk, line: &str, out: &mut Out) -> Result<(), CaseError> {
+    match verb(line) {
+        "fail" => disk.fail_from(number(line, 2)?),
+        "fail-once" => disk.fail_once(number(line, 2)?),
+        "crash" => match disk.after_crash(number(line, 2)?) {
+            Ok(left) => *disk = left,
+            Err(refusal) => {
+                out.refused(refusal);
+                return Ok(());
+            }
+        },
+        _ => return Err(CaseError::Unknown),
+    }
+    out.text("ok");
+    Ok(())
 }
 
 // A space on these disks.
