@@ -18,8 +18,7 @@ use supervisor::{OpenFault, Space};
 
 /// A disk that a case makes.
 pub(crate) trait Made: Disk {
-    /// The disks of this many nodes: in a folder, or in memory, where calls of the disks
-    /// may fail.
+    /// The disks of this many nodes, in a folder or in memory. In memory, calls of them may fail.
     fn make<R: Files<File = File>>(
         rt: &R,
         alloc: Global,

@@ -68,7 +68,7 @@ impl Out {
         }
     }
 
-    /// The bytes, or `-` if there are none.
+    /// Two hexadecimal digits for each byte; `-` for no bytes.
     pub(crate) fn bytes(&mut self, bytes: &[u8]) {
         if bytes.is_empty() {
             self.text("-");
