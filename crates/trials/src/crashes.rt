@@ -8,24 +8,17 @@ use ids::{Refusal, Saves};
 use replays::read_node;
 use std::alloc::{AllocError, Global};
 
-/// A case for a disk in memory.
-#[derive(Drop)]
-pub(crate) struct Disks {
-    pub alloc: Global,
-    pub bench: Bench<MemoryDisk>,
-}
-
-impl Subject for Disks {
+impl Subject for Bench<MemoryDisk> {
     fn take(&mut self, line: &str, out: &mut Out) -> Result<(), CaseError> {
         match verb(line) {
-            "fresh" => self.bench.hold(Ok(MemoryDisk::new(self.alloc)), out),
-            "fail" | "fail-once" => return fail(&mut self.bench.held, line, out),
+            "fresh" => self.hold(Ok(MemoryDisk::new(self.alloc)), out),
+            "fail" | "fail-once" => return fail(&mut self.held, line, out),
             "crash" => {
-                let left = self.bench.held.left(number(line, 1)?);
-                self.bench.hold(left, out);
+                let left = self.held.left(number(line, 1)?);
+                self.hold(left, out);
             }
-            "crashes" => return put_crashes(self.alloc, &self.bench.held, out),
-            _ => return self.bench.take(line, out),
+            "crashes" => return put_crashes(self.alloc, &self.held, out),
+            _ => return self.on_store(line, out),
         }
         Ok(())
     }

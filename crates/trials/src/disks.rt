@@ -26,7 +26,7 @@ pub(crate) enum Held<D: Disk> {
 /// What a case about a disk holds: the disk, the node once there is one, and the log of its events.
 #[derive(Drop)]
 pub(crate) struct Bench<D: Disk> {
-    alloc: Global,
+    pub alloc: Global,
     node: Option<Node>,
     log: Log,
     pub held: Held<D>,
@@ -54,8 +54,8 @@ impl<D: Disk + Drop> Bench<D> {
         }
     }
 
-    /// Does what the line says.
-    pub(crate) fn take(&mut self, line: &str, out: &mut Out) -> Result<(), CaseError> {
+    /// A command to the disk, to the store or to the node.
+    pub(crate) fn on_store(&mut self, line: &str, out: &mut Out) -> Result<(), CaseError> {
         match verb(line) {
             "new" => self.make(line, out),
             "create" => self.create(saves_in(line), out),

@@ -27,7 +27,7 @@ impl<R: Files<File = File>> Subject for Folders<'_, R> {
                 let disk = disk_over(self.rt, self.alloc, word(line, 1)?);
                 self.bench.hold(disk, out);
             }
-            _ => return self.bench.take(line, out),
+            _ => return self.bench.on_store(line, out),
         }
         Ok(())
     }

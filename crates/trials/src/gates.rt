@@ -25,14 +25,6 @@ pub(crate) fn pause<R: Clock>(rt: &R) {
     thread::sleep(rt, Duration::from_micros(PAUSE));
 }
 
-/// A gate that never holds a worker up.
-#[derive(Drop)]
-pub(crate) struct Open;
-
-impl Gate for Open {
-    fn at(&self, _point: Point) {}
-}
-
 // A stage of the turns of a node's worker. A node's workers are counted from 1.
 #[derive(Clone, Copy, PartialEq, Eq)]
 struct Place {

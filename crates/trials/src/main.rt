@@ -21,7 +21,6 @@ mod space;
 mod turns;
 mod words;
 
-use crate::crashes::Disks;
 use crate::disks::Bench;
 use crate::folders::Folders;
 use crate::openings::Openings;
@@ -108,8 +107,8 @@ where
     };
     match subject {
         Subjects::Disk => {
-            let bench = Bench::new(alloc);
-            words::play(rt, source, Disks { alloc, bench }, out)
+            let bench: Bench<MemoryDisk> = Bench::new(alloc);
+            words::play(rt, source, bench, out)
         }
         Subjects::Files => {
             let bench = Bench::new(alloc);

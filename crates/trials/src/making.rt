@@ -90,8 +90,11 @@ where
     let text = size.text(alloc)?;
     let disks = blank_disks(alloc, size.nodes)?;
     if verb(line) == "meet" {
-        let reports = meet(rt, alloc, text.as_str(), disks);
-        out.debug(&reports.map(|reports| reports.len()));
+        let reports = match meet(rt, alloc, text.as_str(), disks) {
+            Some(reports) => Some(reports.len()),
+            None => None,
+        };
+        out.debug(&reports);
     } else {
         out.debug(&once(rt, alloc, text.as_str(), disks));
     }

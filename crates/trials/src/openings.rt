@@ -2,6 +2,7 @@
 //! older copy. No worker is started: each command that gives a node something opens the space,
 //! saves the node and drops the space.
 ghost use Rattle.std.specs.Prelude.{◌≡◌, true, IsTrue, Some};
+ghost use Rattle.std.specs.Arc.{arc_value};
 ghost use Rattle.cell.specs.Names.{name_of};
 ghost use Rattle.model.specs.Steps.{is_own};
 
@@ -110,6 +111,7 @@ impl<R: Threads + Wait> Openings<'_, R> {
         ) {
             Ok(once) => {
                 out.answer(once.answer);
+                out.debug(&once.told);
                 out.debug(&once.closed);
             }
             Err(fault) => out.show(&fault),
@@ -235,10 +237,11 @@ fn close_at_once<R: Threads + Wait>(
     }
 }
 
-// What a space answered, and whether it gave out its disks.
+// What a space answered, the cycle that a watch was told, and whether the space gave out its disks.
 #[derive(Drop)]
 struct Once {
     answer: Result<Answer, Refusal>,
+    told: Option<u64>,
     closed: Result<(), CloseFault>,
 }
 
@@ -253,15 +256,31 @@ fn close_named<W: Naming, R: Threads + Wait>(
     requires named { W.wire ≡ Some (name_of opened.wire) }
     requires begun { IsTrue W.begun }
 {
-    let space = opened.share::<W>()?;
+    let mut space = opened.share::<W>()?;
     let answer = act_on(rt, &space, node, event);
+    let told = told(rt, &mut space);
     let (reports, closed) = space.close_at_once(rt);
     drop(reports);
     let closed = match closed {
         Ok(_closed) => Ok(()),
         Err(unclosed) => Err(unclosed.fault),
     };
-    Ok(Once { answer, closed })
+    Ok(Once {
+        answer,
+        told,
+        closed,
+    })
+}
+
+// The cycle that a watch shows once it was told what node 0 raises.
+fn told<R: Wait, D: Disk + Drop, W: Naming>(rt: &R, space: &mut SpaceOn<D, W>) -> Option<u64>
+    requires { W.wire ≡ Some (name_of (arc_value space.old.wire)) }
+    ensures { arc_value space.new.wire ≡ arc_value space.old.wire }
+{
+    let mut watch = space.watch()?;
+    let raised = space.program(0)?.raise(rt).ok()?;
+    watch.hear(&raised);
+    Some(space.look(&mut watch).number)
 }
 
 // A node's answer to an event, once the node is saved.

@@ -1,11 +1,12 @@
 //! A space of a case: what its programs do, and its workers, which a gate may hold up and end.
 ghost use Rattle.std.specs.Prelude.{◌≡◌, is_some};
 
-use crate::gates::{Open, Ruled, Rules, pause, rule};
+use crate::gates::{Ruled, Rules, pause, rule};
 use crate::making::{Made, opened, show};
 use crate::out::Out;
 use crate::programs::{Order, on_station, play_all, programs_of};
 use crate::sizes::Size;
+use crate::space::Open;
 use crate::words::{CaseError, Source, node_in, number, rest, saves_in, verb, word};
 use cell::Shared;
 use disk::Disk;
@@ -102,7 +103,15 @@ where
     B: BufRead,
     D: Made + Send + Drop + 'static,
 {
-    let mut play: Play<'_, R, D> = Play::new(rt, alloc);
+    let mut play: Play<'_, R, D> = Play {
+        rt,
+        alloc,
+        failing: Vec::new(alloc),
+        opened: None,
+        gate: None,
+        rules: Rules::new(alloc),
+        orders: Vec::new(alloc),
+    };
     for _ in rt.forever() {
         let Some(line) = source.next(rt)? else {
             break;
@@ -113,24 +122,11 @@ where
     Ok(())
 }
 
-impl<'a, R, D> Play<'a, R, D>
+impl<R, D> Play<'_, R, D>
 where
     R: Files<File = File> + Clock + Threads + Wait + Clone + Send + Sync + Drop + 'static,
     D: Made + Send + Drop + 'static,
 {
-    // No space yet.
-    fn new(rt: &'a R, alloc: Global) -> Play<'a, R, D> {
-        Play {
-            rt,
-            alloc,
-            failing: Vec::new(alloc),
-            opened: None,
-            gate: None,
-            rules: Rules::new(alloc),
-            orders: Vec::new(alloc),
-        }
-    }
-
     // Does what a line says.
     fn take(&mut self, line: &str, out: &mut Out) -> Result<(), CaseError> {
         match verb(line) {

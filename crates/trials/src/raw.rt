@@ -5,10 +5,6 @@ use disk::{Area, Disk, DiskFault, is_blank};
 use ids::Refusal;
 use std::alloc::Global;
 
-fn refusal_of(_fault: DiskFault) -> Refusal {
-    Refusal::Disk
-}
-
 /// A command to a disk, which follows the first word.
 pub(crate) fn on_disk<D: Disk>(
     alloc: Global,
@@ -17,8 +13,11 @@ pub(crate) fn on_disk<D: Disk>(
     out: &mut Out,
 ) -> Result<(), CaseError> {
     match word(line, 1)? {
-        "sync" => out.done(disk.sync().map_err(refusal_of)),
-        "blank" => out.answer(is_blank(disk).map_err(refusal_of)),
+        "sync" => put_done(disk.sync(), out),
+        "blank" => match is_blank(disk) {
+            Ok(is) => out.debug(&is),
+            Err(_) => out.refused(Refusal::Disk),
+        },
         "failures" => out.show(&disk.failures()),
         "read" => return read_from(alloc, disk, line, out),
         "write" => return write_to(alloc, disk, line, out),
@@ -56,8 +55,15 @@ fn write_to<D: Disk>(
     let area = area_of(word(line, 2)?)?;
     let bytes = bytes_of(alloc, word(line, 4)?)?;
     let done = write(disk, area, number(line, 3)?, &bytes)?;
-    out.done(done.map_err(refusal_of));
+    put_done(done, out);
     Ok(())
+}
+
+fn put_done(done: Result<(), DiskFault>, out: &mut Out) {
+    match done {
+        Ok(()) => out.text("ok"),
+        Err(_) => out.refused(Refusal::Disk),
+    }
 }
 
 // The area of a disk that the word names.

@@ -66,22 +66,17 @@ fn put_drops(alloc: Global, line: &str, out: &mut Out) -> Result<(), CaseError> 
     let limit = number(line, 1)?;
     let counts = [number(line, 2)?, number(line, 3)?, number(line, 4)?];
     let drops = Cell::new(0);
-    let [stored, taken, again] = dropped(alloc, limit, counts, &drops);
+    let mut arena = Arena::with_limit(alloc, limit);
+    store(&mut arena, &drops, counts[0]);
+    let stored = drops.get();
+    take_out(&mut arena, counts[1]);
+    let taken = drops.get();
+    store(&mut arena, &drops, counts[2]);
+    let again = drops.get();
+    drop(arena);
     let ended = drops.get();
     out.show(&format_args!("{stored} {taken} {again} {ended}"));
     Ok(())
-}
-
-// The same after each of the three steps; the arena then ends.
-fn dropped(alloc: Global, limit: u32, counts: [u32; 3], drops: &Cell<u64>) -> [u64; 3] {
-    let [stored, taken, again] = counts;
-    let mut arena = Arena::with_limit(alloc, limit);
-    store(&mut arena, drops, stored);
-    let after_storing = drops.get();
-    take_out(&mut arena, taken);
-    let after_taking = drops.get();
-    store(&mut arena, drops, again);
-    [after_storing, after_taking, drops.get()]
 }
 
 // Stores this many values; a value that is refused is dropped.
