@@ -90,7 +90,7 @@ pub(crate) fn run<R: Wait + Print, B: BufRead>(
     out: &mut Out,
 ) -> Result<(), CaseError> {
     match Joined::new(alloc) {
-        Ok(joined) => play(rt, source, joined, out),
+        Ok(mut joined) => play(rt, source, &mut joined, out),
         Err(_) => Err(CaseError::Memory),
     }
 }

@@ -107,18 +107,18 @@ where
     };
     match subject {
         Subjects::Disk => {
-            let bench: Bench<MemoryDisk> = Bench::new(alloc);
-            words::play(rt, source, bench, out)
+            let mut bench: Bench<MemoryDisk> = Bench::new(alloc);
+            words::play(rt, source, &mut bench, out)
         }
         Subjects::Files => {
             let bench = Bench::new(alloc);
-            words::play(rt, source, Folders { rt, alloc, bench }, out)
+            words::play(rt, source, &mut Folders { rt, alloc, bench }, out)
         }
-        Subjects::Opening => words::play(rt, source, Openings::new(rt, alloc), out),
+        Subjects::Opening => words::play(rt, source, &mut Openings::new(rt, alloc), out),
         Subjects::Wire => mailboxes::run(rt, alloc, source, out),
         Subjects::Space => play::run::<R, B, MemoryDisk>(rt, alloc, source, out),
         Subjects::Ends => play::run::<R, B, FileDisk>(rt, alloc, source, out),
-        Subjects::Single => words::play(rt, source, Single { rt, alloc }, out),
+        Subjects::Single => words::play(rt, source, &mut Single { rt, alloc }, out),
     }
 }
 

@@ -48,34 +48,44 @@ impl<'a, R> Openings<'a, R> {
 impl<R: Threads + Wait> Subject for Openings<'_, R> {
     fn take(&mut self, line: &str, out: &mut Out) -> Result<(), CaseError> {
         match verb(line) {
-            "fresh" => {
-                self.disks = blank_disks(self.alloc, number(line, 1)?)?;
-                self.saves = saves_in(line);
-                out.text("ok");
-            }
+            "fresh" => self.make(line, out),
             "saves" => {
                 self.saves = saves_in(line);
                 out.text("ok");
+                Ok(())
             }
             "open" => self.open(out),
-            "act" => return self.act(line, out),
-            "carry" => return self.carry(line, out),
-            "once" => return self.once(line, out),
-            "keep" => return self.keep(number(line, 1)?, out),
-            "restore" => return self.restore(number(line, 1)?, number(line, 2)?, out),
-            "crashes" => {
-                let disk = disk_of(&mut self.disks, number(line, 1)?)?;
-                return put_crashes(self.alloc, disk, out);
-            }
-            _ => return change(disk_of(&mut self.disks, number(line, 1)?)?, line, out),
+            "act" => self.act(line, out),
+            "carry" => self.carry(line, out),
+            "once" => self.once(line, out),
+            "keep" => self.keep(line, out),
+            "restore" => self.restore(line, out),
+            _ => self.change(line, out),
         }
-        Ok(())
     }
 }
 
 impl<R: Threads + Wait> Openings<'_, R> {
+    // New disks.
+    fn make(&mut self, line: &str, out: &mut Out) -> Result<(), CaseError> {
+        self.disks = blank_disks(self.alloc, number(line, 1)?)?;
+        self.saves = saves_in(line);
+        out.text("ok");
+        Ok(())
+    }
+
+    // Makes a disk fail or crash, or looks at what crashes may leave.
+    fn change(&mut self, line: &str, out: &mut Out) -> Result<(), CaseError> {
+        let disk = disk_of(&mut self.disks, number(line, 1)?)?;
+        if verb(line) == "crashes" {
+            put_crashes(self.alloc, disk, out)
+        } else {
+            change(disk, line, out)
+        }
+    }
+
     // Opens a space on the disks, and drops it.
-    fn open(&mut self, out: &mut Out) {
+    fn open(&mut self, out: &mut Out) -> Result<(), CaseError> {
         match opened(self.alloc, &mut self.disks, self.saves) {
             Ok(space) => {
                 drop(space);
@@ -83,6 +93,7 @@ impl<R: Threads + Wait> Openings<'_, R> {
             }
             Err(fault) => out.show(&fault),
         }
+        Ok(())
     }
 
     // Opens a space, and gives a node an event and saves it.
@@ -132,8 +143,8 @@ impl<R: Threads + Wait> Openings<'_, R> {
     }
 
     // Copies the disk of a node; the number of the copy.
-    fn keep(&mut self, node: u8, out: &mut Out) -> Result<(), CaseError> {
-        match disk_of(&mut self.disks, node)?.after_crash(0) {
+    fn keep(&mut self, line: &str, out: &mut Out) -> Result<(), CaseError> {
+        match disk_of(&mut self.disks, number(line, 1)?)?.after_crash(0) {
             Ok(copy) => {
                 let place = self.copies.len();
                 self.copies.push(copy)?;
@@ -145,13 +156,13 @@ impl<R: Threads + Wait> Openings<'_, R> {
     }
 
     // Replaces the disk of a node with a copy that was kept.
-    fn restore(&mut self, node: u8, place: usize, out: &mut Out) -> Result<(), CaseError> {
-        let Some(copy) = self.copies.get(place) else {
+    fn restore(&mut self, line: &str, out: &mut Out) -> Result<(), CaseError> {
+        let Some(copy) = self.copies.get(number::<usize>(line, 2)?) else {
             return Err(CaseError::Unknown);
         };
         match copy.after_crash(0) {
             Ok(disk) => {
-                *disk_of(&mut self.disks, node)? = disk;
+                *disk_of(&mut self.disks, number(line, 1)?)? = disk;
                 out.text("ok");
             }
             Err(refusal) => out.refused(refusal),

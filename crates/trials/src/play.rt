@@ -112,36 +112,49 @@ where
         rules: Rules::new(alloc),
         orders: Vec::new(alloc),
     };
-    for _ in rt.forever() {
-        let Some(line) = source.next(rt)? else {
-            break;
-        };
-        play.take(line, out)?;
-        out.flush(rt);
-    }
-    Ok(())
+    let done = play.take_all(source, out);
+    drop(play);
+    done
 }
 
 impl<R, D> Play<'_, R, D>
 where
-    R: Files<File = File> + Clock + Threads + Wait + Clone + Send + Sync + Drop + 'static,
+    R: Files<File = File> + Print + Clock + Threads + Wait + Clone + Send + Sync + Drop + 'static,
     D: Made + Send + Drop + 'static,
 {
+    // Does what the lines say.
+    fn take_all<B: BufRead>(
+        &mut self,
+        source: &mut Source<B>,
+        out: &mut Out,
+    ) -> Result<(), CaseError> {
+        for _ in self.rt.forever() {
+            let Some(line) = source.next(self.rt)? else {
+                break;
+            };
+            self.take(line, out)?;
+            out.flush(self.rt);
+        }
+        Ok(())
+    }
+
     // Does what a line says.
     fn take(&mut self, line: &str, out: &mut Out) -> Result<(), CaseError> {
         match verb(line) {
             "open" => self.open(line, out),
-            "hold" | "end" | "random" | "late" | "fail-once" => {
-                self.note(line)?;
-                out.text("ok");
-                Ok(())
-            }
-            "program" => self.note(line),
             "start" | "revive" => self.work(line, out),
             "close" | "reports" | "ends" => self.close(verb(line), out),
             "leave" => self.leave(out),
             "together" => self.together(out),
             "ended" | "ended-and-revive" | "holders" | "go" => self.ask_gate(line, out),
+            _ => self.take_other(line, out),
+        }
+    }
+
+    // Does what a line says that starts and ends nothing.
+    fn take_other(&mut self, line: &str, out: &mut Out) -> Result<(), CaseError> {
+        match verb(line) {
+            "hold" | "end" | "random" | "late" | "fail-once" | "program" => self.note(line, out),
             "meet" | "once" => show(self.rt, self.alloc, line, out),
             _ => match &mut self.opened {
                 Some(opened) => on_space(self.rt, opened, line, out),
@@ -151,12 +164,16 @@ where
     }
 
     // Notes what is to happen in the space that is opened next, or once workers are started.
-    fn note(&mut self, line: &str) -> Result<(), CaseError> {
+    fn note(&mut self, line: &str, out: &mut Out) -> Result<(), CaseError> {
         match verb(line) {
             "fail-once" => self.failing.push((number(line, 1)?, number(line, 2)?))?,
-            "program" => self.orders.push(Order::of(self.alloc, rest(line))?)?,
+            "program" => {
+                self.orders.push(Order::of(self.alloc, rest(line))?)?;
+                return Ok(());
+            }
             _ => rule(&mut self.rules, line)?,
         }
+        out.text("ok");
         Ok(())
     }
 

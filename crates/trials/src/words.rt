@@ -77,10 +77,10 @@ impl<B: BufRead> Source<B> {
 }
 
 /// Gives the subject all further lines. Each answer is printed before the next line is read.
-pub(crate) fn play<R: Wait + Print, B: BufRead, S: Subject + Drop>(
+pub(crate) fn play<R: Wait + Print, B: BufRead, S: Subject>(
     rt: &R,
     source: &mut Source<B>,
-    mut subject: S,
+    subject: &mut S,
     out: &mut Out,
 ) -> Result<(), CaseError> {
     for _ in rt.forever() {
