@@ -1,22 +1,24 @@
 -- How a script's space follows the definitions.
-use Rattle.std.proofs.Common.{◌≡◌, ◌≢◌, ℕ, true, List, [], Result, Ok, Err, Option, Some, None, is_some, OnOk, IfOk, refl, ap, inl, subst}
+use Rattle.std.proofs.Common.{◌≡◌, ℕ, true, List, [], ◌∷◌, ◌++◌, Result, Ok, Err, Option, Some, None, is_some, OnOk, IfOk, refl, ap, inl, subst, sym}
+use Rattle.std.specs.Io.KnownBytes.{Appends}
 use Rattle.lines.specs.declared.line.Line.{Line}
 use Rattle.lines.specs.Operands.{read}
 use Rattle.ids.specs.Limits.{Shaped}
 use Rattle.ids.specs.declared.refusal.Refusal.{Refusal}
 use Rattle.model.specs.World.{FollowsStep, World, new_world, take_step}
-use Rattle.model.specs.declared.event.Event.{Event}
 use Rattle.model.specs.declared.step.Step.{Step}
-use Rattle.model.specs.declared.step.Step.TheVariants as step
 use Rattle.model.specs.declared.step.Outcome.{Outcome}
 use Rattle.model.specs.declared.step.Outcome.TheVariants as outcome
 use Rattle.commands.specs.declared.script.Reply.TheVariants as reply
 use Rattle.commands.specs.declared.script.State.TheVariants as state
 use Rattle.node.specs.Keeping.{Rings}
-use Rattle.world.specs.Spaces.{KeepsAfter, ShowsSpace, SpaceView, step_met}
+use Rattle.world.specs.Spaces.{KeepsAfter, ShowsSpace, SpaceView, SteppedSpace, step_met}
+use Rattle.lines.specs.Text.{outcome_text, refused_text}
 use Rattle.commands.specs.declared.freed.Freed.{Freed}
-use Rattle.commands.specs.Freed.{KeepsSums, freed_after}
-use Rattle.commands.specs.Script.{Held, RefusesStep, awaited, denied, there, ShowsHeld, TakesSpace, TakesStep, none_kept}
+use Rattle.commands.specs.Freed.{KeepsSums, freed_after, freed_in, freed_with, sweeper}
+use Rattle.commands.specs.declared.script.State.{State}
+use Rattle.commands.proofs.Sizes.{refused_too_large}
+use Rattle.commands.specs.Script.{Held, PrintsReply, RefusesStep, StepDone, StepRefused, StepTaken, awaited, denied, there, ShowsHeld, TakesSpace, TakesStep, none_kept}
 
 -- what holds of the text that was printed, with its status
 pub printed_as : {A E : Type 0} {Q P : ℕ → Type 0} (r : Result ℕ E) → OnOk r A
@@ -29,16 +31,6 @@ pub read_some : {X : Type 0} (done : Option X) (l : Line) (said : Option Line)
     → read done l ≡ said → is_some done ≡ true → Some l ≡ said
 read_some None l said e done = absurd cc
 read_some (Some d) l said e done = e
-
--- a step that isn't an event doesn't change the sums
-pub no_sweep : (w : World) (s : Step) (o : Outcome) (sums : List ℕ)
-    → ((i : ℕ) (e : Event) → s ≢ step.Act i e) → (P : List ℕ → Type 0) → P sums
-    → P (freed_after w s o sums)
-no_sweep w (step.Act i e) o sums other P p = absurd (other i e refl)
-no_sweep w (step.Save i) o sums other P p = p
-no_sweep w (step.Restart i) o sums other P p = p
-no_sweep w (step.Deliver from to number) o sums other P p = p
-no_sweep w (step.Hand from to) o sums other P p = p
 
 pub made_shows : (h : Held) (sizes : Shaped) (x : SpaceView) (f : Freed)
     → ShowsHeld state.Unopened h → ShowsSpace x (new_world sizes)
@@ -95,3 +87,59 @@ refusal_shows (there w all sums) step x y f e shown refused =
     let why = subst (λ (z : List Rings). RefusesStep w z step e) shown.1 r.0 in
     let kept = subst (λ (z : List Rings). KeepsAfter w z step (Err e) y.early) shown.1 r.1 in
     (there w y.early sums, (y.early, why, kept, refl), (r.2, refl, shown.2))
+
+-- a step that isn't a sweep was taken, and its outcome is on the line
+pub step_taken : {s : Step} {x y : SpaceView} {line : List ℕ} → (o : Outcome)
+    → SteppedSpace (Ok o) x y s → sweeper s ≡ None → line ≡ outcome_text o ++ 10 ∷ [] → (f : Freed)
+    → StepDone s (Ok tt) (state.Open x f) (state.Open y f) line
+step_taken {s} {x} {y} o stepped none text f = record {
+  taken = record {
+    outcome = o;
+    answers = λ h shown. outcome_shows h s x y f f o shown stepped.follows stepped.early
+        (λ w sums there kept. subst (λ z. KeepsSums f.sums (freed_with w z (freed_in o) sums))
+        (sym none) kept);
+    text = text;
+  };
+  refused = tt;
+}
+
+-- a step was refused
+pub step_refused : {s : Step} {x y : SpaceView} {e : Refusal} {line : List ℕ}
+    → SteppedSpace (Err e) x y s → (f : Freed)
+    → StepDone s (Err e) (state.Open x f) (state.Open y f) line
+step_refused {s} {x} {y} {e} stepped f = record {
+  taken = tt;
+  refused = λ h shown. refusal_shows h s x y f e shown
+      (λ w there. (
+        record {
+          first = (stepped.follows w there).0;
+          memory_free = stepped.memory_free w there;
+          too_large = refused_too_large _ w s (Err e) there.world stepped.too_large;
+        },
+        stepped.early w there,
+        (stepped.follows w there).1,
+      ));
+}
+
+-- the outcome was printed
+pub prints_taken : {s : Step} {old new : State} {line : List ℕ} {before after : Option (List ℕ)}
+    {status : ℕ} → StepTaken s old new line → Appends before after line → status ≡ 0 → (number : ℕ)
+    → PrintsReply (λ h r later. TakesStep h s r later) number old new before after status
+prints_taken {before = before} {after = after} taken text zero number = record {
+  reply = reply.Outcome taken.outcome;
+  answers = taken.answers;
+  prints = subst (Appends before after) taken.text text;
+  is = zero;
+}
+
+-- the refusal was printed
+pub prints_refused : {s : Step} {old new : State} {e : Refusal} {before after : Option (List ℕ)}
+    {status : ℕ} → StepRefused s old new e → Appends before after (refused_text e ++ 10 ∷ [])
+    → status ≡ 1 → (number : ℕ)
+    → PrintsReply (λ h r later. TakesStep h s r later) number old new before after status
+prints_refused {e = e} refused text one number = record {
+  reply = reply.Refused e;
+  answers = refused;
+  prints = text;
+  is = one;
+}

@@ -1,5 +1,5 @@
 -- What a script prints, and its exit status.
-use Rattle.std.specs.Prelude.{◌≡◌, ◌≢◌, ℕ, ◌+◌, ◌<◌, true, length, max, List, [], ◌∷◌, ◌++◌, ◌⊎◌, Option, Some, None, Ok, Err, codes, decimal, replicate}
+use Rattle.std.specs.Prelude.{◌≡◌, ◌≢◌, ℕ, ◌+◌, ◌<◌, true, length, max, List, [], ◌∷◌, ◌++◌, ◌⊎◌, Option, Some, None, Result, Ok, Err, OnOk, IfErr, codes, decimal, replicate}
 use Rattle.std.specs.Io.KnownBytes.{Appends}
 use Rattle.std.specs.Str.Lines.{lines}
 use Rattle.ids.specs.Limits.{Shaped, IsShape}
@@ -7,6 +7,7 @@ use Rattle.ids.specs.declared.limits.TheConstants.{GREATEST_IMAGE}
 use Rattle.ids.specs.declared.refusal.Refusal.{Refusal}
 use Rattle.ids.specs.declared.refusal.Refusal.TheVariants.{Memory, NoNode, ImageTooLarge}
 use Rattle.model.specs.World.{World, IsStepRefusal, acknowledged, new_world, is_step_memory_free, take_step}
+use Rattle.model.specs.declared.step.Outcome.{Outcome}
 use Rattle.model.specs.declared.step.Outcome.TheVariants as outcome
 use Rattle.model.specs.declared.step.Step.{Step}
 use Rattle.model.specs.declared.step.Step.TheVariants as step
@@ -87,6 +88,22 @@ abbrev pub TakesStep : Held → Step → Reply → Held → Type 0
 TakesStep awaited step r later = (r ≡ reply.NoCommand) × (later ≡ awaited)
 TakesStep denied step r later = (r ≡ reply.Refused Memory) × (later ≡ denied)
 TakesStep (there w all sums) step r later = IsStepReply w all sums step r later
+
+-- a step was taken, and this is the line with its outcome
+pub record StepTaken (s : Step) (old new : State) (line : List ℕ) : Type 0 where
+  pub outcome : Outcome
+  pub answers : Moves (λ h later. TakesStep h s (reply.Outcome outcome) later) old new
+  pub text : line ≡ outcome_text outcome ++ (10 ∷ [])
+
+-- a step was refused
+abbrev pub StepRefused : Step → State → State → Refusal → Type 0
+StepRefused s old new e = Moves (λ h later. TakesStep h s (reply.Refused e) later) old new
+
+-- a step was taken, and this is the line with its outcome; or it was refused
+pub record StepDone (s : Step) (result : Result (Unit {0}) Refusal) (old new : State)
+    (line : List ℕ) : Type 0 where
+  pub taken : OnOk result (StepTaken s old new line)
+  pub refused : IfErr result (λ e. StepRefused s old new e)
 
 -- what is printed for a node in numbers, if there is such a node
 abbrev pub state_reply : Option Summary → Reply

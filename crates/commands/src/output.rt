@@ -5,14 +5,14 @@ ghost use Rattle.std.specs.Io.KnownBytes.{Appends, Keeps};
 ghost use Rattle.commands.specs.Script.{PrintsUnread, reply_text};
 ghost use Rattle.commands.specs.declared.script.Reply.TheVariants as reply;
 ghost use Rattle.lines.specs.Frames.{frame_text};
-ghost use Rattle.lines.specs.Text.{answer_text, outcome_text, refused_text, report_text};
+ghost use Rattle.lines.specs.Text.{outcome_text, refused_text, report_text};
 ghost use Rattle.lines.specs.Text.{summary_text};
 ghost use Rattle.msg.specs.Frames.{plain};
 
 use crate::reading::Unread;
 use ids::Refusal;
-use lines::{FrameText, Printer, SummaryText, print_outcome, print_report};
-use model::{Answer, Outcome};
+use lines::{FrameText, Printer, SummaryText, print_report};
+use model::Outcome;
 use msg::Frame;
 use node::Summary;
 use std::io::Write;
@@ -25,34 +25,28 @@ pub struct Lost {
     _failed: (),
 }
 
-/// Prints what a node answered, and returns the status.
+/// Prints the line that was put together, and returns the status.
 #[inline(always)]
-pub(crate) fn print_answer<W: Write>(
-    printer: &mut Printer,
-    out: &mut W,
-    answer: &Answer,
-) -> Result<u8, Lost>
+pub(crate) fn print_line<W: Write>(printer: &Printer, out: &mut W) -> Result<u8, Lost>
     ensures text { OnOk result
-        (Appends (W.contents out.old) (W.contents out.new) (answer_text answer.now ++ 10 ∷ [])) }
+        (Appends (W.contents out.old) (W.contents out.new) printer.now) }
     ensures status { IfOk result (λ status. status ≡ 0) }
 {
-    match printer.print(out, answer) {
+    match printer.print(out) {
         Ok(()) => Ok(DONE),
         Err(_) => Err(Lost { _failed: () }),
     }
 }
 
 /// Prints the outcome of a step, and returns the status.
-#[inline(always)]
-pub(crate) fn print_step<W: Write>(out: &mut W, outcome: &Outcome) -> Result<u8, Lost>
+pub(crate) fn print_outcome<W: Write>(out: &mut W, outcome: &Outcome) -> Result<u8, Lost>
     ensures text { OnOk result
         (Appends (W.contents out.old) (W.contents out.new) (outcome_text outcome.now ++ 10 ∷ [])) }
     ensures status { IfOk result (λ status. status ≡ 0) }
 {
-    match print_outcome(out, outcome) {
-        Ok(()) => Ok(DONE),
-        Err(_) => Err(Lost { _failed: () }),
-    }
+    let mut printer = Printer::new();
+    printer.put_outcome(outcome);
+    print_line(&printer, out)
 }
 
 /// Prints a node in numbers.

@@ -1,11 +1,11 @@
 //! Runs a script over a space of nodes. For each line the space takes a step, and the reply is
 //! printed; a line outside the grammar is the last. The status is that of the worst reply.
-ghost use Rattle.std.specs.Prelude.{◌≡◌, ◌≤◌, ℕ, List, Some, IfOk, OnOk, IfErr, IsTrue, ◌≢◌, string_bytes};
+ghost use Rattle.std.specs.Prelude.{◌≡◌, ◌≤◌, ℕ, List, Some, IfOk, OnOk, IfErr, IsTrue, ◌≢◌, ◌++◌, ◌∷◌, [], string_bytes};
 ghost use Rattle.std.specs.Io.KnownBytes.{Appends};
 ghost use Rattle.model.specs.declared.event.Event.{Event};
-ghost use Rattle.model.specs.declared.step.Outcome.TheVariants as outcome;
 ghost use Rattle.model.specs.declared.step.Step.{Step};
 ghost use Rattle.model.specs.declared.step.Step.TheVariants as steps;
+ghost use Rattle.model.specs.Steps.{is_own};
 ghost use Rattle.model.specs.World.{World, is_own_step};
 ghost use Rattle.world.specs.Spaces.{ShowsSpace};
 ghost use Rattle.commands.specs.Freed.{KeepsSums, freed_with};
@@ -13,21 +13,24 @@ ghost use Rattle.lines.specs.Grammar.{line_of, words_of};
 ghost use Rattle.commands.specs.Script.{Moves, PrintsReplies};
 ghost use Rattle.commands.specs.Script.{PrintsUnread, TakesLine, TakesReport, TakesSpace};
 ghost use Rattle.commands.specs.Script.{TakesState, TakesStep, reply_text, status_after};
-ghost use Rattle.commands.specs.Script.{PrintsReply};
+ghost use Rattle.commands.specs.Script.{PrintsReply, StepDone};
+ghost use Rattle.commands.specs.declared.freed.Freed.{Freed};
+ghost use Rattle.lines.specs.Text.{outcome_text};
+ghost use Rattle.world.specs.Spaces.{delivered, handed};
 ghost use Rattle.commands.specs.declared.script.Reply.TheVariants as reply;
 ghost use Rattle.commands.specs.declared.script.State.TheVariants as state;
 ghost use Rattle.lines.specs.declared.line.Line.TheVariants as line;
 
 use crate::freed::{Freed, freed_by, sweeper};
 use crate::output::{
-    Lost, flush, print_answer, print_no_command, print_refusal, print_step, print_unread,
+    Lost, flush, print_line, print_no_command, print_outcome, print_refusal, print_unread,
     put_report, put_summary,
 };
 use crate::reading::Unread;
 use crate::splitting::first_line;
 use ids::{Refusal, Shape};
 use lines::{Line, Printer};
-use model::{Event, Outcome, Step};
+use model::{Answer, Event, Outcome, Step};
 use node::Summary;
 use std::alloc::Global;
 use std::io::Write;
@@ -117,8 +120,7 @@ pub fn sim<W: Write>(
 
 /// Does what the line of this number says, prints the reply, and returns the line's status. It
 /// fails if the output does. The line is read into a value that all lines share, because a new one
-/// would be zeroed first. Most lines are steps and most steps are events, so their outcomes aren't
-/// moved into replies.
+/// would be zeroed first.
 #[inline(always)]
 fn run_line<W: Write>(
     alloc: Global,
@@ -142,41 +144,181 @@ fn run_line<W: Write>(
     match state {
         State::Unopened => print_no_command(out, number),
         State::Refused(refusal) => print_refusal(out, *refusal),
-        State::Open { space, freed } => match step {
-            Step::Act(node, event) => {
-                let swept = sweeper(*node, event);
-                match &space.act(*node, *event) {
-                    Ok(answer) => {
-                        note(space, freed, swept, freed_by(answer));
-                        print_answer(printer, out, answer)
-                    }
-                    Err(refusal) => print_refusal(out, *refusal),
-                }
-            }
-            _ => run_move(space, freed, step, out),
-        },
+        State::Open { space, freed } => run_step(space, freed, printer, step, out),
     }
 }
 
-/// Takes a step that isn't an event, and prints the outcome. (Not inlined, because an outcome is
-/// large.)
-#[inline(never)]
-fn run_move<W: Write>(
+/// Takes a step, and prints the outcome.
+#[inline(always)]
+fn run_step<W: Write>(
     space: &mut Sim,
     freed: &mut Freed,
+    printer: &mut Printer,
     step: &Step,
     out: &mut W,
 ) -> Result<u8, Lost>
     requires own { IsTrue (is_own_step step.now) }
-    requires other { (node : ℕ) (event : Event) → step.now ≢ steps.Act node event }
     ensures { (number : ℕ) → IfOk result (PrintsReply
         (λ h r later. TakesStep h step.now r later) number
         (state.Open space.old freed.old) (state.Open space.new freed.new)
         (W.contents out.old) (W.contents out.new)) }
 {
-    match &space.step(*step) {
-        Ok(outcome) => print_step(out, outcome),
+    match step {
+        Step::Act(node, event) => run_event(space, freed, printer, *node, *event, out),
+        _ => run_move(space, printer, step, out),
+    }
+}
+
+/// Gives a node an event, and prints the answer.
+#[inline(always)]
+fn run_event<W: Write>(
+    space: &mut Sim,
+    freed: &mut Freed,
+    printer: &mut Printer,
+    node: u8,
+    event: Event,
+    out: &mut W,
+) -> Result<u8, Lost>
+    requires own { IsTrue (is_own event) }
+    ensures { (number : ℕ) → IfOk result (PrintsReply
+        (λ h r later. TakesStep h (steps.Act node event) r later) number
+        (state.Open space.old freed.old) (state.Open space.new freed.new)
+        (W.contents out.old) (W.contents out.new)) }
+{
+    let swept = sweeper(node, &event);
+    match &space.act(node, event) {
+        Ok(answer) => {
+            note(space, freed, swept, freed_by(answer));
+            printer.put_answer(answer);
+            print_line(printer, out)
+        }
         Err(refusal) => print_refusal(out, *refusal),
+    }
+}
+
+/// Takes a step that isn't an event, and prints the outcome. (Not inlined, so that events don't
+/// pay for it.)
+#[inline(never)]
+fn run_move<W: Write>(
+    space: &mut Sim,
+    printer: &mut Printer,
+    step: &Step,
+    out: &mut W,
+) -> Result<u8, Lost>
+    requires other { (node : ℕ) (event : Event) → step.now ≢ steps.Act node event }
+    ensures { (number : ℕ) (f : Freed) → IfOk result (PrintsReply
+        (λ h r later. TakesStep h step.now r later) number
+        (state.Open space.old f) (state.Open space.new f)
+        (W.contents out.old) (W.contents out.new)) }
+{
+    match take_move(space, printer, step) {
+        Ok(()) => print_line(printer, out),
+        Err(refusal) => print_refusal(out, refusal),
+    }
+}
+
+/// Takes a step that isn't an event, and puts its outcome on the line. (What each kind of step
+/// returns is put there at once, because an outcome is large.)
+#[inline(always)]
+fn take_move(space: &mut Sim, printer: &mut Printer, step: &Step) -> Result<(), Refusal>
+    requires other { (node : ℕ) (event : Event) → step.now ≢ steps.Act node event }
+    ensures { (f : Freed) → StepDone step.now result
+        (state.Open space.old f) (state.Open space.new f) printer.new }
+{
+    match step {
+        Step::Act(..) => unreachable!(),
+        Step::Save(node) => save(space, printer, *node),
+        Step::Restart(node) => restart(space, printer, *node),
+        Step::Deliver { from, to, number } => deliver(space, printer, *from, *to, *number),
+        Step::Hand { from, to } => hand(space, printer, *from, *to),
+    }
+}
+
+/// Saves a node, and puts the outcome on the line.
+#[inline(always)]
+fn save(space: &mut Sim, printer: &mut Printer, node: u8) -> Result<(), Refusal>
+    ensures { (f : Freed) → StepDone (steps.Save node) result
+        (state.Open space.old f) (state.Open space.new f) printer.new }
+{
+    match space.save(node) {
+        Ok(()) => {
+            printer.put_outcome(&Outcome::Done);
+            Ok(())
+        }
+        Err(refusal) => Err(refusal),
+    }
+}
+
+/// Restarts a node, and puts the outcome on the line. (Not inlined, because an outcome is large.)
+#[inline(never)]
+fn restart(space: &mut Sim, printer: &mut Printer, node: u8) -> Result<(), Refusal>
+    ensures { (f : Freed) → StepDone (steps.Restart node) result
+        (state.Open space.old f) (state.Open space.new f) printer.new }
+{
+    match &space.step(Step::Restart(node)) {
+        Ok(outcome) => {
+            printer.put_outcome(outcome);
+            Ok(())
+        }
+        Err(refusal) => Err(*refusal),
+    }
+}
+
+/// Delivers the message of this number from one node to another, and puts the answer on the line.
+#[inline(always)]
+fn deliver(
+    space: &mut Sim,
+    printer: &mut Printer,
+    from: u8,
+    to: u8,
+    number: u64,
+) -> Result<(), Refusal>
+    ensures { (f : Freed) → StepDone (steps.Deliver from to number) result
+        (state.Open space.old f) (state.Open space.new f) printer.new }
+{
+    match &space.deliver(from, to, number) {
+        Ok(answer) => {
+            put_delivered(printer, answer);
+            Ok(())
+        }
+        Err(refusal) => Err(*refusal),
+    }
+}
+
+/// Puts on the line what a node answered to a message that was delivered, if there was one.
+#[inline(always)]
+fn put_delivered(printer: &mut Printer, answer: &Option<Answer>)
+    ensures { printer.new ≡ outcome_text (delivered answer.now) ++ 10 ∷ [] }
+{
+    match answer {
+        Some(answer) => printer.put_reply(answer),
+        None => printer.put_outcome(&Outcome::NoFrame),
+    }
+}
+
+/// Gives the node `from` what the saved node `to` acknowledges, and puts the number on the line.
+#[inline(always)]
+fn hand(space: &mut Sim, printer: &mut Printer, from: u8, to: u8) -> Result<(), Refusal>
+    ensures { (f : Freed) → StepDone (steps.Hand from to) result
+        (state.Open space.old f) (state.Open space.new f) printer.new }
+{
+    match space.hand(from, to) {
+        Ok(number) => {
+            put_handed(printer, number);
+            Ok(())
+        }
+        Err(refusal) => Err(refusal),
+    }
+}
+
+/// Puts on the line which number was acknowledged, if one was.
+#[inline(always)]
+fn put_handed(printer: &mut Printer, number: Option<u64>)
+    ensures { printer.new ≡ outcome_text (handed number) ++ 10 ∷ [] }
+{
+    match number {
+        Some(number) => printer.put_outcome(&Outcome::Handed(number)),
+        None => printer.put_outcome(&Outcome::NoFrame),
     }
 }
 
@@ -218,7 +360,7 @@ fn print_reply<W: Write>(out: &mut W, number: usize, reply: &Reply) -> Result<u8
 {
     match reply {
         Reply::Nothing => {}
-        Reply::Outcome(outcome) => return print_step(out, outcome),
+        Reply::Outcome(outcome) => return print_outcome(out, outcome),
         Reply::Summary(summary) => put_summary(out, *summary)?,
         Reply::Report(sums) => put_report(out, sums)?,
         Reply::Refused(refusal) => return print_refusal(out, *refusal),

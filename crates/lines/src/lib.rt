@@ -14,6 +14,6 @@ mod text;
 
 pub use frames::FrameText;
 pub use line::{Line, read_u8, read_u16};
-pub use printing::{Printer, print_outcome, print_report};
+pub use printing::{Printer, print_report};
 pub use run_line::RunLine;
 pub use text::{OutcomeText, SummaryText, answer_text};

@@ -65,6 +65,7 @@ impl fmt::Display for OutcomeText {
 }
 
 /// Puts the outcome of a step that wasn't refused before a text.
+#[inline(always)]
 #[tactic(auto, using(crate::proofs::Endings::both))]
 pub(crate) fn put_outcome(text: &mut Ending, outcome: &Outcome)
     requires { (LONGEST ≤ text.old.start) × (text.old.start ≤ ROOM) }
@@ -72,7 +73,7 @@ pub(crate) fn put_outcome(text: &mut Ending, outcome: &Outcome)
     ensures room { text.new.start ≤ text.old.start }
 {
     match outcome {
-        Outcome::Answer(answer) => put_answer(text, answer),
+        Outcome::Answer(answer) => put_reply(text, answer),
         Outcome::Done => text.put(b"ok"),
         Outcome::Handed(number) => put_named(text, b"ack ", *number),
         Outcome::NoFrame => text.put(b"no frame"),
@@ -105,6 +106,17 @@ pub(crate) fn put_answer(text: &mut Ending, answer: &Answer)
         Answer::Repeat => text.put(b"repeat"),
         Answer::Early => text.put(b"early"),
     }
+}
+
+/// Puts what a node answered before a text. (Not inlined, so that there are few copies of it: what
+/// it calls is inlined only then.)
+#[inline(never)]
+pub(crate) fn put_reply(text: &mut Ending, answer: &Answer)
+    requires { (LONGEST ≤ text.old.start) × (text.old.start ≤ ROOM) }
+    ensures grows { Grows (said answer.now) text.old text.new }
+    ensures room { text.new.start ≤ text.old.start }
+{
+    put_answer(text, answer);
 }
 
 /// Puts a name and a number before a text.

@@ -1,6 +1,6 @@
 -- A space of the code, together with the early messages that its nodes keep, compared with a space
 -- of the definitions.
-use Rattle.std.specs.Prelude.{◌≡◌, ◌≢◌, ℕ, ◌++◌, List, [], ◌∷◌, length, map, IsTrue, IfOk, IfErr, OnErr, ◌↔◌, slice_index_or, Some, Result, Ok, Err, ◌<◌, slice_set}
+use Rattle.std.specs.Prelude.{◌≡◌, ◌≢◌, ℕ, ◌++◌, List, [], ◌∷◌, length, map, IsTrue, IfOk, IfErr, OnErr, ◌↔◌, slice_index_or, Option, None, Some, Result, Ok, Err, ◌<◌, slice_set}
 use Rattle.ids.specs.Limits.{Shaped}
 use Rattle.ids.specs.declared.refusal.Refusal.{Refusal}
 use Rattle.ids.specs.declared.refusal.Refusal.TheVariants.{Memory, ImageTooLarge}
@@ -98,10 +98,20 @@ KeepsAfter w all s r es = es ≡ all
 
 -- ---- a step
 
--- the outcome of a step that gave a node an event, by the node's answer
-abbrev pub outcome_by : (Answer → Outcome) → Result Answer Refusal → Result Outcome Refusal
+-- the outcome of a step, by what a call for such steps alone returns
+abbrev pub outcome_by : {A : Type 0} → (A → Outcome) → Result A Refusal → Result Outcome Refusal
 outcome_by o (Ok x) = Ok (o x)
 outcome_by o (Err f) = Err f
+
+-- the outcome of a delivery, by the node's answer if there was a frame
+abbrev pub delivered : Option Answer → Outcome
+delivered (Some a) = outcome.Answer a
+delivered None = outcome.NoFrame
+
+-- the outcome of an acknowledgement, by its number if there was one
+abbrev pub handed : Option ℕ → Outcome
+handed (Some number) = outcome.Handed number
+handed None = outcome.NoFrame
 
 -- A step compared with the definitions' step that it is, on each of their spaces that was shown
 -- before.

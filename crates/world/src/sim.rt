@@ -19,6 +19,8 @@ ghost use Rattle.world.specs.Shows.{
 ghost use Rattle.world.specs.Spaces.{
   ShowsSpace,
   SteppedSpace,
+  delivered,
+  handed,
   outcome_by,
 };
 
@@ -95,10 +97,10 @@ impl Sim {
     {
         match step {
             Step::Act(node, event) => self.act_step(node, event),
-            Step::Save(node) => self.save(node),
+            Step::Save(node) => self.save_step(node),
             Step::Restart(node) => self.restart(node),
-            Step::Deliver { from, to, number } => self.deliver(from, to, number),
-            Step::Hand { from, to } => self.hand(from, to),
+            Step::Deliver { from, to, number } => self.deliver_step(from, to, number),
+            Step::Hand { from, to } => self.hand_step(from, to),
         }
     }
 
@@ -116,6 +118,69 @@ impl Sim {
         }
         let site = &mut self.sites[usize::from(node)];
         site.act(event)
+    }
+
+    /// Saves a node. This is the step [`Step::Save`], as [`Sim::step`] takes it, except that its
+    /// outcome is no value.
+    #[inline(never)]
+    pub fn save(&mut self, node: u8) -> Result<(), Refusal>
+        ensures { SteppedSpace (outcome_by (λ _. outcome.Done) result) self.old self.new
+            (step.Save node) }
+    {
+        if node >= self.count() {
+            return Err(Refusal::NoNode);
+        }
+        let alloc = self.alloc;
+        let site = &mut self.sites[usize::from(node)];
+        site.save(alloc)?;
+        Ok(())
+    }
+
+    /// Delivers the message of this number from one node to another. This is the step
+    /// [`Step::Deliver`], as [`Sim::step`] takes it, except that only the node's answer is
+    /// returned. `None` if no such message was released.
+    #[inline(never)]
+    pub fn deliver(&mut self, from: u8, to: u8, number: u64) -> Result<Option<Answer>, Refusal>
+        ensures { SteppedSpace (outcome_by delivered result) self.old self.new
+            (step.Deliver from to number) }
+    {
+        let count = self.count();
+        if from >= count || to >= count {
+            return Err(Refusal::NoNode);
+        }
+        if from == to {
+            return Ok(None);
+        }
+        let Some(bytes) = self.released(from, to, number) else {
+            return Ok(None);
+        };
+        // Only messages are released, so the bytes here are never those of another frame.
+        let Frame::Data(message) = decode(bytes)? else {
+            return Err(Refusal::BadFrame);
+        };
+        let site = &mut self.sites[usize::from(to)];
+        let answer = site.act(Event::Data(message))?;
+        Ok(Some(answer))
+    }
+
+    /// Gives the node `from` what the saved node `to` acknowledges to it. This is the step
+    /// [`Step::Hand`], as [`Sim::step`] takes it, except that only the number acknowledged is
+    /// returned. `None` if the two are one node.
+    #[inline(always)]
+    pub fn hand(&mut self, from: u8, to: u8) -> Result<Option<u64>, Refusal>
+        ensures { SteppedSpace (outcome_by handed result) self.old self.new (step.Hand from to) }
+    {
+        let count = self.count();
+        if from >= count || to >= count {
+            return Err(Refusal::NoNode);
+        }
+        if from == to {
+            return Ok(None);
+        }
+        let ack = self.acknowledgement(from, to);
+        let site = &mut self.sites[usize::from(from)];
+        site.act(Event::Ack(ack))?;
+        Ok(Some(ack.number))
     }
 
     /// The current node of this number, if there is one.
@@ -174,17 +239,34 @@ impl Sim {
         }
     }
 
-    #[inline(never)]
-    fn save(&mut self, node: u8) -> Result<Outcome, Refusal>
+    fn save_step(&mut self, node: u8) -> Result<Outcome, Refusal>
         ensures { SteppedSpace result self.old self.new (step.Save node) }
     {
-        if node >= self.count() {
-            return Err(Refusal::NoNode);
+        match self.save(node) {
+            Ok(()) => Ok(Outcome::Done),
+            Err(refusal) => Err(refusal),
         }
-        let alloc = self.alloc;
-        let site = &mut self.sites[usize::from(node)];
-        site.save(alloc)?;
-        Ok(Outcome::Done)
+    }
+
+    #[inline(never)]
+    fn deliver_step(&mut self, from: u8, to: u8, number: u64) -> Result<Outcome, Refusal>
+        ensures { SteppedSpace result self.old self.new (step.Deliver from to number) }
+    {
+        match self.deliver(from, to, number) {
+            Ok(Some(answer)) => Ok(Outcome::Answer(answer)),
+            Ok(None) => Ok(Outcome::NoFrame),
+            Err(refusal) => Err(refusal),
+        }
+    }
+
+    fn hand_step(&mut self, from: u8, to: u8) -> Result<Outcome, Refusal>
+        ensures { SteppedSpace result self.old self.new (step.Hand from to) }
+    {
+        match self.hand(from, to) {
+            Ok(Some(number)) => Ok(Outcome::Handed(number)),
+            Ok(None) => Ok(Outcome::NoFrame),
+            Err(refusal) => Err(refusal),
+        }
     }
 
     #[inline(never)]
@@ -198,46 +280,6 @@ impl Sim {
         let site = &mut self.sites[usize::from(node)];
         site.restart(alloc)?;
         Ok(Outcome::Done)
-    }
-
-    #[inline(always)]
-    fn deliver(&mut self, from: u8, to: u8, number: u64) -> Result<Outcome, Refusal>
-        ensures { SteppedSpace result self.old self.new (step.Deliver from to number) }
-    {
-        let count = self.count();
-        if from >= count || to >= count {
-            return Err(Refusal::NoNode);
-        }
-        if from == to {
-            return Ok(Outcome::NoFrame);
-        }
-        let Some(bytes) = self.released(from, to, number) else {
-            return Ok(Outcome::NoFrame);
-        };
-        // Only messages are released, so the bytes here are never those of another frame.
-        let Frame::Data(message) = decode(bytes)? else {
-            return Err(Refusal::BadFrame);
-        };
-        let site = &mut self.sites[usize::from(to)];
-        let answer = site.act(Event::Data(message))?;
-        Ok(Outcome::Answer(answer))
-    }
-
-    #[inline(always)]
-    fn hand(&mut self, from: u8, to: u8) -> Result<Outcome, Refusal>
-        ensures { SteppedSpace result self.old self.new (step.Hand from to) }
-    {
-        let count = self.count();
-        if from >= count || to >= count {
-            return Err(Refusal::NoNode);
-        }
-        if from == to {
-            return Ok(Outcome::NoFrame);
-        }
-        let ack = self.acknowledgement(from, to);
-        let site = &mut self.sites[usize::from(from)];
-        site.act(Event::Ack(ack))?;
-        Ok(Outcome::Handed(ack.number))
     }
 
     /// The bytes of the frame of this number from one node to another, if it was released.
