@@ -48,7 +48,7 @@ fn put_tagged(out: &mut Writer, tag: u8, r: Ref)
     ensures { Writes out.old out.new (tag ∷ (reference Second).spell r)
         ((reference Second).IsWide r) }
 {
-    out.append(&tagged_bytes(tag, r));
+    out.array(tagged_bytes(tag, r));
 }
 
 /// Appends an optional reference.
