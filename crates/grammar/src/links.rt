@@ -83,7 +83,7 @@ fn put_idle(out: &mut Writer, links: &Links, to: u8)
     ensures { Puts (link_format Second) out.old out.new
         (stored_link (link_at links.now to, got_at links.now to)) }
 {
-    out.append(&idle_link(links.base(to), links.taken(to)));
+    out.array(idle_link(links.base(to), links.taken(to)));
 }
 
 #[tactic(auto, unfolding(crate::specs::Grammar::link_format), using(crate::proofs::Joins::both))]

@@ -92,7 +92,7 @@ fn put_few(out: &mut Writer, registers: &[Option<Ref>])
     ensures { PutsAll (optional Second) out.old out.new registers.now }
 {
     if registers.len() == AT_ONCE && all_empty(registers) {
-        out.append(&[ABSENT; AT_ONCE]);
+        out.array([ABSENT; AT_ONCE]);
         return;
     }
     let mut piece = Piece::new();

@@ -52,52 +52,37 @@ fn add_phases(piece: &mut Piece, p: &Phases)
     piece.u32(p.cursor());
 }
 
-#[tactic(auto, unfolding(crate::specs::Grammar::held_format), using(crate::proofs::Joins::gained))]
-#[inline(always)]
-fn add_held(piece: &mut Piece, held: Option<Token>)
-    requires { length piece.old + 10 ≤ GREATEST_PIECE }
-    ensures { Adds held_format 10 piece.old piece.new held }
-{
-    match held {
-        None => piece.u8(ABSENT),
-        Some(token) => {
-            piece.u8(PRESENT);
-            add_token(piece, token);
-        }
-    }
-}
-
-// A node's colour, its balances and the token that it holds.
-#[tactic(auto, unfolding(crate::specs::Grammar::ring_format), using(crate::proofs::Joins::gained))]
-#[inline(always)]
-fn add_ring(piece: &mut Piece, ring: Ring)
-    requires { length piece.old + 27 ≤ GREATEST_PIECE }
-    ensures { Adds ring_format 27 piece.old piece.new ring }
-{
-    add_colour(piece, ring.colour());
-    piece.i64(ring.earlier());
-    piece.i64(ring.recent());
-    add_held(piece, ring.token());
-}
-
 /// Appends what an image begins with: two letters, and the second version.
 #[tactic(auto, unfolding(crate::specs::Grammar::start_format, crate::specs::Grammar::version_format))]
 pub fn put_start(out: &mut Writer)
     ensures { Puts start_format out.old out.new Second }
 {
-    out.append(&[START[0], START[1], SECOND]);
+    out.array([START[0], START[1], SECOND]);
 }
 
-/// Appends what comes before the lists, in one piece.
-#[tactic(auto, unfolding(crate::specs::Grammar::front_format), using(crate::proofs::Joins::gained, crate::proofs::Joins::piece_written))]
+/// Appends what comes before the lists: the head, the cycles, and the node's colour, its balances
+/// and the token that it holds. It is one piece, whose length is known in each of the two cases.
+#[tactic(auto, unfolding(crate::specs::Grammar::front_format, crate::specs::Grammar::ring_format, crate::specs::Grammar::held_format), using(crate::proofs::Joins::gained, crate::proofs::Joins::piece_written))]
 pub fn put_front(out: &mut Writer, head: Head, phases: &Phases, ring: Ring)
     ensures { Puts (front_format Second) out.old out.new (head, (phases_by phases.now, ring)) }
 {
     let mut piece = Piece::new();
     add_head(&mut piece, head);
     add_phases(&mut piece, phases);
-    add_ring(&mut piece, ring);
-    out.append(piece.as_slice());
+    add_colour(&mut piece, ring.colour());
+    piece.i64(ring.earlier());
+    piece.i64(ring.recent());
+    match ring.token() {
+        None => {
+            piece.u8(ABSENT);
+            out.piece(piece);
+        }
+        Some(token) => {
+            piece.u8(PRESENT);
+            add_token(&mut piece, token);
+            out.piece(piece);
+        }
+    }
 }
 
 /// Appends the lists whose lengths are known from the head: the reports of the other nodes, and the

@@ -26,5 +26,5 @@ returns-then-all_empty c =
     let empty = empty_spelled xs (sym c.all_empty.ensures ∙ c.if-all_empty.true) in
     let text : replicate 8 0 ≡ flat_map (optional Second).spell xs =
     sym (empty.0 ∙ ap (λ (n : ℕ). replicate n 0) c.if-registers-eq-AT_ONCE.true) in
-    subst (λ (t : List ℕ). Writes c.args.out.now c.append.new.self t
-    (AllByRecursion (optional Second).IsWide xs)) text (so (λ _. empty.1) c.append.ensures)
+    subst (λ (t : List ℕ). Writes c.args.out.now c.array.new.self t
+    (AllByRecursion (optional Second).IsWide xs)) text (so (λ _. empty.1) c.array.ensures)
