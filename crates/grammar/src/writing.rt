@@ -1,6 +1,6 @@
 //! Writes the parts of an image as bytes. They follow one another without gaps, each in its own
 //! format.
-ghost use Rattle.std.specs.Prelude.{◌≡◌, ◌≤◌, ◌+◌, length, map};
+ghost use Rattle.std.specs.Prelude.{◌≡◌, ◌≤◌, ◌+◌, [], length, map};
 ghost use Rattle.std.specs.List.{remove};
 ghost use Rattle.codec.specs.Formats.{many, number8};
 ghost use Rattle.codec.specs.Pieces.{Adds};
@@ -9,7 +9,7 @@ ghost use Rattle.codec.specs.Writing.{Puts};
 ghost use Rattle.msg.specs.declared.version.Version.TheVariants.{Second};
 ghost use Rattle.grammar.specs.Grammar.{head_format, phases_format, held_format, ring_format};
 ghost use Rattle.grammar.specs.Grammar.{start_format, front_format, told_format, slots_format};
-ghost use Rattle.grammar.specs.Grammar.{others_format};
+ghost use Rattle.grammar.specs.Grammar.{others_format, waiting_format};
 ghost use Rattle.grammar.specs.Stored.{phases_by, stored_slot, stored_links};
 
 use crate::links::put_links;
@@ -95,15 +95,47 @@ pub fn put_told(out: &mut Writer, head: Head, reports: &[u64], registers: &[Opti
     put_registers(out, registers);
 }
 
+// The three counts of a heap without slots.
+#[tactic(auto, unfolding(crate::specs::Grammar::slots_format, crate::specs::Numbers::number4))]
+fn put_no_slots(out: &mut Writer)
+    ensures { Puts (slots_format Second) out.old out.new ([], ([], [])) }
+{
+    out.array([0; 12]);
+}
+
 /// Appends the slots of a heap, and which of them are free and which grey.
 #[tactic(auto, unfolding(crate::specs::Grammar::slots_format), using(crate::proofs::Joins::both))]
 pub fn put_slots(out: &mut Writer, heap: &Heap)
     ensures { Puts (slots_format Second) out.old out.new
         (map stored_slot heap.now.heap.slots, (heap.now.heap.free, heap.now.heap.grey)) }
 {
+    if heap.slots() == 0 && heap.vacant() == 0 && heap.grey_slots().is_empty() {
+        put_no_slots(out);
+        return;
+    }
     put_slot_list(out, heap);
     put_free_list(out, heap);
     put_counted(out, heap.grey_slots());
+}
+
+// The two counts of a node that asked for nothing and has no letters.
+#[tactic(auto, unfolding(crate::specs::Numbers::number4))]
+fn put_none_waiting(out: &mut Writer)
+    ensures { Puts (waiting_format Second) out.old out.new ([], []) }
+{
+    out.array([0; 8]);
+}
+
+#[tactic(auto, using(crate::proofs::Joins::both))]
+fn put_waiting(out: &mut Writer, asked: &[Ref], heap: &Heap)
+    ensures { Puts (waiting_format Second) out.old out.new (asked.now, heap.now.heap.letters) }
+{
+    if asked.is_empty() && heap.letters() == 0 {
+        put_none_waiting(out);
+        return;
+    }
+    put_counted(out, asked);
+    put_letters(out, heap);
 }
 
 /// Appends the references that were asked for, the letters, and the links to all nodes except the
@@ -118,7 +150,6 @@ pub fn put_others(out: &mut Writer, head: Head, asked: &[Ref], heap: &Heap, link
       ),
     ) }
 {
-    put_counted(out, asked);
-    put_letters(out, heap);
+    put_waiting(out, asked, heap);
     put_links(out, head.own, links);
 }
