@@ -101,7 +101,7 @@ fn put_few(out: &mut Writer, registers: &[Option<Ref>])
 }
 
 /// Appends registers one after another. Most are empty, so a few are put together in one piece.
-pub(crate) fn put_registers(out: &mut Writer, registers: &[Option<Ref>])
+pub fn put_registers(out: &mut Writer, registers: &[Option<Ref>])
     ensures { PutsAll (optional Second) out.old out.new registers.now }
 {
     let mut done = 0;

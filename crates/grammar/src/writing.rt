@@ -5,15 +5,15 @@ ghost use Rattle.std.specs.List.{remove};
 ghost use Rattle.codec.specs.Formats.{many, number8};
 ghost use Rattle.codec.specs.Pieces.{Adds};
 ghost use Rattle.codec.specs.declared.piece.TheConstants.{GREATEST_PIECE};
-ghost use Rattle.codec.specs.Writing.{Puts};
+ghost use Rattle.codec.specs.Writing.{Puts, PutsAll};
 ghost use Rattle.msg.specs.declared.version.Version.TheVariants.{Second};
 ghost use Rattle.grammar.specs.Grammar.{head_format, phases_format, held_format, ring_format};
-ghost use Rattle.grammar.specs.Grammar.{start_format, front_format, told_format, slots_format};
+ghost use Rattle.grammar.specs.Grammar.{start_format, front_format, slots_format};
 ghost use Rattle.grammar.specs.Grammar.{others_format, waiting_format};
 ghost use Rattle.grammar.specs.Stored.{phases_by, stored_slot, stored_links};
 
 use crate::links::put_links;
-use crate::lists::{put_all, put_counted, put_registers};
+use crate::lists::{put_all, put_counted};
 use crate::parts::Head;
 use crate::slots::{put_free_list, put_letters, put_slot_list};
 use crate::tags::{ABSENT, PRESENT, SECOND, START};
@@ -85,14 +85,11 @@ pub fn put_front(out: &mut Writer, head: Head, phases: &Phases, ring: Ring)
     }
 }
 
-/// Appends the lists whose lengths are known from the head: the reports of the other nodes, and the
-/// registers.
-#[tactic(auto, unfolding(crate::specs::Grammar::told_format), using(crate::proofs::Joins::both))]
-pub fn put_told(out: &mut Writer, head: Head, reports: &[u64], registers: &[Option<Ref>])
-    ensures { Puts (told_format Second head) out.old out.new (reports.now, registers.now) }
+/// Appends reports one after another.
+pub fn put_reports(out: &mut Writer, reports: &[u64])
+    ensures { PutsAll number8 out.old out.new reports.now }
 {
     put_all(out, reports);
-    put_registers(out, registers);
 }
 
 // The three counts of a heap without slots.

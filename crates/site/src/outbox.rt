@@ -119,8 +119,7 @@ fn stage_frames(frames: &mut Frames, node: &Core, to: u8) -> Result<(), Refusal>
 }
 
 /// Appends the bytes of a frame.
-// Kept out of the loop: most often there is no frame, and then no `Piece` is needed.
-#[inline(never)]
+#[inline(always)]
 fn push_frame(frames: &mut Frames, frame: &Frame) -> Result<(), Refusal>
     ensures spelled { Fits (plain frame.now) }
     ensures done { OnOk result (frames.new ≡ frames.old ++ spelling (plain frame.now) ∷ []) }
