@@ -29,9 +29,9 @@ use safra::Ring;
 // The sizes of the space and the node's own number.
 #[tactic(auto, unfolding(crate::specs::Grammar::head_format, crate::specs::Grammar::nodes_format), using(crate::proofs::Joins::gained))]
 #[inline(always)]
-fn add_head(piece: &mut Piece, head: Head)
+fn add_head(piece: &mut Piece, head: &Head)
     requires { length piece.old + 8 ≤ GREATEST_PIECE }
-    ensures { Adds (head_format Second) 8 piece.old piece.new head }
+    ensures { Adds (head_format Second) 8 piece.old piece.new head.now }
 {
     piece.u8(head.nodes);
     piece.u8(head.own);
@@ -63,8 +63,9 @@ pub fn put_start(out: &mut Writer)
 /// Appends what comes before the lists: the head, the cycles, and the node's colour, its balances
 /// and the token that it holds. It is one piece, whose length is known in each of the two cases.
 #[tactic(auto, unfolding(crate::specs::Grammar::front_format, crate::specs::Grammar::ring_format, crate::specs::Grammar::held_format), using(crate::proofs::Joins::gained, crate::proofs::Joins::piece_written))]
-pub fn put_front(out: &mut Writer, head: Head, phases: &Phases, ring: Ring)
-    ensures { Puts (front_format Second) out.old out.new (head, (phases_by phases.now, ring)) }
+pub fn put_front(out: &mut Writer, head: &Head, phases: &Phases, ring: Ring)
+    ensures { Puts (front_format Second) out.old out.new
+        (head.now, (phases_by phases.now, ring)) }
 {
     let mut piece = Piece::new();
     add_head(&mut piece, head);
@@ -138,12 +139,12 @@ fn put_waiting(out: &mut Writer, asked: &[Ref], heap: &Heap)
 /// Appends the references that were asked for, the letters, and the links to all nodes except the
 /// head's own.
 #[tactic(auto, unfolding(crate::specs::Grammar::others_format), using(crate::proofs::Joins::both))]
-pub fn put_others(out: &mut Writer, head: Head, asked: &[Ref], heap: &Heap, links: &Links)
-    ensures { Puts (others_format Second head) out.old out.new (
+pub fn put_others(out: &mut Writer, head: &Head, asked: &[Ref], heap: &Heap, links: &Links)
+    ensures { Puts (others_format Second head.now) out.old out.new (
       asked.now,
       (
         heap.now.heap.letters,
-        remove (stored_links links.now.links links.now.got) head.own,
+        remove (stored_links links.now.links links.now.got) head.now.own,
       ),
     ) }
 {

@@ -10,20 +10,6 @@ use codec::Writer;
 use grammar::{Head, put_front, put_others, put_registers, put_reports, put_slots, put_start};
 use node::Core;
 
-// The sizes of the space and the node's own number.
-fn head_of(node: &Core) -> Head
-    ensures { result ≡ (stored_by node.now).head }
-{
-    let state = node.state();
-    // (Only one number is taken from the shape: a copy of it that is taken apart is slower.)
-    Head {
-        nodes: node.links().width(),
-        own: state.own,
-        registers: node.heap().registers().len() as u16,
-        slots: state.shape.slots(),
-    }
-}
-
 // Appends the reports of the other nodes at node 0, in ascending order; at other nodes nothing.
 #[tactic(auto, using(grammar::proofs::Joins::unwritten))]
 fn put_others_reports(out: &mut Writer, node: &Core)
@@ -40,13 +26,21 @@ fn put_others_reports(out: &mut Writer, node: &Core)
 fn put_stored(out: &mut Writer, node: &Core)
     ensures { Puts (stored_format Second) out.old out.new (stored_by node.now) }
 {
-    let head = head_of(node);
     let heap = node.heap();
-    put_front(out, head, node.phases(), node.ring());
+    let state = node.state();
+    // (Only one number comes from the shape, and the head isn't a result of a call: taking either
+    // apart again is slow.)
+    let head = Head {
+        nodes: node.links().width(),
+        own: state.own,
+        registers: heap.registers().len() as u16,
+        slots: state.shape.slots(),
+    };
+    put_front(out, &head, node.phases(), node.ring());
     put_others_reports(out, node);
     put_registers(out, heap.registers());
     put_slots(out, heap);
-    put_others(out, head, node.asked(), heap, node.links());
+    put_others(out, &head, node.asked(), heap, node.links());
 }
 
 /// Appends the image of the node.

@@ -34,7 +34,7 @@ returns-in-None c =
       c.token.ensures,
     ) refl in
     subst (λ (r : Ring). Puts (front_format Second) c.args.out.now c.piece.new.self
-    (c.args.head, (phases_by c.args.phases.now, r))) same
+    (c.args.head.now, (phases_by c.args.phases.now, r))) same
     (piece_written
     ((rw c.new-piece.ensures at c.add_head.ensures) ⊕ c.add_phases.ensures ⊕ c.add_colour.ensures
     ⊕ (rw (to_z-of_z w64 c.earlier.result (search rules)) at c.i64.ensures)
@@ -59,7 +59,7 @@ returns-in-Some c =
       c.token.ensures,
     ) refl in
     subst (λ (r : Ring). Puts (front_format Second) c.args.out.now c.piece-in-Some.new.self
-    (c.args.head, (phases_by c.args.phases.now, r))) same
+    (c.args.head.now, (phases_by c.args.phases.now, r))) same
     (piece_written
     ((rw c.new-piece.ensures at c.add_head.ensures) ⊕ c.add_phases.ensures ⊕ c.add_colour.ensures
     ⊕ (rw (to_z-of_z w64 c.earlier.result (search rules)) at c.i64.ensures)
