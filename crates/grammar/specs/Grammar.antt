@@ -196,14 +196,14 @@ slots_format v =
 abbrev pub Others : Type 0
 Others = List Ref × (List Letter × List StoredLink)
 
--- the first two of these
-abbrev pub waiting_format : Version → Format (List Ref × List Letter)
-waiting_format v = counted number4 (near v) & counted number4 (letter_format v)
-
 unfoldable pub others_format : Version → Head → Format Others
 others_format v h =
     counted number4 (near v) & counted number4 (letter_format v)
     & many (link_format v) (links_told h)
+
+-- the references that were asked for, and the letters
+abbrev pub waiting_format : Version → Format (List Ref × List Letter)
+waiting_format v = counted number4 (near v) & counted number4 (letter_format v)
 
 -- what follows the front
 abbrev pub Lists : Type 0

@@ -69,7 +69,7 @@ pub(crate) fn put_counted<T: Writable>(out: &mut Writer, parts: &[T])
 // How many registers are put together in one piece.
 const AT_ONCE: usize = 8;
 
-// How many empty registers are written at once; in most spaces a node has no more.
+// How many empty registers are written at once.
 const EMPTY_AT_ONCE: usize = 16;
 
 #[inline(always)]
@@ -103,6 +103,7 @@ fn put_few(out: &mut Writer, registers: &[Option<Ref>])
     out.append(piece.as_slice());
 }
 
+// Appends registers that are all empty.
 fn put_empty(out: &mut Writer, registers: &[Option<Ref>])
     requires count { length registers.now ≡ 16 }
     requires empty { list_all is_none registers.now ≡ true }

@@ -124,6 +124,7 @@ fn put_none_waiting(out: &mut Writer)
     out.array([0; 8]);
 }
 
+// Appends the references that were asked for, and the letters.
 #[tactic(auto, using(crate::proofs::Joins::both))]
 fn put_waiting(out: &mut Writer, asked: &[Ref], heap: &Heap)
     ensures { Puts (waiting_format Second) out.old out.new (asked.now, heap.now.heap.letters) }
