@@ -6,12 +6,21 @@ ghost use Rattle.model.specs.State.{NodeState};
 ghost use Rattle.model.specs.Steps.{act as act_of, is_memory_free, is_shading};
 ghost use Rattle.model.specs.View.{Follows, Leaves, NodeView, Performs, Shows, view_act};
 ghost use Rattle.node.specs.Keeping.{AreKeptIn, early_after, met};
+ghost use Rattle.replays.specs.Logs.{is_turn};
 ghost use Rattle.replays.specs.Noted.{IsLogged};
 
 use crate::log::{Log, is_quiet};
 use ids::Refusal;
 use model::{Answer, Event};
 use node::Node;
+
+/// Whether an event is `Next`. To the node's core each other event is itself.
+#[inline(always)]
+pub fn is_turn(event: &Event) -> bool
+    ensures { result ≡ is_turn event.now }
+{
+    matches!(event, Event::Next { .. })
+}
 
 /// What an event is to the node's core: `Next` of a message that waits is that message.
 pub fn meant(node: &Node, event: Event) -> Event
@@ -47,15 +56,18 @@ pub fn act(node: &mut Node, log: &mut Log, event: Event) -> Result<Answer, Refus
         → IsLogged log.new first node.new.core }
     ensures still { OnErr result (log.new ≡ log.old) }
 {
-    if log.is_kept() {
-        act_noting(node, log, event)
-    } else {
-        node.act(event)
+    if is_turn(&event) && log.is_kept() {
+        return act_noting(node, log, event);
     }
+    let answer = node.act(event)?;
+    if log.is_kept() && !is_quiet(&answer) {
+        let _lost = log.note(&event);
+    }
+    Ok(answer)
 }
 
-// The same, with a log that isn't lost. It is a function of its own, so that a node without a log
-// doesn't pay for it.
+// The same for any event. It is a function of its own, so that only `Next` of a node with a log pays
+// for finding out what the event means.
 #[inline(never)]
 fn act_noting(node: &mut Node, log: &mut Log, event: Event) -> Result<Answer, Refusal>
     ensures performs { Performs (is_shading (met node.old.early event)) result node.new.core
