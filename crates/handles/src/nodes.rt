@@ -1,10 +1,11 @@
 //! A node as C holds it: a pointer to a [`LoneNode`], or null.
-ghost use Rattle.std.specs.Prelude.{◌≡◌, false, None, Some, Ok, Option};
+ghost use Rattle.std.specs.Prelude.{◌≡◌, ◌&&◌, false, None, Some, Ok, Option};
 ghost use Rattle.std.specs.Coded.{coded_option};
 ghost use Rattle.held.specs.Holds.{unboxed};
 ghost use Rattle.handles.specs.declared.lone.LoneNode.{LoneNode};
 ghost use Rattle.handles.specs.contracts.lone.LoneNode.{the_row as LoneRow};
 ghost use Rattle.node.specs.Summaries.{summary_of};
+ghost use Rattle.replays.specs.Logs.{is_turn};
 ghost use Rattle.values.specs.Faults.{Filled, Freed, Through, empty, read};
 ghost use Rattle.values.specs.Bytes.{WroteIf};
 ghost use Rattle.handles.specs.Frames.{HandlePacks, ack_bytes, frame_bytes};
@@ -19,6 +20,7 @@ use held::Held;
 use ids::Ref;
 use model::{Answer, Event};
 use node::Summary;
+use replays::is_turn;
 use std::alloc::Global;
 use std::marker::{Model, Send};
 use values::{CLink, Fault};
@@ -147,12 +149,15 @@ impl NodeHandle {
         }
     }
 
-    /// Whether the handle has a node that keeps a log.
+    /// Whether the event is `Next` and the handle has a node that keeps a log.
     #[inline(always)]
-    pub fn logs(&mut self, alloc: Global) -> bool
+    pub fn notes_turn(&mut self, alloc: Global, event: &Event) -> bool
         ensures same { self.new.held ≡ self.old.held }
-        ensures value { result ≡ logs_in self.old.held }
+        ensures value { result ≡ (is_turn event.now && logs_in self.old.held) }
     {
+        if !is_turn(event) {
+            return false;
+        }
         let Some(node) = self.take(alloc) else {
             return false;
         };
@@ -164,7 +169,7 @@ impl NodeHandle {
     /// Gives the node an event of its own; see [`LoneNode::act_plain`].
     #[inline(always)]
     pub fn act_plain(&mut self, alloc: Global, event: Event) -> Result<Answer, Fault>
-        requires { logs_in self.old.held ≡ false }
+        requires { (is_turn event && logs_in self.old.held) ≡ false }
 
         ensures { Through (NodeActs event) self.old.held self.new.held result }
     {

@@ -7,13 +7,13 @@ use model::Event;
 use std::alloc::Global;
 use values::{CAnswer, answered};
 
-// Gives the node an event. If it keeps a log, that isn't inlined, so that without one the event and
-// the answer need not go through memory.
+// Gives the node an event. `Next` of a node that keeps a log isn't inlined, so that the events and
+// answers of other calls need not go through memory.
 #[inline(always)]
 pub(crate) fn act(alloc: Global, node: &mut NodeHandle, event: Event, answer: &mut CAnswer) -> i32
     ensures { NodeCalled event node.old.held node.new.held result answer.old answer.new }
 {
-    if node.logs(alloc) {
+    if node.notes_turn(alloc, &event) {
         act_noting(alloc, node, event, answer)
     } else {
         answered(node.act_plain(alloc, event), answer)

@@ -1,6 +1,7 @@
 //! The log of a node's events since its last image or batch.
 ghost use Rattle.std.specs.Prelude.{◌≡◌, false, nat_le};
 ghost use Rattle.model.specs.View.{link_to};
+ghost use Rattle.replays.specs.Noted.{Noted};
 ghost use Rattle.handles.specs.Logs.{logging};
 ghost use Rattle.handles.specs.Lone.{Acknowledged, Given};
 
@@ -20,6 +21,16 @@ impl LoneNode {
             self.log.lose();
         }
         self.logs = on;
+    }
+
+    // Notes an event in the log. It is a function of its own, so that a node without a log doesn't
+    // pay for it.
+    #[inline(never)]
+    pub(super) fn note(&mut self, event: &Event)
+        ensures stays { self.new ≡ record self.old { log = self.new.log } }
+        ensures noted { Noted self.old.log self.new.log event.now }
+    {
+        let _lost = self.log.note(event);
     }
 
     // Gives the node an event, and notes it in the log.
