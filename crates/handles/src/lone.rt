@@ -206,9 +206,7 @@ impl LoneNode {
             self.is_changed = true;
             self.is_unsaved = true;
             if self.logs {
-                // (A copy, so that without a log the event need not be in memory.)
-                let noted = event;
-                self.note(&noted);
+                self.note(event);
             }
         }
         Ok(answer)

@@ -1,9 +1,10 @@
 //! A node as C holds it: a pointer to a [`LoneNode`], or null.
-ghost use Rattle.std.specs.Prelude.{◌≡◌, ◌&&◌, false, None, Some, Ok, Option};
+ghost use Rattle.std.specs.Prelude.{◌≡◌, ◌&&◌, false, None, Some, Ok, Option, IfSome};
 ghost use Rattle.std.specs.Coded.{coded_option};
 ghost use Rattle.held.specs.Holds.{unboxed};
 ghost use Rattle.handles.specs.declared.lone.LoneNode.{LoneNode};
 ghost use Rattle.handles.specs.contracts.lone.LoneNode.{the_row as LoneRow};
+ghost use Rattle.model.specs.declared.event.Event.TheVariants as events;
 ghost use Rattle.node.specs.Summaries.{summary_of};
 ghost use Rattle.replays.specs.Logs.{is_turn};
 ghost use Rattle.values.specs.Faults.{Filled, Freed, Through, empty, read};
@@ -20,7 +21,6 @@ use held::Held;
 use ids::Ref;
 use model::{Answer, Event};
 use node::Summary;
-use replays::is_turn;
 use std::alloc::Global;
 use std::marker::{Model, Send};
 use values::{CLink, Fault};
@@ -149,21 +149,20 @@ impl NodeHandle {
         }
     }
 
-    /// Whether the event is `Next` and the handle has a node that keeps a log.
+    /// The node that `Next` names, if the event is that and the handle has a node that keeps a log.
     #[inline(always)]
-    pub fn notes_turn(&mut self, alloc: Global, event: &Event) -> bool
+    pub fn noted_turn(&mut self, alloc: Global, event: &Event) -> Option<u8>
         ensures same { self.new.held ≡ self.old.held }
-        ensures value { result ≡ (is_turn event.now && logs_in self.old.held) }
+        ensures turn { IfSome result (λ from. event.now ≡ events.Next from) }
+        ensures other { result ≡ None → (is_turn event.now && logs_in self.old.held) ≡ false }
     {
-        if !is_turn(event) {
-            return false;
-        }
-        let Some(node) = self.take(alloc) else {
-            return false;
+        let Event::Next { from } = *event else {
+            return None;
         };
+        let node = self.take(alloc)?;
         let logs = node.logs();
         self.put(alloc, node);
-        logs
+        if logs { Some(from) } else { None }
     }
 
     /// Gives the node an event of its own; see [`LoneNode::act_plain`].

@@ -23,14 +23,14 @@ impl LoneNode {
         self.logs = on;
     }
 
-    // Notes an event in the log. It is a function of its own, so that a node without a log doesn't
-    // pay for it.
-    #[inline(never)]
-    pub(super) fn note(&mut self, event: &Event)
+    // Notes an event in the log, as a copy, so that without a log the event need not be in memory.
+    #[inline(always)]
+    pub(super) fn note(&mut self, event: Event)
         ensures stays { self.new ≡ record self.old { log = self.new.log } }
-        ensures noted { Noted self.old.log self.new.log event.now }
+        ensures noted { Noted self.old.log self.new.log event }
     {
-        let _lost = self.log.note(event);
+        let noted = event;
+        let _lost = self.log.note(&noted);
     }
 
     // Gives the node an event, and notes it in the log.
