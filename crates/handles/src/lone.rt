@@ -168,7 +168,7 @@ impl LoneNode {
         self.perform(event)
     }
 
-    /// The same unless the event is `Next` and the node keeps a log, for calls that are inlined.
+    /// The same for calls that are inlined, except for `Next` of a node that keeps a log.
     #[inline(always)]
     pub fn act_plain(&mut self, event: Event) -> Result<Answer, Fault>
         requires { (is_turn event && self.old.logs) ≡ false }

@@ -21,7 +21,8 @@ pub(crate) fn act(alloc: Global, node: &mut NodeHandle, event: Event, answer: &m
 
 #[inline(never)]
 fn next_noting(alloc: Global, node: &mut NodeHandle, from: u8, answer: &mut CAnswer) -> i32
-    ensures { NodeCalled (event.Next from) node.old.held node.new.held result answer.old answer.new }
+    ensures { NodeCalled (event.Next from) node.old.held node.new.held result answer.old
+        answer.new }
 {
     answered(node.act(alloc, Event::Next { from }), answer)
 }

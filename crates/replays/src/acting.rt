@@ -66,8 +66,8 @@ pub fn act(node: &mut Node, log: &mut Log, event: Event) -> Result<Answer, Refus
     Ok(answer)
 }
 
-// The same for any event. It is a function of its own, so that only `Next` of a node with a log pays
-// for finding out what the event means.
+// The same for any event. It is a function of its own, so that only `Next` of a node with a log
+// pays for finding out what the event means.
 #[inline(never)]
 fn act_noting(node: &mut Node, log: &mut Log, event: Event) -> Result<Answer, Refusal>
     ensures performs { Performs (is_shading (met node.old.early event)) result node.new.core

@@ -33,7 +33,8 @@ impl LoneNode {
         let _lost = self.log.note(&noted);
     }
 
-    // Gives the node an event, and notes it in the log.
+    // Gives the node an event, and notes in the log what it means, which may be another event if it
+    // is `Next`.
     #[inline(never)]
     pub(super) fn perform_noting(&mut self, event: Event) -> Result<Answer, Fault>
         ensures { Given false self.old self.new event result }
