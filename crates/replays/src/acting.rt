@@ -56,18 +56,15 @@ pub fn act(node: &mut Node, log: &mut Log, event: Event) -> Result<Answer, Refus
         → IsLogged log.new first node.new.core }
     ensures still { OnErr result (log.new ≡ log.old) }
 {
-    if is_turn(&event) && log.is_kept() {
-        return act_noting(node, log, event);
+    if log.is_kept() {
+        act_noting(node, log, event)
+    } else {
+        node.act(event)
     }
-    let answer = node.act(event)?;
-    if log.is_kept() && !is_quiet(&answer) {
-        let _lost = log.note(&event);
-    }
-    Ok(answer)
 }
 
-// The same for any event. It is a function of its own, so that only `Next` of a node with a log
-// pays for finding out what the event means.
+// The same, with a log that isn't lost. It is a function of its own, so that a node without a log
+// doesn't pay for it.
 #[inline(never)]
 fn act_noting(node: &mut Node, log: &mut Log, event: Event) -> Result<Answer, Refusal>
     ensures performs { Performs (is_shading (met node.old.early event)) result node.new.core
