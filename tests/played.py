@@ -12,6 +12,10 @@ PROGRAM = Path(__file__).resolve().parent.parent / "crates/trials/out/trials"
 # at random.
 GIVEN, TAKEN, OTHERS, REGISTERS = 0, 1, range(2, 6), 6
 SLOTS = 64
+# More turns than a worker takes in the time that a case has.
+TURNS = 1_000_000
+# Commands to a node that aren't events.
+VERBS = ("save", "take", "until", "pause")
 # The label of the answers to Gets.
 ASKED = (1 << 32) - 1
 # The length of the content of each body in a frame, apart from its optional reference; and which bodies have one.
@@ -154,7 +158,7 @@ def read_disk(folder: Path) -> Saved:
     """The node on the disk in a folder. If a log follows its image, the node is saved whole first."""
     image, batches = area_of(folder)
     if batches:
-        lines = ["files", f"at {folder.name}", "journal open", "kept", "save", "leave"]
+        lines = ["files", f"at {folder.name}", "open events", "kept", "save", "leave"]
         ran = subprocess.run([PROGRAM], cwd=folder.parent, input="\n".join(lines), capture_output=True, text=True, timeout=60)
         image, batches = area_of(folder)
         if ran.stdout.split() != ["ok"] * 5 or batches:
@@ -183,9 +187,9 @@ def check_disks(folder: Path, count: int, cycle: int) -> int:
 
 
 def with_events(case: str) -> str:
-    """The commands of a case, with cells or spaces whose saves write events."""
+    """The commands of a case, with spaces whose saves write events."""
     lines = case.split("\n")
-    made = [len(it.split()) > 1 and it.split()[0] in ("cells", "fresh", "open") for it in lines]
+    made = [len(it.split()) > 1 and it.split()[0] in ("fresh", "open") for it in lines]
     return "\n".join(f"{line} events" if makes else line for line, makes in zip(lines, made))
 
 
@@ -197,6 +201,19 @@ def ask(work: Path, lines: list[str], seconds: float) -> list[str]:
     if ran.returncode != 0 or ran.stderr:
         raise Wrong(f"status {ran.returncode}, the last lines are {printed[-3:]} {ran.stderr[:200]}")
     return printed
+
+
+def line_for(node: int, command: str) -> str:
+    """The line that gives a node this command: its number comes first before an event, and else after the verb."""
+    verb, _, rest = command.partition(" ")
+    return f"{verb} {node} {rest}".rstrip() if verb in VERBS else f"{node} {command}"
+
+
+def node_and_command(words: list[str]) -> tuple[int | None, list[str]]:
+    """The node that a line is for, if it is for one, and its command."""
+    if words[0] in VERBS:
+        return int(words[1]), [words[0], *words[2:]]
+    return (int(words[0]), words[1:]) if words[0].isdigit() else (None, words)
 
 
 def step(dice: random.Random, node: int) -> str:

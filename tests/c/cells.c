@@ -110,6 +110,50 @@ static void letters(void)
     end();
 }
 
+static void expect_state(int own_number, uint32_t live)
+{
+    markring_state state;
+    OK(markring_cell_state(&cells[own_number], &state));
+    HOLDS(state.own == own_number && state.nodes == 2 && state.registers == 2 && state.slots == 4);
+    EQUAL(live, state.live);
+    EQUAL(0, state.cycle + state.ended + state.swept + state.grey + state.letters);
+    HOLDS(state.colour == MARKRING_WHITE && !state.has_token);
+}
+
+// A letter and its answer with a reference, after which both cells are opened again.
+static void there_and_back(void)
+{
+    markring_state state;
+    begin();
+    OK(markring_cell_alloc(&cells[0], 0, 1, &answer));
+    OK(markring_cell_set_word(&cells[0], 0, 5, &answer));
+    OK(markring_cell_alloc(&cells[0], 1, 0, &answer));
+    OK(markring_cell_store(&cells[0], 0, 0, 1, &answer));
+    OK(markring_cell_give(&cells[0], 1, 7, 0, &answer));
+    save_cell(0);
+    send(0, 1);
+    receive(1, MARKRING_ANSWER_RECEIVED);
+    OK(markring_cell_state(&cells[1], &state));
+    EQUAL(1, state.letters);
+    OK(markring_cell_accept(&cells[1], 0, &answer));
+    OK(markring_cell_give(&cells[1], 0, 8, 0, &answer));
+    save_cell(1);
+    send(1, 1);
+    receive(0, MARKRING_ANSWER_RECEIVED);
+    OK(markring_cell_accept(&cells[0], 1, &answer));
+    OK(markring_cell_drop(&cells[0], 0, &answer));
+    save_cell(0);
+    OK(markring_cell_reopen(&cells[0]));
+    OK(markring_cell_reopen(&cells[1]));
+    expect_state(0, 2);
+    expect_state(1, 0);
+    OK(markring_cell_word(&cells[0], 1, &answer));
+    EQUAL(5, answer.number);
+    OK(markring_cell_load(&cells[0], 0, 1, 0, &answer));
+    HOLDS(answer.reference.node == 0 && answer.reference.slot == 1);
+    end();
+}
+
 // A reopening goes back to what was saved. Messages that come before their turn are received first.
 static void early_messages(void)
 {
@@ -301,6 +345,7 @@ static void ages(void)
 int main(void)
 {
     letters();
+    there_and_back();
     early_messages();
     marks();
     board();

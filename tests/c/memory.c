@@ -1,40 +1,8 @@
 // Refuses each allocation in turn. A call that is refused with MARKRING_MEMORY changed nothing, and
 // the same call again succeeds; the end is the same as with ample memory. A call that takes no
 // memory by its comment in the header allocates nothing.
-//
-// The linker replaces the allocator: -Wl,--wrap=malloc,--wrap=calloc,--wrap=realloc
 #include "check.h"
-
-void *__real_malloc(size_t size);
-void *__real_calloc(size_t count, size_t size);
-void *__real_realloc(void *old, size_t size);
-void *__wrap_malloc(size_t size);
-void *__wrap_calloc(size_t count, size_t size);
-void *__wrap_realloc(void *old, size_t size);
-
-// Requests are counted and refused only within calls of the library.
-static int within;
-static unsigned long requests, refused_one;
-
-static int refuses(void)
-{
-    return within && ++requests == refused_one;
-}
-
-void *__wrap_malloc(size_t size)
-{
-    return refuses() ? NULL : __real_malloc(size);
-}
-
-void *__wrap_calloc(size_t count, size_t size)
-{
-    return refuses() ? NULL : __real_calloc(count, size);
-}
-
-void *__wrap_realloc(void *old, size_t size)
-{
-    return refuses() ? NULL : __real_realloc(old, size);
-}
+#include "refuse.h"
 
 // What a call may not change when memory is refused: nodes or cells, and the answer.
 static markring_node nodes[2];

@@ -1,9 +1,14 @@
-// Runs a case of tests/scripts, of tests/trials/node or of tests/bytes over the C library, and prints
-// what markring or trials must print; or, for bytes, how many are read. docs/FORMATS.md ("Scripts") and
-// tests/README.md say what the lines mean.
+// Runs a case of tests/scripts, of tests/nodes or of tests/bytes over the C library, and prints what
+// it must print; for bytes, how many are read. docs/FORMATS.md ("Scripts") and tests/README.md say
+// what the lines mean.
 //
-//     replay script|case FILE
+//     replay script|case FILE [K]
+//
+// With K, the K-th allocation for a command of tests/nodes is refused. The command then fails with
+// MARKRING_MEMORY and changes nothing, and the same call is made again. So the case prints the same.
+// The status is 5 if there are fewer allocations.
 #include "check.h"
+#include "refuse.h"
 
 enum { NODES = 64, WORDS = 16, LINE = 1 << 18 };
 
@@ -361,7 +366,7 @@ static void run_script(FILE *file)
     }
 }
 
-// ## Cases of `trials`
+// ## Cases of nodes
 
 static bytes bytes_of(const char *word)
 {
@@ -467,6 +472,37 @@ static void print_frame(int status, const uint8_t *frame, size_t length)
     }
 }
 
+// What the node showed before the call, and the call's status.
+static bytes before;
+static int outcome;
+
+static void begin_call(markring_node *node)
+{
+    if (refused_one != 0 && node->at != NULL) {
+        before = shown(node);
+    }
+    within = 1;
+}
+
+// Whether memory was refused to the call. Then the node is as it was before.
+static int is_refused(markring_node *node)
+{
+    within = 0;
+    if (refused_one != 0 && node->at != NULL) {
+        if (outcome == MARKRING_MEMORY) {
+            bytes after = shown(node);
+            HOLDS(same_bytes(&before, &after));
+            drop_bytes(&after);
+        }
+        drop_bytes(&before);
+    }
+    return outcome == MARKRING_MEMORY && refused_one != 0;
+}
+
+// The status of a call on this node, which is made again if memory was refused to it.
+#define CALL(node, call) \
+    (begin_call(node), outcome = (call), is_refused(node) ? (call) : outcome)
+
 static void node_command(markring_node *node)
 {
     markring_event event;
@@ -478,9 +514,9 @@ static void node_command(markring_node *node)
         bytes image = bytes_of(words[1]);
         markring_node made = {0};
         int status = words[0][0] == 'i'
-            ? markring_node_from_image(&made, image.at, image.length, 0)
-            : markring_node_new(&made, to, (uint16_t)number_at(2), (uint32_t)number_at(3),
-                (uint8_t)number_at(4), 0);
+            ? CALL(&made, markring_node_from_image(&made, image.at, image.length, 0))
+            : CALL(&made, markring_node_new(&made, to, (uint16_t)number_at(2),
+                (uint32_t)number_at(3), (uint8_t)number_at(4), 0));
         drop_bytes(&image);
         if (status != MARKRING_OK) {
             print_refusal(status);
@@ -502,7 +538,7 @@ static void node_command(markring_node *node)
         puts("ok");
     } else if (strcmp(words[0], "frame") == 0) {
         bytes given = bytes_of(words[1]);
-        int status = markring_node_take(node, given.at, given.length, &answer);
+        int status = CALL(node, markring_node_take(node, given.at, given.length, &answer));
         drop_bytes(&given);
         print_outcome(status, &answer);
     } else if (strcmp(words[0], "frame-at") == 0) {
@@ -518,12 +554,12 @@ static void node_command(markring_node *node)
         int status = MARKRING_OK;
         HOLDS(read_event(2, &event));
         for (uint64_t i = 0; i < number_at(1) && status == MARKRING_OK; i++) {
-            status = markring_node_act(node, &event, &answer);
+            status = CALL(node, markring_node_act(node, &event, &answer));
         }
         print_outcome(status, &answer);
     } else {
         HOLDS(read_event(0, &event));
-        print_outcome(markring_node_act(node, &event, &answer), &answer);
+        print_outcome(CALL(node, markring_node_act(node, &event, &answer)), &answer);
     }
 }
 
@@ -620,16 +656,20 @@ static void run_case(FILE *file)
 
 int main(int length, char **given)
 {
-    FILE *file = length == 3 ? fopen(given[2], "r") : NULL;
+    FILE *file = length == 3 || length == 4 ? fopen(given[2], "r") : NULL;
     if (file == NULL) {
-        fputs("usage: replay script|case FILE\n", stderr);
+        fputs("usage: replay script|case FILE [K]\n", stderr);
         return 2;
     }
+    refused_one = length == 4 ? strtoul(given[3], NULL, 10) : 0;
     if (strcmp(given[1], "script") == 0) {
         run_script(file);
     } else {
         run_case(file);
     }
     fclose(file);
+    if (failed == 0 && requests < refused_one) {
+        return 5;
+    }
     return failed != 0 ? 3 : refused;
 }

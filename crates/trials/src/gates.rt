@@ -1,6 +1,6 @@
 //! Gates of workers, which pause before each turn and may hold a worker up or end it, as the case
 //! says. Pollers pause for the same time.
-use cases::{CaseError, number, verb, word};
+use crate::words::{CaseError, number, verb, word};
 use std::alloc::{AllocError, Global};
 use std::sync::Wait;
 use std::sync::atomic::{AtomicBool, AtomicU64, Ordering};
@@ -23,14 +23,6 @@ const LATE: u64 = 100_000;
 /// Sleeps as long as a worker pauses before each turn.
 pub(crate) fn pause<R: Clock>(rt: &R) {
     thread::sleep(rt, Duration::from_micros(PAUSE));
-}
-
-/// A gate that never holds a worker up.
-#[derive(Drop)]
-pub(crate) struct Open;
-
-impl Gate for Open {
-    fn at(&self, _point: Point) {}
 }
 
 // A stage of the turns of a node's worker. A node's workers are counted from 1.
@@ -92,29 +84,29 @@ pub(crate) fn stage_of(word: &str) -> Result<Stage, CaseError> {
 }
 
 // The place that the words after the first one name: `NODE WORKER STAGE`.
-fn place_of(words: &[&str]) -> Result<Place, CaseError> {
+fn place_of(line: &str) -> Result<Place, CaseError> {
     Ok(Place {
-        node: number(words, 1)?,
-        worker: number(words, 2)?,
-        stage: stage_of(word(words, 3)?)?,
+        node: number(line, 1)?,
+        worker: number(line, 2)?,
+        stage: stage_of(word(line, 3)?)?,
     })
 }
 
-/// Adds a rule, as the words say.
-pub(crate) fn rule(rules: &mut Rules, words: &[&str]) -> Result<(), CaseError> {
-    match verb(words) {
-        "random" => rules.seed = Some(number(words, 1)?),
+/// Adds a rule, as the line says.
+pub(crate) fn rule(rules: &mut Rules, line: &str) -> Result<(), CaseError> {
+    match verb(line) {
+        "random" => rules.seed = Some(number(line, 1)?),
         "late" => rules.is_late = true,
         "end" => rules.ends.push(End {
-            place: place_of(words)?,
-            turn: number(words, 4)?,
+            place: place_of(line)?,
+            turn: number(line, 4)?,
         })?,
         _ => {
-            let until = match words.get(5) {
-                Some(stage) => Some((number(words, 4)?, stage_of(stage)?)),
-                None => None,
+            let until = match word(line, 5) {
+                Ok(stage) => Some((number(line, 4)?, stage_of(stage)?)),
+                Err(_) => None,
             };
-            let place = place_of(words)?;
+            let place = place_of(line)?;
             rules.holds.push(Hold { place, until })?;
         }
     }

@@ -7,11 +7,14 @@ ghost use Rattle.wire.specs.Rule.{Spells};
 ghost use Rattle.wire.specs.Readers.{width, seat_node, IsSeatOf, IsSame};
 ghost use Rattle.trials.specs.Cells.{AreSeated};
 
-use cases::{CaseError, CaseLine, Out, Subject, take_all, verb};
+use crate::out::Out;
+use crate::words::{CaseError, Source, Subject, play};
 use ids::{NodeId, Refusal, Shape};
 use msg::{Ack, Frame, encode};
 use node::Node;
 use std::alloc::Global;
+use std::io::BufRead;
+use std::sync::Wait;
 use wire::{NodeSeat, Wire};
 
 /// A wire between two new nodes, and their seats.
@@ -67,8 +70,8 @@ impl Joined {
 }
 
 impl Subject for Joined {
-    fn take(&mut self, words: &[&str], out: &mut Out) -> Result<(), CaseError> {
-        match verb(words) {
+    fn take(&mut self, line: &str, out: &mut Out) -> Result<(), CaseError> {
+        match line {
             "send" => out.answer(send(&self.wire, self.alloc, &mut self.first)),
             "receive" => put_received(receive(&self.wire, &mut self.second), out),
             "fill" => self.fill(out),
@@ -80,9 +83,14 @@ impl Subject for Joined {
 }
 
 /// A case for a wire between two new nodes.
-pub(crate) fn run(alloc: Global, lines: &[CaseLine<'_>], out: &mut Out) -> Result<(), CaseError> {
+pub(crate) fn run<R: Wait + Print, B: BufRead>(
+    rt: &R,
+    alloc: Global,
+    source: &mut Source<B>,
+    out: &mut Out,
+) -> Result<(), CaseError> {
     match Joined::new(alloc) {
-        Ok(joined) => take_all(joined, lines, out),
+        Ok(mut joined) => play(rt, source, &mut joined, out),
         Err(_) => Err(CaseError::Memory),
     }
 }

@@ -2,28 +2,34 @@
 //! it, whose answer is printed. `tests/README.md` lists the commands.
 #![tactic(auto)]
 
-mod cells;
-mod ends;
+mod crashes;
+mod disks;
+mod folders;
 mod gates;
+mod lent;
 mod mailboxes;
-mod names;
+mod making;
 mod once;
 mod openings;
+mod out;
 mod play;
 mod programs;
-mod shared;
-mod sims;
+mod raw;
+mod single;
+mod sizes;
 mod space;
-mod spaces;
 mod turns;
+mod words;
 
-use cases::nodes::shape_of;
-use cases::{
-    CaseError, CaseLine, Out, arenas, disks, files, nodes, read, read_lines, saves_at, verb,
-};
-use std::alloc::Global;
+use crate::disks::Bench;
+use crate::folders::Folders;
+use crate::openings::Openings;
+use crate::out::Out;
+use crate::single::Single;
+use crate::words::{CaseError, Source};
+use disk::{FileDisk, MemoryDisk};
 use std::fs::File;
-use std::io;
+use std::io::{self, BufRead, BufReader};
 use std::process::ExitCode;
 use std::rt::Files;
 use std::sync::Wait;
@@ -60,13 +66,13 @@ where
         + 'static,
 {
     let alloc = rt.alloc();
-    let text = io::read_to_string(alloc, rt.reader())?;
-    let lines = read_lines(alloc, text.as_str())?;
+    let mut source = Source::new(alloc, BufReader::new(alloc, rt.reader())?);
     let mut out = Out::new(alloc);
-    let status = match take_case(rt, alloc, lines.as_slice(), &mut out) {
+    let status = match take_case(rt, &mut source, &mut out) {
         Ok(()) => 0,
         Err(CaseError::Unknown) => {
-            out.unknown();
+            let line = source.number;
+            out.show(&format_args!("line {line}: not a command"));
             UNREADABLE
         }
         Err(CaseError::Memory) => {
@@ -79,12 +85,7 @@ where
 }
 
 // Does what the lines of a case say.
-fn take_case<R>(
-    rt: &R,
-    alloc: Global,
-    lines: &[CaseLine<'_>],
-    out: &mut Out,
-) -> Result<(), CaseError>
+fn take_case<R, B>(rt: &R, source: &mut Source<B>, out: &mut Out) -> Result<(), CaseError>
 where
     R: Files<File = File>
         + Print
@@ -97,75 +98,53 @@ where
         + Drop
         + AllocGlobal
         + 'static,
+    B: BufRead,
 {
-    let [first, lines @ ..] = lines else {
-        return Ok(());
+    let alloc = rt.alloc();
+    let subject = match source.next(rt)? {
+        Some(line) => Subjects::named(line)?,
+        None => return Ok(()),
     };
-    let words = out.at(first);
-    match verb(words) {
-        "cells" => cells::run(alloc, shape_of(words)?, saves_at(words, 4)?, lines, out),
-        "shared" => {
-            let k = match words.get(4) {
-                Some(word) => Some(read(word)?),
-                None => None,
-            };
-            shared::run(rt, alloc, shape_of(words)?, k, lines, out)
+    match subject {
+        Subjects::Disk => {
+            let mut bench: Bench<MemoryDisk> = Bench::new(alloc);
+            words::play(rt, source, &mut bench, out)
         }
-        subject => take_subject(rt, alloc, subject, lines, out),
+        Subjects::Files => {
+            let bench = Bench::new(alloc);
+            words::play(rt, source, &mut Folders { rt, alloc, bench }, out)
+        }
+        Subjects::Opening => words::play(rt, source, &mut Openings::new(rt, alloc), out),
+        Subjects::Wire => mailboxes::run(rt, alloc, source, out),
+        Subjects::Space => play::run::<R, B, MemoryDisk>(rt, alloc, source, out),
+        Subjects::Ends => play::run::<R, B, FileDisk>(rt, alloc, source, out),
+        Subjects::Single => words::play(rt, source, &mut Single { rt, alloc }, out),
     }
 }
 
-// The subjects that have no shape.
-fn take_subject<R>(
-    rt: &R,
-    alloc: Global,
-    subject: &str,
-    lines: &[CaseLine<'_>],
-    out: &mut Out,
-) -> Result<(), CaseError>
-where
-    R: Files<File = File>
-        + Print
-        + Clock
-        + Threads
-        + Wait
-        + Clone
-        + Send
-        + Sync
-        + Drop
-        + AllocGlobal
-        + 'static,
-{
-    match subject {
-        "node" => nodes::run(alloc, lines, out),
-        "disk" => disks::run(alloc, lines, out),
-        "ends" => ends::run(rt, alloc, lines, out),
-        "space" => spaces::run(rt, alloc, lines, out),
-        "opening" => openings::run(rt, alloc, lines, out),
-        "files" => files::run(rt, lines, out),
-        "wire" => mailboxes::run(alloc, lines, out),
-        "arena" => arenas::run(alloc, lines, out),
-        "names" | "sim" | "turns" => {
-            for line in lines {
-                take(rt, alloc, subject, out.at(line), out)?;
-            }
-            Ok(())
-        }
-        _ => Err(CaseError::Unknown),
-    }
+// What a case is about.
+#[derive(Clone, Copy)]
+enum Subjects {
+    Disk,
+    Files,
+    Opening,
+    Wire,
+    Space,
+    Ends,
+    Single,
 }
 
-// A command of a subject that keeps nothing from one line to the next.
-fn take<R: Wait>(
-    rt: &R,
-    alloc: Global,
-    subject: &str,
-    words: &[&str],
-    out: &mut Out,
-) -> Result<(), CaseError> {
-    match subject {
-        "names" => names::take(words, out),
-        "sim" => sims::take(alloc, words, out),
-        _ => turns::take(rt, alloc, words, out),
+impl Subjects {
+    fn named(line: &str) -> Result<Subjects, CaseError> {
+        match line {
+            "disk" => Ok(Subjects::Disk),
+            "files" => Ok(Subjects::Files),
+            "opening" => Ok(Subjects::Opening),
+            "wire" => Ok(Subjects::Wire),
+            "space" => Ok(Subjects::Space),
+            "ends" => Ok(Subjects::Ends),
+            "single" => Ok(Subjects::Single),
+            _ => Err(CaseError::Unknown),
+        }
     }
 }

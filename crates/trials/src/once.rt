@@ -1,6 +1,7 @@
 //! A space that is closed with its disks as they are at one moment, and a second one that continues
 //! on them. docs/EMBEDDING.md shows parts of this file, and a case runs it.
-use crate::gates::{Open, pause};
+use crate::gates::pause;
+use crate::space::Open;
 use cell::Naming;
 use disk::Disk;
 use ids::Refusal;

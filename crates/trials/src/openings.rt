@@ -2,14 +2,15 @@
 //! older copy. No worker is started: each command that gives a node something opens the space,
 //! saves the node and drops the space.
 ghost use Rattle.std.specs.Prelude.{◌≡◌, true, IsTrue, Some};
+ghost use Rattle.std.specs.Arc.{arc_value};
 ghost use Rattle.cell.specs.Names.{name_of};
 ghost use Rattle.model.specs.Steps.{is_own};
 
-use crate::spaces::config_of;
-use cases::crashes::{change, put_crashes};
-use cases::{
-    CaseError, CaseLine, Lent, Out, Size, blank_disks, event_of, number, read, saves_at, verb,
-};
+use crate::crashes::put_crashes;
+use crate::lent::Lent;
+use crate::out::Out;
+use crate::sizes::{Size, blank_disks, config_of};
+use crate::words::{CaseError, Subject, event_in, number, rest, saves_in, verb};
 use cell::Naming;
 use disk::{Disk, MemoryDisk};
 use ids::{Refusal, Saves};
@@ -21,9 +22,9 @@ use std::thread::Threads;
 use supervisor::{CloseFault, Config, OpenFault, Opened, Space, SpaceOn};
 use wire::Inbound;
 
-// The disks of a space, what a save writes to them, and the copies that the case has kept.
+/// The disks of a space, what a save writes to them, and the copies that the case has kept.
 #[derive(Drop)]
-struct Openings<'a, R> {
+pub(crate) struct Openings<'a, R> {
     rt: &'a R,
     alloc: Global,
     disks: Vec<MemoryDisk>,
@@ -31,55 +32,60 @@ struct Openings<'a, R> {
     copies: Vec<MemoryDisk>,
 }
 
-/// A case for the disks of spaces.
-pub(crate) fn run<R: Threads + Wait>(
-    rt: &R,
-    alloc: Global,
-    lines: &[CaseLine<'_>],
-    out: &mut Out,
-) -> Result<(), CaseError> {
-    let mut openings = Openings {
-        rt,
-        alloc,
-        disks: Vec::new(alloc),
-        saves: Saves::Images,
-        copies: Vec::new(alloc),
-    };
-    for line in lines {
-        openings.take(out.at(line), out)?;
+impl<'a, R> Openings<'a, R> {
+    /// No disks yet.
+    pub(crate) fn new(rt: &'a R, alloc: Global) -> Openings<'a, R> {
+        Openings {
+            rt,
+            alloc,
+            disks: Vec::new(alloc),
+            saves: Saves::Images,
+            copies: Vec::new(alloc),
+        }
     }
-    Ok(())
+}
+
+impl<R: Threads + Wait> Subject for Openings<'_, R> {
+    fn take(&mut self, line: &str, out: &mut Out) -> Result<(), CaseError> {
+        match verb(line) {
+            "fresh" => self.make(line, out),
+            "saves" => {
+                self.saves = saves_in(line);
+                out.text("ok");
+                Ok(())
+            }
+            "open" => self.open(out),
+            "act" => self.act(line, out),
+            "carry" => self.carry(line, out),
+            "once" => self.once(line, out),
+            "keep" => self.keep(line, out),
+            "restore" => self.restore(line, out),
+            _ => self.change(line, out),
+        }
+    }
 }
 
 impl<R: Threads + Wait> Openings<'_, R> {
-    fn take(&mut self, words: &[&str], out: &mut Out) -> Result<(), CaseError> {
-        match verb(words) {
-            "fresh" => {
-                self.disks = blank_disks(self.alloc, number(words, 1)?)?;
-                self.saves = saves_at(words, 2)?;
-                out.text("ok");
-            }
-            "saves" => {
-                self.saves = saves_at(words, 1)?;
-                out.text("ok");
-            }
-            "open" => self.open(out),
-            "act" => return self.act(words, out),
-            "carry" => return self.carry(words, out),
-            "once" => return self.once(words, out),
-            "keep" => return self.keep(number(words, 1)?, out),
-            "restore" => return self.restore(number(words, 1)?, number(words, 2)?, out),
-            "crashes" => {
-                let node = number(words, 1)?;
-                put_crashes(self.alloc, disk_of(&mut self.disks, node)?, node, out);
-            }
-            _ => change(disk_of(&mut self.disks, number(words, 1)?)?, words, out)?,
-        }
+    // New disks.
+    fn make(&mut self, line: &str, out: &mut Out) -> Result<(), CaseError> {
+        self.disks = blank_disks(self.alloc, number(line, 1)?)?;
+        self.saves = saves_in(line);
+        out.text("ok");
         Ok(())
     }
 
+    // Makes a disk fail or crash, or looks at what crashes may leave.
+    fn change(&mut self, line: &str, out: &mut Out) -> Result<(), CaseError> {
+        let disk = disk_of(&mut self.disks, number(line, 1)?)?;
+        if verb(line) == "crashes" {
+            put_crashes(self.alloc, disk, out)
+        } else {
+            change(disk, line, out)
+        }
+    }
+
     // Opens a space on the disks, and drops it.
-    fn open(&mut self, out: &mut Out) {
+    fn open(&mut self, out: &mut Out) -> Result<(), CaseError> {
         match opened(self.alloc, &mut self.disks, self.saves) {
             Ok(space) => {
                 drop(space);
@@ -87,15 +93,13 @@ impl<R: Threads + Wait> Openings<'_, R> {
             }
             Err(fault) => out.show(&fault),
         }
+        Ok(())
     }
 
     // Opens a space, and gives a node an event and saves it.
-    fn act(&mut self, words: &[&str], out: &mut Out) -> Result<(), CaseError> {
-        let [_, node, words @ ..] = words else {
-            return Err(CaseError::Unknown);
-        };
-        let node = read(node)?;
-        let event = event_of(self.alloc, words)?;
+    fn act(&mut self, line: &str, out: &mut Out) -> Result<(), CaseError> {
+        let node = number(line, 1)?;
+        let event = event_in(rest(line))?;
         match opened(self.alloc, &mut self.disks, self.saves) {
             Ok(space) => out.answer(act_on(self.rt, &space, node, event)),
             Err(fault) => out.show(&fault),
@@ -105,12 +109,9 @@ impl<R: Threads + Wait> Openings<'_, R> {
 
     // Opens a space, gives a node an event and saves it, and closes the space at once: the answer,
     // and whether the disks were given out.
-    fn once(&mut self, words: &[&str], out: &mut Out) -> Result<(), CaseError> {
-        let [_, node, words @ ..] = words else {
-            return Err(CaseError::Unknown);
-        };
-        let node = read(node)?;
-        let event = event_of(self.alloc, words)?;
+    fn once(&mut self, line: &str, out: &mut Out) -> Result<(), CaseError> {
+        let node = number(line, 1)?;
+        let event = event_in(rest(line))?;
         match close_at_once(
             self.rt,
             self.alloc,
@@ -121,6 +122,7 @@ impl<R: Threads + Wait> Openings<'_, R> {
         ) {
             Ok(once) => {
                 out.answer(once.answer);
+                out.debug(&once.told);
                 out.debug(&once.closed);
             }
             Err(fault) => out.show(&fault),
@@ -129,10 +131,10 @@ impl<R: Threads + Wait> Openings<'_, R> {
     }
 
     // Opens a space, in which a node sends another one some frames, and saves the receiver.
-    fn carry(&mut self, words: &[&str], out: &mut Out) -> Result<(), CaseError> {
-        let from = number(words, 1)?;
-        let to = number(words, 2)?;
-        let count = number(words, 3)?;
+    fn carry(&mut self, line: &str, out: &mut Out) -> Result<(), CaseError> {
+        let from = number(line, 1)?;
+        let to = number(line, 2)?;
+        let count = number(line, 3)?;
         match opened(self.alloc, &mut self.disks, self.saves) {
             Ok(space) => out.answer(carry_on(self.rt, &space, from, to, count)),
             Err(fault) => out.show(&fault),
@@ -141,8 +143,8 @@ impl<R: Threads + Wait> Openings<'_, R> {
     }
 
     // Copies the disk of a node; the number of the copy.
-    fn keep(&mut self, node: u8, out: &mut Out) -> Result<(), CaseError> {
-        match disk_of(&mut self.disks, node)?.after_crash(0) {
+    fn keep(&mut self, line: &str, out: &mut Out) -> Result<(), CaseError> {
+        match disk_of(&mut self.disks, number(line, 1)?)?.after_crash(0) {
             Ok(copy) => {
                 let place = self.copies.len();
                 self.copies.push(copy)?;
@@ -154,13 +156,13 @@ impl<R: Threads + Wait> Openings<'_, R> {
     }
 
     // Replaces the disk of a node with a copy that was kept.
-    fn restore(&mut self, node: u8, place: usize, out: &mut Out) -> Result<(), CaseError> {
-        let Some(copy) = self.copies.get(place) else {
+    fn restore(&mut self, line: &str, out: &mut Out) -> Result<(), CaseError> {
+        let Some(copy) = self.copies.get(number::<usize>(line, 2)?) else {
             return Err(CaseError::Unknown);
         };
         match copy.after_crash(0) {
             Ok(disk) => {
-                *disk_of(&mut self.disks, node)? = disk;
+                *disk_of(&mut self.disks, number(line, 1)?)? = disk;
                 out.text("ok");
             }
             Err(refusal) => out.refused(refusal),
@@ -198,6 +200,24 @@ fn lent<'a>(
     Ok((config, lent))
 }
 
+// Makes a disk fail or crash: the verb, the disk's node and a number.
+fn change(disk: &mut MemoryDisk, line: &str, out: &mut Out) -> Result<(), CaseError> {
+    match verb(line) {
+        "fail" => disk.fail_from(number(line, 2)?),
+        "fail-once" => disk.fail_once(number(line, 2)?),
+        "crash" => match disk.after_crash(number(line, 2)?) {
+            Ok(left) => *disk = left,
+            Err(refusal) => {
+                out.refused(refusal);
+                return Ok(());
+            }
+        },
+        _ => return Err(CaseError::Unknown),
+    }
+    out.text("ok");
+    Ok(())
+}
+
 // A space on these disks.
 fn opened<'a>(
     alloc: Global,
@@ -228,10 +248,11 @@ fn close_at_once<R: Threads + Wait>(
     }
 }
 
-// What a space answered, and whether it gave out its disks.
+// What a space answered, the cycle that a watch was told, and whether the space gave out its disks.
 #[derive(Drop)]
 struct Once {
     answer: Result<Answer, Refusal>,
+    told: Option<u64>,
     closed: Result<(), CloseFault>,
 }
 
@@ -246,15 +267,31 @@ fn close_named<W: Naming, R: Threads + Wait>(
     requires named { W.wire ≡ Some (name_of opened.wire) }
     requires begun { IsTrue W.begun }
 {
-    let space = opened.share::<W>()?;
+    let mut space = opened.share::<W>()?;
     let answer = act_on(rt, &space, node, event);
+    let told = told(rt, &mut space);
     let (reports, closed) = space.close_at_once(rt);
     drop(reports);
     let closed = match closed {
         Ok(_closed) => Ok(()),
         Err(unclosed) => Err(unclosed.fault),
     };
-    Ok(Once { answer, closed })
+    Ok(Once {
+        answer,
+        told,
+        closed,
+    })
+}
+
+// The cycle that a watch shows once it was told what node 0 raises.
+fn told<R: Wait, D: Disk + Drop, W: Naming>(rt: &R, space: &mut SpaceOn<D, W>) -> Option<u64>
+    requires { W.wire ≡ Some (name_of (arc_value space.old.wire)) }
+    ensures { arc_value space.new.wire ≡ arc_value space.old.wire }
+{
+    let mut watch = space.watch()?;
+    let raised = space.program(0)?.raise(rt).ok()?;
+    watch.hear(&raised);
+    Some(space.look(&mut watch).number)
 }
 
 // A node's answer to an event, once the node is saved.

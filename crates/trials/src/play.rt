@@ -1,19 +1,25 @@
 //! A space of a case: what its programs do, and its workers, which a gate may hold up and end.
-ghost use Rattle.std.specs.Prelude.{◌≡◌, false, is_some, IfOk};
+ghost use Rattle.std.specs.Prelude.{◌≡◌, is_some};
 
-use crate::gates::{Open, Ruled, Rules, pause, rule};
-use crate::programs::{on_station, play_all, programs_of};
-use crate::shared::on_cell;
-use cases::{CaseError, CaseLine, Out, number, read, verb};
+use crate::gates::{Ruled, Rules, pause, rule};
+use crate::making::{Made, opened, show};
+use crate::out::Out;
+use crate::programs::{Order, on_station, play_all, programs_of};
+use crate::sizes::Size;
+use crate::space::Open;
+use crate::words::{CaseError, Source, node_in, number, rest, saves_in, verb, word};
 use cell::Shared;
 use disk::Disk;
 use ids::Refusal;
 use std::alloc::Global;
+use std::fs::File;
+use std::io::BufRead;
+use std::rt::Files;
 use std::sync::{Arc, Wait};
 use std::thread::Threads;
 use std::time::{Clock, Duration};
 use std::{mem, thread};
-use supervisor::{OpenFault, Space};
+use supervisor::Space;
 use workers::{Report, turn_node};
 
 // More rounds of turns than it takes until nothing is in flight and a cycle has been swept
@@ -34,38 +40,29 @@ struct Opened<D: Disk> {
 
 impl<D: Disk + Send + Drop + 'static> Opened<D> {
     // Starts the workers, if they weren't started before.
-    fn start<R>(&mut self, rt: &R, gate: Arc<Ruled<R>>) -> Result<Result<(), Refusal>, CaseError>
+    fn start<R>(&mut self, rt: &R, gate: Arc<Ruled<R>>) -> Result<(), Refusal>
     where
         R: Clock + Threads + Wait + Clone + Send + Sync + Drop + 'static,
     {
         if self.is_started {
-            return Err(CaseError::Unknown);
+            return Err(Refusal::NothingToDo);
         }
-        match self.space.start(rt, gate) {
-            Ok(()) => {
-                self.is_started = true;
-                Ok(Ok(()))
-            }
-            Err(refusal) => Ok(Err(refusal)),
-        }
+        self.space.start(rt, gate)?;
+        self.is_started = true;
+        Ok(())
     }
 
     // Starts a new worker of a node once the old one has ended.
-    fn revive<R>(
-        &mut self,
-        rt: &R,
-        node: u8,
-        gate: Arc<Ruled<R>>,
-    ) -> Result<Result<(), Refusal>, CaseError>
+    fn revive<R>(&mut self, rt: &R, node: u8, gate: Arc<Ruled<R>>) -> Result<(), Refusal>
     where
         R: Clock + Threads + Wait + Clone + Send + Sync + Drop + 'static,
     {
         if !self.is_started {
-            return Err(CaseError::Unknown);
+            return Err(Refusal::NothingToDo);
         }
         match self.space.revive(rt, node, gate) {
-            Ok(_) => Ok(Ok(())),
-            Err(unrevived) => Ok(Err(unrevived.refusal())),
+            Ok(_) => Ok(()),
+            Err(unrevived) => Err(unrevived.refusal()),
         }
     }
 
@@ -84,39 +81,119 @@ impl<D: Disk + Send + Drop + 'static> Opened<D> {
 pub(crate) struct Play<'a, R, D: Disk> {
     rt: &'a R,
     alloc: Global,
+    // The calls of disks that are to fail in the next space: the node and the number of each.
+    failing: Vec<(usize, u64)>,
     opened: Option<Opened<D>>,
     gate: Option<Arc<Ruled<R>>>,
     rules: Rules,
-    // The lines of the case, some of which are those of programs.
-    lines: &'a [CaseLine<'a>],
+    // What the programs do.
+    orders: Vec<Order>,
 }
 
-impl<'a, R, D> Play<'a, R, D>
+/// Does what the lines of a case say. (`Play` is no `Subject`: what a method of a trait sends to a
+/// thread isn't covered by its bounds.)
+pub(crate) fn run<R, B, D>(
+    rt: &R,
+    alloc: Global,
+    source: &mut Source<B>,
+    out: &mut Out,
+) -> Result<(), CaseError>
 where
-    R: Clock + Threads + Wait + Clone + Send + Sync + Drop + 'static,
-    D: Disk + Send + Drop + 'static,
+    R: Files<File = File> + Print + Clock + Threads + Wait + Clone + Send + Sync + Drop + 'static,
+    B: BufRead,
+    D: Made + Send + Drop + 'static,
 {
-    /// No space yet.
-    pub(crate) fn new(rt: &'a R, alloc: Global, lines: &'a [CaseLine<'a>]) -> Play<'a, R, D> {
-        Play {
-            rt,
-            alloc,
-            opened: None,
-            gate: None,
-            rules: Rules::new(alloc),
-            lines,
+    let mut play: Play<'_, R, D> = Play {
+        rt,
+        alloc,
+        failing: Vec::new(alloc),
+        opened: None,
+        gate: None,
+        rules: Rules::new(alloc),
+        orders: Vec::new(alloc),
+    };
+    let done = play.take_all(source, out);
+    drop(play);
+    done
+}
+
+impl<R, D> Play<'_, R, D>
+where
+    R: Files<File = File> + Print + Clock + Threads + Wait + Clone + Send + Sync + Drop + 'static,
+    D: Made + Send + Drop + 'static,
+{
+    // Does what the lines say.
+    fn take_all<B: BufRead>(
+        &mut self,
+        source: &mut Source<B>,
+        out: &mut Out,
+    ) -> Result<(), CaseError> {
+        for _ in self.rt.forever() {
+            let Some(line) = source.next(self.rt)? else {
+                break;
+            };
+            self.take(line, out)?;
+            out.flush(self.rt);
+        }
+        Ok(())
+    }
+
+    // Does what a line says.
+    fn take(&mut self, line: &str, out: &mut Out) -> Result<(), CaseError> {
+        match verb(line) {
+            "open" => self.open(line, out),
+            "start" | "revive" => self.work(line, out),
+            "close" | "reports" | "ends" => self.close(verb(line), out),
+            "leave" => self.leave(out),
+            "together" => self.together(out),
+            "ended" | "ended-and-revive" | "holders" | "go" => self.ask_gate(line, out),
+            _ => self.take_other(line, out),
         }
     }
 
-    /// Replaces the space, unless the new one wasn't opened.
-    pub(crate) fn set(&mut self, space: Result<Space<D>, OpenFault>, nodes: u8, out: &mut Out)
-        requires { IfOk space (λ s. is_some s.team ≡ false) }
-    {
+    // Does what a line says that starts and ends nothing.
+    fn take_other(&mut self, line: &str, out: &mut Out) -> Result<(), CaseError> {
+        match verb(line) {
+            "hold" | "end" | "random" | "late" | "fail-once" | "program" => self.note(line, out),
+            "meet" | "once" => show(self.rt, self.alloc, line, out),
+            _ => match &mut self.opened {
+                Some(opened) => on_space(self.rt, opened, line, out),
+                None => Err(CaseError::Unknown),
+            },
+        }
+    }
+
+    // Notes what is to happen in the space that is opened next, or once workers are started.
+    fn note(&mut self, line: &str, out: &mut Out) -> Result<(), CaseError> {
+        match verb(line) {
+            "fail-once" => self.failing.push((number(line, 1)?, number(line, 2)?))?,
+            "program" => {
+                self.orders.push(Order::of(self.alloc, rest(line))?)?;
+                return Ok(());
+            }
+            _ => rule(&mut self.rules, line)?,
+        }
+        out.text("ok");
+        Ok(())
+    }
+
+    // `open NODES REGISTERS SLOTS TURNS ..`: replaces the space, unless the new one isn't opened.
+    fn open(&mut self, line: &str, out: &mut Out) -> Result<(), CaseError> {
+        let size = Size {
+            nodes: number(line, 1)?,
+            registers: number(line, 2)?,
+            slots: number(line, 3)?,
+            turns: number(line, 4)?,
+            saves: saves_in(line),
+        };
+        let folder = word(line, 5).unwrap_or("space");
+        let space = opened(self.rt, self.alloc, size, folder, &self.failing);
+        self.failing.clear();
         match space {
             Ok(space) => {
                 self.opened = Some(Opened {
                     space,
-                    nodes,
+                    nodes: size.nodes,
                     is_started: false,
                 });
                 self.gate = None;
@@ -124,28 +201,7 @@ where
             }
             Err(fault) => out.show(&fault),
         }
-    }
-
-    /// Does what the words of a line say.
-    pub(crate) fn take(&mut self, words: &[&str], out: &mut Out) -> Result<(), CaseError> {
-        match verb(words) {
-            "hold" | "end" | "random" | "late" => {
-                rule(&mut self.rules, words)?;
-                out.text("ok");
-                Ok(())
-            }
-            "start" => self.start(out),
-            "revive" => self.revive(number(words, 1)?, out),
-            "close" | "reports" | "ends" => self.close(verb(words), out),
-            "leave" => self.leave(out),
-            "program" => Ok(()),
-            "together" => self.together(out),
-            "ended" | "ended-and-revive" | "holders" | "go" => self.ask_gate(words, out),
-            _ => match &mut self.opened {
-                Some(opened) => on_space(self.rt, self.alloc, opened, words, out),
-                None => Err(CaseError::Unknown),
-            },
-        }
+        Ok(())
     }
 
     // The gate. It is made with the rules so far if there isn't one.
@@ -160,25 +216,15 @@ where
         Ok(gate)
     }
 
-    fn start(&mut self, out: &mut Out) -> Result<(), CaseError> {
+    // Starts the workers, or a new one of a node.
+    fn work(&mut self, line: &str, out: &mut Out) -> Result<(), CaseError> {
         let gate = self.gate();
         let Some(opened) = &mut self.opened else {
             return Err(CaseError::Unknown);
         };
         match gate {
-            Ok(gate) => out.done(opened.start(self.rt, gate)?),
-            Err(refusal) => out.refused(refusal),
-        }
-        Ok(())
-    }
-
-    fn revive(&mut self, node: u8, out: &mut Out) -> Result<(), CaseError> {
-        let gate = self.gate();
-        let Some(opened) = &mut self.opened else {
-            return Err(CaseError::Unknown);
-        };
-        match gate {
-            Ok(gate) => out.done(opened.revive(self.rt, node, gate)?),
+            Ok(gate) if verb(line) == "start" => out.done(opened.start(self.rt, gate)),
+            Ok(gate) => out.done(opened.revive(self.rt, number(line, 1)?, gate)),
             Err(refusal) => out.refused(refusal),
         }
         Ok(())
@@ -186,21 +232,21 @@ where
 
     // A command to the gate: how many workers of a node it has ended since this was asked last, and
     // whether the last one is to be revived; how many hold it; or that a worker may go on.
-    fn ask_gate(&mut self, words: &[&str], out: &mut Out) -> Result<(), CaseError> {
+    fn ask_gate(&mut self, line: &str, out: &mut Out) -> Result<(), CaseError> {
         let Some(gate) = &self.gate else {
             return Err(CaseError::Unknown);
         };
-        match verb(words) {
+        match verb(line) {
             "holders" => out.show(&Arc::strong_count(gate)),
             "go" => {
                 gate.go();
                 out.text("ok");
             }
-            "ended" => out.show(&gate.take_ended(number(words, 1)?)),
+            "ended" => out.show(&gate.take_ended(number(line, 1)?)),
             _ => {
-                let node = number(words, 1)?;
+                let node = number(line, 1)?;
                 if gate.take_ended(node) > 0 {
-                    return self.revive(node, out);
+                    return self.work(line, out);
                 }
                 out.text("-");
             }
@@ -244,14 +290,14 @@ where
         Ok(())
     }
 
-    // The programs of the nodes do what the lines `program N ..` of the case say, each in its own
-    // thread. The answers are printed by node.
+    // The programs of the nodes do what the lines `program ..` said, each in its own thread. The
+    // answers are printed by node.
     fn together(&mut self, out: &mut Out) -> Result<(), CaseError> {
         let Some(opened) = &self.opened else {
             return Err(CaseError::Unknown);
         };
         let mut programs = programs_of(self.alloc, &opened.space, opened.nodes)?;
-        play_all(self.rt, self.alloc, self.lines, &mut programs);
+        play_all(self.rt, &self.orders, &mut programs);
         for program in &programs {
             program.put(out)?;
         }
@@ -283,16 +329,15 @@ fn put_ends(reports: &[Report], out: &mut Out) {
 // A command to an open space.
 fn on_space<R, D>(
     rt: &R,
-    alloc: Global,
     opened: &mut Opened<D>,
-    words: &[&str],
+    line: &str,
     out: &mut Out,
 ) -> Result<(), CaseError>
 where
     R: Clock + Threads + Wait,
     D: Disk + Send + Drop + 'static,
 {
-    match verb(words) {
+    match verb(line) {
         "look" => opened.look(out),
         "over" => out.debug(&opened.space.ended().is_some()),
         "wait" => {
@@ -303,40 +348,55 @@ where
             turn_all(rt, &opened.space, opened.nodes);
             out.text("ok");
         }
-        "sleep" => thread::sleep(rt, Duration::from_micros(number(words, 1)?)),
-        _ => return on_node(rt, alloc, opened, words, out),
+        "sleep" => thread::sleep(rt, Duration::from_micros(number(line, 1)?)),
+        _ => return on_node(rt, opened, line, out),
     }
     Ok(())
 }
 
-// A command to the node whose number comes first.
-fn on_node<R, D>(
-    rt: &R,
-    alloc: Global,
-    opened: &Opened<D>,
-    words: &[&str],
-    out: &mut Out,
-) -> Result<(), CaseError>
+// A command to the node whose number comes first, or after the verb.
+fn on_node<R, D>(rt: &R, opened: &Opened<D>, line: &str, out: &mut Out) -> Result<(), CaseError>
 where
     R: Clock + Wait,
     D: Disk + Send + Drop + 'static,
 {
-    let [first, words @ ..] = words else {
-        return Err(CaseError::Unknown);
-    };
-    let node = read(first)?;
+    let node = node_in(line)?;
     let Some(cell) = opened.space.program(node) else {
         return Err(CaseError::Unknown);
     };
-    match verb(words) {
+    match verb(line) {
         "turn" => {
-            turn_often(rt, cell, node, opened.nodes, number(words, 1)?);
+            turn_often(rt, cell, node, opened.nodes, number(line, 2)?);
             out.text("ok");
         }
         "trace" => put_trace(rt, cell, false, out),
         "last" => put_trace(rt, cell, true, out),
-        "pause" | "take" | "until" => return on_station(rt, alloc, cell, words, out),
-        _ => return on_cell(rt, alloc, cell, words, out),
+        _ => return on_cell(rt, cell, line, out),
+    }
+    Ok(())
+}
+
+// A command to a cell.
+fn on_cell<R: Clock + Wait, D: Disk>(
+    rt: &R,
+    cell: &Shared<D>,
+    line: &str,
+    out: &mut Out,
+) -> Result<(), CaseError> {
+    match verb(line) {
+        "save" => out.done(cell.save(rt)),
+        "reopen" => match cell.reopen(rt) {
+            Ok(_) => out.text("ok"),
+            Err(shut) => out.refused(shut.refusal()),
+        },
+        "raise" => match cell.raise(rt) {
+            Ok(_) => out.text("ok"),
+            Err(refusal) => out.refused(refusal),
+        },
+        "unsaved" => out.debug(&cell.unsaved(rt)),
+        "send" => out.answer(cell.pump_out(rt, number(line, 2)?)),
+        "receive" => out.answer(cell.pump_in(rt, number(line, 2)?)),
+        _ => return on_station(rt, cell, line, out),
     }
     Ok(())
 }

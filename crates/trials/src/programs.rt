@@ -4,7 +4,8 @@ ghost use Rattle.std.specs.Prelude.{◌≡◌, true};
 ghost use Rattle.model.specs.Steps.{is_own};
 
 use crate::gates::pause;
-use cases::{CaseError, CaseLine, Out, event_of, number, read, verb};
+use crate::out::Out;
+use crate::words::{CaseError, event_in, node_in, number, rest, verb};
 use cell::Shared;
 use disk::Disk;
 use ids::Refusal;
@@ -23,6 +24,23 @@ const ASKED: u32 = u32::MAX;
 // The register of the object whose word says what the program has accepted.
 const TAKEN: u16 = 1;
 
+/// A line of a node's program.
+#[derive(Drop)]
+pub(crate) struct Order {
+    node: u8,
+    line: String,
+}
+
+impl Order {
+    /// The line, for the node that it is about.
+    pub(crate) fn of(alloc: Global, line: &str) -> Result<Order, CaseError> {
+        Ok(Order {
+            node: node_in(line)?,
+            line: String::from_str(alloc, line)?,
+        })
+    }
+}
+
 /// The program of a node, and what it has printed.
 #[derive(Drop)]
 pub(crate) struct CellProgram<'a, S> {
@@ -33,19 +51,15 @@ pub(crate) struct CellProgram<'a, S> {
 }
 
 impl<S: Station> CellProgram<'_, S> {
-    // Runs the lines of its node: `program N ..`.
-    fn run<R: Clock + Wait>(&mut self, rt: &R, alloc: Global, lines: &[CaseLine<'_>]) {
-        for line in lines {
-            let words = self.out.at(line);
-            let done = match words {
-                ["program", node, words @ ..] if read::<u8>(node).ok() == Some(self.node) => {
-                    on_station(rt, alloc, self.station, words, &mut self.out)
+    // Runs the lines of its node.
+    fn run<R: Clock + Wait>(&mut self, rt: &R, orders: &[Order]) {
+        for order in orders {
+            if order.node == self.node {
+                let done = on_station(rt, self.station, order.line.as_str(), &mut self.out);
+                if done.is_err() {
+                    self.done = done;
+                    return;
                 }
-                _ => Ok(()),
-            };
-            if done.is_err() {
-                self.done = done;
-                return;
             }
         }
     }
@@ -78,39 +92,30 @@ pub(crate) fn programs_of<D: Disk + Drop>(
 }
 
 /// Runs these lines: each program, in its own thread, those of its node.
-pub(crate) fn play_all<R, S>(
-    rt: &R,
-    alloc: Global,
-    lines: &[CaseLine<'_>],
-    programs: &mut [CellProgram<'_, S>],
-)
+pub(crate) fn play_all<R, S>(rt: &R, orders: &[Order], programs: &mut [CellProgram<'_, S>])
 where
     R: Clock + Threads + Wait + Sync,
     S: Station + Sync,
 {
     let play = move |_place: usize, program: &mut CellProgram<'_, S>| {
-        program.run(rt, alloc, lines);
+        program.run(rt, orders);
     };
     let threads = programs.len().max(1);
     thread::for_each_mut(rt, programs, threads, &play);
 }
 
-/// What a program does, as the words say.
+/// What a program does, as the line says.
 pub(crate) fn on_station<R: Clock + Wait, S: Station>(
     rt: &R,
-    alloc: Global,
     station: &S,
-    words: &[&str],
+    line: &str,
     out: &mut Out,
 ) -> Result<(), CaseError> {
-    match verb(words) {
+    match verb(line) {
         "pause" => pause(rt),
-        "take" => take_letters(rt, station, number(words, 1)?, number(words, 2)?, out),
-        "until" => match words {
-            [_, words @ ..] => act_until(rt, station, event_of(alloc, words)?, out),
-            _ => return Err(CaseError::Unknown),
-        },
-        _ => out.answer(station.act(rt, event_of(alloc, words)?)),
+        "take" => take_letters(rt, station, number(line, 2)?, number(line, 3)?, out),
+        "until" => act_until(rt, station, event_in(rest(line))?, out),
+        _ => out.answer(station.act(rt, event_in(line)?)),
     }
     Ok(())
 }

@@ -8,9 +8,9 @@ use std::thread::Threads;
 use supervisor::{Config, Space};
 use workers::{Gate, Point, Report};
 
-// A gate that never holds a worker up.
+/// A gate that never holds a worker up.
 #[derive(Drop)]
-struct Open;
+pub(crate) struct Open;
 
 impl Gate for Open {
     fn at(&self, _point: Point) {}

@@ -1,8 +1,8 @@
-//! Turns of a worker on a station that records what it is asked and gives scripted answers. So the
-//! calls of a turn are seen in order. Runs of a worker are on a station that always answers the
-//! same.
+//! Turns and runs of a worker on a station that gives scripted answers. In a turn the station
+//! records what it is asked, so the calls are seen in order.
 use crate::gates::stage_of;
-use cases::{CaseError, Out, number, verb, word};
+use crate::out::Out;
+use crate::words::{CaseError, number, verb, word};
 use ids::{Ref, Refusal};
 use model::{Answer, Event};
 use std::alloc::Global;
@@ -10,33 +10,47 @@ use std::cell::{Cell, RefCell};
 use std::fmt::Display;
 use std::sync::Wait;
 use wire::{Inbound, Outbound, Raised};
-use workers::{Gate, Point, Report, Stage, Station, run_node, turn_node};
+use workers::{Gate, Point, Report, Stage, Station, Stop, run_node, turn_node};
 
 // The number of the turn that is recorded.
 const TURN: u32 = 7;
 
-// Records each call, and each point at which it is asked as a gate.
+// How many objects each sweep of a run frees.
+const FREED: u32 = 2;
+
+// A station, and a gate. It records each call, or has a message in each mailbox and frees objects
+// in each sweep.
 #[derive(Drop)]
 struct Recorder {
+    records: bool,
     noted: RefCell<String>,
+    // Allocation for a record failed.
+    failed: Cell<bool>,
     // How many more events it answers with `Scanned`; all later ones fail with `NothingToDo`.
     scanned: Cell<u32>,
     unsaved: bool,
-    // Allocation for a record failed.
-    failed: Cell<bool>,
+    // The turn and the stage at which it ends a worker, and the last turn of which it was told.
+    end: (u32, Stage),
+    last: Cell<u32>,
 }
 
 impl Recorder {
-    fn new(alloc: Global, scanned: u32, unsaved: bool) -> Recorder {
+    fn new(alloc: Global, records: bool) -> Recorder {
         Recorder {
+            records,
             noted: RefCell::new(String::new(alloc)),
-            scanned: Cell::new(scanned),
-            unsaved,
             failed: Cell::new(false),
+            scanned: Cell::new(0),
+            unsaved: true,
+            end: (0, Stage::Start),
+            last: Cell::new(0),
         }
     }
 
     fn note<T: Display>(&self, call: &T) {
+        if !self.records {
+            return;
+        }
         let Ok(mut noted) = self.noted.try_borrow_mut() else {
             return self.failed.set(true);
         };
@@ -49,11 +63,18 @@ impl Recorder {
     // Prints what was recorded.
     fn put(&self, out: &mut Out) {
         match self.noted.try_borrow() {
-            Ok(noted) => out.text(noted.as_str()),
-            Err(_) => out.failed = true,
+            Ok(noted) if !self.failed.get() => out.text(noted.as_str()),
+            _ => out.failed = true,
         }
-        if self.failed.get() {
-            out.failed = true;
+    }
+
+    // What it answers to an event of the collector.
+    fn scan(&self) -> Result<Answer, Refusal> {
+        let left = self.scanned.get();
+        self.scanned.set(left.saturating_sub(1));
+        match Ref::new(0, 0, 1) {
+            Some(scanned) if left > 0 => Ok(Answer::Scanned(scanned)),
+            _ => Err(Refusal::NothingToDo),
         }
     }
 }
@@ -61,22 +82,29 @@ impl Recorder {
 impl Station for Recorder {
     fn pump_in<R: Wait>(&self, _rt: &R, from: u8) -> Result<Inbound, Refusal> {
         self.note(&format_args!("pump_in {from}"));
-        Ok(Inbound::Empty)
+        if self.records {
+            Ok(Inbound::Empty)
+        } else {
+            Ok(Inbound::Event(Answer::Received))
+        }
     }
 
     fn act<R: Wait>(&self, _rt: &R, event: Event) -> Result<Answer, Refusal> {
         match event {
             Event::Scan => self.note(&"Scan"),
             Event::Pass => self.note(&"Pass"),
-            Event::Sweep { count } => self.note(&format_args!("Sweep {count}")),
+            Event::Sweep { count } => {
+                self.note(&format_args!("Sweep {count}"));
+                if !self.records {
+                    return Ok(Answer::Freed {
+                        count: FREED,
+                        done: false,
+                    });
+                }
+            }
             _ => self.note(&"another event"),
         }
-        let left = self.scanned.get();
-        self.scanned.set(left.saturating_sub(1));
-        match Ref::new(0, 0, 1) {
-            Some(scanned) if left > 0 => Ok(Answer::Scanned(scanned)),
-            _ => Err(Refusal::NothingToDo),
-        }
+        self.scan()
     }
 
     fn unsaved<R: Wait>(&self, _rt: &R) -> bool {
@@ -103,71 +131,18 @@ impl Station for Recorder {
 impl Gate for Recorder {
     fn at(&self, point: Point) {
         let Point { node, turn, stage } = point;
+        self.last.set(turn);
         self.note(&format_args!("at {node} {turn} {stage:?}"));
     }
 
     fn go_on(&self, point: Point) -> bool {
         let Point { node, turn, stage } = point;
         self.note(&format_args!("go_on {node} {turn} {stage:?}"));
-        true
+        (turn, stage) != self.end
     }
 }
 
-// How many objects each sweep of a busy station frees.
-const FREED: u32 = 2;
-
-/// A station that always has a message of each other node, and frees objects in each sweep. As a
-/// gate it ends the worker at a stage of a turn.
-#[derive(Drop)]
-struct Busy {
-    end: (u32, Stage),
-    // The last turn of which it was told.
-    last: Cell<u32>,
-}
-
-impl Station for Busy {
-    fn pump_in<R: Wait>(&self, _rt: &R, _from: u8) -> Result<Inbound, Refusal> {
-        Ok(Inbound::Event(Answer::Received))
-    }
-
-    fn act<R: Wait>(&self, _rt: &R, event: Event) -> Result<Answer, Refusal> {
-        match event {
-            Event::Sweep { .. } => Ok(Answer::Freed {
-                count: FREED,
-                done: false,
-            }),
-            _ => Err(Refusal::NothingToDo),
-        }
-    }
-
-    fn unsaved<R: Wait>(&self, _rt: &R) -> bool {
-        true
-    }
-
-    fn save<R: Wait>(&self, _rt: &R) -> Result<(), Refusal> {
-        Ok(())
-    }
-
-    fn pump_out<R: Wait>(&self, _rt: &R, _to: u8) -> Result<Outbound, Refusal> {
-        Ok(Outbound::Sent)
-    }
-
-    fn raise<R: Wait>(&self, _rt: &R) -> Result<Raised, Refusal> {
-        Err(Refusal::NotDirector)
-    }
-}
-
-impl Gate for Busy {
-    fn at(&self, point: Point) {
-        self.last.set(point.turn);
-    }
-
-    fn go_on(&self, point: Point) -> bool {
-        (point.turn, point.stage) != self.end
-    }
-}
-
-// What was seen of a worker's run on a busy station.
+// What was seen of a worker's run.
 #[derive(Clone, Copy, Debug)]
 struct Ran {
     report: Report,
@@ -177,48 +152,45 @@ struct Ran {
     ended: (u64, u64),
 }
 
-// A worker's run on a busy station: `NODE NODES TURNS END STAGE`.
-fn run<R: Wait>(rt: &R, words: &[&str], stop: &workers::Stop) -> Result<Ran, CaseError> {
-    let busy = Busy {
-        end: (number(words, 4)?, stage_of(word(words, 5)?)?),
-        last: Cell::new(0),
-    };
-    let (node, nodes, turns) = (number(words, 1)?, number(words, 2)?, number(words, 3)?);
+/// A worker's run: `run NODE NODES TURNS END STAGE`; or one that was asked to stop before,
+/// `stopped`.
+pub(crate) fn run<R: Wait>(
+    rt: &R,
+    alloc: Global,
+    line: &str,
+    out: &mut Out,
+) -> Result<(), CaseError> {
+    let mut busy = Recorder::new(alloc, false);
+    busy.end = (number(line, 4)?, stage_of(word(line, 5)?)?);
+    let (node, nodes, turns) = (number(line, 1)?, number(line, 2)?, number(line, 3)?);
+    let stop = Stop::new();
+    if verb(line) == "stopped" {
+        stop.ask();
+    }
     let before = stop.ended();
-    let report = run_node(rt, &busy, &busy, node, nodes, turns, stop).report;
-    Ok(Ran {
+    let report = run_node(rt, &busy, &busy, node, nodes, turns, &stop).report;
+    out.debug(&Ran {
         report,
         last: busy.last.get(),
         ended: (before, stop.ended()),
-    })
-}
-
-// Records a turn: `NODE NODES SCANNED UNSAVED`.
-fn turn<R: Wait>(rt: &R, alloc: Global, words: &[&str], out: &mut Out) -> Result<(), CaseError> {
-    let (node, nodes) = (number(words, 1)?, number(words, 2)?);
-    let recorder = Recorder::new(alloc, number(words, 3)?, number(words, 4)?);
-    drop(turn_node(rt, &recorder, &recorder, node, nodes, TURN));
-    recorder.put(out);
-    drop(recorder);
+    });
+    drop(busy);
     Ok(())
 }
 
-/// A command about turns.
-pub(crate) fn take<R: Wait>(
+/// Records a turn: `turn NODE NODES SCANNED UNSAVED`.
+pub(crate) fn turn<R: Wait>(
     rt: &R,
     alloc: Global,
-    words: &[&str],
+    line: &str,
     out: &mut Out,
 ) -> Result<(), CaseError> {
-    let stop = workers::Stop::new();
-    match verb(words) {
-        "turn" => return turn(rt, alloc, words, out),
-        "run" => out.debug(&run(rt, words, &stop)?),
-        "stopped" => {
-            stop.ask();
-            out.debug(&run(rt, words, &stop)?);
-        }
-        _ => return Err(CaseError::Unknown),
-    }
+    let (node, nodes) = (number(line, 1)?, number(line, 2)?);
+    let mut recorder = Recorder::new(alloc, true);
+    recorder.scanned.set(number(line, 3)?);
+    recorder.unsaved = number(line, 4)?;
+    drop(turn_node(rt, &recorder, &recorder, node, nodes, TURN));
+    recorder.put(out);
+    drop(recorder);
     Ok(())
 }

@@ -1,0 +1,102 @@
+//! Spaces of a case, on disks in memory or in files.
+ghost use Rattle.std.specs.Prelude.{◌≡◌, false, is_some, IfOk};
+
+use crate::once::once;
+use crate::out::Out;
+use crate::sizes::{Size, blank_disks, config_of};
+use crate::space::meet;
+use crate::words::{CaseError, number, verb};
+use disk::{Disk, FileDisk, MemoryDisk};
+use ids::Refusal;
+use std::alloc::Global;
+use std::fs::File;
+use std::rt::Files;
+use std::sync::Wait;
+use std::thread::Threads;
+use std::time::Clock;
+use supervisor::{OpenFault, Space};
+
+/// A disk that a case makes.
+pub(crate) trait Made: Disk {
+    /// The disks of this many nodes, in a folder or in memory. In memory, calls of them may fail.
+    fn make<R: Files<File = File>>(
+        rt: &R,
+        alloc: Global,
+        nodes: u8,
+        folder: &str,
+        failing: &[(usize, u64)],
+    ) -> Result<Vec<Self>, Refusal>;
+}
+
+impl Made for MemoryDisk {
+    fn make<R: Files<File = File>>(
+        _rt: &R,
+        alloc: Global,
+        nodes: u8,
+        _folder: &str,
+        failing: &[(usize, u64)],
+    ) -> Result<Vec<MemoryDisk>, Refusal> {
+        let mut disks = blank_disks(alloc, nodes)?;
+        for (node, call) in failing {
+            if let Some(disk) = disks.get_mut(*node) {
+                disk.fail_once(*call);
+            }
+        }
+        Ok(disks)
+    }
+}
+
+impl Made for FileDisk {
+    fn make<R: Files<File = File>>(
+        rt: &R,
+        alloc: Global,
+        nodes: u8,
+        folder: &str,
+        _failing: &[(usize, u64)],
+    ) -> Result<Vec<FileDisk>, Refusal> {
+        let mut disks = Vec::new(alloc);
+        for node in 0..nodes {
+            let path = format!(in alloc; "{folder}/{node}")?;
+            disks.push(FileDisk::at(rt, alloc, path.as_str())?)?;
+        }
+        Ok(disks)
+    }
+}
+
+/// A new space of this size.
+pub(crate) fn opened<R: Files<File = File>, D: Made + Drop>(
+    rt: &R,
+    alloc: Global,
+    size: Size,
+    folder: &str,
+    failing: &[(usize, u64)],
+) -> Result<Space<D>, OpenFault>
+    ensures { IfOk result (λ s. is_some s.team ≡ false) }
+{
+    let config = config_of(alloc, size)?;
+    match D::make(rt, alloc, size.nodes, folder, failing) {
+        Ok(disks) => Space::open(alloc, &config, disks),
+        Err(Refusal::Memory) => Err(OpenFault::Memory),
+        Err(refusal) => Err(OpenFault::Failed { node: 0, refusal }),
+    }
+}
+
+/// Runs the code of docs/EMBEDDING.md in a space of two nodes.
+pub(crate) fn show<R>(rt: &R, alloc: Global, line: &str, out: &mut Out) -> Result<(), CaseError>
+where
+    R: Clock + Threads + Wait + Clone + Send + Sync + Drop + 'static,
+{
+    let size = Size::pair(number(line, 1)?);
+    let text = size.text(alloc)?;
+    let disks = blank_disks(alloc, size.nodes)?;
+    if verb(line) == "meet" {
+        let reports = match meet(rt, alloc, text.as_str(), disks) {
+            Some(reports) => Some(reports.len()),
+            None => None,
+        };
+        out.debug(&reports);
+    } else {
+        out.debug(&once(rt, alloc, text.as_str(), disks));
+    }
+    Ok(())
+}
