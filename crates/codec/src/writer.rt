@@ -2,12 +2,14 @@
 //! discards everything and reports it in [`finish`](Writer::finish). So callers need not check each
 //! write.
 ghost use Rattle.std.specs.Prelude.{◌≡◌, ◌≢◌, ◌<◌, ◌≤◌, [], List, ℕ, length, nat_le, ⊤, true, false};
-ghost use Rattle.std.specs.Prelude.{OnOk, IfOk, IfErr};
+ghost use Rattle.std.specs.Prelude.{◌+◌, OnOk, IfOk, IfErr, vec_len, vec_capacity};
 ghost use Rattle.codec.specs.Formats.{byte, number4, number8};
 ghost use Rattle.codec.specs.Writing.{Says, IsOpen, Writes, IsBeyond, Puts, HasNone, HasRoom};
 ghost use Rattle.ids.specs.declared.refusal.Refusal.TheVariants.{Memory, ImageTooLarge};
 
+use crate::piece::Piece;
 use ids::Refusal;
+use std::mem;
 
 /// What happened to the bytes that a writer was given.
 #[derive(Clone, Copy)]
@@ -35,12 +37,31 @@ pub struct Writer {
 impl Writer {
     /// A writer of at most `limit` bytes, in the memory of `bytes`, whose content is dropped. It
     /// reserves room for `first` bytes at once, and more as bytes are written.
+    #[inline(always)]
     pub fn new(bytes: Vec<u8>, limit: u32, first: usize) -> Writer
         ensures limit { result.limit ≡ limit }
         ensures empty { Says result [] }
     {
         let mut bytes = bytes;
         bytes.clear();
+        if first > bytes.capacity() {
+            return Writer::expanded(bytes, limit, first);
+        }
+        Writer {
+            bytes,
+            limit,
+            kept: Kept::All,
+        }
+    }
+
+    // A writer in this memory, which is too small for the first bytes.
+    #[cold]
+    #[inline(never)]
+    fn expanded(bytes: Vec<u8>, limit: u32, first: usize) -> Writer
+        requires { bytes.items ≡ [] }
+        ensures limit { result.limit ≡ limit }
+        ensures empty { Says result [] }
+    {
         let mut writer = Writer {
             bytes,
             limit,
@@ -53,20 +74,97 @@ impl Writer {
     }
 
     /// Appends the bytes.
+    #[inline(always)]
     pub fn append(&mut self, part: &[u8])
         ensures { Writes self.old self.new part.now ⊤ }
     {
         if part.is_empty() {
             return;
         }
-        if part.len() <= self.bytes.capacity() - self.bytes.len() || self.grow(part) {
+        if self.has_room(part.len()) {
             let _ = self.bytes.extend_from_slice(part);
+        } else {
+            self.overflow(part);
         }
     }
 
-    // Makes room for these bytes. If that fails, they are counted and nothing is kept.
+    /// Appends the bytes of an array. Only a writer without room for them keeps them in memory in
+    /// between; so this is faster than [`append`](Writer::append).
+    #[inline(always)]
+    pub fn array<const N: usize>(&mut self, part: [u8; N])
+        ensures { Writes self.old self.new part.entry ⊤ }
+    {
+        if self.has_room(N) {
+            self.append(&part);
+        } else {
+            self.overflow_array(part);
+        }
+    }
+
+    #[inline(always)]
+    fn overflow_array<const N: usize>(&mut self, part: [u8; N])
+        ensures { Writes self.old self.new part.entry ⊤ }
+    {
+        self.overflow(&part);
+    }
+
+    /// Appends the bytes of a piece.
+    #[inline(always)]
+    pub fn piece(&mut self, piece: Piece)
+        ensures { Writes self.old self.new piece ⊤ }
+    {
+        if self.has_room(piece.as_slice().len()) {
+            self.append(piece.as_slice());
+        } else {
+            self.overflow_piece(piece);
+        }
+    }
+
+    #[inline(always)]
+    fn overflow_piece(&mut self, piece: Piece)
+        ensures { Writes self.old self.new piece ⊤ }
+    {
+        self.overflow(piece.as_slice());
+    }
+
+    // Whether that many bytes fit without more memory.
+    #[inline(always)]
+    fn has_room(&self, count: usize) -> bool
+        ensures { result ≡ true → vec_len self.now.bytes + count ≤ vec_capacity self.now.bytes }
+    {
+        count <= self.bytes.capacity() - self.bytes.len()
+    }
+
+    // Appends bytes for which there is no room. The writer is moved out and in again, so that no
+    // call borrows it, and its parts stay in registers between the calls that inline this one.
+    #[inline(always)]
+    fn overflow(&mut self, part: &[u8])
+        ensures { Writes self.old self.new part.now ⊤ }
+    {
+        let empty = Writer {
+            bytes: Vec::new(*self.bytes.allocator()),
+            limit: self.limit,
+            kept: self.kept,
+        };
+        *self = mem::replace(self, empty).grown(part);
+    }
+
     #[cold]
     #[inline(never)]
+    fn grown(self, part: &[u8]) -> Writer
+        ensures { Writes self result part.now ⊤ }
+    {
+        let mut writer = self;
+        if part.is_empty() {
+            return writer;
+        }
+        if writer.grow(part) {
+            let _ = writer.bytes.extend_from_slice(part);
+        }
+        writer
+    }
+
+    // Makes room for these bytes. If that fails, they are counted and nothing is kept.
     fn grow(&mut self, part: &[u8]) -> bool
         ensures limit { self.new.limit ≡ self.old.limit }
         ensures room { result ≡ true → HasRoom self.old self.new part.now }
@@ -90,6 +188,7 @@ impl Writer {
     }
 
     // Drops all bytes.
+    #[inline(always)]
     fn give_up(&mut self, kept: Kept)
         ensures limit { self.new.limit ≡ self.old.limit }
         ensures kept { self.new.kept ≡ kept }
@@ -124,24 +223,27 @@ impl Writer {
     }
 
     /// Appends a byte.
+    #[inline(always)]
     pub fn u8(&mut self, number: u8)
         ensures { Puts byte self.old self.new number }
     {
-        self.append(&[number]);
+        self.array([number]);
     }
 
     /// Appends a number in four bytes.
     #[tactic(auto, unfolding(crate::specs::Formats::number4))]
+    #[inline(always)]
     pub fn u32(&mut self, number: u32)
         ensures { Puts number4 self.old self.new number }
     {
-        self.append(&number.to_be_bytes());
+        self.array(number.to_be_bytes());
     }
 
     /// Appends how many values follow, in four bytes, and returns whether that many are allowed,
     /// which they are up to the limit. If not, the writer fails as if it had been given a text of
     /// at least that many bytes.
     #[tactic(auto, unfolding(crate::specs::Formats::number4))]
+    #[inline(always)]
     pub fn count(&mut self, count: usize) -> bool
         ensures told { result ≡ nat_le count self.old.limit }
         ensures fits { result ≡ true → Puts number4 self.old self.new count }
@@ -157,9 +259,10 @@ impl Writer {
 
     /// Appends a number in eight bytes.
     #[tactic(auto, unfolding(crate::specs::Formats::number8))]
+    #[inline(always)]
     pub fn u64(&mut self, number: u64)
         ensures { Puts number8 self.old self.new number }
     {
-        self.append(&number.to_be_bytes());
+        self.array(number.to_be_bytes());
     }
 }

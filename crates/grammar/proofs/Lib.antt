@@ -3,3 +3,4 @@ pub mod Joins
 pub mod Kept
 pub mod Readings
 pub mod Logs
+pub mod Registers

@@ -201,6 +201,10 @@ others_format v h =
     counted number4 (near v) & counted number4 (letter_format v)
     & many (link_format v) (links_told h)
 
+-- the references that were asked for, and the letters
+abbrev pub waiting_format : Version → Format (List Ref × List Letter)
+waiting_format v = counted number4 (near v) & counted number4 (letter_format v)
+
 -- what follows the front
 abbrev pub Lists : Type 0
 Lists = Told × (Slots × Others)

@@ -15,7 +15,8 @@ mod tags;
 mod writing;
 
 pub use law::spellings;
+pub use lists::put_registers;
 pub use parts::{Head, PhasesParts, StoredLink, StoredNode};
 pub use reading::{begins_logged, whole, whole_logged};
 pub use tags::LOGGED;
-pub use writing::{put_front, put_others, put_slots, put_start, put_told};
+pub use writing::{put_front, put_others, put_reports, put_slots, put_start};

@@ -10,10 +10,10 @@ ghost use Rattle.grammar.specs.Grammar.{message_format, link_format};
 ghost use Rattle.grammar.specs.Stored.{stored_link, stored_links};
 
 use byteorder::{BigEndian, ByteOrder};
-use codec::{Piece, Writer};
+use codec::Writer;
 use link::Links;
 use msg::Message;
-use msg::writing::add_body;
+use msg::writing::put_body;
 
 // ---- messages
 
@@ -39,14 +39,13 @@ fn message_at(links: &Links, to: u8, place: u64) -> Message
     }
 }
 
-#[tactic(auto, unfolding(crate::specs::Grammar::message_format), using(crate::proofs::Joins::gained, crate::proofs::Joins::piece_written))]
+#[tactic(auto, unfolding(crate::specs::Grammar::message_format), using(crate::proofs::Joins::both))]
+#[inline(always)]
 fn put_message(out: &mut Writer, message: Message)
     ensures { Puts (message_format Second) out.old out.new message }
 {
-    let mut piece = Piece::new();
-    piece.u64(message.stamp);
-    add_body(&mut piece, message.body);
-    out.append(piece.as_slice());
+    out.u64(message.stamp);
+    put_body(out, message.body);
 }
 
 // Appends how many messages to the node are kept, in four bytes, and the messages.
@@ -83,7 +82,7 @@ fn put_idle(out: &mut Writer, links: &Links, to: u8)
     ensures { Puts (link_format Second) out.old out.new
         (stored_link (link_at links.now to, got_at links.now to)) }
 {
-    out.append(&idle_link(links.base(to), links.taken(to)));
+    out.array(idle_link(links.base(to), links.taken(to)));
 }
 
 #[tactic(auto, unfolding(crate::specs::Grammar::link_format), using(crate::proofs::Joins::both))]

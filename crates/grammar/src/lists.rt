@@ -1,6 +1,6 @@
 //! Lists of values of one format. A list whose count exceeds the number of bytes left is rejected
 //! before anything is allocated.
-ghost use Rattle.std.specs.Prelude.{◌≡◌, ◌≤◌, ◌+◌, length, is_none, IfOk, IfErr};
+ghost use Rattle.std.specs.Prelude.{◌≡◌, ◌<◌, ◌≤◌, ◌+◌, ◌-◌, true, length, take, drop, is_none, IfOk, IfErr};
 ghost use Rattle.std.specs.List.{list_all};
 ghost use Rattle.ids.specs.declared.refusal.Refusal.TheVariants.{Memory};
 ghost use Rattle.codec.specs.Formats.{Format, number4, number8, many, counted};
@@ -69,6 +69,9 @@ pub(crate) fn put_counted<T: Writable>(out: &mut Writer, parts: &[T])
 // How many registers are put together in one piece.
 const AT_ONCE: usize = 8;
 
+// How many empty registers are written at once.
+const EMPTY_AT_ONCE: usize = 16;
+
 #[inline(always)]
 fn add_few(piece: &mut Piece, registers: &[Option<Ref>])
     requires few { length registers.now ≤ 8 }
@@ -92,7 +95,7 @@ fn put_few(out: &mut Writer, registers: &[Option<Ref>])
     ensures { PutsAll (optional Second) out.old out.new registers.now }
 {
     if registers.len() == AT_ONCE && all_empty(registers) {
-        out.append(&[ABSENT; AT_ONCE]);
+        out.array([ABSENT; AT_ONCE]);
         return;
     }
     let mut piece = Piece::new();
@@ -100,15 +103,41 @@ fn put_few(out: &mut Writer, registers: &[Option<Ref>])
     out.append(piece.as_slice());
 }
 
+// Appends registers that are all empty.
+fn put_empty(out: &mut Writer, registers: &[Option<Ref>])
+    requires count { length registers.now ≡ 16 }
+    requires empty { list_all is_none registers.now ≡ true }
+    ensures { PutsAll (optional Second) out.old out.new registers.now }
+{
+    out.array([ABSENT; EMPTY_AT_ONCE]);
+}
+
+// Appends some registers from one on, and returns how many are then done.
+#[inline(always)]
+fn put_some(out: &mut Writer, registers: &[Option<Ref>], done: usize) -> usize
+    requires { done < length registers.now }
+    ensures more { done < result }
+    ensures within { result ≤ length registers.now }
+    ensures written { PutsAll (optional Second) out.old out.new
+        (take (result - done) (drop done registers.now)) }
+{
+    let left = &registers[done..];
+    if left.len() >= EMPTY_AT_ONCE && all_empty(&left[..EMPTY_AT_ONCE]) {
+        put_empty(out, &left[..EMPTY_AT_ONCE]);
+        return done + EMPTY_AT_ONCE;
+    }
+    let count = left.len().min(AT_ONCE);
+    put_few(out, &left[..count]);
+    done + count
+}
+
 /// Appends registers one after another. Most are empty, so a few are put together in one piece.
-pub(crate) fn put_registers(out: &mut Writer, registers: &[Option<Ref>])
+pub fn put_registers(out: &mut Writer, registers: &[Option<Ref>])
     ensures { PutsAll (optional Second) out.old out.new registers.now }
 {
     let mut done = 0;
     while done < registers.len() {
-        let end = registers.len().min(done + AT_ONCE);
-        put_few(out, &registers[done..end]);
-        done = end;
+        done = put_some(out, registers, done);
     }
 }
 

@@ -40,7 +40,7 @@ fn put_occupied(out: &mut Writer, generation: Generation, object: &Object)
 {
     let places = object.contents();
     let (mark, word) = (object.marked_by(), object.word());
-    out.append(&occupied_head(generation, mark, word, places.len() as u8));
+    out.array(occupied_head(generation, mark, word, places.len() as u8));
     put_all(out, places);
 }
 
@@ -51,7 +51,7 @@ fn put_free(out: &mut Writer, generation: Generation)
     let mut piece = Piece::new();
     piece.u8(FREE);
     piece.u64(generation);
-    out.append(piece.as_slice());
+    out.piece(piece);
 }
 
 #[tactic(auto, unfolding(crate::specs::Grammar::slot_format))]

@@ -16,7 +16,7 @@ use Rattle.model.specs.Steps.{is_addressed}
 use Rattle.model.proofs.Checks.{guarded-ok}
 use Rattle.model.proofs.Shown.{view-ok}
 use Rattle.std.proofs.Common.{Result, Err, OnOk, replicate, drop, take}
-use Rattle.std.specs.Prelude.{nat_le, ◌||◌, ◌-◌}
+use Rattle.std.specs.Prelude.{nat_le, ◌||◌, ◌&&◌, ◌-◌}
 use Rattle.std.proofs.lemmas.Bool.{false≢true, true≢false}
 use Rattle.std.proofs.lemmas.List.{take_all}
 use Rattle.replays.proofs.Stores.{image_plain}
@@ -45,6 +45,11 @@ if_kept true old new f = f
 if_kept false old new f = λ led bytes is. absurd cc
 
 -- ---- an event
+
+-- what isn't both of two is not the first if it is the second
+pub other_than : (a b : Bool) → (a && b) ≡ false → b ≡ true → a ≡ false
+other_than true b both second = absurd (true≢false (sym second ∙ both))
+other_than false b both second = refl
 
 saved_still : (counts : Option (Vec Counts)) (n m : NodeView)
     → ((i : ℕ) → (link_to m i).kept ≡ (link_to n i).kept) → AreSaved counts n → AreSaved counts m

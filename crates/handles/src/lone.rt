@@ -1,6 +1,7 @@
 //! A node whose caller moves its frames and stores its images.
-ghost use Rattle.std.specs.Prelude.{◌≡◌, ◌||◌, false, None, Ok};
+ghost use Rattle.std.specs.Prelude.{◌≡◌, ◌||◌, ◌&&◌, false, None, Ok};
 ghost use Rattle.msg.specs.Frames.{plain};
+ghost use Rattle.replays.specs.Logs.{is_turn};
 ghost use Rattle.handles.specs.Lone.{Acknowledged, Given, Made, Read, TookIn, is_congested, is_counted};
 ghost use Rattle.handles.specs.Lone.{lone, receiver_of, unacknowledged};
 
@@ -17,7 +18,7 @@ pub(crate) use images::Counts;
 use model::{Answer, Event};
 use msg::{Ack, Data, Frame, decode};
 use node::Node;
-use replays::Log;
+use replays::{Log, is_turn};
 use std::alloc::Global;
 use values::Fault;
 
@@ -167,10 +168,10 @@ impl LoneNode {
         self.perform(event)
     }
 
-    /// The same of a node that keeps no log, for calls that are inlined.
+    /// The same for calls that are inlined, except for `Next` of a node that keeps a log.
     #[inline(always)]
     pub fn act_plain(&mut self, event: Event) -> Result<Answer, Fault>
-        requires { self.old.logs ≡ false }
+        requires { (is_turn event && self.old.logs) ≡ false }
 
         ensures { Given (is_congested self.old event) self.old self.new event result }
     {
@@ -185,24 +186,29 @@ impl LoneNode {
     fn perform(&mut self, event: Event) -> Result<Answer, Fault>
         ensures { Given false self.old self.new event result }
     {
-        if self.logs {
+        if is_turn(&event) && self.logs {
             self.perform_noting(event)
         } else {
             self.perform_plain(event)
         }
     }
 
-    // Gives the node an event, if it keeps no log.
+    // Gives the node an event, and notes it if the node keeps a log. An event that isn't `Next` is
+    // noted as it is.
     #[inline(always)]
     fn perform_plain(&mut self, event: Event) -> Result<Answer, Fault>
-        requires { self.old.logs ≡ false }
+        requires { (is_turn event && self.old.logs) ≡ false }
 
         ensures { Given false self.old self.new event result }
     {
         let answer = self.node.act(event)?;
-        let changes = is_counted(&answer);
-        self.is_changed = self.is_changed || changes;
-        self.is_unsaved = self.is_unsaved || changes;
+        if is_counted(&answer) {
+            self.is_changed = true;
+            self.is_unsaved = true;
+            if self.logs {
+                self.note(event);
+            }
+        }
         Ok(answer)
     }
 

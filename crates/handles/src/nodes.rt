@@ -1,10 +1,12 @@
 //! A node as C holds it: a pointer to a [`LoneNode`], or null.
-ghost use Rattle.std.specs.Prelude.{◌≡◌, false, None, Some, Ok, Option};
+ghost use Rattle.std.specs.Prelude.{◌≡◌, ◌&&◌, false, None, Some, Ok, Option, IfSome};
 ghost use Rattle.std.specs.Coded.{coded_option};
 ghost use Rattle.held.specs.Holds.{unboxed};
 ghost use Rattle.handles.specs.declared.lone.LoneNode.{LoneNode};
 ghost use Rattle.handles.specs.contracts.lone.LoneNode.{the_row as LoneRow};
+ghost use Rattle.model.specs.declared.event.Event.TheVariants as events;
 ghost use Rattle.node.specs.Summaries.{summary_of};
+ghost use Rattle.replays.specs.Logs.{is_turn};
 ghost use Rattle.values.specs.Faults.{Filled, Freed, Through, empty, read};
 ghost use Rattle.values.specs.Bytes.{WroteIf};
 ghost use Rattle.handles.specs.Frames.{HandlePacks, ack_bytes, frame_bytes};
@@ -147,24 +149,26 @@ impl NodeHandle {
         }
     }
 
-    /// Whether the handle has a node that keeps a log.
+    /// The node that `Next` names, if the event is that and the handle has a node that keeps a log.
     #[inline(always)]
-    pub fn logs(&mut self, alloc: Global) -> bool
+    pub fn noted_turn(&mut self, alloc: Global, event: &Event) -> Option<u8>
         ensures same { self.new.held ≡ self.old.held }
-        ensures value { result ≡ logs_in self.old.held }
+        ensures turn { IfSome result (λ from. event.now ≡ events.Next from) }
+        ensures other { result ≡ None → (is_turn event.now && logs_in self.old.held) ≡ false }
     {
-        let Some(node) = self.take(alloc) else {
-            return false;
+        let Event::Next { from } = *event else {
+            return None;
         };
+        let node = self.take(alloc)?;
         let logs = node.logs();
         self.put(alloc, node);
-        logs
+        if logs { Some(from) } else { None }
     }
 
     /// Gives the node an event of its own; see [`LoneNode::act_plain`].
     #[inline(always)]
     pub fn act_plain(&mut self, alloc: Global, event: Event) -> Result<Answer, Fault>
-        requires { logs_in self.old.held ≡ false }
+        requires { (is_turn event && logs_in self.old.held) ≡ false }
 
         ensures { Through (NodeActs event) self.old.held self.new.held result }
     {

@@ -1,49 +1,46 @@
 //! Writes a node as bytes. Its parts follow one another without gaps.
 ghost use Rattle.std.specs.Prelude.{◌≡◌};
-ghost use Rattle.codec.specs.Writing.{Puts};
+ghost use Rattle.codec.specs.Formats.{number8};
+ghost use Rattle.codec.specs.Writing.{Puts, PutsAll};
 ghost use Rattle.msg.specs.declared.version.Version.TheVariants.{Second};
 ghost use Rattle.grammar.specs.Grammar.{stored_format, image_format};
 ghost use Rattle.image.specs.Images.{stored_by};
 
 use codec::Writer;
-use grammar::{Head, put_front, put_others, put_slots, put_start, put_told};
+use grammar::{Head, put_front, put_others, put_registers, put_reports, put_slots, put_start};
 use node::Core;
 
-// The sizes of the space and the node's own number.
-fn head_of(node: &Core) -> Head
-    ensures { result ≡ (stored_by node.now).head }
-{
-    let state = node.state();
-    Head {
-        nodes: state.shape.nodes(),
-        own: state.own,
-        registers: state.shape.registers(),
-        slots: state.shape.slots(),
-    }
-}
-
-// At node 0 the reports of the other nodes, in ascending order; at other nodes empty.
-fn reports_of(node: &Core) -> &[u64]
-    ensures { result.now ≡ (stored_by node.now).reports }
+// Appends the reports of the other nodes at node 0, in ascending order; at other nodes nothing.
+#[tactic(auto, using(grammar::proofs::Joins::unwritten))]
+fn put_others_reports(out: &mut Writer, node: &Core)
+    ensures { PutsAll number8 out.old out.new (stored_by node.now).reports }
 {
     let reports = node.phases().reports();
-    if node.state().own == 0 && !reports.is_empty() {
-        &reports[1..]
-    } else {
-        &[]
+    if node.state().own != 0 || reports.is_empty() {
+        return;
     }
+    put_reports(out, &reports[1..]);
 }
 
-#[tactic(auto, unfolding(grammar::specs::Grammar::stored_format, grammar::specs::Grammar::lists_format), using(grammar::proofs::Joins::both))]
+#[tactic(auto, unfolding(grammar::specs::Grammar::stored_format, grammar::specs::Grammar::lists_format, grammar::specs::Grammar::told_format), using(grammar::proofs::Joins::both))]
 fn put_stored(out: &mut Writer, node: &Core)
     ensures { Puts (stored_format Second) out.old out.new (stored_by node.now) }
 {
-    let head = head_of(node);
     let heap = node.heap();
-    put_front(out, head, node.phases(), node.ring());
-    put_told(out, head, reports_of(node), heap.registers());
+    let state = node.state();
+    // (Only one number comes from the shape, and the head isn't a result of a call: taking either
+    // apart again is slow.)
+    let head = Head {
+        nodes: node.links().width(),
+        own: state.own,
+        registers: heap.registers().len() as u16,
+        slots: state.shape.slots(),
+    };
+    put_front(out, &head, node.phases(), node.ring());
+    put_others_reports(out, node);
+    put_registers(out, heap.registers());
     put_slots(out, heap);
-    put_others(out, head, node.asked(), heap, node.links());
+    put_others(out, &head, node.asked(), heap, node.links());
 }
 
 /// Appends the image of the node.

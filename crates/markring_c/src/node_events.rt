@@ -7,24 +7,24 @@ use model::Event;
 use std::alloc::Global;
 use values::{CAnswer, answered};
 
-// Gives the node an event. If it keeps a log, that isn't inlined, so that without one the event and
-// the answer need not go through memory.
+// Gives the node an event. `Next` of a node that keeps a log isn't inlined, so that the events and
+// answers of other calls need not go through memory.
 #[inline(always)]
 pub(crate) fn act(alloc: Global, node: &mut NodeHandle, event: Event, answer: &mut CAnswer) -> i32
     ensures { NodeCalled event node.old.held node.new.held result answer.old answer.new }
 {
-    if node.logs(alloc) {
-        act_noting(alloc, node, event, answer)
-    } else {
-        answered(node.act_plain(alloc, event), answer)
+    match node.noted_turn(alloc, &event) {
+        Some(from) => next_noting(alloc, node, from, answer),
+        None => answered(node.act_plain(alloc, event), answer),
     }
 }
 
 #[inline(never)]
-fn act_noting(alloc: Global, node: &mut NodeHandle, event: Event, answer: &mut CAnswer) -> i32
-    ensures { NodeCalled event node.old.held node.new.held result answer.old answer.new }
+fn next_noting(alloc: Global, node: &mut NodeHandle, from: u8, answer: &mut CAnswer) -> i32
+    ensures { NodeCalled (event.Next from) node.old.held node.new.held result answer.old
+        answer.new }
 {
-    answered(node.act(alloc, event), answer)
+    answered(node.act(alloc, Event::Next { from }), answer)
 }
 
 /// Makes a new object with this many empty places, and puts its reference into the register.

@@ -48,7 +48,7 @@ fn put_tagged(out: &mut Writer, tag: u8, r: Ref)
     ensures { Writes out.old out.new (tag ∷ (reference Second).spell r)
         ((reference Second).IsWide r) }
 {
-    out.append(&tagged_bytes(tag, r));
+    out.array(tagged_bytes(tag, r));
 }
 
 /// Appends an optional reference.
@@ -113,6 +113,58 @@ pub fn add_token(piece: &mut Piece, t: Token)
 {
     add_colour(piece, t.colour);
     piece.i64(t.q);
+}
+
+// Appends a token.
+#[tactic(auto, using(crate::proofs::Joins::piece_written))]
+#[inline(always)]
+fn put_token(out: &mut Writer, t: Token)
+    ensures { Puts token out.old out.new t }
+{
+    let mut piece = Piece::new();
+    add_token(&mut piece, t);
+    out.piece(piece);
+}
+
+/// Appends a tag and what the message says.
+#[tactic(auto, unfolding(crate::specs::Formats::body_format), using(crate::proofs::Joins::behind, crate::proofs::Joins::both, crate::proofs::Joins::first))]
+#[inline(always)]
+pub fn put_body(out: &mut Writer, body: Body)
+    ensures { Puts (body_format Second) out.old out.new body }
+{
+    match body {
+        Body::Begin => out.u8(BEGIN),
+        Body::Token(token) => {
+            out.u8(TOKEN);
+            put_token(out, token);
+        }
+        Body::Mark { target } => put_tagged(out, MARK, target),
+        Body::Give { label, reference } => {
+            out.u8(GIVE);
+            out.u32(label);
+            put_optional(out, reference);
+        }
+        Body::Put {
+            target,
+            place,
+            reference,
+        } => {
+            put_tagged(out, PUT, target);
+            out.u8(place);
+            put_optional(out, reference);
+        }
+        Body::Get {
+            target,
+            place,
+            label,
+        } => {
+            put_tagged(out, GET, target);
+            out.u8(place);
+            out.u32(label);
+        }
+        Body::Ended => out.u8(ENDED),
+        Body::Swept => out.u8(SWEPT),
+    }
 }
 
 /// Appends a tag and what the message says to the piece, which must have room for them.

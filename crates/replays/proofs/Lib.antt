@@ -3,3 +3,4 @@ pub mod Ends
 pub mod Noting
 pub mod Quiet
 pub mod Stores
+pub mod Turns

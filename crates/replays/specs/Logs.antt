@@ -5,6 +5,7 @@ use Rattle.codec.specs.Formats.{Fits}
 use Rattle.model.specs.declared.event.Answer.{Answer}
 use Rattle.model.specs.declared.event.Answer.TheVariants as answer
 use Rattle.model.specs.declared.event.Event.{Event}
+use Rattle.model.specs.declared.event.Event.TheVariants as event
 use Rattle.model.specs.View.{NodeView, kept_view, view_act}
 use Rattle.events.specs.Entries.{entry}
 use Rattle.events.specs.Events.{entry_of}
@@ -16,6 +17,11 @@ is_quiet (answer.Word word) = true
 is_quiet answer.Repeat = true
 is_quiet answer.Early = true
 is_quiet a = false
+
+-- the event receives the message that waits
+abbrev pub is_turn : Event → Bool
+is_turn (event.Next from) = true
+is_turn e = false
 
 -- an event is answered and isn't quiet, and what the node is then
 pub record IsDone (n : NodeView) (e : Event) (m : NodeView) : Type 0 where

@@ -6,12 +6,21 @@ ghost use Rattle.model.specs.State.{NodeState};
 ghost use Rattle.model.specs.Steps.{act as act_of, is_memory_free, is_shading};
 ghost use Rattle.model.specs.View.{Follows, Leaves, NodeView, Performs, Shows, view_act};
 ghost use Rattle.node.specs.Keeping.{AreKeptIn, early_after, met};
+ghost use Rattle.replays.specs.Logs.{is_turn};
 ghost use Rattle.replays.specs.Noted.{IsLogged};
 
 use crate::log::{Log, is_quiet};
 use ids::Refusal;
 use model::{Answer, Event};
 use node::Node;
+
+/// Whether an event is `Next`. To the node's core each other event is itself.
+#[inline(always)]
+pub fn is_turn(event: &Event) -> bool
+    ensures { result ≡ is_turn event.now }
+{
+    matches!(event, Event::Next { .. })
+}
 
 /// What an event is to the node's core: `Next` of a message that waits is that message.
 pub fn meant(node: &Node, event: Event) -> Event

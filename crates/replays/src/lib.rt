@@ -16,7 +16,7 @@ mod redoing;
 mod saving;
 mod store;
 
-pub use acting::{act, meant};
+pub use acting::{act, is_turn, meant};
 pub use log::{GREATEST_LOG, Log};
 pub use place::Place;
 pub use redoing::LoggedImages;

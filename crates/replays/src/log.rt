@@ -94,6 +94,8 @@ impl Log {
 
     /// Adds an event. The log is lost if it would become longer than [`GREATEST_LOG`]. Fails with
     /// `Memory` if an allocation fails; the log is lost then, and nothing else happens.
+    // (It isn't inlined, so that without a log the event need not be in memory.)
+    #[inline(never)]
     pub fn note(&mut self, event: &Event) -> Result<(), Refusal>
         ensures noted { Noted self.old self.new event.now }
         ensures added { OnOk result ((before : List ℕ) → self.old ≡ Some before
@@ -101,17 +103,19 @@ impl Log {
             → self.new ≡ Some (before ++ entry.spell (entry_of event.now))) }
         ensures refused { IfErr result (λ e. e ≡ Memory) }
     {
-        let Some(bytes) = self.bytes.take() else {
+        let Some(bytes) = &mut self.bytes else {
             return Ok(());
         };
         let mut piece = Piece::new();
         add_event(&mut piece, event);
         if piece.as_slice().len() > GREATEST_LOG - bytes.len().min(GREATEST_LOG) {
+            self.bytes = None;
             return Ok(());
         }
-        let mut bytes = bytes;
-        bytes.extend_from_slice(piece.as_slice())?;
-        self.bytes = Some(bytes);
+        if bytes.extend_from_slice(piece.as_slice()).is_err() {
+            self.bytes = None;
+            return Err(Refusal::Memory);
+        }
         Ok(())
     }
 

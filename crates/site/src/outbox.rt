@@ -64,7 +64,24 @@ impl Outbox {
 
     /// Makes the frames of all messages to the node `to` that follow the released ones, but
     /// releases none. Fails with `Memory` if allocation fails.
+    #[inline(always)]
     pub fn stage(&mut self, node: &Core, to: u8) -> Result<(), Refusal>
+        requires other { IsTrue (is_other node.now.local to) }
+        requires kept { (link_to node.now to).base ≤ length (released_frames self.old) }
+        ensures released { released_frames self.new ≡ released_frames self.old }
+        ensures staged { OnOk result
+            (IsStaged node.now to (released_frames self.old) self.new.frames) }
+        ensures refused { IfErr result (λ e. e ≡ Memory) }
+    {
+        // Most often there is no new message, nor a frame of a save that was refused.
+        if self.released as u64 >= node.appended(to) && self.frames.len() == self.released {
+            return Ok(());
+        }
+        self.stage_new(node, to)
+    }
+
+    #[inline(never)]
+    fn stage_new(&mut self, node: &Core, to: u8) -> Result<(), Refusal>
         requires other { IsTrue (is_other node.now.local to) }
         requires kept { (link_to node.now to).base ≤ length (released_frames self.old) }
         ensures released { released_frames self.new ≡ released_frames self.old }
@@ -102,8 +119,7 @@ fn stage_frames(frames: &mut Frames, node: &Core, to: u8) -> Result<(), Refusal>
 }
 
 /// Appends the bytes of a frame.
-// Kept out of the loop: most often there is no frame, and then no `Piece` is needed.
-#[inline(never)]
+#[inline(always)]
 fn push_frame(frames: &mut Frames, frame: &Frame) -> Result<(), Refusal>
     ensures spelled { Fits (plain frame.now) }
     ensures done { OnOk result (frames.new ≡ frames.old ++ spelling (plain frame.now) ∷ []) }

@@ -122,7 +122,7 @@ impl Sim {
 
     /// Saves a node. This is the step [`Step::Save`], as [`Sim::step`] takes it, except that its
     /// outcome is no value.
-    #[inline(never)]
+    #[inline(always)]
     pub fn save(&mut self, node: u8) -> Result<(), Refusal>
         ensures { SteppedSpace (outcome_by (λ _. outcome.Done) result) self.old self.new
             (step.Save node) }

@@ -1,6 +1,7 @@
 //! The log of a node's events since its last image or batch.
 ghost use Rattle.std.specs.Prelude.{◌≡◌, false, nat_le};
 ghost use Rattle.model.specs.View.{link_to};
+ghost use Rattle.replays.specs.Noted.{Noted};
 ghost use Rattle.handles.specs.Logs.{logging};
 ghost use Rattle.handles.specs.Lone.{Acknowledged, Given};
 
@@ -22,7 +23,18 @@ impl LoneNode {
         self.logs = on;
     }
 
-    // Gives the node an event, and notes it in the log.
+    // Notes an event in the log, as a copy, so that without a log the event need not be in memory.
+    #[inline(always)]
+    pub(super) fn note(&mut self, event: Event)
+        ensures stays { self.new ≡ record self.old { log = self.new.log } }
+        ensures noted { Noted self.old.log self.new.log event }
+    {
+        let noted = event;
+        let _lost = self.log.note(&noted);
+    }
+
+    // Gives the node an event, and notes in the log what it means, which may be another event if it
+    // is `Next`.
     #[inline(never)]
     pub(super) fn perform_noting(&mut self, event: Event) -> Result<Answer, Fault>
         ensures { Given false self.old self.new event result }

@@ -58,8 +58,13 @@ impl Core {
         requires sendable { IsSendable self.now.local.shape message }
         ensures { option_map plain result ≡ Some (frame_of self.now.local.own to number message) }
     {
-        let data = Data::new(self.own, to, number, message.stamp, message.body)?;
-        Some(Frame::Data(data))
+        Some(Frame::Data(Data {
+            from: self.own,
+            to,
+            number,
+            stamp: message.stamp,
+            body: message.body,
+        }))
     }
 
     /// The number of messages ever appended for the node `to`, which is the number of the last one.

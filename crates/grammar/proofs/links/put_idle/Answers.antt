@@ -14,7 +14,7 @@ returns c =
     let links = c.args.links.now in
     let to = c.args.to in
     subst (λ (unacknowledged : List Message). Puts (link_format Second) c.args.out.now
-    c.append.new.self (record {
+    c.array.new.self (record {
       base = (link_at links to).base;
       unacknowledged = unacknowledged;
       received = got_at links to;
@@ -23,4 +23,4 @@ returns c =
       omega (arith, c.base.type_inv, c.base.ensures),
       ((omega arith, tt), omega (arith, c.taken.type_inv, c.taken.ensures)),
     ))
-    (rw (c.base.ensures, c.taken.ensures) at (rw c.idle_link.ensures at c.append.ensures)))
+    (rw (c.base.ensures, c.taken.ensures) at (rw c.idle_link.ensures at c.array.ensures)))

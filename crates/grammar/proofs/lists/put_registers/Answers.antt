@@ -12,15 +12,14 @@ loop-done-preserved c =
     let F = optional Second in
     let xs : List (Option Ref) = c.args.registers.now in
     let done = c.loop-done.done in
-    let end = c.min-end.result in
-    let further : done + (end - done) ≡ end =
-    omega (arith, c.min-end.ensures, c.loop-done.invariant.within) in
+    let end = c.put_some-done.result in
+    let further : done + (end - done) ≡ end = omega (arith, c.put_some-done.ensures.more) in
     let more : take done xs ++ take (end - done) (drop done xs) ≡ take end xs =
     sym (take-add done (end - done) xs) ∙ ap (λ (n : ℕ). take n xs) further in
     record {
-      within = omega (arith, c.min-end.ensures);
+      within = c.put_some-done.ensures.within;
       written =
-          subst (λ (ys : List (Option Ref)). PutsAll F c.args.out.now c.put_few.new.out ys) more
+          subst (λ (ys : List (Option Ref)). PutsAll F c.args.out.now c.put_some-done.new.out ys) more
           (written_also F.spell F.IsWide (take done xs) _ c.loop-done.invariant.written
-          c.put_few.ensures);
+          c.put_some-done.ensures.written);
     }

@@ -12,7 +12,7 @@ pub returns : goal.returns
 unfolding slot_format object_format places_format width_format number8
 returns c =
     let few = rw (← c.contents-places.ensures.value) at c.contents-places.ensures.few in
-    let head = rw c.occupied_head.ensures at c.append.ensures in
+    let head = rw c.occupied_head.ensures at c.array.ensures in
     let made : Object = record {
       word = c.word-word.result;
       places = c.contents-places.result.now;

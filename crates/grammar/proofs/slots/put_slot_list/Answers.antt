@@ -1,6 +1,5 @@
 use Rattle.std.proofs.Common.{ℕ, ◌<◌, map, length, subst, sym, ◌∙◌, arith}
 use Rattle.std.proofs.lemmas.List.{length-map, take_all}
-use Rattle.arena.specs.Arena.{slot_read}
 use Rattle.codec.specs.Formats.{number4}
 use Rattle.codec.specs.Writing.{Puts}
 use Rattle.codec.proofs.Writing.{both, written_more}

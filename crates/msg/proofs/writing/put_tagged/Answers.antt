@@ -8,4 +8,4 @@ pub returns : goal.returns
 unfolding reference number4 number8
 returns c =
     so (λ k. (omega arith, (omega arith, omega arith)))
-    (rw c.tagged_bytes.ensures at c.append.ensures)
+    (rw c.tagged_bytes.ensures at c.array.ensures)

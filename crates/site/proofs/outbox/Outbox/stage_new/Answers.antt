@@ -1,7 +1,7 @@
 use Rattle.std.proofs.Common.{◌≡◌, ℕ, List, OnOk, length, take, sym, ap, ◌∙◌, subst}
 use Rattle.std.proofs.lemmas.List.{length-take-le}
 use Rattle.site.specs.Outboxes.{OutboxView, released_frames, IsStaged}
-use Rattle.site.proofs.outbox.Outbox.stage.Goals as goal
+use Rattle.site.proofs.outbox.Outbox.stage_new.Goals as goal
 
 pub returns-clause-released : goal.returns-clause-released
 returns-clause-released c =

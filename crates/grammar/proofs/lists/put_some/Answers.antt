@@ -1,0 +1,17 @@
+use Rattle.std.proofs.Common.{◌≡◌, ◌+◌, ◌-◌, ℕ, List, Option, length, take, drop, subst, arith}
+use Rattle.std.proofs.lemmas.List.{take_all, length-drop}
+use Rattle.ids.specs.declared.names.Ref.{Ref}
+use Rattle.codec.specs.Writing.{PutsAll}
+use Rattle.msg.specs.Formats.{optional}
+use Rattle.msg.specs.declared.version.Version.TheVariants.{Second}
+use Rattle.grammar.proofs.lists.put_some.Goals as goal
+
+pub returns-then-all_empty-clause-written : goal.returns-then-all_empty-clause-written
+returns-then-all_empty-clause-written c =
+    let xs : List (Option Ref) = c.args.registers.now in
+    let left : List (Option Ref) = drop c.args.done xs in
+    let count : 16 ≡ c.args.done + 16 - c.args.done = omega arith in
+    let all : take (length xs - c.args.done) left ≡ left =
+    take_all (length xs - c.args.done) left (omega (arith, length-drop c.args.done xs)) in
+    subst (λ (n : ℕ). PutsAll (optional Second) c.args.out.now c.put_empty.new.out (take n left))
+    count (rw all at c.put_empty.ensures)
