@@ -9,9 +9,11 @@ mod output;
 mod reading;
 mod script;
 mod splitting;
+mod streams;
 
 pub use frames::decode;
 pub use output::{Lost, print_refusal, print_unread};
 pub use reading::{Unread, read_file, read_text};
 pub use script::sim;
 pub use splitting::next_line;
+pub use streams::{run_decode, run_script};

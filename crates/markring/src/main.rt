@@ -7,10 +7,8 @@ ghost use Rattle.std.specs.Prelude.{◌≤◌, IfOk};
 mod asking;
 mod running;
 
-use commands::{decode, print_refusal, print_unread, read_file, read_text, sim};
-use ids::Refusal;
+use commands::{print_unread, read_file, run_decode, run_script};
 use std::fs::File;
-use std::io::BufWriter;
 use std::process::ExitCode;
 use std::rt::{Env, Files};
 use std::sync::Wait;
@@ -37,18 +35,8 @@ where
     let alloc = rt.alloc();
     let words: Vec<String> = env::args(rt)?.collect(alloc)?;
     match Command::read(alloc, words.as_slice())? {
-        Command::Sim { script } => {
-            let script = match script {
-                Some(path) => read_file(rt, alloc, path),
-                None => read_text(alloc, rt.reader()),
-            };
-            let status = match BufWriter::new(alloc, io::writer(rt)) {
-                Ok(mut out) => sim(alloc, &script, &mut out),
-                Err(_) => print_refusal(&mut io::writer(rt), Refusal::Memory),
-            };
-            Ok(status.unwrap_or(REFUSED))
-        }
-        Command::Decode { hex } => Ok(decode(alloc, hex, &mut io::writer(rt)).unwrap_or(REFUSED)),
+        Command::Sim { script } => Ok(run_script(rt, script)),
+        Command::Decode { hex } => Ok(run_decode(rt, hex)),
         Command::Run { config, script } => Ok(run_files(rt, config, script)),
     }
 }
