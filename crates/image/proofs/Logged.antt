@@ -1,6 +1,8 @@
 -- Images that a log follows, and those of the second version.
-use Rattle.std.proofs.Common.{◌≡◌, ◌≢◌, ◌<◌, ◌≤◌, ℕ, List, [], ◌∷◌, length, refl, sym, ap, ◌∙◌, subst}
-use Rattle.std.proofs.Common.{Option, Some, None, Result, arith, drop, suc, true}
+use Rattle.std.proofs.Common.{◌≡◌, ◌≢◌, ◌<◌, ◌≤◌, ℕ, List, ◌∷◌, length, refl, sym, ap, ◌∙◌, subst}
+use Rattle.std.proofs.Common.{Option, Some, None, Result, arith, drop, suc, true, ◌+◌, ◌-◌, ◌++◌}
+use Rattle.std.proofs.Common.{slice_set}
+use Rattle.std.proofs.lemmas.List.{set-append_right}
 use Rattle.std.proofs.lemmas.Result.{IfErr-weaker, IfOk-weaker}
 use Rattle.std.specs.Option.{option_map}
 use Rattle.std.specs.Prelude.{IfErr, IfOk, OnOk}
@@ -56,9 +58,14 @@ logged_saved n is = record {
   plain = subst (λ l. IsImageOf l (kept_view n)) (image_is n) is;
 }
 
--- in the place of the length
-abbrev pub zeros : List ℕ
-zeros = 0 ∷ 0 ∷ 0 ∷ 0 ∷ 0 ∷ 0 ∷ 0 ∷ 0 ∷ []
+-- the image behind other bytes becomes one that a log follows
+pub logged_behind : (front : List ℕ) (n : NodeView)
+    → slice_set (front ++ image_of n) (length front + 2) 3 ≡ front ++ logged_image n
+logged_behind front n =
+    let two : (length front + 2) - length front ≡ 2 = omega arith in
+    set-append_right front (image_of n) (length front) (length front + 2) 3 refl (omega arith)
+    ∙ ap (λ i. front ++ slice_set (image_of n) i 3) two
+    ∙ rw (image_is n, logged_is n) refl
 
 -- ---- what is read
 

@@ -4,13 +4,11 @@
 //! table of its parts ("Images"); the crate `grammar` defines how they are spelled.
 #![tactic(auto)]
 
-mod images;
 mod law;
 mod restoring;
 mod saving;
 mod writing;
 
-pub use images::Images;
 pub use law::{nodes_saved, nodes_spelled};
 pub use restoring::{core_from_bytes, from_any_bytes, from_bytes};
-pub use saving::{to_bytes, to_bytes_over, to_logged_bytes};
+pub use saving::{to_bytes, to_bytes_behind, to_bytes_over, to_logged_behind};

@@ -1,9 +1,8 @@
 //! Writes the bytes of a node's image. They go into one writer, whose limit is that of an image. A
 //! node that needs more is refused, and nothing of it is kept.
-ghost use Rattle.std.specs.Prelude.{◌≡◌, ◌≢◌, ◌<◌, ◌≤◌, ◌+◌, ◌++◌, length, replicate, slice_set};
+ghost use Rattle.std.specs.Prelude.{◌≡◌, ◌≢◌, ◌<◌, ◌≤◌, ◌+◌, ◌++◌, length, slice_set};
 ghost use Rattle.std.specs.Prelude.{IfOk, IfErr, OnOk};
 ghost use Rattle.ids.specs.declared.limits.TheConstants.{GREATEST_IMAGE};
-ghost use Rattle.disk.specs.declared.persist.TheConstants.{HEAD};
 ghost use Rattle.ids.specs.declared.refusal.Refusal.TheVariants.{ImageTooLarge, Memory};
 ghost use Rattle.model.specs.View.{kept_view};
 ghost use Rattle.image.specs.Images.{image_of};
@@ -12,7 +11,6 @@ ghost use Rattle.image.specs.Nodes.{IsImageOf};
 
 use crate::writing::put_node;
 use codec::Writer;
-use disk::HEAD;
 use grammar::LOGGED;
 use ids::{GREATEST_IMAGE, Refusal};
 use node::Node;
@@ -58,8 +56,8 @@ pub fn to_bytes_over(bytes: Vec<u8>, node: &Node) -> Result<Vec<u8>, Refusal>
 
 /// The bytes of the node's image behind these ones, in the memory of `bytes`, whose content is
 /// dropped. It fails as [`to_bytes`] does.
-pub(crate) fn to_bytes_behind(bytes: Vec<u8>, front: &[u8], node: &Node) -> Result<Vec<u8>, Refusal>
-    requires { length front.now ≤ HEAD }
+pub fn to_bytes_behind(bytes: Vec<u8>, front: &[u8], node: &Node) -> Result<Vec<u8>, Refusal>
+    requires { length front.now ≤ GREATEST_IMAGE }
 
     ensures written { IfOk result (λ v. v.items ≡ front.now ++ image_of node.now.core) }
     ensures image { OnOk result (IsImageOf (image_of node.now.core) (kept_view node.now.core)) }
@@ -79,11 +77,12 @@ pub(crate) fn to_bytes_behind(bytes: Vec<u8>, front: &[u8], node: &Node) -> Resu
     out.finish()
 }
 
-/// The bytes of the node's image behind [`HEAD`] zeros, if a log of events follows the image. It
-/// fails as [`to_bytes`] does.
-pub fn to_logged_bytes(alloc: Global, node: &Node) -> Result<Vec<u8>, Refusal>
-    ensures written { IfOk result
-        (λ v. v.items ≡ replicate HEAD 0 ++ logged_image node.now.core) }
+/// The bytes of the node's image behind these ones, if a log of events follows the image. They go
+/// into the memory of `bytes`, whose content is dropped. It fails as [`to_bytes`] does.
+pub fn to_logged_behind(bytes: Vec<u8>, front: &[u8], node: &Node) -> Result<Vec<u8>, Refusal>
+    requires { length front.now ≤ GREATEST_IMAGE }
+
+    ensures written { IfOk result (λ v. v.items ≡ front.now ++ logged_image node.now.core) }
     ensures within { OnOk result (length (logged_image node.now.core) ≤ GREATEST_IMAGE) }
     ensures image { OnOk result
         (IsLoggedOf (logged_image node.now.core) (kept_view node.now.core)) }
@@ -92,17 +91,19 @@ pub fn to_logged_bytes(alloc: Global, node: &Node) -> Result<Vec<u8>, Refusal>
     ensures last { IfErr result (λ e. e ≡ Memory
         → length (logged_image node.now.core) ≤ GREATEST_IMAGE) }
 {
-    let bytes = to_bytes_behind(Vec::new(alloc), &[0; HEAD], node)?;
-    Ok(with_log(bytes))
+    let bytes = to_bytes_behind(bytes, front, node)?;
+    Ok(with_log(bytes, front.len()))
 }
 
-// Puts the number of an image that a log follows in the place of the version.
-fn with_log(bytes: Vec<u8>) -> Vec<u8>
-    ensures { result.items ≡ slice_set bytes.items (HEAD + 2) 3 }
+// Puts the number of an image that a log follows in the place of the version of the image that
+// begins at this offset.
+fn with_log(bytes: Vec<u8>, at: usize) -> Vec<u8>
+    requires { at ≤ GREATEST_IMAGE }
+    ensures { result.items ≡ slice_set bytes.items (at + 2) 3 }
 {
     let mut bytes = bytes;
-    if bytes.len() > HEAD + 2 {
-        bytes[HEAD + 2] = LOGGED;
+    if bytes.len() > at + 2 {
+        bytes[at + 2] = LOGGED;
     }
     bytes
 }

@@ -9,6 +9,7 @@
 #![tactic(auto)]
 
 mod acting;
+mod images;
 mod log;
 mod place;
 mod plain;
@@ -17,6 +18,7 @@ mod saving;
 mod store;
 
 pub use acting::{act, is_turn, meant};
+pub use images::Images;
 pub use log::{GREATEST_LOG, Log};
 pub use place::Place;
 pub use redoing::LoggedImages;

@@ -11,9 +11,9 @@ ghost use Rattle.node.specs.Keeping.{WholeNode};
 ghost use Rattle.image.specs.Wholes.{saved_whole, whole_image};
 ghost use Rattle.replays.specs.Plain.{IsPlain, Keeps, KeepsEither, StaysPlain};
 
+use crate::images::Images;
 use disk::{Disk, Selected, Shelf, read_value};
 use ids::Refusal;
-use image::Images;
 use node::Node;
 use std::alloc::Global;
 

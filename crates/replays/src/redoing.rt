@@ -11,7 +11,7 @@ use codec::Reader;
 use disk::{HEAD, Persist, Replay};
 use events::read_event;
 use ids::Refusal;
-use image::{from_any_bytes, to_logged_bytes};
+use image::{from_any_bytes, to_logged_behind};
 use model::Event;
 use node::Node;
 use std::alloc::Global;
@@ -34,7 +34,7 @@ impl Persist for LoggedImages {
     ghost saved = { saved_whole };
 
     fn to_bytes(alloc: Global, value: &Node) -> Result<Vec<u8>, Refusal> {
-        to_logged_bytes(alloc, value)
+        to_logged_behind(Vec::new(alloc), &[0; HEAD], value)
     }
 
     fn from_bytes(alloc: Global, bytes: &[u8]) -> Result<Node, Refusal> {

@@ -10,9 +10,8 @@ ghost use Rattle.handles.specs.Images.{Imaged, Kept, SizedAs, counts_of, image_i
 use super::LoneNode;
 use disk::{HEAD, Persist};
 use ids::Refusal;
-use image::Images;
 use node::{Core, Node};
-use replays::LoggedImages;
+use replays::{Images, LoggedImages};
 use std::alloc::Global;
 use values::{Fault, put};
 

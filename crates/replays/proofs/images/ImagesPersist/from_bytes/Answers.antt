@@ -6,7 +6,7 @@ use Rattle.model.specs.View.{NodeView}
 use Rattle.node.specs.Keeping.{WholeNode}
 use Rattle.image.specs.Nodes.{IsImageOf}
 use Rattle.image.specs.Wholes.{IsWholeOf}
-use Rattle.image.proofs.images.ImagesPersist.from_bytes.Goals as goal
+use Rattle.replays.proofs.images.ImagesPersist.from_bytes.Goals as goal
 
 pub returns-clause-refused : goal.returns-clause-refused
 returns-clause-refused c =

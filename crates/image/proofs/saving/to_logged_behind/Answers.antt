@@ -1,7 +1,7 @@
-use Rattle.std.proofs.Common.{◌∙◌, ◌++◌, ap, arith, slice_set, sym}
+use Rattle.std.proofs.Common.{◌∙◌, ◌+◌, ap, arith, length, slice_set}
 use Rattle.std.proofs.lemmas.Result.{err_from_is_err_and}
-use Rattle.image.proofs.Logged.{image_is, logged_is, logged_saved, same_length, zeros}
-use Rattle.image.proofs.saving.to_logged_bytes.Goals as goal
+use Rattle.image.proofs.Logged.{logged_behind, logged_saved, same_length}
+use Rattle.image.proofs.saving.to_logged_behind.Goals as goal
 
 pub returns-in_err-bytes-clause-refused : goal.returns-in_err-bytes-clause-refused
 returns-in_err-bytes-clause-refused c =
@@ -19,10 +19,10 @@ returns-in_err-bytes-clause-last c =
 
 pub returns-clause-written : goal.returns-clause-written
 returns-clause-written c =
-    let n = c.args.node.now.core in
+    let front = c.args.front.now in
     c.with_log.ensures
-    ∙ ap (λ l. slice_set l 10 3) (c.in_ok-bytes.ensures.written ∙ ap (λ l. zeros ++ l) (image_is n))
-    ∙ ap (λ l. zeros ++ l) (sym (logged_is n))
+    ∙ ap (λ l. slice_set l (length front + 2) 3) c.in_ok-bytes.ensures.written
+    ∙ logged_behind front c.args.node.now.core
 
 pub returns-clause-within : goal.returns-clause-within
 returns-clause-within c =

@@ -1,7 +1,7 @@
 //! How a shelf keeps nodes: each as its image.
-use crate::{restoring, saving};
 use disk::{HEAD, Persist};
 use ids::Refusal;
+use image::{from_bytes, to_bytes_behind};
 use node::Node;
 use std::alloc::Global;
 
@@ -21,10 +21,10 @@ impl Persist for Images {
     ghost saved = { saved_whole };
 
     fn to_bytes(alloc: Global, value: &Node) -> Result<Vec<u8>, Refusal> {
-        saving::to_bytes_behind(Vec::new(alloc), &[0; HEAD], value)
+        to_bytes_behind(Vec::new(alloc), &[0; HEAD], value)
     }
 
     fn from_bytes(alloc: Global, bytes: &[u8]) -> Result<Node, Refusal> {
-        restoring::from_bytes(alloc, bytes)
+        from_bytes(alloc, bytes)
     }
 }
