@@ -31,12 +31,13 @@ ghost use Rattle.replays.specs.Stores.{disk_of, is_ready_in, logs_in};
 
 use crate::ages::first_apart;
 use crate::fault::Unopened;
-use disk::{Disk, is_blank};
+use disk::Disk;
 use ids::{NodeId, Refusal, Saves, Shape};
 use node::Node;
 use replays::{Place, Store};
 use std::alloc::Global;
 use std::mem;
+use storage::is_blank;
 
 // Whether a node has this number and this shape.
 fn is_node_of(node: &Node, shape: Shape, own: NodeId) -> bool

@@ -2,10 +2,4 @@ pub mod Sent
 pub mod Times
 pub mod Torn
 pub mod Undoing
-pub mod Records
-pub mod Sides
-pub mod Moments
-pub mod Logs
-pub mod Turns
-pub mod Quiet
-pub mod Values
+pub mod Causes

@@ -1,6 +1,5 @@
 -- The three areas of a disk, and what reads and writes do to one.
-use Rattle.std.specs.Prelude.{◌≡◌, ℕ, ◌+◌, ◌-◌, ◌<◌, ◌≤◌, min, max, List, ◌++◌, length, take, drop}
-use Rattle.std.specs.Prelude.{Bool, false, IsTrue}
+use Rattle.std.specs.Prelude.{◌≡◌, ℕ, ◌+◌, ◌-◌, ◌≤◌, min, max, List, ◌++◌, length, take, drop}
 use Rattle.disk.specs.declared.device.Area.{Area}
 use Rattle.disk.specs.declared.device.Area.TheVariants.{Select, A, B}
 
@@ -57,9 +56,3 @@ pub record NoLonger (held c : Areas) : Type 0 where
 pub record Reads (held : List ℕ) (at n : ℕ) (old new : List ℕ) : Type 0 where
   pub count : n ≡ min (length old) (length held - at)
   pub bytes : new ≡ take n (drop at held) ++ drop n old
-
--- a buffer is filled from this offset on, if there are enough bytes
-pub record IsWhole (held : List ℕ) (at : ℕ) (all : Bool) (old new : List ℕ) : Type 0 where
-  pub enough : IsTrue all → length old ≤ length held - at
-  pub bytes : IsTrue all → new ≡ take (length old) (drop at held)
-  pub short : (all ≡ false) → length held < at + length old

@@ -4,6 +4,3 @@ pub mod Record
 pub mod Undo
 pub mod Memory
 pub mod Plan
-pub mod Shelf
-pub mod Journal
-pub mod Tails

@@ -1,11 +1,14 @@
 //! A disk as its users see it: what a read gives, and what a crash may leave. Only a successful
 //! sync makes the two the same.
 ghost use Rattle.std.specs.Prelude.{◌≡◌, ◌≤◌, ◌↔◌, ℕ, length, IfOk, IsErr, IsErrOf, OnOk, OnErr};
+ghost use Rattle.ids.specs.declared.refusal.Refusal.TheVariants.{Disk as DiskRefused};
 ghost use Rattle.disk.specs.Areas.{Areas, part, Changes, Holds, Torn, Reads};
 ghost use Rattle.disk.specs.Crashes.{Follows, Reaches, Only, Elapses, HasCause};
 
+use ids::Refusal;
+
 /// One of the three areas of a disk. Each holds bytes, at first none.
-#[derive(Clone, Copy, Debug, PartialEq, Eq)]
+#[derive(Clone, Copy, PartialEq, Eq)]
 pub enum Area {
     /// The selector: its first byte says which of the other two areas counts.
     Select,
@@ -14,12 +17,20 @@ pub enum Area {
 }
 
 /// Why a call of a disk failed.
-#[derive(Clone, Copy, Debug, PartialEq, Eq)]
+#[derive(Clone, Copy)]
 pub enum DiskFault {
     /// The device failed.
     Device,
     /// A disk that keeps a record of itself had no memory for it. The call did nothing.
     Memory,
+}
+
+impl From<DiskFault> for Refusal {
+    ghost from_gives = { λ _ e. e ≡ DiskRefused };
+
+    fn from(_fault: DiskFault) -> Refusal {
+        Refusal::Disk
+    }
 }
 
 /// Three areas of bytes that can be read, written and synced, and what a crash may leave of them.

@@ -1,18 +1,16 @@
 //! A disk in memory, which can be made to fail and to crash. It keeps what a write replaces only
 //! while a crash may bring that back.
-ghost use Rattle.std.specs.Prelude.{◌≡◌, ◌≤◌, ◌↔◌, [], ◌∷◌, length, IfOk, IfErr, IsErr, IsErrOf, OnOk};
+ghost use Rattle.std.specs.Prelude.{◌≡◌, ◌≤◌, ◌↔◌, length, IfOk, IfErr, IsErr, IsErrOf, OnOk};
 ghost use Rattle.std.specs.Prelude.{IsTrue, OnErr};
 ghost use Rattle.disk.specs.Areas.{Areas, Changes, Holds, Reads, Torn, part};
 ghost use Rattle.disk.specs.Crashes.{Elapses, Follows, HasCause, Only, Reaches};
 ghost use Rattle.disk.specs.Record.{areas_of, leaves, moments, left_since, synced};
 ghost use Rattle.disk.specs.Record.{reads_left, counts_now, only_now};
-ghost use Rattle.disk.specs.Shelf.{record_of};
 ghost use Rattle.disk.specs.Plan.{AsPlanned, fails_from, fails_once, is_due};
 ghost use Rattle.disk.specs.Undo.{undone, IsUndone};
 
 use crate::account::Account;
 use crate::plan::{Plan, falters};
-use crate::save::record;
 use crate::state::Contents;
 use crate::undo::Undo;
 use crate::{Area, Disk, DiskFault};
@@ -45,21 +43,14 @@ impl MemoryDisk {
         MemoryDisk::holding(alloc, Contents::new(alloc))
     }
 
-    /// A disk that holds this image on its shelf, and a crash leaves it so. Fails with `Memory` if
-    /// an allocation fails.
-    pub fn of_image(alloc: Global, image: &[u8]) -> Result<MemoryDisk, Refusal>
-        ensures held { IfOk result (λ d.
-            held_by d ≡ record { select = 0 ∷ []; a = record_of image.now; b = [] }) }
-        ensures durable { IfOk result (λ d. Only (held_by d) (left_by d)) }
-        ensures faultless { IfOk result IsFaultless }
-        ensures memory { IfErr result (λ e. e ≡ Refusal.Memory) }
+    /// A disk whose areas hold these bytes, and a crash leaves it so.
+    pub fn of_areas(alloc: Global, select: Vec<u8>, a: Vec<u8>, b: Vec<u8>) -> MemoryDisk
+        ensures held { held_by result
+            ≡ record { select = select.items; a = a.items; b = b.items } }
+        ensures durable { Only (held_by result) (left_by result) }
+        ensures faultless { IsFaultless result }
     {
-        let contents = Contents {
-            select: Vec::from_slice(alloc, &[0])?,
-            a: record(alloc, image)?,
-            b: Vec::new(alloc),
-        };
-        Ok(MemoryDisk::holding(alloc, contents))
+        MemoryDisk::holding(alloc, Contents { select, a, b })
     }
 
     // A disk that holds this, all of it synced.

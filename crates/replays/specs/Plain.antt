@@ -1,8 +1,8 @@
 -- What a disk holds of a node.
 use Rattle.std.specs.Prelude.{◌≡◌, ◌⊎◌, ℕ, false, List, Some}
 use Rattle.disk.specs.Areas.{Areas}
-use Rattle.disk.specs.Journal.{Restores}
-use Rattle.disk.specs.Shelf.{opened}
+use Rattle.storage.specs.Journal.{Restores}
+use Rattle.storage.specs.Shelf.{opened}
 use Rattle.grammar.specs.Logs.{begins_logged}
 use Rattle.image.specs.Logged.{IsAnyWholeOf}
 use Rattle.node.specs.Keeping.{WholeNode}

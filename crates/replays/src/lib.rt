@@ -1,11 +1,10 @@
 //! A node's events since its last save, as a log that can be performed again. With a
-//! [`Journal`](disk::Journal) a save then writes what happened, and not the whole node.
+//! [`Journal`](storage::Journal) a save then writes what happened, and not the whole node.
 //!
-//! [`Log`] collects the events, [`act`] performs one and notes it, and [`save`] adds them to the
+//! [`Log`] collects the events, and [`act`] performs one and notes it. A [`Store`] keeps a node: it
+//! is a shelf, which holds the image alone, or a journal. [`Store::save`] adds the events to the
 //! journal as a batch, or writes the image if the log was lost. Opening the journal performs the
 //! batches again: the node is then the one that was saved.
-//!
-//! A [`Store`] keeps a node: it is a shelf, which holds the image alone, or a journal.
 #![tactic(auto)]
 
 mod acting;
@@ -14,7 +13,6 @@ mod log;
 mod place;
 mod plain;
 mod redoing;
-mod saving;
 mod store;
 
 pub use acting::{act, is_turn, meant};
@@ -22,5 +20,4 @@ pub use images::Images;
 pub use log::{GREATEST_LOG, Log};
 pub use place::Place;
 pub use redoing::LoggedImages;
-pub use saving::save;
 pub use store::{Store, read_node};

@@ -1,5 +1,5 @@
 //! The place of a node on its disk.
-use disk::{Selected, Tail};
+use storage::{Selected, Tail};
 
 /// The place of a node on its disk, as [`read_node`](crate::read_node) found it.
 #[derive(Clone, Copy)]

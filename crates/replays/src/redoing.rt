@@ -8,13 +8,13 @@ ghost use Rattle.replays.specs.Values.{IsAlone, LeadsWhole};
 
 use crate::log::is_quiet;
 use codec::Reader;
-use disk::{HEAD, Persist, Replay};
 use events::read_event;
 use ids::Refusal;
 use image::{from_any_bytes, to_logged_behind};
 use model::Event;
 use node::Node;
 use std::alloc::Global;
+use storage::{HEAD, Persist, Replay};
 
 /// How a journal keeps nodes: each as its image and the batches of its events. A node is read from
 /// an image of any version, whether a log follows it or not.

@@ -9,7 +9,7 @@ ghost use Rattle.disk.specs.Areas.{Areas};
 ghost use Rattle.disk.specs.Crashes.{Grew, HasCause, LeavesOnly, Only, Unmoved};
 ghost use Rattle.disk.specs.Memory.{filled_by_crash, held_by, IsFaultless, left_by};
 ghost use Rattle.disk.specs.Plan.{fails_from, fails_once};
-ghost use Rattle.disk.specs.Shelf.{SelectsLength};
+ghost use Rattle.storage.specs.Shelf.{SelectsLength};
 ghost use Rattle.node.specs.Keeping.{WholeNode};
 ghost use Rattle.image.specs.Wholes.{saved_whole, whole_image};
 ghost use Rattle.replays.specs.Noted.{IsLogged};
@@ -21,10 +21,11 @@ use crate::log::Log;
 use crate::place::Place;
 use crate::plain::{PlainShelf, read_plain};
 use crate::redoing::LoggedImages;
-use disk::{Disk, Journal, MemoryDisk, Tail, read_logged};
+use disk::{Disk, MemoryDisk};
 use ids::{Refusal, Saves};
 use node::Node;
 use std::alloc::Global;
+use storage::{Journal, Tail, read_logged};
 
 /// A node's store. Its disk opens to the node as it was saved last, even after a crash.
 ///
@@ -143,7 +144,7 @@ impl<D: Disk> Store<D> {
     }
 
     /// Saves the first node on a disk on which nothing was ever created; see
-    /// [`is_blank`](disk::is_blank).
+    /// [`is_blank`](storage::is_blank).
     ///
     /// Fails with `ImageTooLarge` exactly if the node's image is longer than an image may be, with
     /// `Memory`, and with `Disk` if the device failed; and returns the disk, which is unchanged

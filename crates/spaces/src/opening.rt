@@ -17,6 +17,7 @@ use disk::MemoryDisk;
 use ids::{GREATEST_IMAGE, Refusal, Saves, Shape};
 use std::alloc::Global;
 use std::sync::Arc;
+use storage::disk_of_image;
 use values::Fault;
 use wire::{Watch, Wire};
 
@@ -54,7 +55,7 @@ fn disk_of(alloc: Global, image: &Option<Vec<u8>>) -> Result<MemoryDisk, Refusal
     if image.len() as u64 > GREATEST_IMAGE {
         return Err(Refusal::BadImage);
     }
-    MemoryDisk::of_image(alloc, image)
+    disk_of_image(alloc, image)
 }
 
 // A disk for each node.

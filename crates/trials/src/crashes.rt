@@ -3,10 +3,11 @@
 use crate::disks::{Bench, Held};
 use crate::out::Out;
 use crate::words::{CaseError, Subject, number, verb};
-use disk::{Disk, MemoryDisk, is_blank};
+use disk::{Disk, MemoryDisk};
 use ids::{Refusal, Saves};
 use replays::read_node;
 use std::alloc::{AllocError, Global};
+use storage::is_blank;
 
 impl Subject for Bench<MemoryDisk> {
     fn take(&mut self, line: &str, out: &mut Out) -> Result<(), CaseError> {

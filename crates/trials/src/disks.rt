@@ -3,7 +3,7 @@
 use crate::out::Out;
 use crate::raw::on_disk;
 use crate::words::{CaseError, bytes_of, event_in, number, rest, saves_in, verb};
-use disk::{Disk, is_blank};
+use disk::Disk;
 use ids::{NodeId, Refusal, Saves, Shape};
 use lines::SummaryText;
 use model::{Answer, Event};
@@ -12,6 +12,7 @@ use node::Node;
 use replays::{Log, Store, act, read_node};
 use std::alloc::Global;
 use std::mem;
+use storage::is_blank;
 
 /// A disk, by itself or with a store on it.
 #[derive(Drop)]

@@ -1,9 +1,10 @@
 //! Calls of a disk by itself.
 use crate::out::Out;
 use crate::words::{CaseError, bytes_of, number, word};
-use disk::{Area, Disk, DiskFault, is_blank};
+use disk::{Area, Disk, DiskFault};
 use ids::Refusal;
 use std::alloc::Global;
+use storage::is_blank;
 
 /// A command to a disk, which follows the first word.
 pub(crate) fn on_disk<D: Disk>(

@@ -2,13 +2,13 @@
 ghost use Rattle.std.specs.Prelude.{◌≡◌, ◌≢◌, ◌<◌, ◌≤◌, ◌++◌, length, replicate, IfErr, IfOk, OnOk};
 ghost use Rattle.ids.specs.declared.limits.TheConstants.{GREATEST_IMAGE};
 ghost use Rattle.ids.specs.declared.refusal.Refusal.TheVariants.{ImageTooLarge, Memory};
-ghost use Rattle.disk.specs.declared.persist.TheConstants.{HEAD};
+ghost use Rattle.storage.specs.declared.persist.TheConstants.{HEAD};
 ghost use Rattle.image.specs.Logged.{IsAnyWholeOf};
 ghost use Rattle.image.specs.Wholes.{saved_whole};
 ghost use Rattle.handles.specs.Images.{Imaged, Kept, SizedAs, counts_of, image_in, keeps, released};
 
 use super::LoneNode;
-use disk::{HEAD, Persist};
+use storage::{HEAD, Persist};
 use ids::Refusal;
 use node::{Core, Node};
 use replays::{Images, LoggedImages};

@@ -1,13 +1,13 @@
 //! Makes a node of its image and the batches that its caller stored behind it.
 ghost use Rattle.std.specs.Prelude.{◌≡◌, ◌≢◌, ◌≤◌, ◌+◌, List, ℕ, drop, length, IfErr, IfOk, IfSome, OnOk};
 ghost use Rattle.std.specs.Option.{option_map};
-ghost use Rattle.disk.specs.Shelf.{recorded};
+ghost use Rattle.storage.specs.Shelf.{recorded};
 ghost use Rattle.node.specs.Keeping.{WholeNode};
 ghost use Rattle.replays.specs.Values.{IsAlone};
 ghost use Rattle.handles.specs.Batches.{IsStored, LogLeads, Reopened};
 
 use super::LoneNode;
-use disk::{HEAD, Persist, Replay};
+use storage::{HEAD, Persist, Replay};
 use ids::{GREATEST_IMAGE, Refusal};
 use node::Node;
 use replays::{Log, LoggedImages};

@@ -2,7 +2,7 @@ use Rattle.std.proofs.Common.{ap, refl}
 use Rattle.std.proofs.lemmas.Result.{on_err_weaker, on_ok_weaker}
 use Rattle.disk.specs.Areas.{Changes, Torn}
 use Rattle.disk.specs.Record.{at_risk, leaves, left_since}
-use Rattle.disk.proofs.Quiet.{counted_cause}
+use Rattle.disk.proofs.Causes.{counted_cause}
 use Rattle.disk.proofs.Times.{elapses_alike, elapses_from, elapses_then}
 use Rattle.disk.proofs.Torn.{Alike, alike_after, alike_both, alike_leaves, follows_alike}
 use Rattle.disk.proofs.Torn.{follows_from, reaches_from}

@@ -3,7 +3,7 @@ use Rattle.std.proofs.lemmas.Bool.{false≢true}
 use Rattle.disk.specs.Record.{leaves}
 use Rattle.disk.specs.declared.state.State.{State}
 use Rattle.disk.proofs.Times.{elapses_same}
-use Rattle.disk.proofs.Quiet.{counted_cause, no_cause}
+use Rattle.disk.proofs.Causes.{counted_cause, no_cause}
 use Rattle.disk.proofs.file.FileDiskDisk.read.Goals as goal
 
 pub returns-then-not-holds-clause-crash : goal.returns-then-not-holds-clause-crash

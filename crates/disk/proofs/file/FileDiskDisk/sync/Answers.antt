@@ -5,7 +5,7 @@ use Rattle.disk.specs.Record.{areas_of, leaves, left_since, moments}
 use Rattle.disk.specs.declared.account.Account.{Account}
 use Rattle.disk.specs.declared.state.State.{State}
 use Rattle.disk.proofs.Times.{elapses_same, elapses_then}
-use Rattle.disk.proofs.Quiet.{counted_cause, no_cause}
+use Rattle.disk.proofs.Causes.{counted_cause, no_cause}
 use Rattle.disk.proofs.file.FileDiskDisk.sync.Goals as goal
 
 pub returns-then-not-write_through-clause-crash : goal.returns-then-not-write_through-clause-crash

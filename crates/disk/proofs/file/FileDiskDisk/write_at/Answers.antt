@@ -6,7 +6,7 @@ use Rattle.disk.specs.declared.state.State.{State}
 use Rattle.disk.proofs.Times.{elapses_by}
 use Rattle.disk.proofs.Torn.{changed_by_write, changed_to, follows_set, risk_left, set_leaves}
 use Rattle.disk.proofs.Torn.{set_reaches, written_from}
-use Rattle.disk.proofs.Quiet.{counted_cause, err_cause}
+use Rattle.disk.proofs.Causes.{counted_cause, err_cause}
 use Rattle.disk.proofs.file.FileDiskDisk.write_at.Goals as goal
 
 pub returns-then-is_err-clause-crash : goal.returns-then-is_err-clause-crash

@@ -1,6 +1,6 @@
 use Rattle.std.proofs.Common.{refl}
 use Rattle.std.proofs.lemmas.Bool.{false≢true}
-use Rattle.disk.proofs.Quiet.{counted_cause, no_cause}
+use Rattle.disk.proofs.Causes.{counted_cause, no_cause}
 use Rattle.disk.proofs.memory.MemoryDiskDisk.read.Goals as goal
 
 pub returns-then-falters-clause-cause : goal.returns-then-falters-clause-cause

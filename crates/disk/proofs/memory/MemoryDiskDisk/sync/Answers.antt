@@ -3,7 +3,7 @@ use Rattle.std.proofs.lemmas.Bool.{false≢true}
 use Rattle.disk.specs.Record.{leaves}
 use Rattle.disk.specs.declared.state.State.{State}
 use Rattle.disk.proofs.Times.{elapses_same, elapses_then}
-use Rattle.disk.proofs.Quiet.{counted_cause, no_cause}
+use Rattle.disk.proofs.Causes.{counted_cause, no_cause}
 use Rattle.disk.proofs.memory.MemoryDiskDisk.sync.Goals as goal
 
 pub returns-then-falters-clause-crash : goal.returns-then-falters-clause-crash

@@ -9,7 +9,7 @@ use Rattle.disk.proofs.Times.{elapses_by, elapses_same, elapses_then}
 use Rattle.disk.proofs.Torn.{alike_leaves, changed_by_write, changed_none, changed_to}
 use Rattle.disk.proofs.Torn.{follows_alike, follows_set, risk_left, same_alike, set_leaves}
 use Rattle.disk.proofs.Torn.{set_reaches, written_from}
-use Rattle.disk.proofs.Quiet.{counted_cause, err_cause, later_cause}
+use Rattle.disk.proofs.Causes.{counted_cause, err_cause, later_cause}
 use Rattle.disk.proofs.memory.MemoryDiskDisk.write_at.Goals as goal
 
 -- the device fails

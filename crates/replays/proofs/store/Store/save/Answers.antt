@@ -1,5 +1,5 @@
 use Rattle.std.proofs.Common.{◌≡◌, IfSome, List, None, arith, subst, sym, ℕ}
-use Rattle.disk.specs.Tails.{place_for}
+use Rattle.storage.specs.Tails.{place_for}
 use Rattle.image.proofs.Logged.{same_length}
 use Rattle.replays.specs.Noted.{IsLogged}
 use Rattle.replays.proofs.Ends.{led_by}
