@@ -9,7 +9,6 @@
 #![tactic(auto)]
 
 mod acting;
-mod log;
 mod place;
 mod plain;
 mod redoing;
@@ -17,7 +16,7 @@ mod saving;
 mod store;
 
 pub use acting::{act, is_turn, meant};
-pub use log::{GREATEST_LOG, Log};
+pub use events::{GREATEST_LOG, Log};
 pub use place::Place;
 pub use redoing::LoggedImages;
 pub use saving::save;

@@ -11,7 +11,7 @@ ghost use Rattle.image.specs.Wholes.{saved_whole};
 ghost use Rattle.replays.specs.Noted.{IsLogged};
 ghost use Rattle.replays.specs.Values.{LeadsWhole, logged_whole};
 
-use crate::log::Log;
+use events::Log;
 use crate::redoing::LoggedImages;
 use disk::{Disk, Journal};
 use ids::Refusal;

@@ -6,40 +6,17 @@ ghost use Rattle.std.specs.Prelude.{is_some};
 ghost use Rattle.ids.specs.declared.refusal.Refusal.TheVariants.{Memory};
 ghost use Rattle.events.specs.Entries.{entry};
 ghost use Rattle.events.specs.Events.{entry_of};
-ghost use Rattle.replays.specs.Logs.{is_quiet};
-ghost use Rattle.replays.specs.Noted.{Noted};
+ghost use Rattle.events.specs.Noted.{Noted};
 
+use crate::writing::add_event;
 use codec::Piece;
-use events::add_event;
 use ids::Refusal;
-use model::{Answer, Event};
+use model::Event;
 use std::alloc::Global;
 use std::marker::Model;
 
 /// How long a log may become between two saves, in bytes.
 pub const GREATEST_LOG: usize = 1 << 20;
-
-/// Whether an answer is that of an event that changes nothing that is saved: a word was read, or a
-/// message was repeated, or kept until its turn.
-pub(crate) fn is_quiet(answer: &Answer) -> bool
-    ensures { result ≡ is_quiet answer.now }
-{
-    match answer {
-        Answer::Word(_) | Answer::Repeat | Answer::Early => true,
-        Answer::New(_)
-        | Answer::Done
-        | Answer::Value(_)
-        | Answer::Sent(_)
-        | Answer::Letter(_)
-        | Answer::Begun(_)
-        | Answer::Scanned(_)
-        | Answer::Passed(_)
-        | Answer::ProbeAgain
-        | Answer::Ended(_)
-        | Answer::Freed { .. }
-        | Answer::Received => false,
-    }
-}
 
 /// The events of a node since its last save, one after another; or nothing, if they were lost.
 pub struct Log {
@@ -76,7 +53,7 @@ impl Log {
 
     /// Whether the log has the events, so that they aren't lost.
     #[inline(always)]
-    pub(crate) fn is_kept(&self) -> bool
+    pub fn is_kept(&self) -> bool
         ensures { result ≡ is_some self.now }
     {
         self.bytes.is_some()

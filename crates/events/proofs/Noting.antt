@@ -1,11 +1,31 @@
 -- What becomes of a log.
 use Rattle.std.proofs.Common.{◌≡◌, ◌++◌, ℕ, List, Option, Some, None, sym, ◌∙◌}
 use Rattle.codec.specs.Formats.{Fits}
+use Rattle.codec.specs.Formats.{number2, number4, number8}
+use Rattle.msg.specs.declared.version.Version.TheVariants.{Second}
+use Rattle.msg.specs.Formats.{sent, known, head}
+use Rattle.msg.proofs.Written.{any_body}
 use Rattle.model.specs.declared.event.Event.{Event}
+use Rattle.model.specs.declared.event.Event.TheVariants as event
 use Rattle.events.specs.Entries.{entry}
 use Rattle.events.specs.Events.{entry_of}
-use Rattle.replays.specs.Noted.{Noted}
-use Rattle.replays.proofs.Ends.{entry_within}
+use Rattle.events.specs.Noted.{Noted}
+
+-- what an event says is within the limits
+pub entry_within : (e : Event) → entry.IsWithin (entry_of e)
+unfolding entry sent known head number2 number4 number8
+entry_within (event.Data d) = (((tt, (tt, tt)), (tt, any_body Second d.body)), d.fits)
+entry_within (event.Ack a) = ((tt, (tt, tt)), a.fits)
+entry_within (event.Alloc register places) = (tt, tt)
+entry_within (event.Copy register source) = (tt, tt)
+entry_within (event.Load register object place) = (tt, (tt, tt))
+entry_within (event.Store object place register) = (tt, (tt, tt))
+entry_within (event.Clear object place) = (tt, tt)
+entry_within (event.SetWord object value) = (tt, tt)
+entry_within (event.Give to label register) = (tt, (tt, tt))
+entry_within (event.Put object place register) = (tt, (tt, tt))
+entry_within (event.Get object place label) = (tt, (tt, tt))
+entry_within e = tt
 
 pub event_fits : (e : Event) → entry.IsWide (entry_of e) → Fits entry (entry_of e)
 event_fits e wide = record { wide = wide; within = entry_within e }
