@@ -13,7 +13,7 @@ use Rattle.model.specs.Effects.{Effect}
 use Rattle.model.specs.Steps.{act, after, append_all, effect, is_repeat, receive, received}
 use Rattle.model.proofs.Lookups.{both_set_if, slice_get-drop}
 use Rattle.cell.specs.Reached.{AreLike, IsLike}
-use Rattle.cell.proofs.Places.{some_at}
+use Rattle.wire.proofs.Places.{some_at}
 
 -- ---- Lists that are the same from some place on
 

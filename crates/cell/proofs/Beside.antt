@@ -7,8 +7,8 @@ use Rattle.disk.specs.Areas.{Areas}
 use Rattle.replays.specs.declared.place.Place.{Place}
 use Rattle.cell.specs.Looking.{logs_at}
 use Rattle.cell.specs.Opened.{AreBeside, IsChosen}
-use Rattle.cell.proofs.Places.{mapped-from, mapped-there, pushed-at, some_at}
-use Rattle.cell.proofs.Surveying.{same-there}
+use Rattle.wire.proofs.Places.{mapped-from, mapped-there, pushed-at, some_at}
+use Rattle.wire.proofs.Places.{same-there}
 
 -- one more element of the second list
 pub beside-next : {X Y : Type 0} (Is : X → Y → Type 0) (xs : List X) (ys zs : List Y) (place : ℕ)

@@ -19,7 +19,8 @@ use Rattle.node.specs.Keeping.{WholeNode}
 use Rattle.wire.specs.Readers.{known, seat_node}
 use Rattle.wire.specs.Rule.{nodes_of}
 use Rattle.wire.specs.Views.{Pair}
-use Rattle.cell.specs.Ages.{AreApart, AreOfOneAge, AreRead, IfAges, IsWhy}
+use Rattle.wire.specs.OneAge.{AreApart, AreOfOneAge}
+use Rattle.cell.specs.Ages.{AreRead, IfAges, IsWhy}
 use Rattle.cell.specs.Cells.{CellView, IsNew}
 use Rattle.cell.specs.Closing.{AreClosed, AreOfOneMoment, ClosedIsLeft, ClosedIsReached, HasBegun, HaveBegun, IsLast}
 use Rattle.cell.specs.Desks.{IsSavedNode}
@@ -34,7 +35,7 @@ use Rattle.cell.proofs.AlikeRuns.{heard-like}
 use Rattle.cell.proofs.Applied.{node-count}
 use Rattle.cell.proofs.Left.{left-node, left-opened, restarted-reached}
 use Rattle.cell.proofs.OneAge.{at-place, begin-of-one-age, none-sent-past}
-use Rattle.cell.proofs.Places.{mapped-there, some_at}
+use Rattle.wire.proofs.Places.{mapped-there, some_at}
 use Rattle.cell.proofs.Reaches.{end_of, heard-end, stays-reached, world-of-reached}
 use Rattle.cell.proofs.Together.{pair-there}
 

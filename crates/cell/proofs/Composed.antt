@@ -23,7 +23,9 @@ use Rattle.laws.proofs.Live as laws
 use Rattle.laws.proofs.Deliveries as deliveries
 use Rattle.wire.specs.Rule.{receiver}
 use Rattle.wire.specs.Views.{Pair}
-use Rattle.cell.specs.Events.{is_counted, emptied, Handled}
+use Rattle.wire.specs.Entering.{is_counted}
+use Rattle.wire.specs.Sending.{emptied}
+use Rattle.cell.specs.Events.{Handled}
 use Rattle.cell.specs.Laws.{NoneRefusedInTurn, SweepsFreeNoneReachable}
 use Rattle.cell.specs.Reached.{IsReached}
 use Rattle.cell.proofs.Alike.{act-like, other-answer, other-refusal}

@@ -30,8 +30,9 @@ use Rattle.wire.specs.Views.{Known, ticks}
 use Rattle.wire.proofs.Lists.{continues-both}
 use Rattle.cell.specs.Desks.{DeskView, HasDropped, IsDropped}
 use Rattle.cell.specs.Disks.{is_same_node}
-use Rattle.cell.specs.Events.{Given, Handled, is_counted, known_after, pair_by}
-use Rattle.cell.specs.Sending.{IsSent}
+use Rattle.cell.specs.Events.{Given, Handled}
+use Rattle.wire.specs.Entering.{is_counted, known_after, pair_by}
+use Rattle.wire.specs.Sending.{IsSent}
 use Rattle.cell.proofs.Sames.{same-true}
 
 -- ---- The messages that a link dropped

@@ -27,7 +27,7 @@ use Rattle.cell.specs.Reached.{AreAlike, IsReached}
 use Rattle.node.specs.Keeping.{WholeNode, alone}
 use Rattle.cell.proofs.Found.{stands-read}
 use Rattle.cell.proofs.Opening.{core-found, kept-found, same-found}
-use Rattle.cell.proofs.Places.{mapped-from}
+use Rattle.wire.proofs.Places.{mapped-from}
 
 -- ---- All nodes restart from their saved states
 

@@ -15,8 +15,6 @@ pub mod Alike
 pub mod AlikeRuns
 pub mod Dues
 pub mod Dropping
-pub mod Surveying
-pub mod Places
 pub mod OnShelves
 pub mod Causes
 pub mod Looking

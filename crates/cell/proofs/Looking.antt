@@ -14,8 +14,8 @@ use Rattle.cell.specs.Opened.{AreBeside, AreFound, HasAt, IsCause, IsReadFrom}
 use Rattle.cell.specs.declared.fault.Unopened.{Unopened}
 use Rattle.cell.specs.declared.fault.Unopened.TheVariants as fault
 use Rattle.cell.proofs.Causes.{earlier-cause}
-use Rattle.cell.proofs.Places.{pushed-at, some_at}
-use Rattle.cell.proofs.Surveying.{same-there, set-from}
+use Rattle.wire.proofs.Places.{pushed-at, some_at}
+use Rattle.wire.proofs.Places.{same-there, set-from}
 
 -- ---- Disks of which nothing changes
 

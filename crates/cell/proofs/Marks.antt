@@ -6,7 +6,8 @@ use Rattle.model.specs.declared.event.Event.{Event}
 use Rattle.model.specs.declared.event.Answer.{Answer}
 use Rattle.model.specs.declared.step.Step.{Step}
 use Rattle.wire.specs.Views.{Known, ticks}
-use Rattle.cell.specs.Events.{is_counted, known_after, pair_by, unsaved_after, IsMarked}
+use Rattle.wire.specs.Entering.{is_counted, known_after, pair_by}
+use Rattle.cell.specs.Events.{unsaved_after, IsMarked}
 
 pub marked-after : (e : Event) (s : Step) (r : Result Answer Refusal) (v w : Known) (was is : Bool)
     → w ≡ known_after e s r v → is ≡ unsaved_after r was → IsMarked v w was is

@@ -6,7 +6,7 @@ use Rattle.ids.specs.Limits.{Shaped}
 use Rattle.model.specs.View.{kept_view}
 use Rattle.node.specs.Keeping.{WholeNode}
 use Rattle.cell.specs.Opened.{AreFound}
-use Rattle.cell.proofs.Places.{some_at}
+use Rattle.wire.proofs.Places.{some_at}
 
 -- what holds of everything on a shelf holds of each node
 pub found-kept : {S : Type 0} {Lies : WholeNode → S → Type 0} {shape : Shaped}

@@ -9,7 +9,7 @@ use Rattle.model.specs.World.{World, acknowledged, release_count}
 use Rattle.laws.proofs.Base.{all-base}
 use Rattle.node.specs.Keeping.{WholeNode}
 use Rattle.wire.specs.Readers.{AreOpened}
-use Rattle.cell.specs.Ages.{AreOfOneAge}
+use Rattle.wire.specs.OneAge.{AreOfOneAge}
 use Rattle.cell.specs.Laws.{restarted}
 use Rattle.cell.specs.Opened.{cores, state_of, world_of}
 use Rattle.cell.specs.Reached.{AreHeld, IsReached}
@@ -17,7 +17,7 @@ use Rattle.cell.specs.Theorems.{BeginOfOneAge, LeftIsOfOneAge, ReopenedIsReached
 use Rattle.cell.proofs.AlikeRuns.{acks-like, sent-like}
 use Rattle.cell.proofs.Applied.{node-count}
 use Rattle.cell.proofs.Left.{left-opened, restarted-reached}
-use Rattle.cell.proofs.Places.{mapped-there, some_at}
+use Rattle.wire.proofs.Places.{mapped-there, some_at}
 use Rattle.cell.proofs.Reaches.{end_of, world-of-reached}
 use Rattle.cell.proofs.Ready.{many-sent, sent-at, state-at}
 use Rattle.std.proofs.lemmas.Option.{slice_get_within}

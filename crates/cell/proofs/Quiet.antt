@@ -20,7 +20,8 @@ use Rattle.laws.proofs.NoEvent.{only-events-change}
 use Rattle.wire.specs.Views.{Known}
 use Rattle.msg.specs.Grammar.{data_frame}
 use Rattle.cell.specs.Desks.{IsTaken}
-use Rattle.cell.specs.Events.{MayAct, is_counted}
+use Rattle.cell.specs.Events.{MayAct}
+use Rattle.wire.specs.Entering.{is_counted}
 
 -- a space of one node
 abbrev alone : NodeState → World

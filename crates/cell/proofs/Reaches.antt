@@ -25,7 +25,7 @@ use Rattle.cell.proofs.Alike.{drop-more, same-like}
 use Rattle.cell.proofs.AlikeRuns.{acks-like, alike-both, alike-self, events-like, heard-like, run-like}
 use Rattle.cell.proofs.Found.{used-is}
 use Rattle.cell.proofs.Left.{left-stands}
-use Rattle.cell.proofs.Places.{mapped-from, mapped-there, some_at}
+use Rattle.wire.proofs.Places.{mapped-from, mapped-there, some_at}
 use Rattle.cell.proofs.Ready.{shown, state-at}
 
 -- ---- The run that reaches a world

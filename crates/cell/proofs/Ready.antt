@@ -18,11 +18,12 @@ use Rattle.wire.specs.declared.seats.Wire.{Wire}
 use Rattle.wire.specs.declared.seats.NodeSeat.{NodeSeat}
 use Rattle.wire.specs.declared.seats.Watch.{Watch}
 use Rattle.wire.proofs.NewWires.{there}
-use Rattle.cell.specs.Ages.{AreOfOneAge, AreRead}
+use Rattle.wire.specs.OneAge.{AreOfOneAge}
+use Rattle.cell.specs.Ages.{AreRead}
 use Rattle.cell.specs.Cells.{CellView, IsNew, new_cell}
 use Rattle.cell.specs.Desks.{IsAtSeat}
 use Rattle.cell.specs.Opened.{AreBeside, AreFound, AreReady, IsNodeOf, IsReadFrom, IsReady, cores, no_message, sent_of, state_of, world_of}
-use Rattle.cell.proofs.Places.{mapped-from, mapped-there}
+use Rattle.wire.proofs.Places.{mapped-from, mapped-there}
 
 -- ---- The states of nodes whose messages are all saved
 

@@ -15,7 +15,8 @@ use Rattle.wire.specs.Readers.{inbox, known}
 use Rattle.wire.specs.Views.{Known}
 use Rattle.cell.specs.Cells.{CellView}
 use Rattle.wire.specs.declared.pumped.Inbound.{Inbound}
-use Rattle.cell.specs.Events.{emptied, Handled}
+use Rattle.wire.specs.Sending.{emptied}
+use Rattle.cell.specs.Events.{Handled}
 use Rattle.cell.specs.Pumping.{PumpedBy, PumpedIn}
 use Rattle.model.specs.View.{NodeView, Performs, view_act}
 use Rattle.model.proofs.Refusals.{event-never}

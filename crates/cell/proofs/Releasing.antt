@@ -2,11 +2,9 @@
 use Rattle.std.proofs.Common.{◌≡◌, ◌≢◌, ℕ, ◌+◌, ◌-◌, ◌<◌, ltb-true, Bool, true, ◌&&◌, not, ◌==◌, List, [], length, take, Option, Some, None, slice_get, refl, sym, ap, ◌∙◌, subst, arith, inl, inr}
 use Rattle.std.specs.Prelude.{nat_lt, slice_index_or}
 use Rattle.std.specs.Option.{option_map}
-use Rattle.std.proofs.lemmas.List.{append-nil}
 use Rattle.std.proofs.lemmas.Bool.{and_parts, cases_Bool, cond-true, cond-false, eq-eqb, lt-ltb}
 use Rattle.ids.specs.declared.limits.TheConstants.{WINDOW}
-use Rattle.msg.specs.Grammar.{Plain, spelling}
-use Rattle.msg.proofs.Frames.{no_spelling_begins_another}
+use Rattle.msg.specs.Grammar.{Plain}
 use Rattle.msg.specs.declared.body.Message.{Message}
 use Rattle.model.specs.State.{LocalState, got_from, sent_to}
 use Rattle.model.specs.View.{Link, NodeView, is_other, link_to, released_at}
@@ -15,15 +13,8 @@ use Rattle.model.proofs.Lookups.{slice_get-drop, slice_get-take}
 use Rattle.node.specs.Frames.{frame_of}
 use Rattle.wire.specs.Views.{Pair}
 use Rattle.wire.specs.Plays.{Releases}
-use Rattle.wire.specs.Rule.{Spells}
 use Rattle.cell.specs.Desks.{StandsAt}
-use Rattle.cell.specs.Sending.{frame_or_ack, frame_due}
-
--- bytes spell at most one frame
-pub one_frame : {bytes : List ℕ} (f g : Plain) → Spells f bytes → Spells g bytes → f ≡ g
-one_frame f g first second =
-    (no_spelling_begins_another f g [] first.0 second.0
-    (append-nil (spelling f) ∙ sym first.1 ∙ second.1)).1
+use Rattle.wire.specs.Sending.{frame_or_ack, frame_due}
 
 pub apart : (p : LocalState) (to : ℕ) → is_other p to ≡ true → to ≢ p.own
 apart p to other same =

@@ -13,36 +13,15 @@ use Rattle.model.specs.declared.event.Answer.{Answer}
 use Rattle.model.specs.declared.event.Answer.TheVariants as answer
 use Rattle.model.specs.declared.step.Step.{Step}
 use Rattle.model.specs.declared.step.Step.TheVariants as step
-use Rattle.model.specs.declared.step.Outcome.TheVariants as outcome
 use Rattle.model.specs.State.{LocalState, NodeState, got_from}
 use Rattle.model.specs.Steps.{act, is_shading}
 use Rattle.model.specs.View.{NodeView, Follows, Performs, view_act}
-use Rattle.model.specs.World.{is_eventful}
 use Rattle.node.specs.Keeping.{WholeNode, early_after}
-use Rattle.wire.specs.Views.{Known, Pair, ticks, clears, takes_in}
-use Rattle.wire.specs.Plays.{Arrives, Enters, Happens, IsEventful}
+use Rattle.wire.specs.Entering.{is_counted, known_after, Entered}
+use Rattle.wire.specs.Views.{Known, Pair, ticks}
+use Rattle.wire.specs.Plays.{Arrives, Happens, IsEventful}
 use Rattle.trace.specs.declared.call.CallOutcome as trace
 use Rattle.trace.specs.declared.call.CallOutcome.TheVariants as traced
-
--- whether a node's answer is that of an event of the space, provided that it wasn't given an
--- acknowledgement
-abbrev pub is_counted : Answer → Bool
-is_counted a = is_eventful (Ok (outcome.Answer a))
-
--- the state after an event, or the same state if the event was refused
-abbrev pub state_of : NodeState → Result (NodeState × Answer) Refusal → NodeState
-state_of s (Ok x) = x.0
-state_of s (Err e) = s
-
--- the node's states after an event
-abbrev pub pair_by : Event → Pair → Pair
-pair_by e p = record { current = state_of p.current (act p.current e); saved = p.saved }
-
--- The seat's list of events grows by this one if the event was answered and counts; else it stays
--- the same.
-abbrev pub known_after : Event → Step → Result Answer Refusal → Known → Known
-known_after e s (Ok a) v = cond (is_counted a) (ticks s (pair_by e v.pair) v) v
-known_after e s (Err r) v = v
 
 -- whether, after this answer, an event happened since the last save
 abbrev pub unsaved_after : Result Answer Refusal → Bool → Bool
@@ -52,11 +31,6 @@ unsaved_after (Err r) was = was
 -- the same after a call, depending on whether the seat's events changed
 abbrev pub IsMarked : Known → Known → Bool → Bool → Type 0
 IsMarked v w was is = (w.events ≡ v.events → is ≡ was) × (w.events ≢ v.events → is ≡ true)
-
--- The step entered the history of the space: some list of events leads to what the seat knew
--- before, and with this step after it to what the seat knows now.
-abbrev pub Entered : Step → Known → Known → Type 0
-Entered s v w = (count : ℕ) × Enters s v count w
 
 -- The node was given an event, which is this step of the space. Its answer and its state afterwards
 -- are what the definitions say of the state that it showed; a refusal is the first one that
@@ -110,11 +84,6 @@ pub record MayAct (v : Known) (e : Event) (s : Step) : Type 0 where
 abbrev pub event_of : Frame → Event
 event_of (frame.Data d) = event.Data d
 event_of (frame.Ack a) = event.Ack a
-
--- what the seat knows once it has taken the frame from a mailbox and emptied the mailbox, by steps
--- at these places
-abbrev pub emptied : ℕ → ℕ → ℕ → Plain → Known → Known
-emptied box taken cleared f v = clears box cleared (takes_in box taken f v)
 
 -- What happened to a frame: a message is given to the node as this delivery, an acknowledgement as
 -- itself.

@@ -2,7 +2,6 @@ pub mod Desks
 pub mod Disks
 pub mod Events
 pub mod Cells
-pub mod Sending
 pub mod Pumping
 pub mod Names
 pub mod Moments

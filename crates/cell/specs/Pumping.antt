@@ -23,7 +23,8 @@ use Rattle.wire.specs.declared.pumped.Inbound.{Inbound}
 use Rattle.wire.specs.declared.pumped.Inbound.TheVariants as inbound
 use Rattle.wire.specs.declared.pumped.Outbound.{Outbound}
 use Rattle.wire.specs.declared.pumped.Outbound.TheVariants as outbound
-use Rattle.cell.specs.Events.{emptied, event_of, outcome_of, Given, Handled}
+use Rattle.wire.specs.Sending.{emptied}
+use Rattle.cell.specs.Events.{event_of, outcome_of, Given, Handled}
 
 -- The seat took a frame from that node to its own node. Some list of events that leads to the
 -- seat's pair has released the frame. The mailbox was emptied, the node was given the frame and

@@ -10,7 +10,7 @@ use Rattle.model.specs.Cuts.{cut, IsLive, Reachable}
 use Rattle.model.specs.Agreement.{balance, flow, is_counted, total, EndsAlike, OldGarbage}
 use Rattle.disk.specs.Areas.{Areas}
 use Rattle.node.specs.Keeping.{WholeNode}
-use Rattle.cell.specs.Ages.{AreOfOneAge}
+use Rattle.wire.specs.OneAge.{AreOfOneAge}
 use Rattle.cell.specs.Laws.{restarted, IsLeft}
 use Rattle.cell.specs.Opened.{IsReadFrom}
 use Rattle.cell.specs.Reached.{AreHeld, BeginReached, IsReached}

@@ -6,7 +6,8 @@ ghost use Rattle.node.specs.Keeping.{alone, kept_whole};
 ghost use Rattle.wire.specs.Readers.{known, IsSeatOf, IsSame};
 ghost use Rattle.cell.specs.Desks.{new_desk, IsAtSeat};
 ghost use Rattle.cell.specs.Disks.{is_same_node};
-ghost use Rattle.cell.specs.Events.{found_step, reopened_by, saved_by, Entered};
+ghost use Rattle.cell.specs.Events.{found_step, reopened_by, saved_by};
+ghost use Rattle.wire.specs.Entering.{Entered};
 ghost use Rattle.model.specs.declared.step.Step.TheVariants as step;
 
 use crate::desk::Desk;

@@ -1,29 +1,17 @@
-//! How an event enters the history of the space. Only proofs know which event it is; these
-//! functions pass it from the node to the wire.
+//! How a save and a reopening enter the history of the space. Only proofs know which of its events
+//! they are; these functions pass them from the node to the wire.
 ghost use Rattle.std.specs.Prelude.{◌≡◌};
 ghost use Rattle.model.specs.declared.step.Step.{Step as StepOf};
 ghost use Rattle.model.specs.declared.step.Step.TheVariants as step;
 ghost use Rattle.wire.specs.Views.{Pair, ticks};
 ghost use Rattle.wire.specs.Plays.{Happens};
 ghost use Rattle.wire.specs.Readers.{known, IsSeatOf, IsSame};
-ghost use Rattle.cell.specs.Events.{saved_by, Entered};
+ghost use Rattle.cell.specs.Events.{saved_by};
+ghost use Rattle.wire.specs.Entering.{Entered};
 
-use model::{Event, Step};
 use node::Core;
 use std::snapshot::Snapshot;
 use wire::{NodeSeat, Wire};
-
-// Enters the step of the seat's node that the event is. Only proofs read the step and the event.
-pub(crate) fn enter(wire: &Wire, seat: &mut NodeSeat, _step: Step, _event: &Event)
-    ghost happened: { StepOf × Pair }
-    requires wire { IsSeatOf wire.now seat.old }
-    requires event { Happens (known seat.old) happened.0 happened.1 }
-    ensures same { IsSame seat.old seat.new }
-    ensures ticked { known seat.new ≡ ticks happened.0 happened.1 (known seat.old) }
-    ensures entered { Entered happened.0 (known seat.old) (known seat.new) }
-{
-    wire.tick(seat);
-}
 
 // Enters a save of the seat's node.
 pub(crate) fn enter_save(wire: &Wire, seat: &mut NodeSeat)

@@ -19,7 +19,8 @@ ghost use Rattle.std.specs.Prelude.{◌≡◌, ◌≢◌, ◌⊎◌, ◌++◌, [
 ghost use Rattle.std.specs.Prelude.{◌<◌, length, vec_len};
 ghost use Rattle.ids.specs.declared.refusal.Refusal.TheVariants.{BadImage, Memory};
 ghost use Rattle.disk.specs.Crashes.{Unmoved};
-ghost use Rattle.cell.specs.Ages.{AreOfOneAge, IsWhy};
+ghost use Rattle.wire.specs.OneAge.{AreOfOneAge};
+ghost use Rattle.cell.specs.Ages.{IsWhy};
 ghost use Rattle.cell.specs.Disks.{OpensToNode};
 ghost use Rattle.cell.specs.Looking.{AreLookedAt, AreOn, AreUnmoved, HoldsNode, IsOfReading};
 ghost use Rattle.cell.specs.Looking.{logs_at};
@@ -29,7 +30,6 @@ ghost use Rattle.cell.specs.declared.fault.Unopened.TheVariants as fault;
 ghost use Rattle.node.specs.Keeping.{new_whole};
 ghost use Rattle.replays.specs.Stores.{disk_of, is_ready_in, logs_in};
 
-use crate::ages::first_apart;
 use crate::fault::Unopened;
 use disk::Disk;
 use ids::{NodeId, Refusal, Saves, Shape};
@@ -38,6 +38,7 @@ use replays::{Place, Store};
 use std::alloc::Global;
 use std::mem;
 use storage::is_blank;
+use wire::first_apart;
 
 // Whether a node has this number and this shape.
 fn is_node_of(node: &Node, shape: Shape, own: NodeId) -> bool

@@ -34,7 +34,6 @@
 //! back what another node was told.
 #![tactic(auto)]
 
-mod ages;
 mod cell;
 mod desk;
 mod disks;

@@ -8,37 +8,15 @@ ghost use Rattle.msg.specs.declared.frame.Data.{Data};
 ghost use Rattle.node.specs.Keeping.{met, own_step};
 ghost use Rattle.wire.specs.Readers.{known, IsSeatOf, IsSame};
 ghost use Rattle.cell.specs.Desks.{GoesOnAt, IsTaken};
-ghost use Rattle.cell.specs.Events.{is_counted, unsaved_after, Acknowledged, Given, IsDue, MayAct};
+ghost use Rattle.wire.specs.Entering.{is_counted};
+ghost use Rattle.cell.specs.Events.{unsaved_after, Acknowledged, Given, IsDue, MayAct};
 
 use crate::desk::Desk;
-use crate::entering::enter;
 use ids::Refusal;
 use model::{Answer, Event, Step};
 use msg::Ack;
 use replays::act;
 use wire::Wire;
-
-// Whether an answer is that of an event that counts. Reading a word doesn't count, nor does a
-// repeat or an early message.
-fn is_counted_answer(answer: &Answer) -> bool
-    ensures { result ≡ is_counted answer.now }
-{
-    match answer {
-        Answer::Word(_) | Answer::Repeat | Answer::Early => false,
-        Answer::New(_)
-        | Answer::Done
-        | Answer::Value(_)
-        | Answer::Sent(_)
-        | Answer::Letter(_)
-        | Answer::Begun(_)
-        | Answer::Scanned(_)
-        | Answer::Passed(_)
-        | Answer::ProbeAgain
-        | Answer::Ended(_)
-        | Answer::Freed { .. }
-        | Answer::Received => true,
-    }
-}
 
 impl Desk {
     // What an event of the node's own is to its core, and which step of the space it is. `Next` of
@@ -109,8 +87,7 @@ impl Desk {
         ensures stays { GoesOnAt self.old self.new }
     {
         let answer = act(&mut self.node, &mut self.log, event)?;
-        if is_counted_answer(&answer) {
-            enter(wire, &mut self.seat, step, meant);
+        if wire.enter(&mut self.seat, step, meant, &answer) {
             self.is_unsaved = true;
         }
         Ok(answer)

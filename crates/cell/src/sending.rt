@@ -33,52 +33,16 @@ ghost use Rattle.wire.specs.Readers.{
   IsSame,
 };
 ghost use Rattle.cell.specs.Desks.{GoesOnAt};
-ghost use Rattle.cell.specs.Events.{emptied, event_of, Handled, IsMarked};
-ghost use Rattle.cell.specs.Sending.{frame_due, next_place, places_after, IsSent};
+ghost use Rattle.wire.specs.Sending.{emptied};
+ghost use Rattle.cell.specs.Events.{event_of, Handled, IsMarked};
+ghost use Rattle.wire.specs.Sending.{frame_due, next_place, places_after, IsSent};
 
 use crate::desk::Desk;
 use ids::Refusal;
 use model::{Answer, Event, Step};
-use msg::{Frame, decode, encode};
-use node::Node;
+use msg::{Frame, encode};
 use std::alloc::Global;
-use wire::{NodeSeat, Raised, Wire};
-
-// The frame that a node sends next to another one, given the place in the window, and the place
-// after that.
-fn due(node: &Node, to: u8, place: u8) -> (Frame, u8)
-    requires { IsTrue (is_other node.now.core.local to) }
-    ensures frame { plain result.0 ≡ frame_due node.now.core to place }
-    ensures next { result.1 ≡ next_place node.now.core to place }
-{
-    if let Some(frame) = node.frame_at(to, place) {
-        return (frame, place + 1);
-    }
-    match node.ack_for(to) {
-        Some(frame) => (frame, 0),
-        None => unreachable!(),
-    }
-}
-
-// Sends the next frame as bytes, if the mailbox is empty, and returns whether it was. Only proofs
-// read the node and the place.
-fn send(wire: &Wire, seat: &mut NodeSeat, _node: &Node, to: u8, _place: u8, bytes: Vec<u8>) -> bool
-    requires wire { IsSeatOf wire.now seat.old }
-    requires to { (to < width wire.now) × (to ≢ seat_node seat.old) }
-    requires spelled { Spells (frame_due _node.now.core to _place) bytes.items }
-    requires released { Releases (known seat.old).me (known seat.old).pair.saved
-        (frame_due _node.now.core to _place) }
-    requires receiver { receiver (frame_due _node.now.core to _place) ≡ to }
-    ensures same { IsSame seat.old seat.new }
-    ensures sent { IsSent (outbox seat.old to) (frame_due _node.now.core to _place) result
-        (known seat.old) (known seat.new) }
-{
-    let Some(claim) = wire.claim(seat, to) else {
-        return false;
-    };
-    wire.post(seat, claim, bytes);
-    true
-}
+use wire::{Raised, Wire, due};
 
 impl Desk {
     // Sends the next frame to another node, and returns whether the mailbox was empty.
@@ -98,7 +62,7 @@ impl Desk {
         let place = self.places[usize::from(to)];
         let (frame, next) = due(&self.node, to, place);
         let bytes = encode(alloc, &frame)?;
-        let is_sent = send(wire, &mut self.seat, &self.node, to, place, bytes);
+        let is_sent = wire.send(&mut self.seat, &self.node, to, place, bytes);
         if is_sent {
             self.places[usize::from(to)] = next;
         }
@@ -120,12 +84,7 @@ impl Desk {
             (inbox self.old.seat from) taken cleared (plain f) (known self.old.seat)))) }
         ensures stays { self.new ≡ record self.old { seat = self.new.seat } }
     {
-        let taken = wire.take(&mut self.seat, from)?;
-        let bytes = wire.clear(&mut self.seat, taken);
-        match decode(&bytes) {
-            Ok(frame) => Some(frame),
-            Err(_) => unreachable!(),
-        }
+        wire.receive(&mut self.seat, from)
     }
 
     // Shows on the board the cycle that the saved state knows to have ended.

@@ -29,22 +29,6 @@ use Rattle.std.specs.Option.{option_map}
 use Rattle.std.specs.Prelude.{IfSome}
 use Rattle.replays.specs.Logs.{AreDone, IsDone, Logged, spelled}
 
--- what an event says is within the limits
-pub entry_within : (e : Event) → entry.IsWithin (entry_of e)
-unfolding entry sent known head number2 number4 number8
-entry_within (event.Data d) = (((tt, (tt, tt)), (tt, any_body Second d.body)), d.fits)
-entry_within (event.Ack a) = ((tt, (tt, tt)), a.fits)
-entry_within (event.Alloc register places) = (tt, tt)
-entry_within (event.Copy register source) = (tt, tt)
-entry_within (event.Load register object place) = (tt, (tt, tt))
-entry_within (event.Store object place register) = (tt, (tt, tt))
-entry_within (event.Clear object place) = (tt, tt)
-entry_within (event.SetWord object value) = (tt, tt)
-entry_within (event.Give to label register) = (tt, (tt, tt))
-entry_within (event.Put object place register) = (tt, (tt, tt))
-entry_within (event.Get object place label) = (tt, (tt, tt))
-entry_within e = tt
-
 -- ---- one event after another
 
 module _ (rest behind : List ℕ) (e : Event) (are : IsBytes rest)

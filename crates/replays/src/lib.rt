@@ -9,15 +9,14 @@
 
 mod acting;
 mod images;
-mod log;
 mod place;
 mod plain;
 mod redoing;
 mod store;
 
 pub use acting::{act, is_turn, meant};
+pub use events::{GREATEST_LOG, Log};
 pub use images::Images;
-pub use log::{GREATEST_LOG, Log};
 pub use place::Place;
 pub use redoing::LoggedImages;
 pub use store::{Store, read_node};

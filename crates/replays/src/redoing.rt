@@ -6,7 +6,7 @@ ghost use Rattle.node.specs.Keeping.{WholeNode, alone};
 ghost use Rattle.replays.specs.Logs.{is_quiet, IsDone};
 ghost use Rattle.replays.specs.Values.{IsAlone, LeadsWhole};
 
-use crate::log::is_quiet;
+use crate::acting::is_quiet;
 use codec::Reader;
 use events::read_event;
 use ids::Refusal;

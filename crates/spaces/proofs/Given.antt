@@ -20,12 +20,13 @@ use Rattle.replays.specs.Plain.{IsPlain}
 use Rattle.replays.proofs.Stores.{bare_read, keeps_read, keeps_some, plain_read}
 use Rattle.cell.specs.Cells.{CellView}
 use Rattle.cell.specs.Ages as ages
-use Rattle.cell.specs.Ages.{AreApart, AreRead}
+use Rattle.wire.specs.OneAge.{AreApart}
+use Rattle.cell.specs.Ages.{AreRead}
 use Rattle.cell.specs.Opened.{AreBeside, HasAt, HoldsAnother, HoldsNone, IsCause, IsReadFrom}
 use Rattle.cell.specs.declared.fault.Unopened.{Unopened}
 use Rattle.cell.specs.declared.fault.Unopened.TheVariants as unopened
 use Rattle.cell.specs.Opened as cells
-use Rattle.cell.proofs.Places.{mapped-from, mapped-there, some_at}
+use Rattle.wire.proofs.Places.{mapped-from, mapped-there, some_at}
 use Rattle.values.specs.declared.fault.Fault.TheVariants as fault
 use Rattle.spaces.specs.Opening.{AreOfTwoAges, Begins, EachOf, HasPlace, HoldsNoImage, HoldsOther, Image, IsShort, IsTooLarge, IsWhy, areas_in, fault_of}
 

@@ -21,7 +21,7 @@ use Rattle.wire.specs.Views.{raises}
 use Rattle.cell.specs.Cells.{GoesOn}
 use Rattle.cell.specs.Disks.{is_same_node, HoldsSaved}
 use Rattle.cell.specs.Pumping.{PumpedIn}
-use Rattle.cell.specs.Sending.{frame_due, places_after, IsSent}
+use Rattle.wire.specs.Sending.{frame_due, places_after, IsSent}
 use Rattle.wire.specs.declared.pumped.Inbound.{Inbound}
 use Rattle.wire.specs.declared.pumped.Inbound.TheVariants as inbound
 use Rattle.model.specs.declared.step.Step.TheVariants as step

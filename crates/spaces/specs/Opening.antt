@@ -18,7 +18,7 @@ use Rattle.disk.specs.declared.memory.MemoryDisk.{MemoryDisk}
 use Rattle.wire.specs.Readers.{IsMade}
 use Rattle.wire.specs.declared.seats.Watch.{Watch}
 use Rattle.wire.specs.declared.seats.Wire.{Wire}
-use Rattle.cell.specs.Ages.{AreApart, AreOfOneAge}
+use Rattle.wire.specs.OneAge.{AreApart, AreOfOneAge}
 use Rattle.cell.specs.Cells.{CellView, IsNew}
 use Rattle.cell.specs.Opened.{AreBeside, IsNodeOf, cores, world_of}
 use Rattle.cell.specs.declared.fault.Unopened.{Unopened}

@@ -14,7 +14,7 @@ use Rattle.cell.specs.Cells.{CellView, IsKept}
 use Rattle.cell.specs.Closing.{AreOfOneMoment, HasBegun, HaveBegun, IsLast}
 use Rattle.cell.specs.Moments.{AreAtOnce, EachCell, HasLearned, HaveLearned}
 use Rattle.cell.specs.Names.{IsNamed, Name, name_of, seat_name}
-use Rattle.cell.proofs.Places.{some_at}
+use Rattle.wire.proofs.Places.{some_at}
 use Rattle.supervisor.specs.Closing.{IsBack, IsRow}
 
 -- a cell that learned something was made with the same node, on the same wire

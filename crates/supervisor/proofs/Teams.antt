@@ -8,7 +8,7 @@ use Rattle.std.proofs.lemmas.List.Sorted.{IsPermutation-append_left, IsPermutati
 use Rattle.std.proofs.lemmas.Option.{slice_get_read}
 use mathlib.Core.Logic.{dite}
 use native.Mathlib.Decide.{ℕ_discrete}
-use Rattle.cell.proofs.Places.{mapped-there}
+use Rattle.wire.proofs.Places.{mapped-there}
 use Rattle.workers.specs.Runs.{IsReport}
 use Rattle.workers.specs.declared.run.Report.{Report}
 use Rattle.supervisor.specs.Teams.{AreOthers, HasRoom, working}

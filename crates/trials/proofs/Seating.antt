@@ -8,7 +8,7 @@ use Rattle.wire.specs.declared.seats.Wire.{Wire}
 use Rattle.wire.specs.declared.seats.NodeSeat.{NodeSeat}
 use Rattle.wire.specs.declared.seats.Watch.{Watch}
 use Rattle.wire.proofs.NewWires.{new-width}
-use Rattle.cell.proofs.Places.{pushed-at}
+use Rattle.wire.proofs.Places.{pushed-at}
 use Rattle.trials.specs.Cells.{AreSeated}
 
 pub made-seated : {shape : Shaped} {count : ℕ} {wire : Wire} {seats : List NodeSeat}

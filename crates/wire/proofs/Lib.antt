@@ -22,3 +22,7 @@ pub mod Rows
 pub mod NewWires
 pub mod Nothing
 pub mod Telling
+pub mod Places
+pub mod Same
+pub mod Mailed
+pub mod Rounds

@@ -5,3 +5,7 @@ pub mod Plays
 pub mod Laws
 pub mod Seated
 pub mod Readers
+pub mod Entering
+pub mod Sending
+pub mod Moments
+pub mod OneAge

@@ -21,6 +21,10 @@
 //! learn  reads two words            a list of events, for proofs only
 //! ```
 //!
+//! A node's calls are made of these: `send` claims and posts the frame that is due, `receive` takes
+//! and clears, and `enter` ticks if the node's answer is that of an event. [`survey`] lets several
+//! seats note and learn. [`first_apart`] says which nodes can't share a wire.
+//!
 //! The slots that a seat holds have an order, and only the first one can be written or returned.
 //! The seat keeps their numbers in the same order. `post` and `clear` first bring their slot to the
 //! front, which is not a step on a word.
@@ -28,15 +32,22 @@
 
 mod board;
 mod dealing;
+mod entering;
+mod fitting;
 mod history;
 mod learning;
 mod mailboxes;
 mod plays;
 mod pumped;
 mod seats;
+mod sending;
+mod surveying;
 mod truth;
 mod views;
 
+pub use fitting::first_apart;
 pub use pumped::{Inbound, Outbound};
 pub use seats::{Claim, NodeSeat, Note, Raised, Taken, Watch, Wire};
+pub use sending::due;
+pub use surveying::{Learner, survey};
 pub use truth::laws;

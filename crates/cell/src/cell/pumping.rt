@@ -21,7 +21,7 @@ ghost use Rattle.wire.specs.Readers.{known, outbox, IsSame, IsSeatOf};
 ghost use Rattle.cell.specs.Cells.{GoesOn};
 ghost use Rattle.cell.specs.Events.{event_of};
 ghost use Rattle.cell.specs.Pumping.{is_out, FoundEmpty, PumpedIn, TookFrom};
-ghost use Rattle.cell.specs.Sending.{frame_due, places_after, IsSent};
+ghost use Rattle.wire.specs.Sending.{frame_due, places_after, IsSent};
 
 use super::Cell;
 use crate::tracing::outcome;

@@ -34,14 +34,8 @@ ghost use Rattle.disk.specs.Plan.{fails_from, fails_once};
 ghost use Rattle.wire.specs.Readers.{known, IsSame, IsSeatOf};
 ghost use Rattle.cell.specs.Cells.{IsKept};
 ghost use Rattle.cell.specs.Disks.{is_same_node, HoldsSaved, OpensToNode};
-ghost use Rattle.cell.specs.Events.{
-  done_outcome,
-  found_step,
-  reopened_by,
-  restarted_by,
-  saved_by,
-  Entered,
-};
+ghost use Rattle.cell.specs.Events.{done_outcome, found_step, reopened_by, restarted_by, saved_by};
+ghost use Rattle.wire.specs.Entering.{Entered};
 ghost use Rattle.model.specs.declared.step.Step.TheVariants as step;
 
 use super::Cell;

@@ -2,7 +2,7 @@ use Rattle.std.proofs.Common.{◌≡◌, ◌∙◌, true, ap, arith, length, sub
 use Rattle.std.proofs.lemmas.List.{with_items_is}
 use Rattle.std.proofs.lemmas.Result.{err_from_is_err_and}
 use Rattle.replays.specs.Stores.{disk_of, is_ready_in, logs_in}
-use Rattle.cell.specs.Ages.{AreApart}
+use Rattle.wire.specs.OneAge.{AreApart}
 use Rattle.cell.specs.Disks.{OpensToNode}
 use Rattle.cell.specs.Looking.{AreLookedAt, AreOn, AreUnmoved, logs_at}
 use Rattle.cell.specs.Opened.{AreBeside, AreFound, IsChosen}

@@ -6,14 +6,14 @@ use Rattle.std.proofs.lemmas.Result.{err_from_is_err_and}
 use Rattle.node.specs.Keeping.{WholeNode}
 use Rattle.replays.specs.Stores.{logs_in}
 use Rattle.replays.proofs.Stores.{keeps_kept}
-use Rattle.cell.specs.Ages.{AreOfOneAge}
+use Rattle.wire.specs.OneAge.{AreOfOneAge}
 use Rattle.cell.specs.Opened.{AreBeside, IsChosen, IsNodeOf, IsReadFrom, cores, world_of}
 use Rattle.cell.specs.Reached.{IsReached}
 use Rattle.cell.proofs.Beside.{beside-mapped}
 use Rattle.cell.proofs.Causes.{same-error}
 use Rattle.cell.proofs.Closed.{never-ages, new-begun, opened-again}
 use Rattle.cell.proofs.OnShelves.{found-kept}
-use Rattle.cell.proofs.Places.{mapped-there, some_at}
+use Rattle.wire.proofs.Places.{mapped-there, some_at}
 use Rattle.cell.proofs.Ready.{opened}
 use Rattle.cell.proofs.joining.open.Goals as goal
 

@@ -2,7 +2,7 @@ use Rattle.std.proofs.Common.{◌≡◌, List, length, sym, ap, ◌∙◌, subst
 use Rattle.std.proofs.lemmas.List.{length-map}
 use Rattle.node.specs.Keeping.{WholeNode}
 use Rattle.cell.specs.Opened.{cores}
-use Rattle.cell.proofs.Places.{mapped-from}
+use Rattle.wire.proofs.Places.{mapped-from}
 use Rattle.model.specs.World.{new_world}
 use Rattle.wire.specs.Readers.{AreOpened}
 use Rattle.wire.proofs.NewWires.{new-opened}

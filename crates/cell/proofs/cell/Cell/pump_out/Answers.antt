@@ -4,7 +4,7 @@ use Rattle.replays.specs.Stores.{disk_of, is_ready_in, logs_in}
 use Rattle.cell.specs.Cells.{CellView}
 use Rattle.wire.specs.Readers.{known, outbox}
 use Rattle.cell.specs.Pumping.{is_out}
-use Rattle.cell.specs.Sending.{frame_due, places_after, IsSent}
+use Rattle.wire.specs.Sending.{frame_due, places_after, IsSent}
 use Rattle.cell.proofs.Dropping.{dropped-as, send-took}
 use Rattle.cell.proofs.Opening.{stays-open}
 use Rattle.cell.proofs.Views.{cell_at}

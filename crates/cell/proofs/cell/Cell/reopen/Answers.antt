@@ -7,7 +7,8 @@ use Rattle.trace.specs.declared.call.CallOutcome.TheVariants as outcome
 use Rattle.wire.specs.Readers.{known, IsSame}
 use Rattle.cell.specs.Cells.{CellView}
 use Rattle.cell.specs.Disks.{HoldsSaved, OpensTo, OpensToNode, is_same_node}
-use Rattle.cell.specs.Events.{found_step, reopened_by, restarted_by, Entered}
+use Rattle.cell.specs.Events.{found_step, reopened_by, restarted_by}
+use Rattle.wire.specs.Entering.{Entered}
 use Rattle.cell.specs.Desks.{new_desk, HasDropped}
 use Rattle.cell.proofs.Dropping.{dropped-found, took-same}
 use Rattle.cell.proofs.Opening.{core-found, imaged-found, never-bad, open-holds, saved-found, stays-open, which-found}

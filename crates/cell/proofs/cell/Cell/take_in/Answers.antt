@@ -15,7 +15,7 @@ use Rattle.cell.specs.Cells.{CellView}
 use Rattle.cell.specs.Desks.{DeskView}
 use Rattle.cell.specs.Events.{event_of, Handled, IsMarked}
 use Rattle.cell.specs.Pumping.{TookIn}
-use Rattle.cell.proofs.Seats.{same-again}
+use Rattle.wire.proofs.Same.{same-again}
 use Rattle.cell.proofs.Views.{cell_at}
 use Rattle.cell.proofs.cell.Cell.take_in.Goals as goal
 

@@ -9,11 +9,13 @@ use Rattle.model.specs.State.{NodeState}
 use Rattle.model.specs.Steps.{act}
 use Rattle.model.specs.View.{NodeView}
 use Rattle.node.specs.Keeping.{met}
+use Rattle.wire.specs.Entering.{is_counted, known_after, pair_by, state_of}
 use Rattle.wire.specs.Plays.{Happens}
 use Rattle.wire.specs.Views.{Known, Pair, ticks}
 use Rattle.wire.specs.Readers.{known}
 use Rattle.cell.specs.Desks.{AreTaken, IsSavedNode, StandsAt}
-use Rattle.cell.specs.Events.{is_counted, pair_by, state_of, Given}
+use Rattle.cell.specs.Events.{Given}
+use Rattle.cell.proofs.Seats.{Keeps, steps-on}
 use Rattle.cell.proofs.Standing.{behind-acted, stands-moved, stands-quiet}
 use Rattle.cell.proofs.Waiting.{taken-after}
 use Rattle.cell.proofs.desk.Desk.perform.Goals as goal
@@ -43,15 +45,21 @@ invariant_of-self-inside c =
       ),
     )
 
-pub invariant_of-self-inside-then-is_counted_answer : goal.invariant_of-self-inside-then-is_counted_answer
-invariant_of-self-inside-then-is_counted_answer c =
+pub invariant_of-self-inside-then-enter : goal.invariant_of-self-inside-then-enter
+invariant_of-self-inside-then-enter c =
     let desk = c.self.inside in
-    let pair = (known desk.seat).pair in
+    let v = known desk.seat in
+    let pair = v.pair in
+    let a = c.in_ok-answer.answer in
     let e = met desk.node.early c.args.event in
+    let counts : is_counted a ≡ true = sym c.enter.ensures.counted ∙ c.if-enter.true in
+    let known_is : known c.enter.new.seat ≡ ticks c.args.step (pair_by c.args.meant.now pair) v =
+    c.enter.ensures.known
+    ∙ cond-true (is_counted a) (ticks c.args.step (pair_by c.args.meant.now pair) v) v counts in
     let found = c.in_ok-answer.ensures.states pair.current desk.stands.shows in
     let after : Pair = record { current = found.0; saved = pair.saved } in
     let pair_is : (known c.enter.new.seat).pair ≡ after =
-    ap (λ (v : Known). v.pair) c.enter.ensures.ticked
+    ap (λ (w : Known). w.pair) known_is
     ∙ ap (λ (x : Event). pair_by x pair) (rw (← c.self.view_is) at c.requires.met)
     ∙ ap (λ (r : Result (NodeState × Answer) Refusal).
     let q : Pair = record { current = state_of pair.current r; saved = pair.saved } in q)
@@ -65,8 +73,7 @@ invariant_of-self-inside-then-is_counted_answer c =
             (sym pair_is)
             (stands-moved desk.own desk.nodes pair found.0 desk.node.core c.act.new.node.core e
             desk.stands c.in_ok-answer.ensures.leaves found.2
-            (behind-acted pair.saved pair.current e found.0 c.in_ok-answer.answer
-            desk.stands.behind found.1)),
+            (behind-acted pair.saved pair.current e found.0 a desk.stands.behind found.1)),
         (
           subst (λ (p : Pair). IsSavedNode desk.own desk.nodes p.saved desk.saved.value)
               (sym pair_is) desk.was,
@@ -77,10 +84,10 @@ invariant_of-self-inside-then-is_counted_answer c =
               λ never. absurd cc,
               (
                 subst (λ (ts : List Plain). AreTaken ts c.act.new.node.early)
-                    (sym (ap (λ (v : Known). v.taken) c.enter.ensures.ticked))
-                    (subst (AreTaken (known desk.seat).taken) (sym c.in_ok-answer.ensures.early)
-                    (taken-after (known desk.seat).taken desk.node.core.local desk.node.early c.args.event
-                    (Ok c.in_ok-answer.answer) desk.taken (rw (← c.self.view_is) at c.requires.taken))),
+                    (sym (ap (λ (w : Known). w.taken) known_is))
+                    (subst (AreTaken v.taken) (sym c.in_ok-answer.ensures.early)
+                    (taken-after v.taken desk.node.core.local desk.node.early c.args.event
+                    (Ok a) desk.taken (rw (← c.self.view_is) at c.requires.taken))),
                 (∥∥₁_map desk.logged (c.in_ok-answer.ensures.logged desk.saved.value), tt),
               ),
             ),
@@ -89,29 +96,40 @@ invariant_of-self-inside-then-is_counted_answer c =
       ),
     )
 
-pub invariant_of-self-inside-else-is_counted_answer : goal.invariant_of-self-inside-else-is_counted_answer
-invariant_of-self-inside-else-is_counted_answer c =
+pub invariant_of-self-inside-else-enter : goal.invariant_of-self-inside-else-enter
+invariant_of-self-inside-else-enter c =
     let desk = c.self.inside in
-    let pair = (known desk.seat).pair in
+    let v = known desk.seat in
+    let pair = v.pair in
+    let a = c.in_ok-answer.answer in
     let e = met desk.node.early c.args.event in
-    let found = c.in_ok-answer.ensures.states pair.current desk.stands.shows in (
-      desk.at,
+    let quiet : is_counted a ≡ false = sym c.enter.ensures.counted ∙ c.if-enter.false in
+    let known_is : known c.enter.new.seat ≡ v =
+    c.enter.ensures.known
+    ∙ cond-false (is_counted a) (ticks c.args.step (pair_by c.args.meant.now pair) v) v quiet in
+    let found = c.in_ok-answer.ensures.states pair.current desk.stands.shows in
+    let kept = steps-on desk c.enter.new.seat c.enter.ensures.same
+    (ap (λ (w : Known). w.pair) known_is) in (
+      kept.at,
       (
-        stands-quiet desk.own desk.nodes pair found.0 desk.node.core c.act.new.node.core e
+        subst (λ (p : Pair). StandsAt desk.own desk.nodes p c.act.new.node.core)
+            (sym (ap (λ (w : Known). w.pair) known_is))
+            (stands-quiet desk.own desk.nodes pair found.0 desk.node.core c.act.new.node.core e
             desk.stands c.in_ok-answer.ensures.leaves found.2
-            ((rw (← c.self.view_is) at c.requires.may).quiet found.0 c.in_ok-answer.answer
-            (ap (act pair.current) (rw (← c.self.view_is) at c.requires.met) ∙ found.1)
-            (sym c.is_counted_answer.ensures ∙ c.if-is_counted_answer.false)),
+            ((rw (← c.self.view_is) at c.requires.may).quiet found.0 a
+            (ap (act pair.current) (rw (← c.self.view_is) at c.requires.met) ∙ found.1) quiet)),
         (
-          desk.was,
+          kept.was,
           (
-            desk.ended_is,
+            kept.ended_is,
             (
-              desk.unsaved,
+              kept.unsaved,
               (
-                subst (AreTaken (known desk.seat).taken) (sym c.in_ok-answer.ensures.early)
-                    (taken-after (known desk.seat).taken desk.node.core.local desk.node.early c.args.event
-                    (Ok c.in_ok-answer.answer) desk.taken (rw (← c.self.view_is) at c.requires.taken)),
+                subst (λ (ts : List Plain). AreTaken ts c.act.new.node.early)
+                    (sym (ap (λ (w : Known). w.taken) known_is))
+                    (subst (AreTaken v.taken) (sym c.in_ok-answer.ensures.early)
+                    (taken-after v.taken desk.node.core.local desk.node.early c.args.event
+                    (Ok a) desk.taken (rw (← c.self.view_is) at c.requires.taken))),
                 (∥∥₁_map desk.logged (c.in_ok-answer.ensures.logged desk.saved.value), tt),
               ),
             ),
@@ -120,29 +138,24 @@ invariant_of-self-inside-else-is_counted_answer c =
       ),
     )
 
-pub enter-requires : goal.enter-requires
-enter-requires c =
+pub enter-requires-clause-event : goal.enter-requires-clause-event
+enter-requires-clause-event c counts =
     let v = known c.self.inside.seat in
     let found = c.in_ok-answer.ensures.states v.pair.current c.self.inside.stands.shows in
     let answered : act v.pair.current c.args.meant.now ≡ Ok (found.0, c.in_ok-answer.answer) =
-    ap (act v.pair.current) (rw (← c.self.view_is) at c.requires.met) ∙ found.1 in (
-      (rw (← c.self.view_is) at c.requires.wire),
-      subst (Happens v c.args.step)
-          (sym (ap (λ (r : Result (NodeState × Answer) Refusal).
-          let q : Pair = record { current = state_of v.pair.current r; saved = v.pair.saved } in q)
-          answered))
-          ((rw (← c.self.view_is) at c.requires.may).happens found.0 c.in_ok-answer.answer answered
-          (sym c.is_counted_answer.ensures ∙ c.if-is_counted_answer.true)),
-    )
+    ap (act v.pair.current) (rw (← c.self.view_is) at c.requires.met) ∙ found.1 in
+    subst (Happens v c.args.step)
+    (sym (ap (λ (r : Result (NodeState × Answer) Refusal).
+    let q : Pair = record { current = state_of v.pair.current r; saved = v.pair.saved } in q)
+    answered))
+    ((rw (← c.self.view_is) at c.requires.may).happens found.0 c.in_ok-answer.answer answered
+    counts)
 
-pub returns-then-is_counted_answer-clause-given : goal.returns-then-is_counted_answer-clause-given
-returns-then-is_counted_answer-clause-given c =
+pub returns-then-enter-clause-given : goal.returns-then-enter-clause-given
+returns-then-enter-clause-given c =
     let desk = c.self.inside in
     let v = known desk.seat in
     let a = c.in_ok-answer.answer in
-    let e = met desk.node.early c.args.event in
-    let counts : is_counted a ≡ true =
-    sym c.is_counted_answer.ensures ∙ c.if-is_counted_answer.true in
     rw (← c.self.view_is)
     (subst (λ (m : Event).
     Given c.args.event m c.args.step (Ok a) desk.node c.act.new.node v (known c.enter.new.seat))
@@ -152,11 +165,10 @@ returns-then-is_counted_answer-clause-given c =
         performs = c.in_ok-answer.ensures.performs;
         states = c.in_ok-answer.ensures.states v.pair.current desk.stands.shows;
         unchanged = tt;
-        known = c.enter.ensures.ticked
-            ∙ ap (λ (m : Event). ticks c.args.step (pair_by m v.pair) v)
-            (rw (← c.self.view_is) at c.requires.met)
-            ∙ sym (cond-true (is_counted a) (ticks c.args.step (pair_by e v.pair) v) v counts);
-        entered = λ _. c.enter.ensures.entered;
+        known = c.enter.ensures.known
+            ∙ ap (λ (m : Event). known_after m c.args.step (Ok a) v)
+            (rw (← c.self.view_is) at c.requires.met);
+        entered = c.enter.ensures.entered;
       };
       early = c.in_ok-answer.ensures.early;
       turn = c.in_ok-answer.ensures.turn;
@@ -165,25 +177,24 @@ returns-then-is_counted_answer-clause-given c =
           ((rw (← c.self.view_is) at c.requires.met) ∙ is);
     })
 
-pub returns-else-is_counted_answer-clause-given : goal.returns-else-is_counted_answer-clause-given
-returns-else-is_counted_answer-clause-given c =
+pub returns-else-enter-clause-given : goal.returns-else-enter-clause-given
+returns-else-enter-clause-given c =
     let desk = c.self.inside in
     let v = known desk.seat in
     let a = c.in_ok-answer.answer in
-    let e = met desk.node.early c.args.event in
-    let quiet : is_counted a ≡ false =
-    sym c.is_counted_answer.ensures ∙ c.if-is_counted_answer.false in
     rw (← c.self.view_is)
-    (subst (λ (m : Event). Given c.args.event m c.args.step (Ok a) desk.node c.act.new.node v v)
+    (subst (λ (m : Event).
+    Given c.args.event m c.args.step (Ok a) desk.node c.act.new.node v (known c.enter.new.seat))
     (sym (rw (← c.self.view_is) at c.requires.met))
     record {
       acted = record {
         performs = c.in_ok-answer.ensures.performs;
         states = c.in_ok-answer.ensures.states v.pair.current desk.stands.shows;
         unchanged = tt;
-        known = sym (cond-false (is_counted a) (ticks c.args.step (pair_by e v.pair) v) v quiet);
-        entered = λ counts.
-            (let never : ◌≡◌ {A = Bool} false true = sym quiet ∙ counts in absurd cc);
+        known = c.enter.ensures.known
+            ∙ ap (λ (m : Event). known_after m c.args.step (Ok a) v)
+            (rw (← c.self.view_is) at c.requires.met);
+        entered = c.enter.ensures.entered;
       };
       early = c.in_ok-answer.ensures.early;
       turn = c.in_ok-answer.ensures.turn;
@@ -192,16 +203,14 @@ returns-else-is_counted_answer-clause-given c =
           ((rw (← c.self.view_is) at c.requires.met) ∙ is);
     })
 
-pub returns-then-is_counted_answer-clause-unsaved
-    : goal.returns-then-is_counted_answer-clause-unsaved
-returns-then-is_counted_answer-clause-unsaved c =
+pub returns-then-enter-clause-unsaved : goal.returns-then-enter-clause-unsaved
+returns-then-enter-clause-unsaved c =
     rw (← c.self.view_is)
     (sym (cond-true (is_counted c.in_ok-answer.answer) true c.self.inside.is_unsaved
-    (sym c.is_counted_answer.ensures ∙ c.if-is_counted_answer.true)))
+    (sym c.enter.ensures.counted ∙ c.if-enter.true)))
 
-pub returns-else-is_counted_answer-clause-unsaved
-    : goal.returns-else-is_counted_answer-clause-unsaved
-returns-else-is_counted_answer-clause-unsaved c =
+pub returns-else-enter-clause-unsaved : goal.returns-else-enter-clause-unsaved
+returns-else-enter-clause-unsaved c =
     rw (← c.self.view_is)
     (sym (cond-false (is_counted c.in_ok-answer.answer) true c.self.inside.is_unsaved
-    (sym c.is_counted_answer.ensures ∙ c.if-is_counted_answer.false)))
+    (sym c.enter.ensures.counted ∙ c.if-enter.false)))

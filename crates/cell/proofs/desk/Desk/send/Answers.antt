@@ -4,9 +4,10 @@ use Rattle.wire.specs.Readers.{known}
 use Rattle.wire.specs.Rule.{Spells}
 use Rattle.wire.specs.Plays.{Releases}
 use Rattle.cell.specs.Desks.{AreTaken}
-use Rattle.cell.specs.Sending.{frame_due}
+use Rattle.wire.specs.Sending.{frame_due}
 use Rattle.cell.proofs.Releasing.{due-releases}
-use Rattle.cell.proofs.Seats.{due-to, other-on, sent-pair, sent-taken, steps-on}
+use Rattle.wire.proofs.Mailed.{due-to, sent-pair, sent-taken}
+use Rattle.cell.proofs.Seats.{other-on, steps-on}
 use Rattle.cell.proofs.desk.Desk.send.Goals as goal
 
 pub send-is_sent-requires-clause-to : goal.send-is_sent-requires-clause-to

@@ -2,7 +2,7 @@ use Rattle.std.proofs.Common.{◌∙◌, All, List, None, ap, map, refl, replica
 use Rattle.wire.specs.Readers.{IsSeatOf, IsWatchOf}
 use Rattle.wire.specs.declared.seats.Watch.{Watch}
 use Rattle.wire.specs.declared.seats.Wire.{Wire}
-use Rattle.cell.proofs.Places.{mapped-there}
+use Rattle.wire.proofs.Places.{mapped-there}
 use Rattle.spaces.specs.Opening.{AreBegun, EachOf, Image, IsFreshIn, IsOnWire, watch_in}
 use Rattle.spaces.proofs.space.SeatedSpace.open.Goals as goal
 

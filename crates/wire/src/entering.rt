@@ -1,0 +1,69 @@
+//! How an event that a node has answered enters the history of the space. What changes nothing,
+//! such as a repeat or the reading of a word, doesn't enter it.
+ghost use Rattle.std.specs.Prelude.{◌≡◌, true, Ok};
+ghost use Rattle.model.specs.declared.step.Step.{Step as StepOf};
+ghost use Rattle.wire.specs.Entering.{is_counted, known_after, pair_by, Entered};
+ghost use Rattle.wire.specs.Views.{Pair, ticks};
+ghost use Rattle.wire.specs.Plays.{Happens};
+ghost use Rattle.wire.specs.Readers.{known, IsSeatOf, IsSame};
+
+use crate::seats::{NodeSeat, Wire};
+use model::{Answer, Event, Step};
+
+// Whether an answer is that of an event that counts. Reading a word doesn't count, nor does a
+// repeat or an early message.
+fn is_counted_answer(answer: &Answer) -> bool
+    ensures { result ≡ is_counted answer.now }
+{
+    match answer {
+        Answer::Word(_) | Answer::Repeat | Answer::Early => false,
+        Answer::New(_)
+        | Answer::Done
+        | Answer::Value(_)
+        | Answer::Sent(_)
+        | Answer::Letter(_)
+        | Answer::Begun(_)
+        | Answer::Scanned(_)
+        | Answer::Passed(_)
+        | Answer::ProbeAgain
+        | Answer::Ended(_)
+        | Answer::Freed { .. }
+        | Answer::Received => true,
+    }
+}
+
+// Enters the step of the seat's node that the event is. Only proofs read the step and the event.
+fn enter_step(wire: &Wire, seat: &mut NodeSeat, _step: Step, _event: &Event)
+    ghost happened: { StepOf × Pair }
+    requires wire { IsSeatOf wire.now seat.old }
+    requires event { Happens (known seat.old) happened.0 happened.1 }
+    ensures same { IsSame seat.old seat.new }
+    ensures ticked { known seat.new ≡ ticks happened.0 happened.1 (known seat.old) }
+    ensures entered { Entered happened.0 (known seat.old) (known seat.new) }
+{
+    wire.tick(seat);
+}
+
+impl Wire {
+    /// Enters an event that the seat's node has answered into the history of the space, if the
+    /// answer is that of an event that counts, and returns whether it is; see
+    /// [`tick`](Wire::tick). The step says which event of the space it is.
+    pub fn enter(&self, seat: &mut NodeSeat, step: Step, event: &Event, answer: &Answer) -> bool
+        requires wire { IsSeatOf self.now seat.old }
+        requires event { is_counted answer.now ≡ true
+            → Happens (known seat.old) step (pair_by event.now (known seat.old).pair) }
+        ensures same { IsSame seat.old seat.new }
+        ensures known { known seat.new
+            ≡ known_after event.now step (Ok answer.now) (known seat.old) }
+        ensures entered { is_counted answer.now ≡ true
+            → Entered step (known seat.old) (known seat.new) }
+        ensures counted { result ≡ is_counted answer.now }
+    {
+        if is_counted_answer(answer) {
+            enter_step(self, seat, step, event);
+            true
+        } else {
+            false
+        }
+    }
+}
