@@ -1,9 +1,11 @@
 -- The words of a text, one after another.
-use Rattle.std.proofs.Common.{◌≡◌, ℕ, suc, ◌+◌, ◌==◌, nat_lt, Bool, true, false, not, cond, List, [], ◌∷◌, length, filter, take, drop, get_or, refl, ap, sym, ◌∙◌, subst, arith}
+use Rattle.std.proofs.Common.{◌≡◌, ℕ, suc, ◌+◌, ◌<◌, ◌==◌, nat_lt, Bool, true, false, not, cond, List, [], ◌∷◌, length, filter, take, drop, get_or, refl, ap, sym, ◌∙◌, subst, arith}
 use Rattle.std.specs.List.{slice_split, onto_first, prefix_len}
 use Rattle.std.specs.Str.{IsUtf8, IsCharBoundary}
-use Rattle.std.proofs.lemmas.Bool.{eqb-true, cond-true, lt-ltb}
-use Rattle.std.proofs.lemmas.List.Sums.{prefix_len-le-length, passes_at_first}
+use Rattle.std.proofs.Math.Seq.{drop-cons}
+use Rattle.std.proofs.lemmas.Bool.{eq-eqb, eqb-true, cond-true, lt-ltb}
+use Rattle.std.proofs.lemmas.List.{get_or-take}
+use Rattle.std.proofs.lemmas.List.Sums.{fails_before_first, position_or_len_is, prefix_len-le-length, passes_at_first}
 use Rattle.std.proofs.lemmas.Str.{IsUtf8-drop, IsCharBoundary-after_ascii, IsCharBoundary-from_drop}
 use Rattle.lines.specs.Grammar.{words_of}
 use Rattle.lines.specs.Words.{IsTrimmed, behind, ends_word, is_space, past, word_end, word_of}
@@ -178,3 +180,40 @@ cut_at_one [] utf8 ends some = absurd cc
 cut_at_one (b ∷ text) utf8 ends some =
     let is : b ≡ 32 = eqb-true b 32 ends in
     IsCharBoundary-after_ascii (b ∷ text) 0 utf8 (omega arith) (omega (arith, is))
+
+-- ---- a text that begins with this word and a space
+
+pub record StartsWord (name text : List ℕ) : Type 0 where
+  pub word : word_end name ≡ length name
+  pub within : length name < length text
+  pub front : take (length name) text ≡ name
+  pub space : get_or text (length name) 0 ≡ 32
+
+module _ {name text : List ℕ} (starts : StartsWord name text) where
+  pub started_end : word_end text ≡ length name
+  started_end =
+      let within = starts.within in
+      position_or_len_is is_space text (length name) 0 (omega (arith, within))
+      (λ k less. ap is_space (sym (get_or-take (length name) text k 0 less)
+      ∙ ap (λ (t : List ℕ). get_or t k 0) starts.front)
+      ∙ fails_before_first is_space name k 0 (subst (λ (n : ℕ). k < n) (sym starts.word) less))
+      (λ _. eq-eqb (get_or text (length name) 0) 32 starts.space)
+
+  pub started_word : word_of text ≡ name
+  started_word = ap (λ (n : ℕ). take n text) started_end ∙ starts.front
+
+  pub started_rest : past (drop (length name + 1) text) ≡ behind text
+  started_rest =
+      let n : ℕ = length name in
+      let rest : List ℕ = drop (suc n) text in
+      let one : n + 1 ≡ suc n = omega arith in
+      let cut : drop n text ≡ 32 ∷ rest = drop-cons text n 0 starts.within
+      ∙ ap (λ (c : ℕ). c ∷ rest) starts.space in
+      ap (λ (k : ℕ). past (drop k text)) one
+      ∙ sym (ap (λ (k : ℕ). past (drop k text)) started_end ∙ ap past cut
+      ∙ drop_one 32 rest (prefix_len is_space rest))
+
+  pub started_cut : IsUtf8 text → IsCharBoundary text (length name + 1)
+  started_cut utf8 =
+      let at = starts.space in
+      IsCharBoundary-after_ascii text (length name) utf8 starts.within (omega (arith, at))

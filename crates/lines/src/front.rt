@@ -2,9 +2,10 @@
 //! always inlined, because a result of several words would otherwise go through memory.
 ghost use Rattle.std.specs.Prelude.{◌≡◌, ◌<◌, ◌-◌, IfSome, length, option_map, slice_index, take, true};
 ghost use Rattle.std.specs.Char.{is_ascii_digit};
+ghost use Rattle.std.specs.Str.{bytes_eq};
 ghost use Rattle.std.specs.List.{prefix_len, position_or_len};
 ghost use Rattle.lines.specs.Grammar.{u64_of, value_after};
-ghost use Rattle.lines.specs.Words.{IsTrimmed, behind, digit_count, ends_word, fits_word, is_one_digit, is_space, past, starts_number, word_of};
+ghost use Rattle.lines.specs.Words.{IsTrimmed, behind, word_end, digit_count, ends_word, fits_word, is_one_digit, is_space, past, starts_number, word_of};
 
 use crate::line::MOST_DIGITS;
 
@@ -63,6 +64,48 @@ pub(crate) fn first_word(text: &str) -> (&str, &str)
 {
     let (word, rest) = text.split_at(word_len(text.as_bytes()));
     (word, past_spaces(rest))
+}
+
+/// Whether the word is this one. (Inlined, so that each of the few bytes of `name` is compared with
+/// a constant.)
+#[inline(always)]
+pub(crate) fn is_word(word: &str, name: &str) -> bool
+    ensures { result ≡ bytes_eq word.now name.now }
+{
+    let (bytes, wanted) = (word.as_bytes(), name.as_bytes());
+    if bytes.len() != wanted.len() {
+        return false;
+    }
+    let mut place = 0;
+    while place < wanted.len() {
+        if bytes[place] != wanted[place] {
+            return false;
+        }
+        place += 1;
+    }
+    true
+}
+
+/// The text from the second word on, if the first word is this one, and a space follows it.
+#[inline(always)]
+pub(crate) fn behind_word<'a>(text: &'a str, name: &str) -> Option<&'a str>
+    requires { word_end name.now ≡ length name.now }
+    ensures word { IfSome result (λ rest. word_of text.now ≡ name.now) }
+    ensures rest { IfSome result (λ rest. rest.now ≡ behind text.now) }
+    ensures trimmed { IfSome result (λ rest. IsTrimmed rest.now) }
+{
+    let (bytes, wanted) = (text.as_bytes(), name.as_bytes());
+    if bytes.len() <= wanted.len() || bytes[wanted.len()] != b' ' {
+        return None;
+    }
+    let mut place = 0;
+    while place < wanted.len() {
+        if bytes[place] != wanted[place] {
+            return None;
+        }
+        place += 1;
+    }
+    Some(past_spaces(&text[wanted.len() + 1..]))
 }
 
 /// The number that the word at the front spells, if it spells one, and the text from the next word

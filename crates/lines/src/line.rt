@@ -6,7 +6,7 @@ ghost use Rattle.lines.specs.Operands.{read, spelled};
 ghost use Rattle.lines.specs.Words.{IsTrimmed, behind, starts_number, word_of};
 
 use crate::asking::{alone, say, with_one, with_three, with_two};
-use crate::front::{first_number, first_word, past_spaces, read_u64};
+use crate::front::{behind_word, first_number, first_word, is_word, past_spaces, read_u64};
 use crate::operands::{Operands, to_u8, to_u16, to_u32};
 use model::Step;
 
@@ -86,6 +86,10 @@ fn asked_of(line: &mut Line, node: u8, text: &str) -> Option<()>
     requires { IsTrimmed text.now }
     ensures { read result line.new ≡ node_line_of node (words_of text.now) }
 {
+    // Most lines ask for a save, and end there.
+    if is_word(text, "save") {
+        return say(line, Line::Step(Step::Save(node)));
+    }
     let (verb, text) = first_word(text);
     match Operands::read(text) {
         Some(Operands::Zero) => alone(line, node, verb),
@@ -96,21 +100,44 @@ fn asked_of(line: &mut Line, node: u8, text: &str) -> Option<()>
     }
 }
 
-/// The meaning of a line whose first word isn't a number.
+/// The meaning of a line whose first word isn't a number. (The most frequent words are looked for
+/// at its front, so that they need not be searched for a space.)
 fn command(line: &mut Line, text: &str) -> Option<()>
+    requires trimmed { IsTrimmed text.now }
+    requires other { starts_number text.now ≡ false }
+    ensures { read result line.new ≡ command_of (word_of text.now) (words_of (behind text.now)) }
+{
+    if let Some(rest) = behind_word(text, "deliver") {
+        return delivery(line, Operands::read(rest)?);
+    }
+    if let Some(rest) = behind_word(text, "ack") {
+        return hand(line, Operands::read(rest)?);
+    }
+    any_command(line, text)
+}
+
+/// The same for any word.
+#[inline(never)]
+fn any_command(line: &mut Line, text: &str) -> Option<()>
     requires trimmed { IsTrimmed text.now }
     requires other { starts_number text.now ≡ false }
     ensures { read result line.new ≡ command_of (word_of text.now) (words_of (behind text.now)) }
 {
     let (first, text) = first_word(text);
     let operands = Operands::read(text)?;
-    match first {
-        "space" => space(line, operands),
-        "deliver" => delivery(line, operands),
-        "ack" => hand(line, operands),
-        "report" => report(line, operands),
-        _ => None,
+    if is_word(first, "deliver") {
+        return delivery(line, operands);
     }
+    if is_word(first, "ack") {
+        return hand(line, operands);
+    }
+    if is_word(first, "space") {
+        return space(line, operands);
+    }
+    if is_word(first, "report") {
+        return report(line, operands);
+    }
+    None
 }
 
 #[tactic(auto, unfolding(crate::specs::Grammar::space_of))]

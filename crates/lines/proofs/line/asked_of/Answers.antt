@@ -1,5 +1,5 @@
 use Rattle.std.proofs.Common.{◌∙◌, Some, sym, ap}
-use Rattle.lines.proofs.Shapes.{IsCut, node_read, read_one, read_three, read_two, read_zero}
+use Rattle.lines.proofs.Shapes.{IsCut, node_read, read_one, read_save, read_three, read_two, read_zero}
 use Rattle.lines.proofs.line.asked_of.Goals as goal
 use Rattle.lines.proofs.line.asked_of.Goals.{After-first_word}
 
@@ -10,6 +10,9 @@ cut c = record {
   word = c.first_word.ensures.word;
   others = c.first_word.ensures.rest;
 }
+
+pub returns-then-is_word : goal.returns-then-is_word
+returns-then-is_word c = c.say.ensures ∙ read_save c.args.node c.args.text.now c.if-is_word.ensures
 
 pub returns-in-Some-Zero : goal.returns-in-Some-Zero
 returns-in-Some-Zero c =

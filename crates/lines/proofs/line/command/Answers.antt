@@ -1,55 +1,42 @@
-use Rattle.std.proofs.Common.{◌≡◌, ◌∙◌, None, ap}
-use Rattle.lines.specs.Grammar.{u8_of}
+use Rattle.std.proofs.Common.{◌∙◌, refl, sym, ap, codes}
 use Rattle.lines.specs.Operands.{read, spelled}
-use Rattle.lines.proofs.Shapes.{IsCommand, command_read, no_number, of_delivery, of_hand, of_none, of_report, of_space}
+use Rattle.lines.proofs.Shapes.{IsCommand, command_read, of_delivery, of_hand}
 use Rattle.lines.proofs.line.command.Goals as goal
-use Rattle.lines.proofs.line.command.Goals.{After-first_word}
+use Rattle.lines.proofs.line.command.Goals.{In-Some, In-Some-behind_word}
 
-cut : (c : After-first_word)
-    → IsCommand c.args.text.now c.first_word.result.0.now c.first_word.result.1.now
-cut c = record {
+delivers : (c : In-Some) → IsCommand c.args.text.now (codes "deliver") c.in-Some.rest.now
+delivers c = record {
   none = c.requires.other;
-  word = c.first_word.ensures.word;
-  others = c.first_word.ensures.rest;
+  word = sym c.in-Some.ensures.word;
+  others = c.in-Some.ensures.rest;
 }
 
-no_node : (c : After-first_word) → u8_of c.first_word.result.0.now ≡ None
-no_node c = ap u8_of c.first_word.ensures.word ∙ no_number c.args.text.now c.requires.other
+hands : (c : In-Some-behind_word)
+    → IsCommand c.args.text.now (codes "ack") c.in-Some-behind_word.rest.now
+hands c = record {
+  none = c.requires.other;
+  word = sym c.in-Some-behind_word.ensures.word;
+  others = c.in-Some-behind_word.ensures.rest;
+}
 
-pub returns-in_err-operands : goal.returns-in_err-operands
-returns-in_err-operands c =
+pub returns-in_err-read : goal.returns-in_err-read
+returns-in_err-read c =
     ap (λ r. read r c.args.line.now) c.from_residual.ensures
-    ∙ command_read (cut (goal.at.returns-in_err-operands c).After-first_word)
-    c.in_err-operands.ensures
+    ∙ command_read (delivers (goal.at.returns-in_err-read c).In-Some) c.in_err-read.ensures
 
-pub returns-in-space : goal.returns-in-space
-returns-in-space c =
-    c.space.ensures
-    ∙ of_space (spelled c.in_ok-operands.operands) c.first_word.result.0.now c.in-space.is
-    ∙ command_read (cut (goal.at.returns-in-space c).After-first_word) c.in_ok-operands.ensures
+pub returns-in-Some : goal.returns-in-Some
+returns-in-Some c =
+    c.delivery.ensures ∙ of_delivery (spelled c.in_ok-read.field-0) (codes "deliver") refl
+    ∙ command_read (delivers (goal.at.returns-in-Some c).In-Some) c.in_ok-read.ensures
 
-pub returns-in-deliver : goal.returns-in-deliver
-returns-in-deliver c =
-    c.delivery.ensures
-    ∙ of_delivery (spelled c.in_ok-operands.operands) c.first_word.result.0.now c.in-deliver.is
-    ∙ command_read (cut (goal.at.returns-in-deliver c).After-first_word) c.in_ok-operands.ensures
+pub returns-in_err-read-2 : goal.returns-in_err-read-2
+returns-in_err-read-2 c =
+    ap (λ r. read r c.args.line.now) c.from_residual-in_err-read-2.ensures
+    ∙ command_read (hands (goal.at.returns-in_err-read-2 c).In-Some-behind_word)
+    c.in_err-read-2.ensures
 
-pub returns-in-ack : goal.returns-in-ack
-returns-in-ack c =
-    c.hand.ensures
-    ∙ of_hand (spelled c.in_ok-operands.operands) c.first_word.result.0.now c.in-ack.is
-    ∙ command_read (cut (goal.at.returns-in-ack c).After-first_word) c.in_ok-operands.ensures
-
-pub returns-in-report : goal.returns-in-report
-returns-in-report c =
-    c.report.ensures
-    ∙ of_report (spelled c.in_ok-operands.operands) c.first_word.result.0.now c.in-report.is
-    ∙ command_read (cut (goal.at.returns-in-report c).After-first_word) c.in_ok-operands.ensures
-
-pub returns-in_default : goal.returns-in_default
-returns-in_default c =
-    let at = goal.at.returns-in_default c in
-    of_none (spelled c.in_ok-operands.operands) c.first_word.result.0.now
-    (no_node at.After-first_word) c.in_default.not-space c.in_default.not-deliver
-    c.in_default.not-ack c.in_default.not-report
-    ∙ command_read (cut at.After-first_word) c.in_ok-operands.ensures
+pub returns-in-Some-behind_word : goal.returns-in-Some-behind_word
+returns-in-Some-behind_word c =
+    c.hand.ensures ∙ of_hand (spelled c.in_ok-read-2.field-0) (codes "ack") refl
+    ∙ command_read (hands (goal.at.returns-in-Some-behind_word c).In-Some-behind_word)
+    c.in_ok-read-2.ensures
