@@ -11,9 +11,9 @@ ghost use Rattle.image.specs.Wholes.{saved_whole};
 ghost use Rattle.replays.specs.Noted.{IsLogged};
 ghost use Rattle.replays.specs.Values.{LeadsWhole, logged_whole};
 
-use events::Log;
 use crate::redoing::LoggedImages;
 use disk::{Disk, Journal};
+use events::Log;
 use ids::Refusal;
 use node::Node;
 
