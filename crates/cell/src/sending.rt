@@ -33,9 +33,8 @@ ghost use Rattle.wire.specs.Readers.{
   IsSame,
 };
 ghost use Rattle.cell.specs.Desks.{GoesOnAt};
-ghost use Rattle.wire.specs.Sending.{emptied};
+ghost use Rattle.wire.specs.Sending.{emptied, frame_due, places_after, IsSent};
 ghost use Rattle.cell.specs.Events.{event_of, Handled, IsMarked};
-ghost use Rattle.wire.specs.Sending.{frame_due, next_place, places_after, IsSent};
 
 use crate::desk::Desk;
 use ids::Refusal;

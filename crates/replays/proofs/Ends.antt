@@ -9,12 +9,7 @@ use Rattle.codec.specs.Formats.{Fits}
 use Rattle.codec.specs.Formats.{◌>>=◌}
 use Rattle.codec.specs.Readers.{open_of, whole_of, with_rest}
 use Rattle.codec.specs.Reading.{IsBytes}
-use Rattle.msg.specs.declared.version.Version.TheVariants.{Second}
-use Rattle.msg.specs.Formats.{sent, known, head}
-use Rattle.msg.proofs.Written.{any_body}
-use Rattle.codec.specs.Formats.{number2, number4, number8}
 use Rattle.model.specs.declared.event.Event.{Event}
-use Rattle.model.specs.declared.event.Event.TheVariants as event
 use Rattle.model.specs.View.{NodeView, kept_view}
 use Rattle.events.specs.Entries.{Entry}
 use Rattle.events.specs.Entries.{entry}

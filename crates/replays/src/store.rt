@@ -17,11 +17,11 @@ ghost use Rattle.replays.specs.Plain.{IsPlain, Keeps, KeepsEither, StaysPlain};
 ghost use Rattle.replays.specs.Stores.{disk_of, is_logged_at, is_ready_in, LiesAt, logs_in};
 ghost use Rattle.replays.specs.Stores.{WritesAll};
 
-use events::Log;
 use crate::place::Place;
 use crate::plain::{PlainShelf, read_plain};
 use crate::redoing::LoggedImages;
 use disk::{Disk, MemoryDisk};
+use events::Log;
 use ids::{Refusal, Saves};
 use node::Node;
 use std::alloc::Global;

@@ -13,9 +13,9 @@ use crate::seats::{NodeSeat, Wire};
 use msg::{Frame, decode};
 use node::Node;
 
-/// The frame that a node sends next to another one, given the place in the window, and the place
-/// after that: the released message in this place, if there is one, else the acknowledgement of
-/// what a saved state has received.
+/// The frame that a node sends next to another one, and the place in the window that comes after
+/// it. It is the released message in the given place. If there is none, it is the acknowledgement
+/// of what a saved state has received.
 pub fn due(node: &Node, to: u8, place: u8) -> (Frame, u8)
     requires { IsTrue (is_other node.now.core.local to) }
     ensures frame { plain result.0 ≡ frame_due node.now.core to place }

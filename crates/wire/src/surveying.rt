@@ -8,8 +8,8 @@ ghost use Rattle.wire.specs.Readers.{known, note_seen, opened_with, IsNoteOf, Is
 
 use crate::seats::{Note, Wire};
 
-/// What has a seat on a wire. It is all the same to it, except for its seat, that the seat learns
-/// something of the history.
+/// What has a seat on a wire. When the seat learns something of the history, nothing else of it
+/// changes.
 pub trait Learner {
     /// How it has its seat.
     ghost seating: { Seating Self };
