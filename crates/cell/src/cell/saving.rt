@@ -28,7 +28,9 @@ ghost use Rattle.trace.specs.declared.call.Call.TheVariants as call;
 ghost use Rattle.model.specs.View.{kept_view};
 ghost use Rattle.node.specs.Keeping.{kept_whole};
 ghost use Rattle.image.specs.Images.{image_of};
-ghost use Rattle.disk.specs.Crashes.{Grew};
+ghost use Rattle.disk.specs.Crashes.{Grew, Only};
+ghost use Rattle.disk.specs.Memory.{filled_by_crash, held_by, IsFaultless, left_by};
+ghost use Rattle.disk.specs.Plan.{fails_from, fails_once};
 ghost use Rattle.wire.specs.Readers.{known, IsSame, IsSeatOf};
 ghost use Rattle.cell.specs.Cells.{IsKept};
 ghost use Rattle.cell.specs.Disks.{is_same_node, HoldsSaved, OpensToNode};
@@ -37,7 +39,7 @@ ghost use Rattle.wire.specs.Entering.{Entered};
 ghost use Rattle.model.specs.declared.step.Step.TheVariants as step;
 
 use super::Cell;
-use disk::Disk;
+use disk::{Disk, MemoryDisk};
 use ids::Refusal;
 use trace::{Call, CallOutcome};
 use wire::Wire;
@@ -187,5 +189,38 @@ impl<D: Disk> Cell<D> {
             first: _,
         } = self;
         store.into_disk()
+    }
+}
+
+impl Cell<MemoryDisk> {
+    /// From now on, the `k`-th call of the disk and all later ones fail; see
+    /// [`MemoryDisk::fail_from`].
+    pub fn fail_from(&mut self, k: u64)
+        ensures plan { self.new.disk.plan ≡ fails_from k }
+        ensures account { self.new.disk.account ≡ self.old.disk.account }
+        ensures stays { self.new ≡ record self.old { disk = self.new.disk } }
+    {
+        self.store.fail_from(k);
+    }
+
+    /// The `k`-th call of the disk from now on fails, and no later one; see
+    /// [`MemoryDisk::fail_once`].
+    pub fn fail_once(&mut self, k: u64)
+        ensures plan { self.new.disk.plan ≡ fails_once k }
+        ensures account { self.new.disk.account ≡ self.old.disk.account }
+        ensures stays { self.new ≡ record self.old { disk = self.new.disk } }
+    {
+        self.store.fail_once(k);
+    }
+
+    /// The disk that a crash now leaves; see [`MemoryDisk::after_crash`].
+    pub fn after_crash(&self, fill: u8) -> Result<MemoryDisk, Refusal>
+        ensures filled { IfOk result (λ d. held_by d ≡ filled_by_crash fill self.now.disk) }
+        ensures left { IfOk result (λ d. left_by self.now.disk (held_by d)) }
+        ensures durable { IfOk result (λ d. Only (held_by d) (left_by d)) }
+        ensures faultless { IfOk result IsFaultless }
+        ensures memory { IfErr result (λ e. e ≡ Refusal.Memory) }
+    {
+        self.store.after_crash(fill)
     }
 }
