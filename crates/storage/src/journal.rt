@@ -172,9 +172,7 @@ fn replayed<D: Disk, P: Replay>(
 /// Syncs a disk on which something was created, and returns the value that it holds, with its
 /// place. It writes nothing. [`Journal::resume`] continues from there without reading again.
 ///
-/// Fails with `Disk` if the device failed, and with `BadImage` if the disk holds no value. Fails
-/// with `Memory` if the disk records a plausible length but there is no memory for what it holds.
-/// After `Ok` a crash leaves that value.
+/// Fails as [`Journal::open`] does. After `Ok` a crash leaves that value.
 pub fn read_logged<D: Disk, P: Replay>(
     alloc: Global,
     disk: &mut D,
@@ -272,6 +270,45 @@ impl<D: Disk, P: Replay> Journal<D, P> {
         })
     }
 
+    /// Syncs a disk, and returns the value that it holds with an open journal. It writes nothing.
+    /// After `Ok` a crash leaves that value.
+    ///
+    /// Fails with `Disk` if the device failed, and with `BadImage` if the disk holds no value.
+    /// Fails with `Memory` if the disk records a plausible length but there is no memory for what
+    /// it holds. The disk is then dropped.
+    pub fn open(alloc: Global, mut disk: D) -> Result<(Journal<D, P>, P::Value), Refusal>
+    where
+        D: Drop,
+        P::Value: Drop,
+        ensures opened { IfOk result (λ r.
+            Restores P.logs P.reads P.leads r.1 (D.seen disk)) }
+        ensures same { IfOk result (λ r. D.seen r.0.disk ≡ D.seen disk) }
+        ensures ready { IfOk result (λ r. r.0.ready ≡ true) }
+        ensures bad { IfErr result (λ e. e ≡ Refusal.BadImage → (value : P.Value)
+            → Restores P.logs P.reads P.leads value (D.seen disk) → ⊥) }
+        ensures memory { IfErr result (λ e. e ≡ Refusal.Memory → SelectsLength (D.seen disk)) }
+        ensures quiet { IfOk result (λ r.
+            Unmoved D.seen D.may_leave D.moment D.left_since disk r.0.disk) }
+        ensures fine { IfOk result (λ r. D.faults r.0.disk ≡ D.faults disk) }
+
+        // The disk at the time when it was dropped.
+        ensures given_up { IfErr result (λ e. (d : D)
+            × Unmoved D.seen D.may_leave D.moment D.left_since disk d
+            × HasCause (D.faults disk) (D.faults d) (e ≡ Refusal.Disk)) }
+        ensures others { IfErr result (λ e. (e ≡ Refusal.Memory)
+            ⊎ ((e ≡ Refusal.BadImage) ⊎ (e ≡ Refusal.Disk))) }
+    {
+        let (tail, value) = read_logged::<D, P>(alloc, &mut disk)?;
+        let journal = Journal {
+            alloc,
+            disk,
+            tail,
+            ready: true,
+            kind: PhantomData,
+        };
+        Ok((journal, value))
+    }
+
     /// An open journal on a disk that [`read_logged`] read, and on which nothing was written since.
     pub fn resume(alloc: Global, disk: D, tail: Tail) -> Journal<D, P>
         requires { IsKept D.seen D.may_leave P.logs disk tail.in_b tail.end }
@@ -290,8 +327,8 @@ impl<D: Disk, P: Replay> Journal<D, P> {
     /// Opens the journal again from its own disk: syncs it and returns the value that it holds.
     /// After `Ok` the journal is open, and a crash leaves that value.
     ///
-    /// Fails as [`read_logged`] does; the journal is then closed. Its disk holds what it held, even
-    /// after a crash.
+    /// Fails as [`open`](Journal::open) does; the journal is then closed. Its disk holds what it
+    /// held, even after a crash.
     pub fn reopen(&mut self) -> Result<P::Value, Refusal>
     where
         P::Value: Drop,

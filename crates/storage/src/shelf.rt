@@ -118,9 +118,7 @@ pub struct Selected {
 /// Syncs a disk on which something was created, and returns the value that it holds, with the area
 /// that holds it. It writes nothing. [`Shelf::resume`] continues from there without reading again.
 ///
-/// Fails with `Disk` if the device failed, and with `BadImage` if the disk holds no value. Fails
-/// with `Memory` if the disk records a plausible length but there is no memory for the image or the
-/// value. After `Ok` a crash leaves that value.
+/// Fails as [`Shelf::open`] does. After `Ok` a crash leaves that value.
 pub fn read_value<D: Disk, P: Persist>(
     alloc: Global,
     disk: &mut D,
@@ -221,6 +219,43 @@ impl<D: Disk> Shelf<D> {
         })
     }
 
+    /// Syncs a disk, and returns the value that it holds with an open shelf. After `Ok` a crash
+    /// leaves that value.
+    ///
+    /// Fails with `Disk` if the device failed, and with `BadImage` if the disk holds no value.
+    /// Fails with `Memory` if the disk records a plausible length but there is no memory for the
+    /// image or the value. The disk is then dropped.
+    pub fn open<P: Persist>(alloc: Global, mut disk: D) -> Result<(Shelf<D>, P::Value), Refusal>
+    where
+        D: Drop,
+        P::Value: Drop,
+        ensures opened { IfOk result (λ r. IsReadAs P.reads (opened (D.seen disk)) r.1) }
+        ensures same { IfOk result (λ r. D.seen r.0.disk ≡ D.seen disk) }
+        ensures ready { IfOk result (λ r. r.0.ready ≡ true) }
+        ensures bad { IfErr result (λ e. e ≡ Refusal.BadImage →
+            (value : P.Value) → IsReadAs P.reads (opened (D.seen disk)) value → ⊥) }
+        ensures memory { IfErr result (λ e. e ≡ Refusal.Memory → SelectsLength (D.seen disk)) }
+        ensures quiet { IfOk result (λ r.
+            Unmoved D.seen D.may_leave D.moment D.left_since disk r.0.disk) }
+        ensures fine { IfOk result (λ r. D.faults r.0.disk ≡ D.faults disk) }
+
+        // The disk at the time when it was dropped.
+        ensures given_up { IfErr result (λ e. (d : D)
+            × Unmoved D.seen D.may_leave D.moment D.left_since disk d
+            × HasCause (D.faults disk) (D.faults d) (e ≡ Refusal.Disk)) }
+        ensures others { IfErr result (λ e. (e ≡ Refusal.Memory)
+            ⊎ ((e ≡ Refusal.BadImage) ⊎ (e ≡ Refusal.Disk))) }
+    {
+        let (in_b, value) = recall::<D, P>(alloc, &mut disk)?;
+        let shelf = Shelf {
+            alloc,
+            disk,
+            in_b,
+            ready: true,
+        };
+        Ok((shelf, value))
+    }
+
     /// An open shelf on a disk that [`read_value`] read, and on which nothing was written since.
     pub fn resume(alloc: Global, disk: D, selected: Selected) -> Shelf<D>
         requires { IsSettled D.seen D.may_leave disk selected.in_b }
@@ -238,8 +273,8 @@ impl<D: Disk> Shelf<D> {
     /// Opens the shelf again from its own disk: syncs it and returns the value that it holds. After
     /// `Ok` the shelf is open, and a crash leaves that value.
     ///
-    /// Fails as [`read_value`] does; the shelf is then closed. Its disk holds what it held, even
-    /// after a crash.
+    /// Fails as [`open`](Shelf::open) does; the shelf is then closed. Its disk holds what it held,
+    /// even after a crash.
     pub fn reopen<P: Persist>(&mut self) -> Result<P::Value, Refusal>
     where
         P::Value: Drop,
