@@ -8,11 +8,11 @@ ghost use Rattle.image.specs.Wholes.{saved_whole};
 ghost use Rattle.handles.specs.Images.{Imaged, Kept, SizedAs, counts_of, image_in, keeps, released};
 
 use super::LoneNode;
-use storage::{HEAD, Persist};
 use ids::Refusal;
 use node::{Core, Node};
 use replays::{Images, LoggedImages};
 use std::alloc::Global;
+use storage::{HEAD, Persist};
 use values::{Fault, put};
 
 /// What an image holds of the links between its node and one node.

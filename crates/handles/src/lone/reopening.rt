@@ -7,11 +7,11 @@ ghost use Rattle.replays.specs.Values.{IsAlone};
 ghost use Rattle.handles.specs.Batches.{IsStored, LogLeads, Reopened};
 
 use super::LoneNode;
-use storage::{HEAD, Persist, Replay};
 use ids::{GREATEST_IMAGE, Refusal};
 use node::Node;
 use replays::{Log, LoggedImages};
 use std::alloc::Global;
+use storage::{HEAD, Persist, Replay};
 use values::Fault;
 
 /// An image and batches are those of at most one node. The function does nothing; its contract
