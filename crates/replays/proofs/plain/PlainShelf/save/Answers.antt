@@ -4,9 +4,9 @@ use Rattle.ids.specs.declared.refusal.Refusal.{Refusal}
 use Rattle.ids.specs.declared.refusal.Refusal.TheVariants as refusal
 use Rattle.image.specs.Wholes.{IsWholeOf, saved_whole, whole_image}
 use Rattle.node.specs.Keeping.{WholeNode}
-use Rattle.disk.specs.Shelf.{opened}
+use Rattle.disk.specs.Shelf.{OldOrNew, opened}
 use Rattle.disk.proofs.Moments.{weaker}
-use Rattle.replays.specs.Plain.{StaysPlain}
+use Rattle.replays.specs.Plain.{KeepsEither, StaysPlain}
 use Rattle.replays.proofs.Stores.{either_kept, either_plain, failed_before, keeps_written, only_written, open_before}
 use Rattle.replays.proofs.plain.PlainShelf.save.Goals as goal
 
