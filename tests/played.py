@@ -2,6 +2,7 @@
 nodes on them reach, and programs that act at random. And what tests/run and tests/memory share: cases whose saves write
 events."""
 import random
+import re
 import subprocess
 from dataclasses import dataclass, field
 from pathlib import Path
@@ -15,7 +16,7 @@ SLOTS = 64
 # More turns than a worker takes in the time that a case has.
 TURNS = 1_000_000
 # Commands to a node that aren't events.
-VERBS = ("save", "take", "until", "pause")
+VERBS = ("save", "take", "until")
 # The label of the answers to Gets.
 ASKED = (1 << 32) - 1
 # The length of the content of each body in a frame, apart from its optional reference; and which bodies have one.
@@ -25,6 +26,9 @@ WITH_OPTIONAL = (4, 5)
 WITH_LOG = 3
 # More letters than wait at a node.
 MANY = 100_000
+# How many turns of each node it takes at most until nothing is in flight, and a cycle has been swept everywhere.
+ROUNDS = 400
+IMAGE = re.compile(r"4D52([0-9A-F]{2})+")
 
 
 class Wrong(Exception):
@@ -155,14 +159,15 @@ def area_of(folder: Path) -> tuple[bytes, list[bytes]]:
 
 
 def read_disk(folder: Path) -> Saved:
-    """The node on the disk in a folder. If a log follows its image, the node is saved whole first."""
+    """The node on the disk in a folder. If a log follows its image, `trials` performs it, and prints the node's image."""
     image, batches = area_of(folder)
     if batches:
-        lines = ["files", f"at {folder.name}", "open events", "kept", "save", "leave"]
+        lines = ["files", f"at {folder.name}", "opens"]
         ran = subprocess.run([PROGRAM], cwd=folder.parent, input="\n".join(lines), capture_output=True, text=True, timeout=60)
-        image, batches = area_of(folder)
-        if ran.stdout.split() != ["ok"] * 5 or batches:
-            raise Wrong(f"a node with a log couldn't be saved whole: {ran.stdout!r}")
+        printed = ran.stdout.split()
+        if len(printed) != 2 or not IMAGE.fullmatch(printed[1]):
+            raise Wrong(f"a node with a log couldn't be read: {ran.stdout!r}")
+        image = bytes.fromhex(printed[1])
     return read_image(image)
 
 
@@ -201,6 +206,11 @@ def ask(work: Path, lines: list[str], seconds: float) -> list[str]:
     if ran.returncode != 0 or ran.stderr:
         raise Wrong(f"status {ran.returncode}, the last lines are {printed[-3:]} {ran.stderr[:200]}")
     return printed
+
+
+def settled(nodes: int) -> list[str]:
+    """Takes turns on one thread, of one node after another, until nothing is in flight and nothing is left to do."""
+    return [f"turn {node} 1" for node in range(nodes)] * ROUNDS
 
 
 def line_for(node: int, command: str) -> str:

@@ -33,12 +33,11 @@ struct Place {
     stage: Stage,
 }
 
-// A worker waits at a place until some worker of a node has been at a stage; or, without these,
-// until the case lets it go on.
+// A worker waits at a place until some worker of a node has been at a stage.
 #[derive(Clone, Copy)]
 struct Hold {
     place: Place,
-    until: Option<(u8, Stage)>,
+    until: (u8, Stage),
 }
 
 // A worker ends at a place in this turn.
@@ -101,14 +100,10 @@ pub(crate) fn rule(rules: &mut Rules, line: &str) -> Result<(), CaseError> {
             place: place_of(line)?,
             turn: number(line, 4)?,
         })?,
-        _ => {
-            let until = match word(line, 5) {
-                Ok(stage) => Some((number(line, 4)?, stage_of(stage)?)),
-                Err(_) => None,
-            };
-            let place = place_of(line)?;
-            rules.holds.push(Hold { place, until })?;
-        }
+        _ => rules.holds.push(Hold {
+            place: place_of(line)?,
+            until: (number(line, 4)?, stage_of(word(line, 5)?)?),
+        })?,
     }
     Ok(())
 }
@@ -125,7 +120,6 @@ pub(crate) struct Ruled<R> {
     ended: Vec<AtomicU64>,
     // For each stage of each node, whether a worker was there.
     seen: Vec<AtomicBool>,
-    may_go: AtomicBool,
 }
 
 // How many stages a turn has.
@@ -173,7 +167,6 @@ impl<R> Ruled<R> {
             begun,
             ended,
             seen,
-            may_go: AtomicBool::new(false),
         })
     }
 
@@ -182,22 +175,6 @@ impl<R> Ruled<R> {
         match self.ended.get(usize::from(node)) {
             Some(ended) => ended.swap(0, Ordering::SeqCst),
             None => 0,
-        }
-    }
-
-    /// From now on, workers that wait for the case may continue.
-    pub(crate) fn go(&self) {
-        self.may_go.store(true, Ordering::SeqCst);
-    }
-
-    // The flag that says whether a worker that waits may continue.
-    fn flag(&self, hold: Hold) -> &AtomicBool {
-        match hold.until {
-            Some((node, stage)) => match self.seen.get(index(node, stage)) {
-                Some(seen) => seen,
-                None => &self.may_go,
-            },
-            None => &self.may_go,
         }
     }
 
@@ -258,8 +235,10 @@ impl<R: Clock + Wait> Gate for Ruled<R> {
         }
         let place = self.place(point);
         for hold in &self.rules.holds {
-            if hold.place == place {
-                await_flag(&self.rt, self.flag(*hold));
+            if hold.place == place
+                && let Some(flag) = self.seen.get(index(hold.until.0, hold.until.1))
+            {
+                await_flag(&self.rt, flag);
             }
         }
     }

@@ -3,8 +3,7 @@
 #![tactic(auto)]
 
 mod crashes;
-mod disks;
-mod folders;
+mod files;
 mod gates;
 mod lent;
 mod mailboxes;
@@ -13,16 +12,14 @@ mod once;
 mod openings;
 mod out;
 mod play;
-mod programs;
-mod raw;
 mod single;
 mod sizes;
 mod space;
+mod station;
 mod turns;
 mod words;
 
-use crate::disks::Bench;
-use crate::folders::Folders;
+use crate::files::InFiles;
 use crate::openings::Openings;
 use crate::out::Out;
 use crate::single::Single;
@@ -106,13 +103,9 @@ where
         None => return Ok(()),
     };
     match subject {
-        Subjects::Disk => {
-            let mut bench: Bench<MemoryDisk> = Bench::new(alloc);
-            words::play(rt, source, &mut bench, out)
-        }
         Subjects::Files => {
-            let bench = Bench::new(alloc);
-            words::play(rt, source, &mut Folders { rt, alloc, bench }, out)
+            let disk = None;
+            words::play(rt, source, &mut InFiles { rt, alloc, disk }, out)
         }
         Subjects::Opening => words::play(rt, source, &mut Openings::new(rt, alloc), out),
         Subjects::Wire => mailboxes::run(rt, alloc, source, out),
@@ -125,7 +118,6 @@ where
 // What a case is about.
 #[derive(Clone, Copy)]
 enum Subjects {
-    Disk,
     Files,
     Opening,
     Wire,
@@ -137,7 +129,6 @@ enum Subjects {
 impl Subjects {
     fn named(line: &str) -> Result<Subjects, CaseError> {
         match line {
-            "disk" => Ok(Subjects::Disk),
             "files" => Ok(Subjects::Files),
             "opening" => Ok(Subjects::Opening),
             "wire" => Ok(Subjects::Wire),

@@ -3,7 +3,7 @@ ghost use Rattle.std.specs.Prelude.{◌≡◌, false, is_some, IfOk};
 
 use crate::once::once;
 use crate::out::Out;
-use crate::sizes::{Size, blank_disks, config_of};
+use crate::sizes::{PAIR, Size, blank_disks, config_of};
 use crate::space::meet;
 use crate::words::{CaseError, number, verb};
 use disk::{Disk, FileDisk, MemoryDisk};
@@ -86,7 +86,10 @@ pub(crate) fn show<R>(rt: &R, alloc: Global, line: &str, out: &mut Out) -> Resul
 where
     R: Clock + Threads + Wait + Clone + Send + Sync + Drop + 'static,
 {
-    let size = Size::pair(number(line, 1)?);
+    let size = Size {
+        turns: number(line, 1)?,
+        ..PAIR
+    };
     let text = size.text(alloc)?;
     let disks = blank_disks(alloc, size.nodes)?;
     if verb(line) == "meet" {

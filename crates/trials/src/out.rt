@@ -79,11 +79,4 @@ impl Out {
             Err(_) => self.failed = true,
         }
     }
-
-    /// The lines of a program.
-    pub(crate) fn add(&mut self, other: &Out) {
-        if other.failed || self.text.push_str(other.text.as_str()).is_err() {
-            self.failed = true;
-        }
-    }
 }

@@ -4,10 +4,10 @@ ghost use Rattle.std.specs.Prelude.{◌≡◌, is_some};
 use crate::gates::{Ruled, Rules, pause, rule};
 use crate::making::{Made, opened, show};
 use crate::out::Out;
-use crate::programs::{Order, on_station, play_all, programs_of};
 use crate::sizes::Size;
 use crate::space::Open;
-use crate::words::{CaseError, Source, node_in, number, rest, saves_in, verb, word};
+use crate::station::on_station;
+use crate::words::{CaseError, Source, node_in, number, saves_in, verb, word};
 use cell::Shared;
 use disk::Disk;
 use ids::Refusal;
@@ -21,13 +21,6 @@ use std::time::{Clock, Duration};
 use std::{mem, thread};
 use supervisor::Space;
 use workers::{Report, turn_node};
-
-// More rounds of turns than it takes until nothing is in flight and a cycle has been swept
-// everywhere.
-const ROUNDS: u32 = 100_000;
-
-// More rounds without a message than a node needs to scan and sweep all its slots.
-const IDLE: u32 = 40;
 
 /// An open space, and whether its workers were started.
 #[derive(Drop)]
@@ -65,14 +58,6 @@ impl<D: Disk + Send + Drop + 'static> Opened<D> {
             Err(unrevived) => Err(unrevived.refusal()),
         }
     }
-
-    // The cycle on the board.
-    fn look(&mut self, out: &mut Out) {
-        match self.space.watch() {
-            Some(mut watch) => out.show(&self.space.look(&mut watch).number),
-            None => out.text("no watch is left"),
-        }
-    }
 }
 
 /// The space of a case, once it is open; its gate, once its workers were started; and the rules of
@@ -86,8 +71,6 @@ pub(crate) struct Play<'a, R, D: Disk> {
     opened: Option<Opened<D>>,
     gate: Option<Arc<Ruled<R>>>,
     rules: Rules,
-    // What the programs do.
-    orders: Vec<Order>,
 }
 
 /// Does what the lines of a case say. (`Play` is no `Subject`: what a method of a trait sends to a
@@ -110,7 +93,6 @@ where
         opened: None,
         gate: None,
         rules: Rules::new(alloc),
-        orders: Vec::new(alloc),
     };
     let done = play.take_all(source, out);
     drop(play);
@@ -145,8 +127,7 @@ where
             "start" | "revive" => self.work(line, out),
             "close" | "reports" | "ends" => self.close(verb(line), out),
             "leave" => self.leave(out),
-            "together" => self.together(out),
-            "ended" | "ended-and-revive" | "holders" | "go" => self.ask_gate(line, out),
+            "ended" | "ended-and-revive" | "holders" => self.ask_gate(line, out),
             _ => self.take_other(line, out),
         }
     }
@@ -154,7 +135,7 @@ where
     // Does what a line says that starts and ends nothing.
     fn take_other(&mut self, line: &str, out: &mut Out) -> Result<(), CaseError> {
         match verb(line) {
-            "hold" | "end" | "random" | "late" | "fail-once" | "program" => self.note(line, out),
+            "hold" | "end" | "random" | "late" | "fail-once" => self.note(line, out),
             "meet" | "once" => show(self.rt, self.alloc, line, out),
             _ => match &mut self.opened {
                 Some(opened) => on_space(self.rt, opened, line, out),
@@ -165,13 +146,10 @@ where
 
     // Notes what is to happen in the space that is opened next, or once workers are started.
     fn note(&mut self, line: &str, out: &mut Out) -> Result<(), CaseError> {
-        match verb(line) {
-            "fail-once" => self.failing.push((number(line, 1)?, number(line, 2)?))?,
-            "program" => {
-                self.orders.push(Order::of(self.alloc, rest(line))?)?;
-                return Ok(());
-            }
-            _ => rule(&mut self.rules, line)?,
+        if verb(line) == "fail-once" {
+            self.failing.push((number(line, 1)?, number(line, 2)?))?;
+        } else {
+            rule(&mut self.rules, line)?;
         }
         out.text("ok");
         Ok(())
@@ -230,18 +208,14 @@ where
         Ok(())
     }
 
-    // A command to the gate: how many workers of a node it has ended since this was asked last, and
-    // whether the last one is to be revived; how many hold it; or that a worker may go on.
+    // A question to the gate: how many workers of a node it has ended since this was asked last, and
+    // whether the last one is to be revived; or how many hold it.
     fn ask_gate(&mut self, line: &str, out: &mut Out) -> Result<(), CaseError> {
         let Some(gate) = &self.gate else {
             return Err(CaseError::Unknown);
         };
         match verb(line) {
             "holders" => out.show(&Arc::strong_count(gate)),
-            "go" => {
-                gate.go();
-                out.text("ok");
-            }
             "ended" => out.show(&gate.take_ended(number(line, 1)?)),
             _ => {
                 let node = number(line, 1)?;
@@ -289,21 +263,6 @@ where
         out.text("ok");
         Ok(())
     }
-
-    // The programs of the nodes do what the lines `program ..` said, each in its own thread. The
-    // answers are printed by node.
-    fn together(&mut self, out: &mut Out) -> Result<(), CaseError> {
-        let Some(opened) = &self.opened else {
-            return Err(CaseError::Unknown);
-        };
-        let mut programs = programs_of(self.alloc, &opened.space, opened.nodes)?;
-        play_all(self.rt, &self.orders, &mut programs);
-        for program in &programs {
-            program.put(out)?;
-        }
-        drop(programs);
-        Ok(())
-    }
 }
 
 fn put_reports(reports: &[Report], out: &mut Out) {
@@ -338,14 +297,13 @@ where
     D: Disk + Send + Drop + 'static,
 {
     match verb(line) {
-        "look" => opened.look(out),
+        "look" => match opened.space.watch() {
+            Some(mut watch) => out.show(&opened.space.look(&mut watch).number),
+            None => out.text("no watch is left"),
+        },
         "over" => out.debug(&opened.space.ended().is_some()),
         "wait" => {
             await_end(rt, &opened.space);
-            out.text("ok");
-        }
-        "settle" => {
-            turn_all(rt, &opened.space, opened.nodes);
             out.text("ok");
         }
         "sleep" => thread::sleep(rt, Duration::from_micros(number(line, 1)?)),
@@ -369,8 +327,9 @@ where
             turn_often(rt, cell, node, opened.nodes, number(line, 2)?);
             out.text("ok");
         }
-        "trace" => put_trace(rt, cell, false, out),
-        "last" => put_trace(rt, cell, true, out),
+        "trace" => put_trace(rt, cell, out),
+        "send" => out.answer(cell.pump_out(rt, number(line, 2)?)),
+        "receive" => out.answer(cell.pump_in(rt, number(line, 2)?)),
         _ => return on_cell(rt, cell, line, out),
     }
     Ok(())
@@ -394,23 +353,16 @@ fn on_cell<R: Clock + Wait, D: Disk>(
             Err(refusal) => out.refused(refusal),
         },
         "unsaved" => out.debug(&cell.unsaved(rt)),
-        "send" => out.answer(cell.pump_out(rt, number(line, 2)?)),
-        "receive" => out.answer(cell.pump_in(rt, number(line, 2)?)),
         _ => return on_station(rt, cell, line, out),
     }
     Ok(())
 }
 
-// The lines of the trace, or the last one alone.
-fn put_trace<R: Wait, D: Disk>(rt: &R, cell: &Shared<D>, is_last: bool, out: &mut Out) {
+// The lines of the trace.
+fn put_trace<R: Wait, D: Disk>(rt: &R, cell: &Shared<D>, out: &mut Out) {
     match cell.trace_lines(rt) {
         Ok(lines) => {
-            let skipped = if is_last {
-                lines.len().saturating_sub(1)
-            } else {
-                0
-            };
-            for line in lines.iter().skip(skipped) {
+            for line in &lines {
                 out.text(line.as_str());
             }
         }
@@ -432,35 +384,5 @@ fn await_end<R: Clock + Wait, D: Disk + Drop>(rt: &R, space: &Space<D>) {
 fn turn_often<R: Wait, D: Disk>(rt: &R, cell: &Shared<D>, node: u8, nodes: u8, turns: u32) {
     for turn in 0..turns {
         drop(turn_node(rt, cell, &Open, node, nodes, turn));
-    }
-}
-
-// Takes a turn for each node; how many messages were received.
-fn turn_each<R: Wait, D: Disk + Drop>(rt: &R, space: &Space<D>, nodes: u8) -> u32 {
-    let mut received = 0u32;
-    for node in 0..nodes {
-        if let Some(cell) = space.program(node) {
-            let turn = turn_node(rt, cell, &Open, node, nodes, 1);
-            received = received.saturating_add(u32::from(turn.received));
-            drop(turn);
-        }
-    }
-    received
-}
-
-// Takes turns for each node of a space without workers, one after another, until nothing is in
-// flight and nothing is left to do.
-fn turn_all<R: Wait, D: Disk + Drop>(rt: &R, space: &Space<D>, nodes: u8) {
-    let mut idle = 0u32;
-    for _ in 0..ROUNDS {
-        if idle >= IDLE {
-            return;
-        }
-        let received = turn_each(rt, space, nodes);
-        idle = if received == 0 {
-            idle.saturating_add(1)
-        } else {
-            0
-        };
     }
 }

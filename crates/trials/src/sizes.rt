@@ -15,18 +15,16 @@ pub(crate) struct Size {
     pub saves: Saves,
 }
 
-impl Size {
-    /// Two nodes with three registers and eight slots each.
-    pub(crate) fn pair(turns: u32) -> Size {
-        Size {
-            nodes: 2,
-            registers: 3,
-            slots: 8,
-            turns,
-            saves: Saves::Images,
-        }
-    }
+/// Two nodes with three registers and eight slots each.
+pub(crate) const PAIR: Size = Size {
+    nodes: 2,
+    registers: 3,
+    slots: 8,
+    turns: 1,
+    saves: Saves::Images,
+};
 
+impl Size {
     /// The text of a configuration of this size, without a folder.
     pub(crate) fn text(self, alloc: Global) -> Result<String, AllocError> {
         let Size {
