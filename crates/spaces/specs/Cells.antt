@@ -21,6 +21,7 @@ use Rattle.wire.specs.Views.{raises}
 use Rattle.cell.specs.Cells.{GoesOn}
 use Rattle.cell.specs.Disks.{is_same_node, HoldsSaved}
 use Rattle.cell.specs.Pumping.{PumpedIn}
+use Rattle.wire.specs.Entering.{Entered}
 use Rattle.wire.specs.Sending.{frame_due, places_after, IsSent}
 use Rattle.wire.specs.declared.pumped.Inbound.{Inbound}
 use Rattle.wire.specs.declared.pumped.Inbound.TheVariants as inbound
@@ -155,7 +156,7 @@ pub record SavedAs (old new : SeatedCell) (r : Result (Unit {0}) Refusal) : Type
     trace = new.cell.trace;
   })
   pub knows : OnOk r (known new.cell.seat ≡ events.saved_by (known old.cell.seat))
-  pub entered : OnOk r (events.Entered (step.Save (known old.cell.seat).me)
+  pub entered : OnOk r (Entered (step.Save (known old.cell.seat).me)
       (known old.cell.seat) (known new.cell.seat))
   pub same : IsSame old.cell.seat new.cell.seat
   pub refused : OnErr r (new.cell ≡ record old.cell {
@@ -201,7 +202,7 @@ pub record ReopenedAs (old new : SeatedCell) (r : Result (Unit {0}) Refusal) : T
   pub knows : OnOk r (known new.cell.seat
       ≡ events.reopened_by (is_same_node new.cell.node.core old.cell.saved)
       (known old.cell.seat))
-  pub entered : OnOk r (events.Entered
+  pub entered : OnOk r (Entered
       (events.found_step (is_same_node new.cell.node.core old.cell.saved)
       (known old.cell.seat).me) (known old.cell.seat) (known new.cell.seat))
   pub restarted : OnOk r (IsTrue old.cell.is_open
