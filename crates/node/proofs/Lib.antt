@@ -20,4 +20,5 @@ mod Listed
 pub mod Restorable
 pub mod Rings
 pub mod Held
+mod Nothing
 pub mod Kept

@@ -7,8 +7,8 @@
 //! nothing yet, and this is how the token learns that. What was asked for in an earlier cycle no
 //! longer counts. Registers and letters are all that a program holds, and they are shaded; a letter
 //! that isn't accepted yet is as good as a register.
-ghost use Rattle.std.specs.Prelude.{◌≡◌, ◌<◌, ◌≤◌, true, [], ◌++◌, cond, length, map, IfOk, IfErr, OnOk, OnErr};
-ghost use Rattle.std.specs.List.{AllByRecursion};
+ghost use Rattle.std.specs.Prelude.{◌≡◌, ◌<◌, ◌≤◌, true, [], ◌++◌, cond, is_none, length, map, IfOk, IfErr, OnOk, OnErr};
+ghost use Rattle.std.specs.List.{AllByRecursion, list_all};
 ghost use Rattle.ids.specs.declared.limits.TheConstants.{
   GREATEST_NODES,
   GREATEST_PLACES,
@@ -16,11 +16,12 @@ ghost use Rattle.ids.specs.declared.limits.TheConstants.{
 };
 ghost use Rattle.model.specs.Effects.{then};
 ghost use Rattle.model.specs.References.{IsWithin};
-ghost use Rattle.model.specs.Shading.{filled, join, marks_for, roots, unasked};
+ghost use Rattle.heap.specs.Heap.{Became};
+ghost use Rattle.model.specs.Shading.{filled, join, make_all_grey, marks_for, roots, unasked};
 ghost use Rattle.model.specs.Steps.{fits};
 ghost use Rattle.model.specs.View.{used};
 ghost use Rattle.link.specs.Links.{IsLinks};
-ghost use Rattle.barrier.specs.Asked.{AreSent, IsRefused, all_appended};
+ghost use Rattle.barrier.specs.Asked.{AreSent, IsAsked, IsRefused, all_appended};
 ghost use Rattle.node.specs.Errands.{HasEnds, IsFit, MayJoin, Runs, errand_here, extra_sends};
 
 use super::Core;
@@ -77,7 +78,7 @@ impl Core {
             extra,
         )?;
         // From here on nothing can fail.
-        self.heap.shade_roots(own, cycle);
+        shade_held(&mut self.heap, own, cycle);
         mark(&mut self.heap, own, cycle, references, extra);
         self.asked = asked;
         self.phases.join(cycle);
@@ -138,7 +139,7 @@ fn send_joining(
     ensures unchanged { OnErr result (links.new ≡ links.old) }
     ensures sound { OnOk result (IsLinks links.new) }
 {
-    let mut asked = ask_for_roots(alloc, heap, links, own, cycle)?;
+    let mut asked = ask_for_held(alloc, heap, links, own, cycle)?;
     let roots = asked.len();
     match send_out(&mut asked, links, own, cycle, due, references, extra) {
         Ok(marks) => Ok(Sought {
@@ -151,4 +152,63 @@ fn send_joining(
             Err(refusal)
         }
     }
+}
+
+// Whether all are empty. (It looks at all of them, because a test after each takes longer.)
+fn are_empty(registers: &[Option<Ref>]) -> bool
+    ensures { result ≡ list_all is_none registers.now }
+{
+    let mut empty = true;
+    for register in registers {
+        empty = empty & register.is_none();
+    }
+    empty
+}
+
+/// Whether a program holds no reference, and no letter waits for it. Most joins of a node that is
+/// idle are such.
+#[tactic(auto, using(crate::proofs::Nothing::nothing_held))]
+fn holds_nothing(heap: &Heap) -> bool
+    ensures { result ≡ true → filled (roots heap.now.heap) ≡ [] }
+{
+    heap.letters() == 0 && are_empty(heap.registers())
+}
+
+/// Shades what the program holds, as [`Heap::shade_roots`] does.
+fn shade_held(heap: &mut Heap, own: u8, cycle: u64)
+    requires { length (roots heap.old.heap) ≤ heap.old.room }
+    ensures { Became heap.old heap.new
+        (make_all_grey own cycle heap.old.heap (filled (roots heap.old.heap)))
+        (length (roots heap.old.heap)) }
+{
+    if !holds_nothing(heap) {
+        heap.shade_roots(own, cycle);
+    }
+}
+
+/// Asks for what the program holds, as [`ask_for_roots`] does.
+fn ask_for_held(
+    alloc: Global,
+    heap: &Heap,
+    links: &mut Links,
+    own: u8,
+    cycle: u64,
+) -> Result<RefSet, Refusal>
+    requires nodes { AllByRecursion (λ r. r.node < length links.old.links)
+        (filled (roots heap.now.heap)) }
+    requires sound { IsLinks links.old }
+    ensures done { let new = unasked own [] (filled (roots heap.now.heap)) in
+        IfOk result (λ asked. IsAsked [] new cycle links.old asked.keys links.new) }
+    ensures few { length links.old.links ≤ GREATEST_NODES →
+        IfOk result (λ asked. length asked.keys ≤ GREATEST_SENT) }
+    ensures refused { let new = unasked own [] (filled (roots heap.now.heap)) in
+        IfErr result (IsRefused links.old (marks_for cycle new)) }
+    ensures unchanged { OnErr result (links.new ≡ links.old) }
+    ensures width { length links.new.links ≡ length links.old.links }
+    ensures sound { OnOk result (IsLinks links.new) }
+{
+    if holds_nothing(heap) {
+        return Ok(RefSet::new(alloc));
+    }
+    ask_for_roots(alloc, heap, links, own, cycle)
 }

@@ -120,7 +120,7 @@ done c =
     (record {
       heap = c.mark.ensures.heap
           ∙ ap (λ (h : Heap). with_extra x (make_all_grey n.local.own cycle (listed x h) rs))
-          c.shade_roots.ensures.heap;
+          c.shade_held.ensures.heap;
       keys = told.keys;
       ring = c.count.ensures
           ∙ ap (extra_ring cycle x)
@@ -223,7 +223,7 @@ invariant_of-self-2 c =
           (done here.After-count) (ready here.After-count-arg-1)
           (rw (← c.self.view_is) at c.requires.extra)
           c.in_ok-asked.ensures.sound);
-      limit = c.mark.ensures.limit ∙ c.shade_roots.ensures.limit
+      limit = c.mark.ensures.limit ∙ c.shade_held.ensures.limit
           ∙ c.make_room.ensures.same.limit ∙ c.self.invariant.limit;
     }
 
