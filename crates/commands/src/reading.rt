@@ -2,11 +2,10 @@
 //! of this module make it.
 ghost use Rattle.std.specs.Prelude.{◌≡◌, IfOk, IfSome, IsTrue, string_bytes, ◌↔◌};
 
-use simdutf8::is_utf8;
 use std::alloc::Global;
-use std::fs;
 use std::io::{ErrorKind, Read};
 use std::rt::Files;
+use std::{fs, io};
 
 /// Shows that a text couldn't be read.
 #[derive(Clone, Copy, Debug)]
@@ -29,18 +28,10 @@ pub fn read_text<R: Read + Drop>(alloc: Global, reader: R) -> Result<String, Unr
     ensures { IfOk result (λ text.
         IfSome (R.remaining reader) (λ bytes. string_bytes text ≡ bytes)) }
 {
-    let mut reader = reader;
-    let mut bytes = Vec::new(alloc);
-    if let Err(error) = reader.read_to_end(&mut bytes) {
-        return Err(Unread { kind: error.kind() });
+    match io::read_to_string(alloc, reader) {
+        Ok(text) => Ok(text),
+        Err(error) => Err(Unread { kind: error.kind() }),
     }
-    if !is_utf8(&bytes) {
-        return Err(Unread {
-            kind: ErrorKind::InvalidData,
-        });
-    }
-    // (The test of std, which needs no `unsafe`, takes many times as long.)
-    Ok(unsafe { String::from_utf8_unchecked(bytes) })
 }
 
 /// The text of a file. It fails as [`read_text`] does, and if the file can't be opened.

@@ -83,20 +83,10 @@ fn add_few(piece: &mut Piece, registers: &[Option<Ref>])
     }
 }
 
-// Whether all are empty. (The first is most often in use if any is. The others are looked at
-// together, because a test after each takes longer.)
-#[inline(always)]
 fn all_empty(registers: &[Option<Ref>]) -> bool
     ensures { result ≡ list_all is_none registers.now }
 {
-    if let [Some(_), ..] = registers {
-        return false;
-    }
-    let mut empty = true;
-    for register in registers {
-        empty = empty & register.is_none();
-    }
-    empty
+    registers.iter().all(|register| register.is_none())
 }
 
 #[tactic(auto, using(crate::proofs::Joins::piece_written))]

@@ -191,14 +191,13 @@ module _ (node : ℕ) {text verb rest : List ℕ} (cut : IsCut text verb rest) w
   unfolding node_line_of
   read_three a b c e = node_read e
 
-same : (a b : List ℕ) → true ≡ bytes_eq a b → a ≡ b
-same a b is = (bytes_eq-Decides a b).0 (sym is)
-
 -- a line that asks for a save
 pub read_save : (node : ℕ) (text : List ℕ) → true ≡ bytes_eq text (codes "save")
     → Some (line.Step (step.Save node)) ≡ node_line_of node (words_of text)
 unfolding node_line_of alone words_of
-read_save node text is = sym (ap (λ t. node_line_of node (words_of t)) (same text (codes "save") is))
+read_save node text is =
+    sym (ap (λ t. node_line_of node (words_of t))
+    ((bytes_eq-Decides text (codes "save")).0 (sym is)))
 
 -- ---- by the first byte
 
@@ -244,36 +243,35 @@ module _ {text first rest : List ℕ} (cut : IsCommand text first rest) where
       sym (command_told ∙ ap (option_and_then (λ o. command_of first (spelled o))) (sym e))
 
 -- by that word
-pub of_space : (vs : List (List ℕ)) (first : List ℕ) → true ≡ bytes_eq first (codes "space")
+pub of_space : (vs : List (List ℕ)) (first : List ℕ) → first ≡ codes "space"
     → space_of vs ≡ command_of first vs
 unfolding command_of
-of_space vs first is = sym (ap (λ f. command_of f vs) (same first (codes "space") is))
+of_space vs first is = sym (ap (λ f. command_of f vs) is)
 
-pub of_delivery : (vs : List (List ℕ)) (first : List ℕ) → true ≡ bytes_eq first (codes "deliver")
+pub of_delivery : (vs : List (List ℕ)) (first : List ℕ) → first ≡ codes "deliver"
     → stepped (delivery_of vs) ≡ command_of first vs
 unfolding command_of
-of_delivery vs first is = sym (ap (λ f. command_of f vs) (same first (codes "deliver") is))
+of_delivery vs first is = sym (ap (λ f. command_of f vs) is)
 
-pub of_hand : (vs : List (List ℕ)) (first : List ℕ) → true ≡ bytes_eq first (codes "ack")
+pub of_hand : (vs : List (List ℕ)) (first : List ℕ) → first ≡ codes "ack"
     → stepped (hand_of vs) ≡ command_of first vs
 unfolding command_of
-of_hand vs first is = sym (ap (λ f. command_of f vs) (same first (codes "ack") is))
+of_hand vs first is = sym (ap (λ f. command_of f vs) is)
 
-pub of_report : (vs : List (List ℕ)) (first : List ℕ) → true ≡ bytes_eq first (codes "report")
+pub of_report : (vs : List (List ℕ)) (first : List ℕ) → first ≡ codes "report"
     → report_of vs ≡ command_of first vs
 unfolding command_of
-of_report vs first is = sym (ap (λ f. command_of f vs) (same first (codes "report") is))
+of_report vs first is = sym (ap (λ f. command_of f vs) is)
 
 pub of_none : (vs : List (List ℕ)) (first : List ℕ) → u8_of first ≡ None
-    → false ≡ bytes_eq first (codes "space") → false ≡ bytes_eq first (codes "deliver")
-    → false ≡ bytes_eq first (codes "ack") → false ≡ bytes_eq first (codes "report")
-    → None ≡ command_of first vs
+    → (first ≡ codes "space" → ⊥) → (first ≡ codes "deliver" → ⊥) → (first ≡ codes "ack" → ⊥)
+    → (first ≡ codes "report" → ⊥) → None ≡ command_of first vs
 unfolding command_of
 of_none vs first no_number no_space no_deliver no_ack no_report =
-    sym (cond-false _ _ _ (sym no_space)
-    ∙ cond-false _ _ _ (sym no_deliver)
-    ∙ cond-false _ _ _ (sym no_ack)
-    ∙ cond-false _ _ _ (sym no_report)
+    sym (cond-false _ _ _ (different first (codes "space") no_space)
+    ∙ cond-false _ _ _ (different first (codes "deliver") no_deliver)
+    ∙ cond-false _ _ _ (different first (codes "ack") no_ack)
+    ∙ cond-false _ _ _ (different first (codes "report") no_report)
     ∙ ap (option_and_then (λ node. node_line_of node vs)) no_number)
 
 -- a digit begins a node's number

@@ -6,7 +6,6 @@ ghost use Rattle.model.specs.declared.event.Event.TheVariants as event;
 ghost use Rattle.lines.specs.Grammar.{acted, alone, of_two, of_three, u8_of, u16_of, u32_of, u64_of, with_none, with_one, with_two, with_three};
 ghost use Rattle.lines.specs.Operands.{read};
 
-use crate::front::is_word;
 use crate::line::Line;
 use crate::operands::{to_u8, to_u16, to_u32};
 use model::{Event, Step};
@@ -16,16 +15,12 @@ use model::{Event, Step};
 pub(crate) fn alone(line: &mut Line, node: u8, verb: &str) -> Option<()>
     ensures { read result line.new ≡ alone node verb.now }
 {
-    if is_word(verb, "save") {
-        return say(line, Line::Step(Step::Save(node)));
+    match verb {
+        "save" => say(line, Line::Step(Step::Save(node))),
+        "restart" => say(line, Line::Step(Step::Restart(node))),
+        "state" => say(line, Line::State(node)),
+        verb => with_none(line, node, verb),
     }
-    if is_word(verb, "restart") {
-        return say(line, Line::Step(Step::Restart(node)));
-    }
-    if is_word(verb, "state") {
-        return say(line, Line::State(node));
-    }
-    with_none(line, node, verb)
 }
 
 /// Sets the line to this.
@@ -51,16 +46,12 @@ fn act(line: &mut Line, node: u8, event: Event) -> Option<()>
 fn with_none(line: &mut Line, node: u8, verb: &str) -> Option<()>
     ensures { read result line.new ≡ acted node (with_none verb.now) }
 {
-    if is_word(verb, "begin") {
-        return act(line, node, Event::Begin);
+    match verb {
+        "begin" => act(line, node, Event::Begin),
+        "scan" => act(line, node, Event::Scan),
+        "pass" => act(line, node, Event::Pass),
+        _ => None,
     }
-    if is_word(verb, "scan") {
-        return act(line, node, Event::Scan);
-    }
-    if is_word(verb, "pass") {
-        return act(line, node, Event::Pass);
-    }
-    None
 }
 
 /// The meaning of a verb with one operand.
@@ -68,22 +59,14 @@ fn with_none(line: &mut Line, node: u8, verb: &str) -> Option<()>
 pub(crate) fn with_one(line: &mut Line, node: u8, verb: &str, a: u64) -> Option<()>
     ensures { read result line.new ≡ acted node (with_one verb.now (decimal a)) }
 {
-    if is_word(verb, "drop") {
-        return drop(line, node, a);
+    match verb {
+        "drop" => drop(line, node, a),
+        "accept" => accept(line, node, a),
+        "word" => word(line, node, a),
+        "sweep" => sweep(line, node, a),
+        "next" => next(line, node, a),
+        _ => None,
     }
-    if is_word(verb, "accept") {
-        return accept(line, node, a);
-    }
-    if is_word(verb, "word") {
-        return word(line, node, a);
-    }
-    if is_word(verb, "sweep") {
-        return sweep(line, node, a);
-    }
-    if is_word(verb, "next") {
-        return next(line, node, a);
-    }
-    None
 }
 
 fn drop(line: &mut Line, node: u8, register: u64) -> Option<()>
@@ -131,19 +114,13 @@ fn next(line: &mut Line, node: u8, from: u64) -> Option<()>
 pub(crate) fn with_two(line: &mut Line, node: u8, verb: &str, a: u64, b: u64) -> Option<()>
     ensures { read result line.new ≡ acted node (with_two verb.now (decimal a) (decimal b)) }
 {
-    if is_word(verb, "alloc") {
-        return alloc(line, node, a, b);
+    match verb {
+        "alloc" => alloc(line, node, a, b),
+        "copy" => copy(line, node, a, b),
+        "clear" => clear(line, node, a, b),
+        "setword" => set_word(line, node, a, b),
+        _ => None,
     }
-    if is_word(verb, "copy") {
-        return copy(line, node, a, b);
-    }
-    if is_word(verb, "clear") {
-        return clear(line, node, a, b);
-    }
-    if is_word(verb, "setword") {
-        return set_word(line, node, a, b);
-    }
-    None
 }
 
 fn alloc(line: &mut Line, node: u8, register: u64, places: u64) -> Option<()>
@@ -192,22 +169,14 @@ pub(crate) fn with_three(
     ensures { read result line.new
         ≡ acted node (with_three verb.now (decimal a) (decimal b) (decimal c)) }
 {
-    if is_word(verb, "give") {
-        return give(line, node, a, b, c);
+    match verb {
+        "give" => give(line, node, a, b, c),
+        "load" => load(line, node, a, b, c),
+        "store" => store(line, node, a, b, c),
+        "put" => put(line, node, a, b, c),
+        "get" => get(line, node, a, b, c),
+        _ => None,
     }
-    if is_word(verb, "load") {
-        return load(line, node, a, b, c);
-    }
-    if is_word(verb, "store") {
-        return store(line, node, a, b, c);
-    }
-    if is_word(verb, "put") {
-        return put(line, node, a, b, c);
-    }
-    if is_word(verb, "get") {
-        return get(line, node, a, b, c);
-    }
-    None
 }
 
 fn give(line: &mut Line, node: u8, to: u64, label: u64, register: u64) -> Option<()>

@@ -125,19 +125,13 @@ fn any_command(line: &mut Line, text: &str) -> Option<()>
 {
     let (first, text) = first_word(text);
     let operands = Operands::read(text)?;
-    if is_word(first, "deliver") {
-        return delivery(line, operands);
+    match first {
+        "space" => space(line, operands),
+        "deliver" => delivery(line, operands),
+        "ack" => hand(line, operands),
+        "report" => report(line, operands),
+        _ => None,
     }
-    if is_word(first, "ack") {
-        return hand(line, operands);
-    }
-    if is_word(first, "space") {
-        return space(line, operands);
-    }
-    if is_word(first, "report") {
-        return report(line, operands);
-    }
-    None
 }
 
 #[tactic(auto, unfolding(crate::specs::Grammar::space_of))]

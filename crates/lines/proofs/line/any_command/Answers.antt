@@ -22,38 +22,34 @@ returns-in_err-operands c =
     ∙ command_read (cut (goal.at.returns-in_err-operands c).After-first_word)
     c.in_err-operands.ensures
 
-pub returns-then-is_word : goal.returns-then-is_word
-returns-then-is_word c =
-    c.delivery.ensures
-    ∙ of_delivery (spelled c.in_ok-operands.operands) c.first_word.result.0.now (c.if-is_word.ensures)
-    ∙ command_read (cut (goal.at.returns-then-is_word c).After-first_word)
-    c.in_ok-operands.ensures
-
-pub returns-then-is_word-2 : goal.returns-then-is_word-2
-returns-then-is_word-2 c =
-    c.hand.ensures
-    ∙ of_hand (spelled c.in_ok-operands.operands) c.first_word.result.0.now (c.if-is_word-2.ensures)
-    ∙ command_read (cut (goal.at.returns-then-is_word-2 c).After-first_word)
-    c.in_ok-operands.ensures
-
-pub returns-then-is_word-3 : goal.returns-then-is_word-3
-returns-then-is_word-3 c =
+pub returns-in-space : goal.returns-in-space
+returns-in-space c =
     c.space.ensures
-    ∙ of_space (spelled c.in_ok-operands.operands) c.first_word.result.0.now (c.if-is_word-3.ensures)
-    ∙ command_read (cut (goal.at.returns-then-is_word-3 c).After-first_word)
-    c.in_ok-operands.ensures
+    ∙ of_space (spelled c.in_ok-operands.operands) c.first_word.result.0.now c.in-space.is
+    ∙ command_read (cut (goal.at.returns-in-space c).After-first_word) c.in_ok-operands.ensures
 
-pub returns-then-is_word-4 : goal.returns-then-is_word-4
-returns-then-is_word-4 c =
+pub returns-in-deliver : goal.returns-in-deliver
+returns-in-deliver c =
+    c.delivery.ensures
+    ∙ of_delivery (spelled c.in_ok-operands.operands) c.first_word.result.0.now c.in-deliver.is
+    ∙ command_read (cut (goal.at.returns-in-deliver c).After-first_word) c.in_ok-operands.ensures
+
+pub returns-in-ack : goal.returns-in-ack
+returns-in-ack c =
+    c.hand.ensures
+    ∙ of_hand (spelled c.in_ok-operands.operands) c.first_word.result.0.now c.in-ack.is
+    ∙ command_read (cut (goal.at.returns-in-ack c).After-first_word) c.in_ok-operands.ensures
+
+pub returns-in-report : goal.returns-in-report
+returns-in-report c =
     c.report.ensures
-    ∙ of_report (spelled c.in_ok-operands.operands) c.first_word.result.0.now (c.if-is_word-4.ensures)
-    ∙ command_read (cut (goal.at.returns-then-is_word-4 c).After-first_word)
-    c.in_ok-operands.ensures
+    ∙ of_report (spelled c.in_ok-operands.operands) c.first_word.result.0.now c.in-report.is
+    ∙ command_read (cut (goal.at.returns-in-report c).After-first_word) c.in_ok-operands.ensures
 
-pub returns : goal.returns
-returns c =
-    let at = goal.at.returns c in
+pub returns-in_default : goal.returns-in_default
+returns-in_default c =
+    let at = goal.at.returns-in_default c in
     of_none (spelled c.in_ok-operands.operands) c.first_word.result.0.now
-    (no_node at.After-first_word) (c.if-is_word-3.ensures) (c.if-is_word.ensures)
-    (c.if-is_word-2.ensures) (c.if-is_word-4.ensures)
+    (no_node at.After-first_word) c.in_default.not-space c.in_default.not-deliver
+    c.in_default.not-ack c.in_default.not-report
     ∙ command_read (cut at.After-first_word) c.in_ok-operands.ensures
