@@ -8,7 +8,7 @@ ghost use Rattle.disk.specs.Crashes.{Follows, Reaches, Only, Elapses, HasCause};
 use ids::Refusal;
 
 /// One of the three areas of a disk. Each holds bytes, at first none.
-#[derive(Clone, Copy, PartialEq, Eq)]
+#[derive(Clone, Copy, Debug, PartialEq, Eq)]
 pub enum Area {
     /// The selector: its first byte says which of the other two areas counts.
     Select,
@@ -17,7 +17,7 @@ pub enum Area {
 }
 
 /// Why a call of a disk failed.
-#[derive(Clone, Copy)]
+#[derive(Clone, Copy, Debug, PartialEq, Eq)]
 pub enum DiskFault {
     /// The device failed.
     Device,
