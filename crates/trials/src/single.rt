@@ -1,5 +1,6 @@
-//! Commands that keep nothing from one line to the next: runs of a worker, and a collection in one
-//! thread.
+//! Commands that keep nothing from one line to the next: runs of a worker, a collection in one
+//! thread, and the steps of a mailbox.
+use crate::mailboxes::mailbox;
 use crate::out::Out;
 use crate::turns::run;
 use crate::words::{CaseError, Subject, verb};
@@ -22,6 +23,11 @@ impl<R: Wait> Subject for Single<'_, R> {
             "run" | "stopped" => run(self.rt, line, out),
             "collect" => {
                 out.answer(collect(self.alloc));
+                Ok(())
+            }
+            "mailbox" => {
+                let done = mailbox(self.alloc, out);
+                out.done(done);
                 Ok(())
             }
             _ => Err(CaseError::Unknown),
