@@ -190,12 +190,13 @@ static void stores(void)
     HOLDS(most > 10);
 }
 
-int main(void)
+// collect [NODES]: the nodes of the largest ring, 64 without a word.
+int main(int argc, char **argv)
 {
     rings(2);
     rings(3);
     rings(7);
-    rings(MOST);
+    rings(argc > 1 ? (uint8_t)atoi(argv[1]) : MOST);
     windows();
     half_a_cycle();
     stores();

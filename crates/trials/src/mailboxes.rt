@@ -1,5 +1,5 @@
 //! The steps of a wire between two new nodes, on which node 0 sends an acknowledgement of no
-//! messages. A case can look at a mailbox while it is being filled or emptied.
+//! messages. Each node looks at the mailbox while the other one fills or empties it.
 ghost use Rattle.std.specs.Prelude.{◌≡◌, ℕ, Some, length, slice_get, IfOk};
 ghost use Rattle.msg.specs.Grammar.{ack_frame};
 ghost use Rattle.node.specs.Keeping.{WholeNode, new_whole};
@@ -8,91 +8,50 @@ ghost use Rattle.wire.specs.Readers.{width, seat_node, IsSeatOf, IsSame};
 ghost use Rattle.trials.specs.Cells.{AreSeated};
 
 use crate::out::Out;
-use crate::words::{CaseError, Source, Subject, play};
 use ids::{NodeId, Refusal, Shape};
 use msg::{Ack, Frame, encode};
 use node::Node;
 use std::alloc::Global;
-use std::io::BufRead;
-use std::sync::Wait;
 use wire::{NodeSeat, Wire};
 
-/// A wire between two new nodes, and their seats.
-#[derive(Drop)]
-struct Joined {
+/// Node 0 fills a mailbox and node 1 empties it, and meanwhile each of them tries what the other
+/// one does.
+pub(crate) fn mailbox(alloc: Global, out: &mut Out) -> Result<(), Refusal> {
+    let Some(shape) = Shape::new(2, 1, 1) else {
+        return Err(Refusal::NoNode);
+    };
+    let (wire, mut seats) = new_wire(alloc, shape)?;
+    let mut first = seats.remove(0);
+    let mut second = seats.remove(0);
+    drop(seats);
+    let done = steps(&wire, alloc, &mut first, &mut second, out);
+    drop(first);
+    drop(second);
+    drop(wire);
+    done
+}
+
+// The steps: the mailbox is filled, is full, is emptied, is empty, and is used again.
+fn steps(
+    wire: &Wire,
     alloc: Global,
-    wire: Wire,
-    first: NodeSeat,
-    second: NodeSeat,
-    ghost two: { width wire ≡ 2 },
-    ghost one: { IsSeatOf wire first × (seat_node first ≡ 0) },
-    ghost other: { IsSeatOf wire second × (seat_node second ≡ 1) },
-}
-
-impl Joined {
-    fn new(alloc: Global) -> Result<Joined, Refusal> {
-        let Some(shape) = Shape::new(2, 1, 1) else {
-            return Err(Refusal::NoNode);
-        };
-        let (wire, mut seats) = new_wire(alloc, shape)?;
-        let first = seats.remove(0);
-        let second = seats.remove(0);
-        Ok(Joined {
-            alloc,
-            wire,
-            first,
-            second,
-        })
-    }
-
-    fn fill(&mut self, out: &mut Out) {
-        let done = fill(
-            &self.wire,
-            self.alloc,
-            &mut self.first,
-            &mut self.second,
-            out,
-        );
-        if let Err(refusal) = done {
-            out.refused(refusal);
-        }
-    }
-
-    fn empty(&mut self, out: &mut Out) {
-        empty(
-            &self.wire,
-            self.alloc,
-            &mut self.first,
-            &mut self.second,
-            out,
-        );
-    }
-}
-
-impl Subject for Joined {
-    fn take(&mut self, line: &str, out: &mut Out) -> Result<(), CaseError> {
-        match line {
-            "send" => out.answer(send(&self.wire, self.alloc, &mut self.first)),
-            "receive" => put_received(receive(&self.wire, &mut self.second), out),
-            "fill" => self.fill(out),
-            "empty" => self.empty(out),
-            _ => return Err(CaseError::Unknown),
-        }
-        Ok(())
-    }
-}
-
-/// A case for a wire between two new nodes.
-pub(crate) fn run<R: Wait + Print, B: BufRead>(
-    rt: &R,
-    alloc: Global,
-    source: &mut Source<B>,
+    first: &mut NodeSeat,
+    second: &mut NodeSeat,
     out: &mut Out,
-) -> Result<(), CaseError> {
-    match Joined::new(alloc) {
-        Ok(mut joined) => play(rt, source, &mut joined, out),
-        Err(_) => Err(CaseError::Memory),
-    }
+) -> Result<(), Refusal>
+    requires first { IsSeatOf wire.now first.old × (width wire.now ≡ 2)
+        × (seat_node first.old ≡ 0) }
+    requires second { IsSeatOf wire.now second.old × (width wire.now ≡ 2)
+        × (seat_node second.old ≡ 1) }
+{
+    fill(wire, alloc, first, second, out)?;
+    out.answer(send(wire, alloc, first));
+    empty(wire, alloc, first, second, out);
+    put_received(receive(wire, second), out);
+    out.answer(send(wire, alloc, first));
+    fill(wire, alloc, first, second, out)?;
+    put_received(receive(wire, second), out);
+    Ok(())
 }
 
 // The new nodes of a shape.

@@ -108,7 +108,6 @@ where
             words::play(rt, source, &mut InFiles { rt, alloc, disk }, out)
         }
         Subjects::Opening => words::play(rt, source, &mut Openings::new(rt, alloc), out),
-        Subjects::Wire => mailboxes::run(rt, alloc, source, out),
         Subjects::Space => play::run::<R, B, MemoryDisk>(rt, alloc, source, out),
         Subjects::Ends => play::run::<R, B, FileDisk>(rt, alloc, source, out),
         Subjects::Single => words::play(rt, source, &mut Single { rt, alloc }, out),
@@ -120,7 +119,6 @@ where
 enum Subjects {
     Files,
     Opening,
-    Wire,
     Space,
     Ends,
     Single,
@@ -131,7 +129,6 @@ impl Subjects {
         match line {
             "files" => Ok(Subjects::Files),
             "opening" => Ok(Subjects::Opening),
-            "wire" => Ok(Subjects::Wire),
             "space" => Ok(Subjects::Space),
             "ends" => Ok(Subjects::Ends),
             "single" => Ok(Subjects::Single),

@@ -125,7 +125,7 @@ where
         match verb(line) {
             "open" => self.open(line, out),
             "start" | "revive" => self.work(line, out),
-            "close" | "reports" | "ends" => self.close(verb(line), out),
+            "close" | "ends" => self.close(verb(line), out),
             "leave" => self.leave(out),
             "ended" | "ended-and-revive" | "holders" => self.ask_gate(line, out),
             _ => self.take_other(line, out),
@@ -228,22 +228,18 @@ where
         Ok(())
     }
 
-    // Closes the space: how many reports there are; the reports; or the stages at which workers
-    // were ended, and then the nodes of all others.
+    // Closes the space: how many reports there are; or the stages at which workers were ended, and
+    // then the nodes of all others.
     fn close(&mut self, what: &str, out: &mut Out) -> Result<(), CaseError> {
         let Some(opened) = self.opened.take() else {
             return Err(CaseError::Unknown);
         };
         let reports = opened.space.close(self.rt);
         self.gate = None;
-        if what == "close" {
-            out.show(&reports.len());
-            return Ok(());
-        }
         if what == "ends" {
             put_ends(&reports, out);
         } else {
-            put_reports(&reports, out);
+            out.show(&reports.len());
         }
         Ok(())
     }
@@ -262,12 +258,6 @@ where
         }
         out.text("ok");
         Ok(())
-    }
-}
-
-fn put_reports(reports: &[Report], out: &mut Out) {
-    for report in reports {
-        out.debug(report);
     }
 }
 

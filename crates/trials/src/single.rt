@@ -1,11 +1,14 @@
-//! Commands that keep nothing from one line to the next: runs of a worker, and a collection in one
-//! thread.
+//! Commands that keep nothing from one line to the next: runs of a worker, arenas whose values count
+//! how often one of them is dropped, a collection in one thread, laws, and the steps of a mailbox.
+use crate::mailboxes::mailbox;
 use crate::out::Out;
 use crate::turns::run;
-use crate::words::{CaseError, Subject, verb};
+use crate::words::{CaseError, Subject, number, verb};
+use arena::{Arena, Key};
 use ids::{Refusal, Shape};
 use model::Event;
 use std::alloc::Global;
+use std::cell::Cell;
 use std::sync::Wait;
 use world::Sim;
 
@@ -20,12 +23,84 @@ impl<R: Wait> Subject for Single<'_, R> {
     fn take(&mut self, line: &str, out: &mut Out) -> Result<(), CaseError> {
         match verb(line) {
             "run" | "stopped" => run(self.rt, line, out),
+            "drops" => put_drops(self.alloc, line, out),
+            "laws" => {
+                call_laws();
+                out.text("ok");
+                Ok(())
+            }
             "collect" => {
                 out.answer(collect(self.alloc));
                 Ok(())
             }
+            "mailbox" => {
+                let done = mailbox(self.alloc, out);
+                out.done(done);
+                Ok(())
+            }
             _ => Err(CaseError::Unknown),
         }
+    }
+}
+
+// Calls each law once. A law does nothing when it is called.
+fn call_laws() {
+    msg::grammar();
+    grammar::spellings();
+    image::nodes_spelled();
+    image::nodes_saved();
+    world::laws();
+    cell::laws();
+}
+
+// A value that counts in a cell how often such a value is dropped.
+struct Counted<'a> {
+    drops: &'a Cell<u64>,
+}
+
+impl Drop for Counted<'_> {
+    fn drop(self) {
+        let Counted { drops } = self;
+        drops.set(drops.get().wrapping_add(1));
+    }
+}
+
+// `drops LIMIT STORED TAKEN AGAIN`: how often values were dropped after each of these steps, and
+// once the arena has ended.
+fn put_drops(alloc: Global, line: &str, out: &mut Out) -> Result<(), CaseError> {
+    let limit = number(line, 1)?;
+    let counts = [number(line, 2)?, number(line, 3)?, number(line, 4)?];
+    let drops = Cell::new(0);
+    let mut arena = Arena::with_limit(alloc, limit);
+    store(&mut arena, &drops, counts[0]);
+    let stored = drops.get();
+    take_out(&mut arena, counts[1]);
+    let taken = drops.get();
+    store(&mut arena, &drops, counts[2]);
+    let again = drops.get();
+    drop(arena);
+    let ended = drops.get();
+    out.show(&format_args!("{stored} {taken} {again} {ended}"));
+    Ok(())
+}
+
+// Stores this many values; a value that is refused is dropped.
+fn store<'a>(arena: &mut Arena<Counted<'a>>, drops: &'a Cell<u64>, count: u32) {
+    for _ in 0..count {
+        let _ = arena.insert(Counted { drops });
+    }
+}
+
+// Removes and drops the first value of each of this many slots, from slot 0 on.
+fn take_out(arena: &mut Arena<Counted<'_>>, count: u32) {
+    for slot in 0..count {
+        if arena.is_empty() {
+            return;
+        }
+        let _ = arena.remove(Key {
+            slot,
+            generation: 1,
+        });
     }
 }
 
