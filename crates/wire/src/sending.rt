@@ -14,8 +14,8 @@ use msg::{Frame, decode};
 use node::Node;
 
 /// The frame that a node sends next to another one, and the place in the window that comes after
-/// it. It is the released message in the given place. If there is none, it is the acknowledgement
-/// of what a saved state has received.
+/// it. It is the released message in the given place, or else the acknowledgement of what a saved
+/// state has received.
 pub fn due(node: &Node, to: u8, place: u8) -> (Frame, u8)
     requires { IsTrue (is_other node.now.core.local to) }
     ensures frame { plain result.0 ≡ frame_due node.now.core to place }
