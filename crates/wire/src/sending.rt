@@ -14,7 +14,7 @@ use msg::{Frame, decode};
 use node::Node;
 
 /// The frame that a node sends next to another one, and the place in the window that comes after
-/// it. It is the released message in the given place. If there is none, it is the acknowledgement
+/// it. It is the released message in the given place. If there isn't one, it is the acknowledgement
 /// of what a saved state has received.
 pub fn due(node: &Node, to: u8, place: u8) -> (Frame, u8)
     requires { IsTrue (is_other node.now.core.local to) }
