@@ -1,21 +1,12 @@
 -- A desk whose seat took a step on a mailbox: the seat is the same, and knows the same about its
 -- node.
-use Rattle.std.proofs.Common.{◌≡◌, ◌≢◌, ℕ, ◌+◌, ◌*◌, ◌<◌, Bool, true, false, Option, Some, None, refl, sym, ap, ◌∙◌, subst}
-use Rattle.std.specs.Prelude.{cond}
-use Rattle.std.specs.Option.{option_map}
-use Rattle.msg.specs.Grammar.{Plain}
-use Rattle.msg.specs.declared.body.Message.{Message}
-use Rattle.model.specs.View.{NodeView, is_other, link_to, released_at}
-use Rattle.node.specs.Frames.{frame_of}
-use Rattle.wire.specs.Lists.{found}
-use Rattle.wire.specs.Rule.{receiver}
-use Rattle.wire.specs.Views.{Known, Pair, takes_in}
-use Rattle.wire.specs.Readers.{inbox, known, seat_node, IsSame, IsSeatOf}
+use Rattle.std.proofs.Common.{◌≡◌, ◌≢◌, ℕ, ◌<◌, true, sym, ap, ◌∙◌, subst}
+use Rattle.model.specs.View.{is_other}
+use Rattle.wire.specs.Views.{Pair}
+use Rattle.wire.specs.Readers.{known, seat_node, IsSame, IsSeatOf}
 use Rattle.wire.specs.declared.seats.NodeSeat.{NodeSeat}
 use Rattle.wire.specs.declared.seats.Wire.{Wire}
-use Rattle.wire.proofs.Lists.{found-here}
 use Rattle.cell.specs.Desks.{IsSavedNode, IsSeatAt, IsUnsaved, StandsAt}
-use Rattle.wire.specs.Sending.{frame_due, frame_or_ack, IsSent}
 use Rattle.cell.specs.declared.desk.Desk.TheInside.{Inside}
 use Rattle.cell.proofs.Releasing.{apart, inside}
 

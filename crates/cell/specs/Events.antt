@@ -2,7 +2,6 @@
 use Rattle.std.specs.Prelude.{◌≡◌, ◌≢◌, ℕ, ◌+◌, Bool, true, false, cond, Result, Ok, Err, IfOk, OnErr}
 use Rattle.ids.specs.declared.refusal.Refusal.{Refusal}
 use Rattle.msg.specs.Frames.{plain_data}
-use Rattle.msg.specs.Grammar.{Plain}
 use Rattle.msg.specs.declared.frame.Ack.{Ack}
 use Rattle.msg.specs.declared.frame.Data.{Data}
 use Rattle.msg.specs.declared.frame.Frame.{Frame}

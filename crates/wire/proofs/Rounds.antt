@@ -110,7 +110,8 @@ module _ {T : Type 0} (s : Seating T) where
           (λ (e : (at ≡ at) × (d ≡ z)). e.1)
           (λ (e : (at ≢ at) × (slice_get (set xs from b2) at ≡ Some z)). absurd (e.0 refl))
           (set-from (set xs from b2) at at d z is) in
-          subst (λ (v : T). Learns (known (s.seat x)).seen (known (s.seat y)) (known (s.seat v))) learner
+          subst (λ (v : T). Learns (known (s.seat x)).seen (known (s.seat y)) (known (s.seat v)))
+          learner
           (subst (λ (v : Known). Learns (known (s.seat x)).seen v (known (s.seat d))) mine
           (subst (λ (v : T). Learns (known (s.seat v)).seen (known (s.seat c)) (known (s.seat d)))
           source t.leads)));
@@ -127,7 +128,8 @@ pub record IsLed (v : Known) : Type 0 where
   pub opens : IsOpening v.opening
   pub leads : LeadsTo v v.seen
 
-leads-same : (v w : Known) (log seen : List Step) → w ≡ learns seen v → LeadsTo v log → LeadsTo w log
+leads-same : (v w : Known) (log seen : List Step) → w ≡ learns seen v → LeadsTo v log
+    → LeadsTo w log
 leads-same v w log seen is h =
     subst (λ (u : Known). LeadsTo u log) (sym is)
     (record { events = h.events; pair = h.pair; own = h.own; net = h.net })
@@ -171,8 +173,8 @@ module _ {T : Type 0} (s : Seating T) (wire : Wire) (start : List T) where
       (slice_get-get_or (set xs from b2) at x
       (subst (λ (n : ℕ). at < n) (sym (length-set xs from b2)) inside))
 
-  -- Of the learners before the place `at`, each has learned a list, with which the one begins that the
-  -- cell in the place `last` learned.
+  -- Of the learners before the place `at`, each has learned a list, with which the one begins that
+  -- the learner in the place `last` learned.
   pub record FirstRound (items : List T) (at last : ℕ) : Type 0 where
     pub learned : HaveLearned s start items
     pub seats : EachAt (λ k c. IsSeatOf wire (s.seat c)) items
@@ -202,7 +204,8 @@ module _ {T : Type 0} (s : Seating T) (wire : Wire) (start : List T) where
   }
     where
       led : (k : ℕ) (c d : T) → slice_get ys k ≡ Some c → slice_get ys at ≡ Some d
-          → k < at + 1 → IsLed (known (s.seat c)) × Continues (known (s.seat c)).seen (known (s.seat d)).seen
+          → k < at + 1 → IsLed (known (s.seat c))
+          × Continues (known (s.seat c)).seen (known (s.seat d)).seen
       led k c d there last_there below =
           let source = some_at xs last (omega (arith, inside, h.within)) in
           let learner = some_at xs at inside in
@@ -226,8 +229,8 @@ module _ {T : Type 0} (s : Seating T) (wire : Wire) (start : List T) where
             continues-both _ _ _ before.1 (seen-now _ _ _ h2),
           ))
 
-  -- The middle list leads to the learners before the place `at`. Each of the others has learned a list
-  -- with which the middle one begins, and which is that of the last one.
+  -- The middle list leads to the learners before the place `at`. Each of the others has learned a
+  -- list with which the middle one begins, and which is that of the last one.
   pub record SecondRound (items : List T) (at last : ℕ) : Type 0 where
     pub learned : HaveLearned s start items
     pub seats : EachAt (λ k c. IsSeatOf wire (s.seat c)) items
@@ -295,7 +298,8 @@ module _ {T : Type 0} (s : Seating T) (wire : Wire) (start : List T) where
     seats = seated-still xs ys h.seats turn.learned;
     all = (let long = turn.learned.count in let most = h.all in omega (arith, long, most));
     inside = λ some. (let long = turn.learned.count in
-        let last_inside = h.inside (let first : 0 < length xs = omega (arith, long, some) in first) in
+        let last_inside = h.inside
+        (let first : 0 < length xs = omega (arith, long, some) in first) in
         omega (arith, long, last_inside));
     middle = h.middle;
     events = h.events;

@@ -1,4 +1,4 @@
--- What has seats of one wire, at one moment: one list of events leads to what all of the seats know.
+-- What has seats of one wire, at one moment: one list of events leads to what all the seats know.
 use Rattle.std.specs.Prelude.{◌≡◌, ◌≢◌, ℕ, List, length, slice_get, Some}
 use Rattle.model.specs.declared.step.Step.{Step}
 use Rattle.model.specs.World.{World}

@@ -18,7 +18,8 @@ pub learn-requires-clause-wire : goal.learn-requires-clause-wire
 learn-requires-clause-wire g c =
     let xs = c.args.learners.now in
     noted-seats g.T.Learner.seating c.args.wire.now xs xs c.args.from c.args.to
-    (get_or xs c.args.from c.index-learners-from.result) c.note-note.new.self c.index-learners-to.result
+    (get_or xs c.args.from c.index-learners-from.result) c.note-note.new.self
+    c.index-learners-to.result
     c.requires.wire (slice_get-get_or xs c.args.from c.index-learners-from.result c.requires.from)
     c.note-note.ensures.learned c.requires.to
 

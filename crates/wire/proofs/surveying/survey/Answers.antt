@@ -13,28 +13,32 @@ learn_from-requires-clause-from g c = omega (arith, c.loop-to.invariant.within)
 
 pub loop-to-preserved : goal.loop-to-preserved
 loop-to-preserved g c =
-    first-next g.T.Learner.seating c.args.wire.now c.args.learners.now _ _ _ _ c.loop-to.invariant (omega arith)
-    c.learn_from.ensures
+    first-next g.T.Learner.seating c.args.wire.now c.args.learners.now _ _ _ _
+    c.loop-to.invariant (omega arith) c.learn_from.ensures
 
 pub loop-place-init : goal.loop-place-init
 loop-place-init g c =
-    second-begins g.T.Learner.seating c.args.wire.now c.args.learners.now _ _ _ c.loop-to.invariant (omega arith)
+    second-begins g.T.Learner.seating c.args.wire.now c.args.learners.now _ _ _
+    c.loop-to.invariant (omega arith)
 
-pub learn_from-requires-in-loop-place-clause-wire : goal.learn_from-requires-in-loop-place-clause-wire
+pub learn_from-requires-in-loop-place-clause-wire
+    : goal.learn_from-requires-in-loop-place-clause-wire
 learn_from-requires-in-loop-place-clause-wire g c = c.loop-place.invariant.seats
 
-pub learn_from-requires-in-loop-place-clause-from : goal.learn_from-requires-in-loop-place-clause-from
+pub learn_from-requires-in-loop-place-clause-from
+    : goal.learn_from-requires-in-loop-place-clause-from
 learn_from-requires-in-loop-place-clause-from g c =
     (let last = c.loop-place.invariant.inside (omega arith) in omega (arith, last))
 
 pub loop-place-preserved : goal.loop-place-preserved
 loop-place-preserved g c =
-    second-next g.T.Learner.seating c.args.wire.now c.args.learners.now _ _ _ _ c.loop-place.invariant (omega arith)
-    c.learn_from-in-loop-place.ensures
+    second-next g.T.Learner.seating c.args.wire.now c.args.learners.now _ _ _ _
+    c.loop-place.invariant (omega arith) c.learn_from-in-loop-place.ensures
 
 pub returns-clause-at_once : goal.returns-clause-at_once
 returns-clause-at_once g c =
-    second-ends g.T.Learner.seating c.args.wire.now c.args.learners.now _ _ _ c.loop-place.invariant (omega arith)
+    second-ends g.T.Learner.seating c.args.wire.now c.args.learners.now _ _ _
+    c.loop-place.invariant (omega arith)
 
 pub returns-clause-learned : goal.returns-clause-learned
 returns-clause-learned g c = c.loop-place.invariant.learned

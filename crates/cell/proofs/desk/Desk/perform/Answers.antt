@@ -1,4 +1,4 @@
-use Rattle.std.proofs.Common.{◌≡◌, Bool, true, false, List, Ok, sym, ap, ◌∙◌, subst, Result}
+use Rattle.std.proofs.Common.{◌≡◌, true, false, List, Ok, sym, ap, ◌∙◌, subst, Result}
 use Rattle.std.proofs.Math.Logic.{∥∥₁_map}
 use Rattle.std.proofs.lemmas.Bool.{cond-true, cond-false}
 use Rattle.ids.specs.declared.refusal.Refusal.{Refusal}
@@ -15,7 +15,7 @@ use Rattle.wire.specs.Views.{Known, Pair, ticks}
 use Rattle.wire.specs.Readers.{known}
 use Rattle.cell.specs.Desks.{AreTaken, IsSavedNode, StandsAt}
 use Rattle.cell.specs.Events.{Given}
-use Rattle.cell.proofs.Seats.{Keeps, steps-on}
+use Rattle.cell.proofs.Seats.{steps-on}
 use Rattle.cell.proofs.Standing.{behind-acted, stands-moved, stands-quiet}
 use Rattle.cell.proofs.Waiting.{taken-after}
 use Rattle.cell.proofs.desk.Desk.perform.Goals as goal
