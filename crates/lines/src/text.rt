@@ -108,9 +108,9 @@ pub(crate) fn put_answer(text: &mut Ending, answer: &Answer)
     }
 }
 
-/// Puts what a node answered before a text. (Not inlined, so that there are few copies of it: what
-/// it calls is inlined only then.)
-#[inline(never)]
+/// Puts what a node answered before a text. (Inlined, so that an answer that was just made needs
+/// no memory.)
+#[inline(always)]
 pub(crate) fn put_reply(text: &mut Ending, answer: &Answer)
     requires { (LONGEST ≤ text.old.start) × (text.old.start ≤ ROOM) }
     ensures grows { Grows (said answer.now) text.old text.new }

@@ -123,6 +123,7 @@ fn read_get(reader: &mut Reader, version: Version) -> Body
 }
 
 /// Reads a tag and what the message says; its references and places are not limited.
+#[inline(always)]
 #[tactic(auto, unfolding(crate::specs::Formats::body_format), using(crate::proofs::Joins::tags))]
 pub fn read_body(reader: &mut Reader, version: Version) -> Body
     ensures { Reads (body_format version) reader.old reader.new result }
@@ -193,6 +194,7 @@ fn read_frame(reader: &mut Reader) -> Option<Frame>
     }
 }
 
+#[inline(always)]
 #[tactic(auto, using(crate::proofs::Joins::whole_taken))]
 fn whole(bytes: &[u8]) -> Option<Frame>
     ensures { whole_at frame.read bytes.now ≡ option_map plain result }
@@ -208,6 +210,7 @@ fn whole(bytes: &[u8]) -> Option<Frame>
 ///
 /// [`Refusal::BadFrame`] if the bytes spell no frame: something is missing or left over, or a byte
 /// or a number isn't allowed there.
+#[inline(always)]
 pub fn decode(bytes: &[u8]) -> Result<Frame, Refusal>
     // What is read has that spelling.
     ensures found { IfOk result (λ f. Fits (plain f) × (bytes.now ≡ spelling (plain f))) }

@@ -146,7 +146,7 @@ impl Node {
         self.core.perform(other)
     }
 
-    #[inline(never)]
+    #[inline(always)]
     fn take(&mut self, frame: Data) -> Result<Answer, Refusal>
         ensures { Handled self.old self.new (event.Data frame) result }
     {

@@ -80,7 +80,7 @@ impl Outbox {
         self.stage_new(node, to)
     }
 
-    #[inline(never)]
+    #[inline(always)]
     fn stage_new(&mut self, node: &Core, to: u8) -> Result<(), Refusal>
         requires other { IsTrue (is_other node.now.local to) }
         requires kept { (link_to node.now to).base ≤ length (released_frames self.old) }

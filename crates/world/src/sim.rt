@@ -139,7 +139,7 @@ impl Sim {
     /// Delivers the message of this number from one node to another. This is the step
     /// [`Step::Deliver`], as [`Sim::step`] takes it, except that only the node's answer is
     /// returned. `None` if no such message was released.
-    #[inline(never)]
+    #[inline(always)]
     pub fn deliver(&mut self, from: u8, to: u8, number: u64) -> Result<Option<Answer>, Refusal>
         ensures { SteppedSpace (outcome_by delivered result) self.old self.new
             (step.Deliver from to number) }

@@ -51,6 +51,7 @@ impl Core {
     }
 
     /// The token: it is held.
+    #[inline(always)]
     #[tactic(auto, using(crate::proofs::Receiving::following))]
     fn receive_token(&mut self, from: u8, stamp: u64, token: Token) -> Result<(), Refusal>
         requires { IsTakable self.old.local from stamp (body.Token token) }

@@ -150,6 +150,7 @@ impl Core {
     }
 
     /// Drops the messages that were acknowledged.
+    #[inline(always)]
     #[tactic(auto, unfolding(model::specs::View::view_act))]
     pub(crate) fn acknowledge(&mut self, ack: Ack) -> Result<Answer, Refusal>
         ensures performed { Performed false result self.old self.new
