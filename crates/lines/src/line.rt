@@ -1,6 +1,5 @@
 //! One line of a script. Its words are read one after another; anything outside the grammar is
-//! rejected. (What most lines need is always inlined, because the compiler doesn't inline what has
-//! several callers.)
+//! rejected.
 ghost use Rattle.std.specs.Prelude.{◌≡◌, false, IfSome, IsTrue, option_and_then};
 ghost use Rattle.lines.specs.Grammar.{command_of, delivery_of, hand_of, is_own_line, line_of, node_line_of, report_of, space_of, stepped, u8_of, u16_of, words_of};
 ghost use Rattle.lines.specs.Operands.{read, spelled};
@@ -56,7 +55,6 @@ impl Line {
 }
 
 /// The meaning of the words of a text.
-#[inline(always)]
 fn line_in(line: &mut Line, text: &str) -> Option<()>
     requires { IsTrimmed text.now }
     ensures { read result line.new ≡ line_of (words_of text.now) }
@@ -74,7 +72,6 @@ fn line_in(line: &mut Line, text: &str) -> Option<()>
 }
 
 /// The meaning of a line that begins with a node's number.
-#[inline(always)]
 fn node_line(line: &mut Line, text: &str) -> Option<()>
     requires { IsTrimmed text.now }
     ensures { read result line.new
@@ -86,7 +83,6 @@ fn node_line(line: &mut Line, text: &str) -> Option<()>
 }
 
 /// The meaning of the words after a node's number.
-#[inline(always)]
 fn asked_of(line: &mut Line, node: u8, text: &str) -> Option<()>
     requires { IsTrimmed text.now }
     ensures { read result line.new ≡ node_line_of node (words_of text.now) }
@@ -107,7 +103,6 @@ fn asked_of(line: &mut Line, node: u8, text: &str) -> Option<()>
 
 /// The meaning of a line whose first word isn't a number. (The most frequent words are looked for
 /// at its front, so that they need not be searched for a space.)
-#[inline(always)]
 fn command(line: &mut Line, text: &str) -> Option<()>
     requires trimmed { IsTrimmed text.now }
     requires other { starts_number text.now ≡ false }
