@@ -1,9 +1,9 @@
 -- A program that holds nothing.
-use Rattle.std.proofs.Common.{◌≡◌, ◌++◌, ◌∙◌, ◌<◌, ℕ, true, is_none, List, [], ◌∷◌, length, map, Option, None, Some, refl, ap, sym, subst, arith}
+use Rattle.std.proofs.Common.{◌≡◌, ◌++◌, ◌∙◌, true, is_none, List, [], ◌∷◌, length, map, Option, None, Some, refl, ap, arith}
 use Rattle.std.proofs.lemmas.List.{append-nil}
 use Rattle.std.specs.List.{list_all}
 use Rattle.ids.specs.declared.names.Ref.{Ref}
-use Rattle.model.specs.Shading.{filled, make_all_grey, marks_for, reference_of, roots, unasked}
+use Rattle.model.specs.Shading.{filled, reference_of, roots}
 use Rattle.model.specs.State.{Heap}
 use Rattle.model.specs.declared.event.Letter.{Letter}
 
