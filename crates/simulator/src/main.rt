@@ -1,6 +1,6 @@
 //! The program `simulator`: `markring` without `run`, and so without node threads and disks. It
 //! does `sim` and `decode` in the same way, from two thirds of the crates. So a first call of
-//! `./markring sim` proves and builds this program, in little more than half the time.
+//! `./markring sim` proves and builds this program, which takes less time.
 #![tactic(auto)]
 
 ghost use Rattle.std.specs.Prelude.{◌≤◌, IfOk};

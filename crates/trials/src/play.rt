@@ -208,8 +208,8 @@ where
         Ok(())
     }
 
-    // A question to the gate: how many workers of a node it has ended since this was asked last, and
-    // whether the last one is to be revived; or how many hold it.
+    // A question to the gate: how many workers of a node it has ended since this was asked
+    // last, and whether the last one is to be revived; or how many hold it.
     fn ask_gate(&mut self, line: &str, out: &mut Out) -> Result<(), CaseError> {
         let Some(gate) = &self.gate else {
             return Err(CaseError::Unknown);

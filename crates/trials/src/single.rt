@@ -1,5 +1,6 @@
-//! Commands that keep nothing from one line to the next: runs of a worker, arenas whose values count
-//! how often one of them is dropped, a collection in one thread, laws, and the steps of a mailbox.
+//! Commands that keep nothing from one line to the next: runs of a worker, arenas whose values
+//! count how often one of them is dropped, a collection in one thread, laws, and the steps of a
+//! mailbox.
 use crate::mailboxes::mailbox;
 use crate::out::Out;
 use crate::turns::run;

@@ -16,7 +16,8 @@ const FREED: u32 = 2;
 // A station, and its gate.
 #[derive(Drop)]
 struct Busy {
-    // The turn and the stage at which the gate ends a worker, and the last turn of which it was told.
+    // The turn and the stage at which the gate ends a worker, and the last turn of which it was
+    // told.
     end: (u32, Stage),
     last: Cell<u32>,
 }
