@@ -8,7 +8,7 @@ use Rattle.model.specs.World.{World}
 use Rattle.model.specs.declared.step.Step.{Step}
 use Rattle.model.specs.declared.step.Step.TheVariants as step
 use Rattle.model.specs.declared.step.Outcome.{Outcome}
-use Rattle.site.specs.Sites.{SiteView}
+use Rattle.world.specs.Sites.{SiteView}
 use Rattle.world.specs.Shows.{SavesTooLarge, ShowsWorld, site_at}
 use Rattle.commands.specs.Script.{MayBeTooLarge}
 

@@ -3,9 +3,9 @@
 ghost use Rattle.std.specs.Prelude.{◌≡◌, IfOk, IfSome, IsTrue, string_bytes, ◌↔◌};
 
 use std::alloc::Global;
-use std::io::{ErrorKind, Read};
+use std::fs::{self, OpenFile};
+use std::io::{self, ErrorKind, Read};
 use std::rt::Files;
-use std::{fs, io};
 
 /// Shows that a text couldn't be read.
 #[derive(Clone, Copy, Debug)]
@@ -36,8 +36,21 @@ pub fn read_text<R: Read + Drop>(alloc: Global, reader: R) -> Result<String, Unr
 
 /// The text of a file. It fails as [`read_text`] does, and if the file can't be opened.
 pub fn read_file<R: Files>(rt: &R, alloc: Global, path: &str) -> Result<String, Unread> {
-    match fs::open(rt, path) {
-        Ok(file) => read_text(alloc, file),
+    match text_of(rt, alloc, path) {
+        Ok(text) => Ok(text),
         Err(error) => Err(Unread { kind: error.kind() }),
     }
+}
+
+// The same with the error itself. If the system says how long the file is, there is room for all of
+// it, and for the read that finds its end, before anything is read.
+fn text_of<R: Files>(rt: &R, alloc: Global, path: &str) -> io::Result<String> {
+    let mut file = fs::open(rt, path)?;
+    let len = match file.metadata() {
+        Ok(found) => found.len() as usize,
+        Err(_) => 0,
+    };
+    let mut text = String::with_capacity(alloc, len.saturating_add(1))?;
+    file.read_to_string(&mut text)?;
+    Ok(text)
 }

@@ -1,1 +1,4 @@
 pub mod Phases
+pub mod Rings
+pub mod Balances
+pub mod Verdicts

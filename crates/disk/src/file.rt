@@ -34,7 +34,6 @@ const PIECE: usize = 4096;
 /// copy. After a failed sync, the next one rewrites what it has to vouch for.
 ///
 /// `F` is the type of the files: the system's own, or others in tests.
-#[derive(Drop)]
 pub struct FileDisk<F = File> {
     select: F,
     a: F,
@@ -44,6 +43,20 @@ pub struct FileDisk<F = File> {
     doubted: bool,
     // A sync failed, so the system may have dropped what it hadn't written.
     stale: bool,
+}
+
+// Written out, so that the crates above need not prove again how each field is dropped.
+impl<F: Drop> Drop for FileDisk<F> {
+    fn drop(self) {
+        let FileDisk {
+            select: _,
+            a: _,
+            b: _,
+            account: _,
+            doubted: _,
+            stale: _,
+        } = self;
+    }
 }
 
 impl FileDisk {

@@ -22,13 +22,23 @@ use std::alloc::{AllocError, Global};
 ///
 /// It keeps its current content and, until the next successful sync, the bytes that each write
 /// replaced, and a few words for each write.
-#[derive(Drop)]
 pub struct MemoryDisk {
     pub(crate) account: Account,
     // What the writes since the last sync replaced.
     undo: Vec<Undo>,
     plan: Plan,
     ghost undoes: { undone undo.items (areas_of account.state.held) ≡ synced account.state },
+}
+
+// Written out, so that the crates above need not prove again how each field is dropped.
+impl Drop for MemoryDisk {
+    fn drop(self) {
+        let MemoryDisk {
+            account: _,
+            undo: _,
+            plan: _,
+        } = self;
+    }
 }
 
 impl MemoryDisk {

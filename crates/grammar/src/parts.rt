@@ -1,9 +1,9 @@
 //! A node as the parts that its image says. The parts may contradict each other; whether they form
 //! a node is checked when the node is made of them.
+use control::Ring;
 use heap::HeapParts;
 use ids::Ref;
 use msg::Message;
-use safra::Ring;
 use std::marker::Model;
 
 /// The sizes of the space, and the node's own number.

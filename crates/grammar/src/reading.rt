@@ -20,6 +20,7 @@ use crate::lists::{Readable, counted, many};
 use crate::parts::{Head, PhasesParts, StoredLink, StoredNode};
 use crate::tags::{ABSENT, FIRST, FREE, LOGGED, OCCUPIED, PRESENT, RETIRED, SECOND, START};
 use codec::Reader;
+use control::Ring;
 use heap::{HeapParts, Object, Slot, Slots};
 use ids::{FIRST_VERSION_NODES, GREATEST_NODES, GREATEST_PLACES, Ref, Refusal};
 use model::Letter;
@@ -27,7 +28,6 @@ use msg::reading::{
     read_body, read_colour, read_generation, read_optional, read_reference, read_token,
 };
 use msg::{Message, Token, Version, body_fits, optional_fits};
-use safra::Ring;
 use std::alloc::Global;
 use std::collections::VecDeque;
 

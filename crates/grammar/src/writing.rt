@@ -18,13 +18,12 @@ use crate::parts::Head;
 use crate::slots::{put_free_list, put_letters, put_slot_list};
 use crate::tags::{ABSENT, PRESENT, SECOND, START};
 use codec::{Piece, Writer};
-use control::Phases;
+use control::{Phases, Ring};
 use heap::Heap;
 use ids::Ref;
 use link::Links;
 use msg::Token;
 use msg::writing::{add_colour, add_token};
-use safra::Ring;
 
 // The sizes of the space and the node's own number.
 #[tactic(auto, unfolding(crate::specs::Grammar::head_format, crate::specs::Grammar::nodes_format), using(crate::proofs::Joins::gained))]

@@ -54,7 +54,9 @@ impl Line {
     }
 }
 
-/// The meaning of the words of a text.
+/// The meaning of the words of a text. (The way to a line that asks a node for a save is inlined,
+/// since most lines do.)
+#[inline(always)]
 fn line_in(line: &mut Line, text: &str) -> Option<()>
     requires { IsTrimmed text.now }
     ensures { read result line.new ≡ line_of (words_of text.now) }
@@ -72,6 +74,7 @@ fn line_in(line: &mut Line, text: &str) -> Option<()>
 }
 
 /// The meaning of a line that begins with a node's number.
+#[inline(always)]
 fn node_line(line: &mut Line, text: &str) -> Option<()>
     requires { IsTrimmed text.now }
     ensures { read result line.new
@@ -83,14 +86,23 @@ fn node_line(line: &mut Line, text: &str) -> Option<()>
 }
 
 /// The meaning of the words after a node's number.
+#[inline(always)]
 fn asked_of(line: &mut Line, node: u8, text: &str) -> Option<()>
     requires { IsTrimmed text.now }
     ensures { read result line.new ≡ node_line_of node (words_of text.now) }
 {
-    // Most lines ask for a save, and end there.
     if is_word(text, "save") {
         return say(line, Line::Step(Step::Save(node)));
     }
+    any_asked_of(line, node, text)
+}
+
+/// The same for any words.
+#[inline(never)]
+fn any_asked_of(line: &mut Line, node: u8, text: &str) -> Option<()>
+    requires { IsTrimmed text.now }
+    ensures { read result line.new ≡ node_line_of node (words_of text.now) }
+{
     let (verb, text) = first_word(text);
     match Operands::read(text) {
         Some(Operands::Zero) => alone(line, node, verb),
@@ -103,6 +115,7 @@ fn asked_of(line: &mut Line, node: u8, text: &str) -> Option<()>
 
 /// The meaning of a line whose first word isn't a number. (The most frequent words are looked for
 /// at its front, so that they need not be searched for a space.)
+#[inline(never)]
 fn command(line: &mut Line, text: &str) -> Option<()>
     requires trimmed { IsTrimmed text.now }
     requires other { starts_number text.now ≡ false }

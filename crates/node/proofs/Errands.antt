@@ -20,8 +20,8 @@ use Rattle.model.proofs.Shading.{seen-none}
 use Rattle.model.proofs.References.{any-list, holds-with_letter, holds-without_last_grey}
 use Rattle.model.proofs.Stocks.{stocked-letter, stocked-scanned}
 use Rattle.control.specs.Phases.{IsPhases, in_cycle}
-use Rattle.safra.specs.Balances.{IsBounded}
-use Rattle.safra.proofs.Bounds.{bounded_more}
+use Rattle.control.specs.Balances.{IsBounded}
+use Rattle.control.proofs.Bounds.{bounded_more}
 use Rattle.link.specs.Links.{LinksView, IsLinks, for_others}
 use Rattle.barrier.specs.Asked.{AreSent, all_appended}
 use Rattle.node.specs.Cycles.{begins}

@@ -23,8 +23,8 @@ use Rattle.model.proofs.References.{holds-new_heap}
 use Rattle.model.proofs.Stocks.{stocked-new}
 use Rattle.link.specs.Links.{LinksView, IsLinks, announced, appended_to, for_others, taken_next_from, trimmed_to, kept_links, kept_peer, new_links}
 use Rattle.barrier.specs.Asked.{all_appended}
-use Rattle.safra.specs.Balances.{IsBounded}
-use Rattle.safra.proofs.Bounds.{bounded_down, bounded_more, bounded_new, bounded_up}
+use Rattle.control.specs.Balances.{IsBounded}
+use Rattle.control.proofs.Bounds.{bounded_down, bounded_more, bounded_new, bounded_up}
 use Rattle.node.specs.Invariant.{AreLinked, IsBalanced, IsNode, links_of, number_sum}
 use Rattle.node.specs.Taking.{IsSender}
 use Rattle.node.proofs.Appended.{MaySend, linked-appended, numbers-appended, one-may, others-may}

@@ -6,8 +6,8 @@ use Rattle.model.specs.Collecting.{is_concluded, new_token, without_token}
 use Rattle.model.specs.Counting.{to_others}
 use Rattle.model.specs.State.{Ring, LocalState}
 use Rattle.control.specs.Phases.{with_ended}
-use Rattle.safra.specs.declared.verdict.Verdict.TheVariants.{Ended, Probe}
-use Rattle.safra.specs.Verdicts.{verdict_of}
+use Rattle.control.specs.declared.verdict.Verdict.TheVariants.{Ended, Probe}
+use Rattle.control.specs.Verdicts.{verdict_of}
 use Rattle.link.proofs.Announcing.{to_others-is}
 
 pub concluded : (r : Ring) → verdict_of r ≡ Ended → is_concluded r ≡ true

@@ -17,8 +17,8 @@ use Rattle.model.proofs.Stocks.{held-before, open-apart, stocked-greyed, stocked
 use Rattle.model.proofs.Asking.{asked-more, asked-none}
 use Rattle.model.proofs.Shading.{see_to-open, see_to-closed}
 use Rattle.control.specs.Phases.{IsPhases, in_cycle}
-use Rattle.safra.specs.Balances.{IsBounded}
-use Rattle.safra.proofs.Bounds.{bounded_entered, bounded_marks}
+use Rattle.control.specs.Balances.{IsBounded}
+use Rattle.control.proofs.Bounds.{bounded_entered, bounded_marks}
 use Rattle.link.specs.Links.{IsLinks}
 use Rattle.barrier.specs.Asked.{all_appended}
 use Rattle.node.specs.Errands.{MayJoin}

@@ -9,7 +9,7 @@ use Rattle.model.specs.View.{Link, NodeView, used, no_link}
 use Rattle.model.specs.References.{HoldsOnly, IsWithin, IsSendable, no_message}
 use Rattle.model.specs.WellFormed.{IsStocked, AreAsked, IsHeld, AreReports, AreTimely}
 use Rattle.control.specs.Phases.{IsPhases}
-use Rattle.safra.specs.Balances.{IsBounded}
+use Rattle.control.specs.Balances.{IsBounded}
 
 -- the number of messages appended and of messages received, together
 abbrev pub number_sum : List Link → List ℕ → ℕ

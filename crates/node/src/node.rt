@@ -18,13 +18,12 @@ mod steps;
 mod taking;
 
 use barrier::RefSet;
-use control::Phases;
+use control::{Phases, Ring};
 use heap::Heap;
 use ids::{NodeId, Ref, Refusal, Shape};
 use link::Links;
 use model::{Answer, Event, Summary};
 pub use parts::NodeParts;
-use safra::Ring;
 use std::alloc::Global;
 use std::marker::Model;
 

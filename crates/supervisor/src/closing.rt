@@ -44,10 +44,16 @@ pub enum CloseFault {
 
 /// A space that didn't give out its disks, and why. Its cells, as far as they came back, are in
 /// order, from that of node 0 on. [`Cell::into_disk`] gives the disk of one.
-#[derive(Drop)]
 pub struct Unclosed<D: Disk> {
     pub fault: CloseFault,
     pub cells: Vec<Cell<D>>,
+}
+
+// Written out, so that the crates above need not prove again how each field is dropped.
+impl<D: Disk + Drop> Drop for Unclosed<D> {
+    fn drop(self) {
+        let Unclosed { fault: _, cells: _ } = self;
+    }
 }
 
 // The cells that threads shared, in order, or those before the first one that is still used.

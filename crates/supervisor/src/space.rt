@@ -130,7 +130,6 @@ impl<D: Disk + Drop> Opened<D> {
 
 /// A space whose nodes are on disks, and its workers once they are started. When it is dropped, it
 /// asks the workers to stop; [`SpaceOn::close`] also waits until they have ended.
-#[derive(Drop)]
 pub struct SpaceOn<D: Disk, W: Naming> {
     alloc: Global,
     plan: TeamPlan,
@@ -142,6 +141,20 @@ pub struct SpaceOn<D: Disk, W: Naming> {
     ghost some: { 0 < plan.nodes },
     ghost wide: { nodes_of (opened_with (arc_value wire)) ≡ plan.nodes },
     ghost of: { AreWatches (arc_value wire) watches.items },
+}
+
+// Written out, so that the crates above need not prove again how each field is dropped.
+impl<D: Disk + Drop, W: Naming> Drop for SpaceOn<D, W> {
+    fn drop(self) {
+        let SpaceOn {
+            alloc: _,
+            plan: _,
+            wire: _,
+            cells: _,
+            watches: _,
+            team: _,
+        } = self;
+    }
 }
 
 /// Shows that all workers of a space had ended. Only [`SpaceOn::ended`] makes one.
@@ -301,7 +314,14 @@ impl<D: Disk + Drop, W: Naming> SpaceOn<D, W> {
         ensures own { IsPermutation (started_in self.team) (map (λ r. r.node) result.items) }
         ensures sorted { IsNonDecreasingBy (λ r. r.node) result.items }
     {
-        let SpaceOn { alloc, team, .. } = self;
+        let SpaceOn {
+            alloc,
+            plan: _,
+            wire: _,
+            cells: _,
+            watches: _,
+            team,
+        } = self;
         match team {
             Some(team) => team.close(rt),
             None => Vec::new(alloc),
@@ -334,8 +354,8 @@ impl<D: Disk + Drop, W: Naming> SpaceOn<D, W> {
             plan,
             wire,
             cells,
+            watches: _,
             team,
-            ..
         } = self;
         let reports = match team {
             Some(team) => team.close(rt),

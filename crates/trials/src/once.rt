@@ -69,6 +69,26 @@ where
     None
 }
 
+// Runs a program in a space on these disks. Returns the disks as the space leaves them.
+fn visit<R, D, P>(
+    rt: &R,
+    alloc: Global,
+    config: &Config,
+    disks: Vec<D>,
+    program: &mut P,
+) -> Option<Vec<D>>
+where
+    R: Threads + Wait + Clock + Clone + Send + Drop + 'static,
+    D: Disk + Send + Drop + 'static,
+    P: Program<R, D>,
+{
+    let gate = Arc::new(alloc, Open).ok()?;
+    let opened = Opened::open(alloc, config, disks).ok()?;
+    let served = opened.serve(rt, gate, program).ok()?;
+    let disks = served.closed.ok()?.disks;
+    Some(disks)
+}
+
 /// Two spaces of this configuration, one after another on these disks. The label of the letter that
 /// was given in the first one and accepted in the second one, and the number of disks at the end.
 pub(crate) fn once<R, D>(rt: &R, alloc: Global, text: &str, disks: Vec<D>) -> Option<(u32, usize)>
@@ -77,15 +97,10 @@ where
     D: Disk + Send + Drop + 'static,
 {
     let config = Config::from_text(alloc, text).ok()?;
-    let gate = Arc::new(alloc, Open).ok()?;
     let mut giving = Giving { given: None };
     let mut accepting = Accepting { label: None };
-    let first = Opened::open(alloc, &config, disks).ok()?;
-    let served = first.serve(rt, gate.clone().ok()?, &mut giving).ok()?;
-    let disks = served.closed.ok()?.disks;
+    let disks = visit(rt, alloc, &config, disks, &mut giving)?;
     giving.given?;
-    let second = Opened::open(alloc, &config, disks).ok()?;
-    let served = second.serve(rt, gate, &mut accepting).ok()?;
-    let disks = served.closed.ok()?.disks;
+    let disks = visit(rt, alloc, &config, disks, &mut accepting)?;
     Some((accepting.label?, disks.len()))
 }

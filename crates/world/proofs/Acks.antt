@@ -18,7 +18,7 @@ use Rattle.model.specs.World.{World, take_step, acknowledged, release_count}
 use Rattle.model.proofs.Shown.{ack-done, ack-refused}
 use Rattle.laws.proofs.StepFacts.{act-ok}
 use Rattle.laws.proofs.Base.{addressed-between}
-use Rattle.site.specs.Sites.{SiteView}
+use Rattle.world.specs.Sites.{SiteView}
 use Rattle.world.specs.Shows.{ShowsWorld, Stepped, Given, IsPlaced, IsSim, IsAckOf, site_at}
 use Rattle.world.proofs.Refusals.{first-by}
 use Rattle.world.specs.Spaces.{outcome_by}

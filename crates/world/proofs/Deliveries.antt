@@ -16,8 +16,8 @@ use Rattle.model.specs.declared.step.Outcome.TheVariants as outcome
 use Rattle.model.specs.State.{NodeState, node_at}
 use Rattle.model.specs.Steps.{act, receive}
 use Rattle.model.specs.World.{World, take_step, moved, released, delivery}
-use Rattle.site.specs.Outboxes.{IsFrameOf}
-use Rattle.site.specs.Sites.{SiteView}
+use Rattle.world.specs.Outboxes.{IsFrameOf}
+use Rattle.world.specs.Sites.{SiteView}
 use Rattle.world.specs.Shows.{ShowsWorld, Stepped, Given, frame_at}
 use Rattle.world.specs.Spaces.{outcome_by}
 use Rattle.world.proofs.Steps.{Gives, LetsGo, given, moves, lets-nothing-go, never, nothing, are-nodes}

@@ -30,7 +30,7 @@ use Rattle.laws.proofs.KeepsSent.{SentMore, sent-onward}
 use Rattle.laws.proofs.Cuts.{released-numbered}
 use Rattle.laws.proofs.Net.{released-grows}
 use Rattle.node.specs.Keeping.{OfAll, Rings, early_after, no_rings, next_event, next_step, met, waiting}
-use Rattle.site.specs.Sites.{SiteView, KeepingSite, Acted, ActedKeeping, Saves, restarted}
+use Rattle.world.specs.Sites.{SiteView, KeepingSite, Acted, ActedKeeping, Saves, restarted}
 use Rattle.world.specs.Shows.{ShowsWorld, Stepped, Given, IsAckOf, IsSim, IsPlaced, frame_at, no_site, site_at}
 use Rattle.world.specs.Spaces.{SpaceView, FollowsSpace, GivenSpace, IsOfNet, KeepsAfter, ShowsSpace, SteppedSpace, early_of, given_early, kept_at, keeping_at, outcome_by, site_of, space_of, step_met}
 use Rattle.node.proofs.Kept.{of-none, after-all}

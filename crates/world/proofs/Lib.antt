@@ -1,3 +1,7 @@
+pub mod Cuts
+pub mod OutboxLemmas
+pub mod SiteLemmas
+pub mod NewImages
 pub mod Refusals
 pub mod Shows
 pub mod Steps

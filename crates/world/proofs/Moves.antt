@@ -16,7 +16,7 @@ use Rattle.model.specs.Collecting.{is_swept_everywhere}
 use Rattle.progress.specs.Strategy.{now, first, Move, Bring, Do, is_waiting, has_waiting, is_grey, has_token, is_unswept, next_move, own_move, next_steps, steps_of}
 use Rattle.progress.specs.Progress.{IsSwept}
 use Rattle.progress.proofs.Choices.{number-at, first-passes, first-none}
-use Rattle.site.specs.Sites.{SiteView}
+use Rattle.world.specs.Sites.{SiteView}
 use Rattle.world.specs.declared.collecting.Sign.{Sign}
 use Rattle.world.specs.declared.collecting.Sign.TheVariants as sign
 use Rattle.world.specs.Shows.{site_at, ShowsWorld}

@@ -12,8 +12,8 @@ use Rattle.model.specs.World.{acknowledged, new_world}
 use Rattle.model.proofs.Lookups.{get_or-replicate_any}
 use Rattle.model.proofs.NewNodes.{new-link, nothing-sent, new-shown, new-counted}
 use Rattle.laws.proofs.KeepsSent.{new-keeps-sent}
-use Rattle.site.specs.Outboxes.{IsFrameOf}
-use Rattle.site.specs.Sites.{SiteView, KeepingSite, frames_to, new_site, new_keeping}
+use Rattle.world.specs.Outboxes.{IsFrameOf}
+use Rattle.world.specs.Sites.{SiteView, KeepingSite, frames_to, new_site, new_keeping}
 use Rattle.world.specs.Spaces.{IsOfNet, ShowsSpace, early_of, site_of, space_of}
 use Rattle.world.specs.Shows.{ShowsNode, ShowsWorld, IsPlaced, IsSim, no_site}
 use Rattle.node.specs.Keeping.{OfAll, no_rings}

@@ -1,5 +1,5 @@
 -- Refusals that are the first to apply.
-use Rattle.std.proofs.Common.{◌≡◌, ◌≢◌, Bool, true, false, Result, Ok, Err, refl}
+use Rattle.std.proofs.Common.{◌≡◌, ◌≢◌, ◌⊎◌, inl, inr, ⊎_elim, Bool, true, false, Result, Ok, Err, refl}
 use Rattle.std.specs.Prelude.{IsOk}
 use Rattle.ids.specs.declared.refusal.Refusal.{Refusal}
 use Rattle.ids.specs.declared.refusal.Refusal.TheVariants.{Memory, ImageTooLarge}
@@ -7,6 +7,15 @@ use Rattle.model.specs.Checks.{IsReplaced, IsFirstRefusal}
 use Rattle.model.specs.declared.step.Step.{Step}
 use Rattle.model.specs.declared.step.Step.TheVariants as step
 use Rattle.model.specs.World.{World, IsStepRefusal, is_shading_step, take_step}
+
+-- a refusal is `Memory` or something else
+pub memory-or : (e : Refusal) → (e ≡ Memory) ⊎ (e ≢ Memory)
+memory-or Memory = inl refl
+memory-or e = inr (λ is. absurd cc)
+
+pub memory-alone : (e : Refusal) → (e ≢ Memory → ⊥) → e ≡ Memory
+memory-alone e never =
+    ⊎_elim {C = e ≡ Memory} (λ is. is) (λ other. absurd (never other)) (memory-or e)
 
 -- a refusal of the definitions
 pub first-refused : {Y : Type 0} (shading : Bool) (r : Result Y Refusal) (e : Refusal) → e ≢ Memory

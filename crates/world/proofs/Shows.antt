@@ -15,10 +15,10 @@ use Rattle.model.proofs.Lookups.{slice_get-take, slice_get-drop}
 use Rattle.laws.proofs.KeepsSent.{keeps-sent}
 use Rattle.laws.proofs.Lookups.{Grows, slice_get-grows}
 use Rattle.node.specs.Invariant.{IsNode}
-use Rattle.site.specs.Outboxes.{IsFrameOf, AreStaged, IsStaged}
-use Rattle.site.specs.Sites.{SiteView, Saves, bases, bases_acked}
+use Rattle.world.specs.Outboxes.{IsFrameOf, AreStaged, IsStaged}
+use Rattle.world.specs.Sites.{SiteView, Saves, bases, bases_acked}
 use Rattle.world.specs.Shows.{ShowsNode, ShowsSite, ShowsWorld, no_site, site_at}
-use Rattle.site.proofs.SiteLemmas.{IsAckWithin, link-same, kept-link, bases-within, base-at}
+use Rattle.world.proofs.SiteLemmas.{IsAckWithin, link-same, kept-link, bases-within, base-at}
 
 -- ---- events
 

@@ -27,12 +27,11 @@ use Rattle.model.proofs.Shown.{act-shown}
 use Rattle.model.proofs.Refusals.{event-never}
 use Rattle.node.specs.Invariant.{IsNode}
 use Rattle.node.specs.Summaries.{summary_of}
-use Rattle.site.specs.Sites.{SiteView, Saves, bases, bases_acked}
+use Rattle.world.specs.Sites.{SiteView, Saves, bases, bases_acked}
 use Rattle.world.specs.Shows.{SiteBases, ShowsWorld, SavesTooLarge, Stepped, Given, IsSim, no_site, site_at, site_bases, bases_of, bases_at, bases_after, summary_at}
 use Rattle.world.specs.Spaces.{outcome_by}
-use Rattle.world.proofs.Refusals.{first-refused, first-memory, first-by, step-refused}
-use Rattle.site.proofs.Refusals.{memory-or}
-use Rattle.site.proofs.SiteLemmas.{IsAckWithin}
+use Rattle.world.proofs.Refusals.{memory-or, first-refused, first-memory, first-by, step-refused}
+use Rattle.world.proofs.SiteLemmas.{IsAckWithin}
 use Rattle.world.proofs.Shows.{Changes, unchanged-sites, shows-moved, shows-saved, node-moved, saved_after}
 
 -- ---- the nodes that a step names

@@ -1,3 +1,9 @@
+pub mod InsideFrames
+pub mod Outboxes
+pub mod InsideOutbox
+pub mod InsideSaved
+pub mod Sites
+pub mod InsideSite
 pub mod Shows
 pub mod Spaces
 pub mod Answered

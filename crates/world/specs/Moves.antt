@@ -11,7 +11,7 @@ use Rattle.world.specs.declared.collecting.Sign.TheVariants as sign
 use Rattle.world.specs.declared.collecting.Next.{Next}
 use Rattle.world.specs.declared.collecting.Next.TheVariants as next
 use Rattle.world.specs.Shows.{site_at}
-use Rattle.site.specs.Sites.{SiteView}
+use Rattle.world.specs.Sites.{SiteView}
 
 abbrev pub local_at : List SiteView → ℕ → LocalState
 local_at sites i = (site_at sites i).current.local

@@ -17,8 +17,8 @@ use Rattle.model.specs.World.{World, KeepsSent, FollowsStep, acknowledged, is_no
 use Rattle.image.specs.Images.{image_of}
 use Rattle.node.specs.Summaries.{summary_of}
 use Rattle.model.specs.declared.summary.Summary.{Summary}
-use Rattle.site.specs.Outboxes.{IsFrameOf, numbered_bytes}
-use Rattle.site.specs.Sites.{SiteView, Acted, frames_to, new_site, bases, bases_to}
+use Rattle.world.specs.Outboxes.{IsFrameOf, numbered_bytes}
+use Rattle.world.specs.Sites.{SiteView, Acted, frames_to, new_site, bases, bases_to}
 
 -- the site of a node; past the last one, a site that no space has
 abbrev pub no_site : SiteView

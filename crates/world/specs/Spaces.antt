@@ -17,7 +17,7 @@ use Rattle.model.specs.State.{node_at}
 use Rattle.model.specs.World.{World, FollowsStep, new_world, released, run, is_step_memory_free}
 use Rattle.link.specs.Early.{place_at}
 use Rattle.node.specs.Keeping.{Rings, early_after, no_rings, own_step, ring_of}
-use Rattle.site.specs.Sites.{SiteView, KeepingSite, ActedKeeping}
+use Rattle.world.specs.Sites.{SiteView, KeepingSite, ActedKeeping}
 use Rattle.world.specs.Shows.{ShowsWorld, SavesTooLarge, bases_of, bases_after, site_at}
 
 -- the sites, and for each of them the early messages that its current node keeps

@@ -24,12 +24,12 @@ ghost use Rattle.world.specs.Spaces.{
   outcome_by,
 };
 
+use crate::site::Site;
 use control::Phases;
 use ids::{NodeId, Refusal, Shape};
 use model::{Answer, Event, Outcome, Step};
 use msg::{Ack, Frame, decode};
 use node::{Node, Summary};
-use site::Site;
 use std::alloc::Global;
 use std::marker::Model;
 

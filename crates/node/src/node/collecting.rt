@@ -13,11 +13,11 @@ ghost use Rattle.node.specs.Cycles.{reports};
 
 use super::Core;
 use super::errands::Extra;
+use control::Verdict;
 use heap::Heap;
 use ids::{GREATEST_PLACES, Ref, Refusal};
 use model::Answer;
 use msg::Body;
-use safra::Verdict;
 
 const PLACES: usize = GREATEST_PLACES as usize;
 

@@ -11,14 +11,13 @@ mod lists;
 
 use super::Core;
 use barrier::RefSet;
-use control::Phases;
+use control::{Phases, Ring};
 use ends::{are_at_ends, is_bounded, number_sum};
 use heap::{Heap, HeapParts};
 use home::is_at_home;
 use ids::{Ref, Refusal, Shape};
 use link::{LinkParts, Links};
 use lists::{are_grey, asked_once};
-use safra::Ring;
 use std::alloc::Global;
 
 /// The parts of a saved node.

@@ -9,12 +9,11 @@ ghost use Rattle.model.specs.View.{link_to, message_of};
 ghost use Rattle.node.specs.Invariant.{links_of};
 
 use super::Core;
-use control::Phases;
+use control::{Phases, Ring};
 use heap::Heap;
 use ids::Ref;
 use link::Links;
 use msg::Message;
-use safra::Ring;
 
 impl Core {
     /// The number of roots, which are what the program holds: its registers and the letters that

@@ -14,9 +14,9 @@ ghost use Rattle.node.specs.Cycles.{slots_swept};
 ghost use Rattle.node.specs.Taking.{IsSender};
 
 use super::Core;
+use control::{Ring, balance_of};
 use ids::{Ref, Refusal};
 use msg::{Body, Token};
-use safra::{Ring, balance_of};
 
 impl Core {
     /// The node's cycle.

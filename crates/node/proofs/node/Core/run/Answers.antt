@@ -8,7 +8,7 @@ use Rattle.model.specs.Shading.{filled, make_all_grey, marks_for, unasked}
 use Rattle.model.specs.State.{Heap}
 use Rattle.model.specs.References.{IsWithin}
 use Rattle.model.specs.View.{NodeView}
-use Rattle.safra.specs.Balances.{IsBounded}
+use Rattle.control.specs.Balances.{IsBounded}
 use Rattle.link.specs.Links.{IsLinks}
 use Rattle.barrier.specs.Asked.{IsRefused, all_appended}
 use Rattle.node.specs.Errands.{errand, extra_ring, extra_sends, listed, with_extra}

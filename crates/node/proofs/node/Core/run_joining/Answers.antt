@@ -14,8 +14,8 @@ use Rattle.model.specs.View.{NodeView, used}
 use Rattle.model.proofs.Appending.{length-append_to}
 use Rattle.model.proofs.References.{holds-roots}
 use Rattle.control.specs.Phases.{IsPhases}
-use Rattle.safra.specs.Balances.{IsBounded}
-use Rattle.safra.proofs.Bounds.{bounded_entered}
+use Rattle.control.specs.Balances.{IsBounded}
+use Rattle.control.proofs.Bounds.{bounded_entered}
 use Rattle.link.specs.Links.{IsLinks}
 use Rattle.barrier.specs.Asked.{AreSent, IsRefused, all_appended}
 use Rattle.node.specs.Errands.{IsRun, MayJoin, errand_here, extra_ring, extra_sends, listed, with_extra}

@@ -1,5 +1,5 @@
 use Rattle.std.proofs.Common.{get_or, ap, ◌∙◌, subst}
-use Rattle.site.specs.Sites.{SiteView}
+use Rattle.world.specs.Sites.{SiteView}
 use Rattle.world.specs.Shows.{IsSim}
 use Rattle.world.proofs.Acks.{addressed-to, is-another}
 use Rattle.world.specs.Spaces.{SpaceView}

@@ -1,6 +1,6 @@
 use Rattle.std.proofs.Common.{◌≡◌, sym, ◌∙◌, arith}
 use Rattle.std.proofs.lemmas.List.FromFn.{map-range_with_len_more}
-use Rattle.site.specs.Sites.{new_keeping}
+use Rattle.world.specs.Sites.{new_keeping}
 use Rattle.world.proofs.New.{new-early, new-space-shows, new-space-sim}
 use Rattle.world.proofs.sim.Sim.new.Goals as goal
 

@@ -1,6 +1,6 @@
 use Rattle.std.proofs.Common.{◌≡◌, map}
 use Rattle.std.specs.List.{range_with_len}
-use Rattle.site.specs.Sites.{new_keeping}
+use Rattle.world.specs.Sites.{new_keeping}
 use Rattle.world.proofs.sim.Sim.new.Given as goal
 
 abbrev pub invariant-loop-number : goal.invariant-loop-number

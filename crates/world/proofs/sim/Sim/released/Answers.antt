@@ -1,6 +1,6 @@
 use Rattle.std.proofs.Common.{ap, ◌∙◌}
-use Rattle.site.specs.Outboxes.{numbered_bytes}
-use Rattle.site.specs.Sites.{SiteView, frames_to}
+use Rattle.world.specs.Outboxes.{numbered_bytes}
+use Rattle.world.specs.Sites.{SiteView, frames_to}
 use Rattle.world.proofs.Held.{site-read-in}
 use Rattle.world.proofs.sim.Sim.released.Goals as goal
 

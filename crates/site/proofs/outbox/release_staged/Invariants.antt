@@ -1,7 +1,0 @@
-use Rattle.std.proofs.Common.{◌≡◌, ◌++◌, map, take, drop}
-use Rattle.site.specs.Outboxes.{all_released}
-use Rattle.site.proofs.outbox.release_staged.Given as goal
-
-abbrev pub invariant-loop-outbox : goal.invariant-loop-outbox
-invariant-loop-outbox l = l.row ≡ map all_released (take l.outbox-index l.initial.row) ++ drop
-    l.outbox-index l.initial.row

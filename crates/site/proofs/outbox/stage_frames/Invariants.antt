@@ -1,9 +1,0 @@
-use Rattle.std.proofs.Common.{◌≡◌, length}
-use Rattle.site.specs.Outboxes.{AreStaged}
-use Rattle.site.proofs.outbox.stage_frames.Given as goal
-
-abbrev pub invariant-loop-place : goal.invariant-loop-place
-invariant-loop-place l = record {
-  count : length l.frames ≡ l.place;
-  staged : AreStaged l.node l.to l.fn.frames l.frames;
-}

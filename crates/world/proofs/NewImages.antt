@@ -1,0 +1,119 @@
+-- The image of a new node is short.
+use Rattle.std.proofs.Common.{◌≡◌, ◌≢◌, ℕ, zero, suc, ◌+◌, ◌*◌, ◌<◌, ◌≤◌, ◌==◌, if◌then◌else◌, Bool, true, false, List, [], ◌∷◌, length, drop, replicate, None, refl, ap, arith}
+use Rattle.std.specs.List.{flat_map, remove}
+use Rattle.codec.specs.Formats.{number2, number4, number8, signed8}
+use Rattle.std.proofs.lemmas.List.{length-append, length-drop, length-replicate}
+use Rattle.ids.specs.Limits.{Shaped, IsShape}
+use Rattle.ids.specs.declared.limits.TheConstants.{GREATEST_IMAGE}
+use Rattle.ids.specs.declared.refusal.Refusal.{Refusal}
+use Rattle.ids.specs.declared.refusal.Refusal.TheVariants.{Memory, ImageTooLarge}
+use Rattle.msg.specs.declared.version.Version.TheVariants.{Second}
+use Rattle.msg.specs.Formats.{reference, optional, colour}
+use Rattle.model.specs.View.{no_link, new_view}
+use Rattle.grammar.specs.Links.{StoredLink}
+use Rattle.grammar.specs.Grammar.{Stored, spelling, version_format, start_format, image_format}
+use Rattle.grammar.specs.Grammar.{stored_format, lists_format, told_format, slots_format}
+use Rattle.grammar.specs.Grammar.{others_format, slot_format, letter_format, link_format}
+use Rattle.grammar.specs.Grammar.{front_format, front_of, nodes_format, head_format, phases_format}
+use Rattle.grammar.specs.Grammar.{ring_format, held_format}
+use Rattle.grammar.specs.Stored.{stored_link, stored_links}
+use Rattle.image.specs.Images.{image_of, stored_by}
+use Rattle.world.proofs.Refusals.{memory-alone}
+
+-- ---- its length
+
+four : (n : ℕ) → length (number4.spell n) ≡ 4
+unfolding number4
+four n = refl
+
+-- the part before the lists, and each of the lists
+spelling_length : (s : Stored) → length (spelling Second s)
+    ≡ length ((front_format Second).spell (front_of s)) + 23
+    + (length (flat_map number8.spell s.reports)
+    + length (flat_map (optional Second).spell s.registers))
+    + (length (flat_map (slot_format Second).spell s.slots) + length (flat_map number4.spell s.free)
+    + length (flat_map number4.spell s.grey))
+    + (length (flat_map (reference Second).spell s.asked)
+    + length (flat_map (letter_format Second).spell s.letters)
+    + length (flat_map (link_format Second).spell s.links))
+unfolding spelling image_format start_format version_format stored_format lists_format told_format slots_format others_format
+spelling_length s =
+    simp length-append (omega (
+      arith,
+      four (length s.slots),
+      four (length s.free),
+      four (length s.grey),
+      four (length s.asked),
+      four (length s.letters),
+    ))
+
+all-reports : (ns : List ℕ) → length (flat_map number8.spell ns) ≡ 8 * length ns
+unfolding number8
+all-reports [] = refl
+all-reports (n ∷ ns) =
+    let this = length-append (number8.spell n) (flat_map number8.spell ns) in
+    omega (arith, this, all-reports ns)
+
+empty-registers : (n : ℕ) → length (flat_map (optional Second).spell (replicate n None)) ≡ n
+unfolding optional
+empty-registers zero = refl
+empty-registers (suc n) = ap (λ k. suc k) (empty-registers n)
+
+abbrev new_links : ℕ → List StoredLink
+new_links n = stored_links (replicate n no_link) (replicate n 0)
+
+empty-links : (n : ℕ) → length (flat_map (link_format Second).spell (new_links n)) ≡ 20 * n
+unfolding link_format number4 number8
+empty-links zero = refl
+empty-links (suc n) =
+    let this = length-append ((link_format Second).spell (stored_link (no_link, 0)))
+    (flat_map (link_format Second).spell (new_links n))
+    in omega (arith, this, empty-links n)
+
+-- the links to other nodes
+other-links : (own n : ℕ)
+    → length (flat_map (link_format Second).spell (remove (new_links n) own)) ≤ 20 * n
+unfolding link_format number4 number8
+other-links zero zero = omega arith
+other-links (suc own) zero = omega arith
+other-links zero (suc n) = omega (arith, empty-links n)
+other-links (suc own) (suc n) =
+    let this = length-append ((link_format Second).spell (stored_link (no_link, 0)))
+    (flat_map (link_format Second).spell (remove (new_links n) own)) in
+    omega (arith, this, other-links own n)
+
+new-reports : (b : Bool) (n : ℕ)
+    → length (flat_map number8.spell (if b then drop 1 (replicate n 0) else [])) ≤ 8 * n
+new-reports false n = omega arith
+new-reports true n =
+    let zeros : List ℕ = replicate n 0 in
+    let all = all-reports (drop 1 zeros) in
+    omega (arith, all, length-drop 1 zeros, length-replicate {A = ℕ} n 0)
+
+new-front : (shape : Shaped) (own : ℕ)
+    → length ((front_format Second).spell (front_of (stored_by (new_view shape own)))) ≡ 54
+unfolding front_format head_format nodes_format phases_format ring_format held_format colour signed8 number2 number4 number8
+new-front shape own = refl
+
+pub new-within : (shape : Shaped) (own : ℕ) → IsShape shape
+    → length (image_of (new_view shape own)) ≤ GREATEST_IMAGE
+new-within shape own h =
+    let s : Stored = stored_by (new_view shape own) in
+    omega (
+      arith,
+      h.most_nodes,
+      h.most_registers,
+      spelling_length s,
+      new-front shape own,
+      new-reports (own == 0) shape.nodes,
+      empty-registers shape.registers,
+      other-links own shape.nodes,
+    )
+
+-- so saving it fails only for lack of memory
+pub new-starved : (shape : Shaped) (own : ℕ) (e : Refusal) → IsShape shape
+    → (e ≢ Memory
+    → (e ≡ ImageTooLarge) × (GREATEST_IMAGE < length (image_of (new_view shape own))))
+    → e ≡ Memory
+new-starved shape own e h size =
+    memory-alone e (λ other. omega (arith, new-within shape own h, (size other).1))
