@@ -1,3 +1,4 @@
+#![tactic(auto)]
 //! A node's part in controlling the collection cycles: its [`Ring`] finds the end of marking, and
 //! its [`Phases`] say how far the node is.
 //!
@@ -40,7 +41,6 @@
 //! next cycle before it had swept this one. Its garbage would then be white, like the objects that
 //! aren't marked yet, and would refer to objects that other nodes have freed. So a node joins only
 //! after it has swept, and node 0 begins a cycle only after all nodes have reported that.
-#![tactic(auto)]
 
 mod counting;
 mod phases;

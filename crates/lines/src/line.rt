@@ -54,8 +54,8 @@ impl Line {
     }
 }
 
-/// The meaning of the words of a text. (The way to a line that asks a node for a save is inlined,
-/// since most lines do.)
+/// The meaning of the words of a text. (Only the path to a save is inlined, because most lines ask
+/// a node for one.)
 #[inline(always)]
 fn line_in(line: &mut Line, text: &str) -> Option<()>
     requires { IsTrimmed text.now }
