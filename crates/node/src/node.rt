@@ -17,9 +17,8 @@ mod receiving;
 mod steps;
 mod taking;
 
-use barrier::RefSet;
 use control::{Phases, Ring};
-use heap::Heap;
+use heap::{Heap, RefSet};
 use ids::{NodeId, Ref, Refusal, Shape};
 use link::Links;
 use model::{Answer, Event, Summary};

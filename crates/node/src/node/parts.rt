@@ -10,10 +10,9 @@ mod home;
 mod lists;
 
 use super::Core;
-use barrier::RefSet;
 use control::{Phases, Ring};
 use ends::{are_at_ends, is_bounded, number_sum};
-use heap::{Heap, HeapParts};
+use heap::{Heap, HeapParts, RefSet};
 use home::is_at_home;
 use ids::{Ref, Refusal, Shape};
 use link::{LinkParts, Links};
