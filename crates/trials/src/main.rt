@@ -6,7 +6,6 @@ mod crashes;
 mod files;
 mod gates;
 mod lent;
-mod mailboxes;
 mod making;
 mod once;
 mod openings;

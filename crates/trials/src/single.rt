@@ -1,7 +1,5 @@
 //! Commands that keep nothing from one line to the next: runs of a worker, arenas whose values
-//! count how often one of them is dropped, a collection in one thread, laws, and the steps of a
-//! mailbox.
-use crate::mailboxes::mailbox;
+//! count how often one of them is dropped, a collection in one thread, and laws.
 use crate::out::Out;
 use crate::turns::run;
 use crate::words::{CaseError, Subject, number, verb};
@@ -32,11 +30,6 @@ impl<R: Wait> Subject for Single<'_, R> {
             }
             "collect" => {
                 out.answer(collect(self.alloc));
-                Ok(())
-            }
-            "mailbox" => {
-                let done = mailbox(self.alloc, out);
-                out.done(done);
                 Ok(())
             }
             _ => Err(CaseError::Unknown),
