@@ -1,5 +1,8 @@
 pub mod Batches
 pub mod Behind
+pub mod Crossing
 pub mod Logs
+pub mod Names
 pub mod Packs
+pub mod Parts
 pub mod Short

@@ -1,5 +1,6 @@
 pub mod Batches
 pub mod Frames
+pub mod Holds
 pub mod Images
 pub mod Logs
 pub mod Lone

@@ -10,10 +10,12 @@
 //! fails with [`Fault::NoHandle`]. So only `swap` of each handle deals with a pointer.
 #![tactic(auto)]
 
+mod held;
 mod lone;
 mod nodes;
 mod packing;
 
+pub use held::Held;
 pub use lone::LoneNode;
 pub use lone::reading::{link_of, register_of};
 pub use lone::reopening::stored_once;

@@ -1,7 +1,7 @@
 //! A node as C holds it: a pointer to a [`LoneNode`], or null.
 ghost use Rattle.std.specs.Prelude.{◌≡◌, ◌&&◌, false, None, Some, Ok, Option, IfSome};
 ghost use Rattle.std.specs.Coded.{coded_option};
-ghost use Rattle.held.specs.Holds.{unboxed};
+ghost use Rattle.handles.specs.Holds.{unboxed};
 ghost use Rattle.handles.specs.declared.lone.LoneNode.{LoneNode};
 ghost use Rattle.handles.specs.contracts.lone.LoneNode.{the_row as LoneRow};
 ghost use Rattle.model.specs.declared.event.Event.TheVariants as events;
@@ -16,8 +16,8 @@ ghost use Rattle.handles.specs.Logs.{logs_in};
 ghost use Rattle.handles.specs.Lone.{Made, NodeActs, Read, TookIn};
 ghost use Rattle.handles.specs.Reads.{link_of, register_of, waiting_number};
 
+use crate::held::Held;
 use crate::lone::LoneNode;
-use held::Held;
 use ids::Ref;
 use model::{Answer, Event};
 use node::Summary;
@@ -34,7 +34,7 @@ pub struct NodeHandle {
 }
 
 impl Model for NodeHandle {
-    ghost use Rattle.held.specs.Holds.{holds};
+    ghost use Rattle.handles.specs.Holds.{holds};
     ghost use Rattle.handles.specs.contracts.lone.LoneNode.{the_row as LoneRow};
 
     ghost also_owns = { λ h. holds LoneRow h.at h.held };

@@ -1,7 +1,7 @@
 //! A cell as C holds it: a pointer to a [`SeatedCell`], or null.
 ghost use Rattle.std.specs.Prelude.{◌≡◌, true, None, Some, Ok, Option};
 ghost use Rattle.std.specs.Coded.{coded_option};
-ghost use Rattle.held.specs.Holds.{unboxed};
+ghost use Rattle.handles.specs.Holds.{unboxed};
 ghost use Rattle.spaces.specs.declared.seated.SeatedCell.{SeatedCell};
 ghost use Rattle.spaces.specs.contracts.seated.SeatedCell.{the_row as Row};
 ghost use Rattle.values.specs.Faults.{Freed, Through, empty, read};
@@ -12,7 +12,7 @@ ghost use Rattle.spaces.specs.Cells.{CellActs, HandleImaged, Raised, Received, R
 ghost use Rattle.spaces.specs.Cells.{Sent, SizedSame};
 
 use crate::seated::SeatedCell;
-use held::Held;
+use handles::Held;
 use ids::Ref;
 use model::{Answer, Event};
 use node::Summary;
@@ -29,7 +29,7 @@ pub struct CellHandle {
 }
 
 impl Model for CellHandle {
-    ghost use Rattle.held.specs.Holds.{holds};
+    ghost use Rattle.handles.specs.Holds.{holds};
     ghost use Rattle.spaces.specs.contracts.seated.SeatedCell.{the_row as Row};
 
     ghost also_owns = { λ h. holds Row h.at h.held };

@@ -1,7 +1,7 @@
 //! A space as C holds it: a pointer to a [`SeatedSpace`], or null.
 ghost use Rattle.std.specs.Prelude.{◌≡◌, None, Some, Option};
 ghost use Rattle.std.specs.Coded.{coded_option};
-ghost use Rattle.held.specs.Holds.{unboxed};
+ghost use Rattle.handles.specs.Holds.{unboxed};
 ghost use Rattle.spaces.specs.declared.space.SeatedSpace.{SeatedSpace};
 ghost use Rattle.spaces.specs.contracts.space.SeatedSpace.{the_row as Row};
 ghost use Rattle.values.specs.Faults.{Filled, Freed, Through, empty};
@@ -10,7 +10,7 @@ ghost use Rattle.spaces.specs.Spaces.{Given, Made, Moved, Opens, TakesCell, Take
 use crate::cell_handle::CellHandle;
 use crate::space::SeatedSpace;
 use crate::watch_handle::WatchHandle;
-use held::Held;
+use handles::Held;
 use std::alloc::Global;
 use std::marker::{Model, Send};
 use values::Fault;
@@ -24,7 +24,7 @@ pub struct SpaceHandle {
 }
 
 impl Model for SpaceHandle {
-    ghost use Rattle.held.specs.Holds.{holds};
+    ghost use Rattle.handles.specs.Holds.{holds};
     ghost use Rattle.spaces.specs.contracts.space.SeatedSpace.{the_row as Row};
 
     ghost also_owns = { λ h. holds Row h.at h.held };

@@ -1,14 +1,14 @@
 //! A watch as C holds it: a pointer to a [`SeatedWatch`], or null.
 ghost use Rattle.std.specs.Prelude.{◌≡◌, None, Some, Option};
 ghost use Rattle.std.specs.Coded.{coded_option};
-ghost use Rattle.held.specs.Holds.{unboxed};
+ghost use Rattle.handles.specs.Holds.{unboxed};
 ghost use Rattle.spaces.specs.declared.watching.SeatedWatch.{SeatedWatch};
 ghost use Rattle.spaces.specs.contracts.watching.SeatedWatch.{the_row as Row};
 ghost use Rattle.values.specs.Faults.{Freed, Through, empty};
 ghost use Rattle.spaces.specs.Watches.{Looks};
 
 use crate::watching::SeatedWatch;
-use held::Held;
+use handles::Held;
 use std::alloc::Global;
 use std::marker::{Model, Send};
 use values::Fault;
@@ -22,7 +22,7 @@ pub struct WatchHandle {
 }
 
 impl Model for WatchHandle {
-    ghost use Rattle.held.specs.Holds.{holds};
+    ghost use Rattle.handles.specs.Holds.{holds};
     ghost use Rattle.spaces.specs.contracts.watching.SeatedWatch.{the_row as Row};
 
     ghost also_owns = { λ h. holds Row h.at h.held };

@@ -1,13 +1,13 @@
 -- `swap` exchanges two pointers, with what they own. Assumes `Logic`.
-use Rattle.held.proofs.Names.{◌≡◌, refl, sym, subst, List, [], ◌∷◌, ◌++◌, ℕ, SProp, ent, emp, id⊢}
-use Rattle.held.proofs.Names.{ftrue, flft, full_share, Val, vptr, WpFn, ‵, raw, ◌⊛◌, ◌$◌, ◌∵◌, !, qed, by, keep, move}
-use Rattle.held.proofs.Names.{use0, drop, split, join, fsplit, fsplit3, fjoin, fjoin3, feq_i, rewrite, suffices, agg, sub}
-use Rattle.held.proofs.Names.{whole, look_in, store_in, enter, stop, fld, load, of_opd, and_then, no_more, assigns, returns}
-use Rattle.held.proofs.Names.{alloc_all, pass_all, free_all, look_at, get, get_in, through, sets, fact, fact_i, tables}
-use Rattle.held.proofs.Names.{owns, plain, types_at, nothing, opens, closes, peeks, shows}
-use Rattle.held.proofs.Names.{cell_at, Stays, stay_dropped, stay_ref, walk_of, Goes-dropped, Goes-ref, Ptr-Good, leaves}
-use Rattle.held.proofs.Names.{proved_at}
-use Rattle.held.proofs.Parts.{Holder, Pointer, fields-made, held_in, held_out, word, word-good}
+use Rattle.handles.proofs.Names.{◌≡◌, refl, sym, subst, List, [], ◌∷◌, ◌++◌, ℕ, SProp, ent, emp, id⊢}
+use Rattle.handles.proofs.Names.{ftrue, flft, full_share, Val, vptr, WpFn, ‵, raw, ◌⊛◌, ◌$◌, ◌∵◌, !, qed, by, keep, move}
+use Rattle.handles.proofs.Names.{use0, drop, split, join, fsplit, fsplit3, fjoin, fjoin3, feq_i, rewrite, suffices, agg, sub}
+use Rattle.handles.proofs.Names.{whole, look_in, store_in, enter, stop, fld, load, of_opd, and_then, no_more, assigns, returns}
+use Rattle.handles.proofs.Names.{alloc_all, pass_all, free_all, look_at, get, get_in, through, sets, fact, fact_i, tables}
+use Rattle.handles.proofs.Names.{owns, plain, types_at, nothing, opens, closes, peeks, shows}
+use Rattle.handles.proofs.Names.{cell_at, Stays, stay_dropped, stay_ref, walk_of, Goes-dropped, Goes-ref, Ptr-Good, leaves}
+use Rattle.handles.proofs.Names.{proved_at}
+use Rattle.handles.proofs.Parts.{Holder, Pointer, fields-made, held_in, held_out, word, word-good}
 use denote.Exit.{yes}
 use Rattle.spaces.specs.contracts.seated.SeatedCell.{the_row as T}
 use Rattle.spaces.specs.contracts.cell_handle.CellHandle.{the_row as R}

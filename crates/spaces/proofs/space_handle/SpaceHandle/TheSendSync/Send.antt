@@ -4,7 +4,7 @@ use denote.Param.Send.{IsSend, owning_send, sendable, struct_send}
 use denote.Struct.Owning.{fields, shape, to}
 use denote.Struct.Struct.{exits_of}
 use Rattle.std_alloc.proofs.SendSync.{quiet}
-use Rattle.held.proofs.Crossing.{holds-keyless}
+use Rattle.handles.proofs.Crossing.{holds-keyless}
 use Rattle.spaces.proofs.Sent.{space-send}
 use Rattle.spaces.specs.contracts.space.SeatedSpace.{the_row as T}
 use Rattle.spaces.specs.contracts.space_handle.SpaceHandle.{the_row, the_type}

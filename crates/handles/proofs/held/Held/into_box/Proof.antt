@@ -1,17 +1,17 @@
 -- `into_box` makes the box again if the pointer isn't null. Assumes `Logic`.
-use Rattle.held.proofs.Names.{◌≡◌, refl, sym, ap, subst, ◌∙◌, List, [], ◌∷◌, ◌++◌, SProp, ent, emp, id⊢}
-use Rattle.held.proofs.Names.{lit<, ftrue, flft, Fn, a_type, impl, tcons, tnil, dcons, dnil}
-use Rattle.held.proofs.Names.{inst_fn, Val, vptr, vnil, vcons, WpFn, ‵, raw, ◌⊛◌, some, later, at_ret, ◌$◌, ◌∵◌, !, qed, by}
-use Rattle.held.proofs.Names.{keep, move, use0, use1, use2, drop, split, split3, join, fsplit, fjoin, feq_i, pick}
-use Rattle.held.proofs.Names.{await, suffices, live, agg, sub, whole, enter, stop, fld, bin, lit, of_opd}
-use Rattle.held.proofs.Names.{and_then, no_more, first, blocks, branches, exec, returns, alloc_all, pass_all, free_all}
-use Rattle.held.proofs.Names.{look_at, get, get_in, is, sets, sets_last, env, lands_last, ◌⊑◌, ⊑_static, fact, fact_i, tables}
-use Rattle.held.proofs.Names.{no, Lasts, lasts, arg, bounded, layout, param, arg_laws, glues, bare, RattleType, owns}
-use Rattle.held.proofs.Names.{block_ptr, tests_null, plain, type_at, types_at, heard, nothing, only}
-use Rattle.held.proofs.Names.{calls_at_last, triple_of, framed, Stays, stay_dropped, walk_of, Goes-blank, Goes-dropped}
-use Rattle.held.proofs.Names.{Ptr-Good, Good, Some-of, none_of, leaves, proved_at, dict, ghosts, Option, None, Some}
-use Rattle.held.proofs.Names.{box_in, box_out, and_tt, after}
-use Rattle.held.proofs.Parts.{Holder, either, held_out, word, word-good}
+use Rattle.handles.proofs.Names.{◌≡◌, refl, sym, ap, subst, ◌∙◌, List, [], ◌∷◌, ◌++◌, SProp, ent, emp, id⊢}
+use Rattle.handles.proofs.Names.{lit<, ftrue, flft, Fn, a_type, impl, tcons, tnil, dcons, dnil}
+use Rattle.handles.proofs.Names.{inst_fn, Val, vptr, vnil, vcons, WpFn, ‵, raw, ◌⊛◌, some, later, at_ret, ◌$◌, ◌∵◌, !, qed, by}
+use Rattle.handles.proofs.Names.{keep, move, use0, use1, use2, drop, split, split3, join, fsplit, fjoin, feq_i, pick}
+use Rattle.handles.proofs.Names.{await, suffices, live, agg, sub, whole, enter, stop, fld, bin, lit, of_opd}
+use Rattle.handles.proofs.Names.{and_then, no_more, first, blocks, branches, exec, returns, alloc_all, pass_all, free_all}
+use Rattle.handles.proofs.Names.{look_at, get, get_in, is, sets, sets_last, env, lands_last, ◌⊑◌, ⊑_static, fact, fact_i, tables}
+use Rattle.handles.proofs.Names.{no, Lasts, lasts, arg, bounded, layout, param, arg_laws, glues, bare, RattleType, owns}
+use Rattle.handles.proofs.Names.{block_ptr, tests_null, plain, type_at, types_at, heard, nothing, only}
+use Rattle.handles.proofs.Names.{calls_at_last, triple_of, framed, Stays, stay_dropped, walk_of, Goes-blank, Goes-dropped}
+use Rattle.handles.proofs.Names.{Ptr-Good, Good, Some-of, none_of, leaves, proved_at, dict, ghosts, Option, None, Some}
+use Rattle.handles.proofs.Names.{box_in, box_out, and_tt, after}
+use Rattle.handles.proofs.Parts.{Holder, either, held_out, word, word-good}
 use base.Share
 use mir.Syntax.{assign, rv_opd, copy, place, aggregate, int, seq, w8}
 use prog.Wp.{Wp, after_seq, at_return}
@@ -27,12 +27,12 @@ use Rattle.std_alloc.proofs.BoxSteps.Form as box
 use Rattle.std_alloc.specs.contracts.boxed.Box as plain_box
 use Rattle.std_alloc.specs.contracts.boxed.Box.from_raw as callee
 use Rattle.std_alloc.proofs.boxed.Box.from_raw.Met.{met}
-use Rattle.held.proofs.Destruct++none.drop.Code as none_code
-use Rattle.held.specs.Holds.{unboxed}
-use Rattle.held.specs.contracts.Held.into_box as F
-use Rattle.held.specs.contracts.Held.into_box.Key.{name as #self}
-use Rattle.held.proofs.Held.into_box.Statement.{statement}
-use Rattle.held.proofs.Held.into_box.Code as code
+use Rattle.handles.proofs.Destruct++none.drop.Code as none_code
+use Rattle.handles.specs.Holds.{unboxed}
+use Rattle.handles.specs.contracts.held.Held.into_box as F
+use Rattle.handles.specs.contracts.held.Held.into_box.Key.{name as #self}
+use Rattle.handles.proofs.held.Held.into_box.Statement.{statement}
+use Rattle.handles.proofs.held.Held.into_box.Code as code
 
 pub into_box_spec : {M : Type 1} → statement M
 unfolding none_code.code tables_of
@@ -40,7 +40,7 @@ into_box_spec {M} 𝓤 𝓛 𝓜 𝓡 wired T L dx glue =
     let H = 𝓛.H in let 𝓣 = tables 𝓤 H 𝓜 𝓡 𝓡.env in let R : RattleType = param 0 T in
     let τ = bare (layout heap_row.the_row) in let Z : RattleType = arg τ no heap_row.the_row in
     let LZ = arg_laws τ no heap_row.the_row heap_laws.the_row_laws refl in
-    let dd = impl ("held::Destruct++none::drop" ∷ []) (tcons (layout Z) tnil) dnil in
+    let dd = impl ("handles::Destruct++none::drop" ∷ []) (tcons (layout Z) tnil) dnil in
     let E : box.Bx = record {
       row = T;
       laws = L;
@@ -70,7 +70,7 @@ into_box_spec {M} 𝓤 𝓛 𝓜 𝓡 wired T L dx glue =
     (code.calls-std_heap::GlobalAllocator::deallocate 𝓡.env wired)
     (code.calls-std_heap::GlobalAllocator::grow 𝓡.env wired)
     (code.calls-std_heap::GlobalAllocator::shrink 𝓡.env wired) M 𝓤 𝓛 𝓜 𝓡)
-    (glues "held::Destruct++none::drop" 𝓡.env (code.calls-held::Destruct++none::drop 𝓡.env wired)
+    (glues "handles::Destruct++none::drop" 𝓡.env (code.calls-handles::Destruct++none::drop 𝓡.env wired)
     Z LZ M 𝓤 𝓛 𝓜 𝓡) in
     proved_at 𝓛 En hs c 𝓜 𝓡 (
       Goes-blank 𝓛 1 (plain (λ _. Holder R)) no (λ κs x f. tt),

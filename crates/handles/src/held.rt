@@ -4,11 +4,9 @@
 //! A struct that C keeps has a field `*mut u8` and owns the same formula. One function of its own
 //! exchanges what it holds for a [`Held`], which is then a box again. No other code follows a
 //! pointer.
-#![tactic(auto)]
-
 ghost use Rattle.std.specs.Prelude.{◌≡◌, Option, None, Some};
 ghost use Rattle.std.specs.Coded.{coded_option};
-ghost use Rattle.held.specs.Holds.{holds, unboxed};
+ghost use Rattle.handles.specs.Holds.{holds, unboxed};
 
 use std::alloc::Global;
 use std::marker::Model;

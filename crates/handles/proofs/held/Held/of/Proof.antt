@@ -1,15 +1,15 @@
 -- `of` keeps the pointer of the box. Assumes `Logic`.
-use Rattle.held.proofs.Names.{◌≡◌, refl, sym, ap, subst, List, [], ◌∷◌, ◌++◌, SProp, ent, emp, id⊢}
-use Rattle.held.proofs.Names.{ftrue, flft, Fn, a_type, impl, tcons, tnil, dcons, dnil}
-use Rattle.held.proofs.Names.{inst_fn, Val, WpFn, ‵, raw, ◌⊛◌, some, later, ◌$◌, ◌∵◌, !, qed, by, keep, move}
-use Rattle.held.proofs.Names.{use0, use1, use2, drop, split, join, fsplit, fjoin, feq_l, pick, await, suffices, agg}
-use Rattle.held.proofs.Names.{enter, of_opd, and_then, no_more, returns, alloc_all, pass_all, free_all, look_at}
-use Rattle.held.proofs.Names.{get, sets, lands_as, ◌⊑◌, ⊑_static, fact, fact_i, tables, RawPtr, no, arg, bounded}
-use Rattle.held.proofs.Names.{layout, param, arg_laws, glues, bare, RattleType, owns, Ptr}
-use Rattle.held.proofs.Names.{plain, types_at, heard, nothing, only, calls_at, triple_of, framed, Stays}
-use Rattle.held.proofs.Names.{stay_dropped, walk_of, Goes-blank, Ptr-Good, leaves, proved_at}
-use Rattle.held.proofs.Names.{dict, ghosts, Some, box_in, box_out, box_owns, heap, Lasts, lasts}
-use Rattle.held.proofs.Parts.{Holder, held_in, word, word-good}
+use Rattle.handles.proofs.Names.{◌≡◌, refl, sym, ap, subst, List, [], ◌∷◌, ◌++◌, SProp, ent, emp, id⊢}
+use Rattle.handles.proofs.Names.{ftrue, flft, Fn, a_type, impl, tcons, tnil, dcons, dnil}
+use Rattle.handles.proofs.Names.{inst_fn, Val, WpFn, ‵, raw, ◌⊛◌, some, later, ◌$◌, ◌∵◌, !, qed, by, keep, move}
+use Rattle.handles.proofs.Names.{use0, use1, use2, drop, split, join, fsplit, fjoin, feq_l, pick, await, suffices, agg}
+use Rattle.handles.proofs.Names.{enter, of_opd, and_then, no_more, returns, alloc_all, pass_all, free_all, look_at}
+use Rattle.handles.proofs.Names.{get, sets, lands_as, ◌⊑◌, ⊑_static, fact, fact_i, tables, RawPtr, no, arg, bounded}
+use Rattle.handles.proofs.Names.{layout, param, arg_laws, glues, bare, RattleType, owns, Ptr}
+use Rattle.handles.proofs.Names.{plain, types_at, heard, nothing, only, calls_at, triple_of, framed, Stays}
+use Rattle.handles.proofs.Names.{stay_dropped, walk_of, Goes-blank, Ptr-Good, leaves, proved_at}
+use Rattle.handles.proofs.Names.{dict, ghosts, Some, box_in, box_out, box_owns, heap, Lasts, lasts}
+use Rattle.handles.proofs.Parts.{Holder, held_in, word, word-good}
 use base.Share
 use Rattle.std_alloc.specs.contracts.boxed.Box as plain_box
 use contract.Running.{tables_of}
@@ -19,11 +19,11 @@ use Rattle.std.specs.contracts.alloc.Global as heap_row
 use Rattle.std_alloc.proofs.BoxSteps.Form as box
 use Rattle.std_alloc.specs.contracts.boxed.Box.into_raw as callee
 use Rattle.std_alloc.proofs.boxed.Box.into_raw.Met.{met}
-use Rattle.held.proofs.Destruct++none.drop.Code as none_code
-use Rattle.held.specs.contracts.Held.of as F
-use Rattle.held.specs.contracts.Held.of.Key.{name as #self}
-use Rattle.held.proofs.Held.of.Statement.{statement}
-use Rattle.held.proofs.Held.of.Code as code
+use Rattle.handles.proofs.Destruct++none.drop.Code as none_code
+use Rattle.handles.specs.contracts.held.Held.of as F
+use Rattle.handles.specs.contracts.held.Held.of.Key.{name as #self}
+use Rattle.handles.proofs.held.Held.of.Statement.{statement}
+use Rattle.handles.proofs.held.Held.of.Code as code
 
 pub of_spec : {M : Type 1} → statement M
 unfolding none_code.code tables_of
@@ -31,7 +31,7 @@ of_spec {M} 𝓤 𝓛 𝓜 𝓡 wired T L dx glue =
     let H = 𝓛.H in let 𝓣 = tables 𝓤 H 𝓜 𝓡 𝓡.env in let R : RattleType = param 0 T in
     let τ = bare (layout heap_row.the_row) in let Z : RattleType = arg τ no heap_row.the_row in
     let LZ = arg_laws τ no heap_row.the_row heap_laws.the_row_laws refl in
-    let dd = impl ("held::Destruct++none::drop" ∷ []) (tcons (layout Z) tnil) dnil in
+    let dd = impl ("handles::Destruct++none::drop" ∷ []) (tcons (layout Z) tnil) dnil in
     let E : box.Bx = record {
       row = T;
       laws = L;
@@ -58,7 +58,7 @@ of_spec {M} 𝓤 𝓛 𝓜 𝓡 wired T L dx glue =
     (code.calls-std_heap::GlobalAllocator::deallocate 𝓡.env wired)
     (code.calls-std_heap::GlobalAllocator::grow 𝓡.env wired)
     (code.calls-std_heap::GlobalAllocator::shrink 𝓡.env wired) M 𝓤 𝓛 𝓜 𝓡)
-    (glues "held::Destruct++none::drop" 𝓡.env (code.calls-held::Destruct++none::drop 𝓡.env wired)
+    (glues "handles::Destruct++none::drop" 𝓡.env (code.calls-handles::Destruct++none::drop 𝓡.env wired)
     Z LZ M 𝓤 𝓛 𝓜 𝓡) glue in
     proved_at 𝓛 En hs c 𝓜 𝓡 (Goes-blank 𝓛 1 (plain (λ _. B₀)) no (λ κs x f. tt), tt)
     (#self inst) fn (code.unfolded 𝓤 H 𝓜 𝓡 wired (T, tt) dx) (λ z are.

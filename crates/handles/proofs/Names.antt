@@ -63,4 +63,4 @@ pub use Rattle.std_alloc.proofs.BoxSteps.Steps.{box_in, box_out}
 pub use Rattle.std_alloc.proofs.ResultValues.{and_tt}
 pub use Rattle.std_alloc.proofs.VecSteps.Shapes.{after}
 pub use Rattle.std_alloc.specs.Box.Ownership.{box_owns}
-pub use Rattle.held.specs.Holds.{heap, holds}
+pub use Rattle.handles.specs.Holds.{heap, holds}

@@ -1,12 +1,12 @@
 -- What owns a pointer to a box or null, taken apart and made. Assumes `Logic`.
-use Rattle.held.proofs.Names.{◌≡◌, refl, subst, List, [], ◌∷◌, ◌++◌, ℕ, Ura, ent, never}
-use Rattle.held.proofs.Names.{fst∗, snd∗, via, guard, guard_i, bare, Val, vstruct}
-use Rattle.held.proofs.Names.{vcons, vnil, of_list, Logic, sem, Item, Goal, Seq, Step, step, ‵, given}
-use Rattle.held.proofs.Names.{◌$◌, drop, fsplit, fjoin, fpick, fpack, feq_i, feq_l, learn, nothing}
-use Rattle.held.proofs.Names.{use1, fact_use, RawPtr, lone, layout, RattleType, Valss, Ptr}
-use Rattle.held.proofs.Names.{Testable, block_ptr, null_ptr, ptr_val, shape, within, Ptr-Good}
-use Rattle.held.proofs.Names.{dealloc_token-Testable, ghosts, Option, None, Some, and_tt, box_owns}
-use Rattle.held.proofs.Names.{heap, holds, Good}
+use Rattle.handles.proofs.Names.{◌≡◌, refl, subst, List, [], ◌∷◌, ◌++◌, ℕ, Ura, ent, never}
+use Rattle.handles.proofs.Names.{fst∗, snd∗, via, guard, guard_i, bare, Val, vstruct}
+use Rattle.handles.proofs.Names.{vcons, vnil, of_list, Logic, sem, Item, Goal, Seq, Step, step, ‵, given}
+use Rattle.handles.proofs.Names.{◌$◌, drop, fsplit, fjoin, fpick, fpack, feq_i, feq_l, learn, nothing}
+use Rattle.handles.proofs.Names.{use1, fact_use, RawPtr, lone, layout, RattleType, Valss, Ptr}
+use Rattle.handles.proofs.Names.{Testable, block_ptr, null_ptr, ptr_val, shape, within, Ptr-Good}
+use Rattle.handles.proofs.Names.{dealloc_token-Testable, ghosts, Option, None, Some, and_tt, box_owns}
+use Rattle.handles.proofs.Names.{heap, holds, Good}
 use base.Fraction.{full_share}
 use mir.Val.{has_ty}
 use mir.Syntax.{ty_ptr}
@@ -14,7 +14,7 @@ use base.Logic.{emp}
 use denote.RawPtr.{lies_at, in_a_block}
 use denote.Shadow.{makes_shadow}
 use denote.Struct.Struct.{Struct}
-use Rattle.held.specs.contracts.Held as held
+use Rattle.handles.specs.contracts.held.Held as held
 
 -- the machine value of a struct whose only field is this pointer
 abbrev pub word : Ptr → Val

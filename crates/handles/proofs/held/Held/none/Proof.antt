@@ -1,15 +1,15 @@
 -- `none` makes a null pointer. Assumes `Logic`.
-use Rattle.held.proofs.Names.{◌≡◌, refl, [], ◌∷◌, SProp, emp, ftrue, flft, Fn, a_type}
-use Rattle.held.proofs.Names.{dcons, dnil, inst_fn, Val, ‵, raw, ◌⊛◌, ◌$◌, ◌∵◌, !, qed, by, keep}
-use Rattle.held.proofs.Names.{move, use0, fpack, split, agg, enter, lit, and_then, no_more, returns}
-use Rattle.held.proofs.Names.{alloc_all, pass_all, free_all, look_at, sets, ◌⊑◌, fact, fact_i, tables}
-use Rattle.held.proofs.Names.{bounded, param, RattleType, null_ptr, nothing, Stays}
-use Rattle.held.proofs.Names.{walk_of, leaves, proved_at, None}
-use Rattle.held.proofs.Parts.{Holder, held_in, word, word-good}
-use Rattle.held.specs.contracts.Held.none as F
-use Rattle.held.specs.contracts.Held.none.Key.{name as #self}
-use Rattle.held.proofs.Held.none.Statement.{statement}
-use Rattle.held.proofs.Held.none.Code as code
+use Rattle.handles.proofs.Names.{◌≡◌, refl, [], ◌∷◌, SProp, emp, ftrue, flft, Fn, a_type}
+use Rattle.handles.proofs.Names.{dcons, dnil, inst_fn, Val, ‵, raw, ◌⊛◌, ◌$◌, ◌∵◌, !, qed, by, keep}
+use Rattle.handles.proofs.Names.{move, use0, fpack, split, agg, enter, lit, and_then, no_more, returns}
+use Rattle.handles.proofs.Names.{alloc_all, pass_all, free_all, look_at, sets, ◌⊑◌, fact, fact_i, tables}
+use Rattle.handles.proofs.Names.{bounded, param, RattleType, null_ptr, nothing, Stays}
+use Rattle.handles.proofs.Names.{walk_of, leaves, proved_at, None}
+use Rattle.handles.proofs.Parts.{Holder, held_in, word, word-good}
+use Rattle.handles.specs.contracts.held.Held.none as F
+use Rattle.handles.specs.contracts.held.Held.none.Key.{name as #self}
+use Rattle.handles.proofs.held.Held.none.Statement.{statement}
+use Rattle.handles.proofs.held.Held.none.Code as code
 
 pub none_spec : {M : Type 1} → statement M
 none_spec 𝓤 𝓛 𝓜 𝓡 wired T L dx glue =

@@ -8,7 +8,7 @@ use denote.Param.Send.{IsSend}
 use denote.RattleType.{RattleType}
 use denote.RawPtr.{Ptr}
 use mir.Raw.{raw}
-use Rattle.held.specs.Holds.{heap, holds}
+use Rattle.handles.specs.Holds.{heap, holds}
 
 pub holds-keyless : (R : RattleType) → IsSend R → (p : Ptr) (x : Option R.Denot)
     → Keyless (holds R p x)
