@@ -12,16 +12,18 @@ use Rattle.std.proofs.lemmas.List.Sums.{sum_by-set, count_by-le-length}
 use Rattle.std.proofs.lemmas.Map.Keys.{IsDistinct-cons}
 use Rattle.std.proofs.lemmas.Map.Steps.{length-le_from_distinct_below}
 use Rattle.std.specs.List.{IsDistinct, AllByRecursion, list_any}
-use Rattle.arena.specs.Arena.{Arena, Has, Once, IsFree, IsSound, is_occupied, value_of, get}
-use Rattle.arena.specs.Arena.{generation_of, IsKey, next_key, inserted, vacated, with_value}
-use Rattle.arena.specs.Entry.{slot_of, next_of, occupied_by, chain, arena_of, IsLinked}
+use Rattle.arena.specs.Arena.{Arena, Has, Once, IsSound, get}
+use Rattle.arena.specs.Arena.{IsKey, next_key, inserted, vacated, with_value}
+use Rattle.entries.specs.Slot.{IsFree, is_occupied, value_of, generation_of}
+use Rattle.arena.specs.Entry.{chain, arena_of, IsLinked}
+use Rattle.entries.specs.Entry.{slot_of, next_of, occupied_by}
 use Rattle.arena.specs.declared.Key.{Key}
-use Rattle.arena.specs.declared.Slot.{Slot}
-use Rattle.arena.specs.declared.Slot.TheVariants as slot
-use Rattle.arena.specs.declared.entry.Entry.{Entry}
-use Rattle.arena.specs.declared.entry.Entry.TheVariants.{Free, Occupied, Retired}
+use Rattle.entries.specs.declared.Slot.{Slot}
+use Rattle.entries.specs.declared.Slot.TheVariants as slot
+use Rattle.entries.specs.declared.Entry.{Entry}
+use Rattle.entries.specs.declared.Entry.TheVariants.{Free, Occupied, Retired}
 use Rattle.ids.specs.declared.limits.TheConstants.{GREATEST_GENERATION}
-use Rattle.arena.specs.declared.TheConstants.{FIRST_GENERATION}
+use Rattle.entries.specs.declared.TheConstants.{FIRST_GENERATION}
 use Rattle.arena.proofs.Sound.{IsTaken, free_within, IsSound-fill, IsSound-vacate, IsSound-set}
 
 -- what a search of the list finds is in it

@@ -1,6 +1,6 @@
 use Rattle.std.proofs.Common.{◌+◌, ◌^◌, ◌<◌, ◌∙◌, arith}
 use Rattle.arena.proofs.Chains.{retires, frees, vacant_fits}
-use Rattle.arena.proofs.Taking.{there, goes, counted}
+use Rattle.arena.proofs.Taking.{there, goes, counted, aged}
 use Rattle.arena.proofs.Arena.take.Goals as goal
 
 pub overflow_sub-self : goal.overflow_sub-self
@@ -28,6 +28,14 @@ returns-then-key-eq-GREATEST_GENERATION-clause-done g c =
     let r = retires c.self.invariant c.args.key some c.if-key-eq-GREATEST_GENERATION.true in
     rw (← c.self.view_is, c.retire.ensures.done) (r.done ∙ goes _ c.args.key some)
 
+pub free-value-requires-clause-more : goal.free-value-requires-clause-more
+free-value-requires-clause-more g c =
+    let within = rw (← c.self.view_is) at c.requires in
+    let some = there c.self.invariant c.args.key c.value.result within
+    c.get_mut-entry.ensures.value c.value.ensures c.if-is_none.ensures in
+    let at = aged c.args.key c.self.invariant some c.get_mut-entry.ensures.value in
+    omega (arith, at, c.if-key-eq-GREATEST_GENERATION.false)
+
 pub overflow_add-self : goal.overflow_add-self
 overflow_add-self g c =
     let within = rw (← c.self.view_is) at c.requires in
@@ -43,7 +51,8 @@ invariant_of-self-2 g c =
     let some = there c.self.invariant c.args.key c.value.result within
     c.get_mut-entry.ensures.value c.value.ensures c.if-is_none.ensures in
     let f = frees c.self.invariant c.args.key some c.if-key-eq-GREATEST_GENERATION.false in
-    rw c.free-value.ensures.done f.linked
+    let at = aged c.args.key c.self.invariant some c.get_mut-entry.ensures.value in
+    rw (c.free-value.ensures.done, at) f.linked
 
 pub returns-clause-done : goal.returns-clause-done
 returns-clause-done g c =
@@ -51,4 +60,5 @@ returns-clause-done g c =
     let some = there c.self.invariant c.args.key c.value.result within
     c.get_mut-entry.ensures.value c.value.ensures c.if-is_none.ensures in
     let f = frees c.self.invariant c.args.key some c.if-key-eq-GREATEST_GENERATION.false in
-    rw (← c.self.view_is, c.free-value.ensures.done) (f.done ∙ goes _ c.args.key some)
+    let at = aged c.args.key c.self.invariant some c.get_mut-entry.ensures.value in
+    rw (← c.self.view_is, c.free-value.ensures.done, at) (f.done ∙ goes _ c.args.key some)
