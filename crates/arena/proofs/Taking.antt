@@ -7,7 +7,7 @@ use Rattle.std.proofs.lemmas.List.{get_or_read, length-map}
 use Rattle.std.specs.Borrow.{Bor}
 use Rattle.std.specs.Option.{is_some, option_copied}
 use Rattle.arena.specs.Arena.{Arena, get, without, removed, vacated}
-use Rattle.entries.specs.Slot.{value_of, generation_of}
+use Rattle.entries.specs.Slot.{value_of}
 use Rattle.arena.specs.Entry.{arena_of, IsLinked}
 use Rattle.entries.specs.Entry.{slot_of}
 use Rattle.arena.proofs.Chains.{found, count-set}
@@ -52,13 +52,3 @@ module _ {T : Type 0} where
       let counts = count-set es key.slot
       (Occupied key.generation f.value) Retired f.within f.read in
       omega (arith, counts, linked.counted)
-
-  -- the entry of a value that is found has the generation of the key
-  pub aged : {es : List (Entry T)} {first vacant len limit : ℕ} {e : Entry T} (key : Key)
-      → IsLinked es first vacant len limit
-      → IsSome (get (arena_of es first vacant limit) key) → e ≡ get_or es key.slot e
-      → generation_of (slot_of e) ≡ key.generation
-  aged {es} {first} {vacant} {limit = limit} {e} key linked some read =
-      let f = found es first vacant limit key some in
-      ap (λ d. generation_of (slot_of d))
-      (get_or_read es key.slot e f.within read Retired ∙ f.read)
