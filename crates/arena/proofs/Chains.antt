@@ -1,28 +1,32 @@
 -- What each change of the entries does to the free slots that are linked through them, and to the
 -- count of the values.
-use Rattle.std.proofs.Common.{◌≡◌, ◌≢◌, ℕ, zero, suc, ◌+◌, ◌-◌, ◌^◌, ◌<◌, ◌≤◌, List, [], ◌∷◌, map}
+use Rattle.std.proofs.Common.{◌≡◌, ◌≢◌, ℕ, zero, suc, ◌+◌, ◌-◌, ◌^◌, ◌<◌, ◌≤◌, List, [], ◌∷◌, ◌++◌, map}
 use Rattle.std.proofs.Common.{length, get_or, set, cond, count_by, eqb, IsSome, Some, true, false}
 use Rattle.std.proofs.Common.{refl, sym, ap, ◌∙◌, inl, inr, arith, true≢false}
 use Rattle.std.proofs.lemmas.Bool.{cases_lt, eq-eqb, ne_eqb, or_cases, eqb-true}
 use Rattle.std.proofs.lemmas.Bool.Decides.{eqb_tells}
 use Rattle.std.proofs.Math.ListN.{get_or-map}
-use Rattle.std.proofs.lemmas.List.{map-set, length-map, get_or_past, get_or_read}
+use Rattle.std.proofs.lemmas.List.{map-set, map_push, length-map, get_or_past, get_or_read}
 use Rattle.std.proofs.lemmas.List.{get_or-set_same, get_or-set_other}
-use Rattle.std.proofs.lemmas.List.Sums.{sum_by-set, count_by-le-length}
+use Rattle.std.proofs.lemmas.List.Sums.{sum_by-set, sum_by_push, count_by-le-length}
 use Rattle.std.proofs.lemmas.Map.Keys.{IsDistinct-cons}
 use Rattle.std.proofs.lemmas.Map.Steps.{length-le_from_distinct_below}
+use Rattle.std.specs.Prelude.{nat_le}
 use Rattle.std.specs.List.{IsDistinct, AllByRecursion, list_any}
-use Rattle.arena.specs.Arena.{Arena, Has, Once, IsFree, IsSound, is_occupied, value_of, get}
-use Rattle.arena.specs.Arena.{generation_of, IsKey, next_key, inserted, vacated, with_value}
-use Rattle.arena.specs.Entry.{slot_of, next_of, occupied_by, chain, arena_of, IsLinked}
+use Rattle.arena.specs.Arena.{Arena, Has, Once, IsSound, get}
+use Rattle.arena.specs.Arena.{IsKey, is_full, next_key, inserted, vacated, with_value}
+use Rattle.entries.specs.Slot.{IsFree, is_occupied, value_of, generation_of}
+use Rattle.arena.specs.Entry.{chain, arena_of, IsLinked}
+use Rattle.entries.specs.Entry.{slot_of, held_by, next_of, occupied_by}
 use Rattle.arena.specs.declared.Key.{Key}
-use Rattle.arena.specs.declared.Slot.{Slot}
-use Rattle.arena.specs.declared.Slot.TheVariants as slot
-use Rattle.arena.specs.declared.entry.Entry.{Entry}
-use Rattle.arena.specs.declared.entry.Entry.TheVariants.{Free, Occupied, Retired}
+use Rattle.entries.specs.declared.Slot.{Slot}
+use Rattle.entries.specs.declared.Slot.TheVariants as slot
+use Rattle.entries.specs.declared.Entry.{Entry}
+use Rattle.entries.specs.declared.Entry.TheVariants.{Free, Occupied, Retired}
 use Rattle.ids.specs.declared.limits.TheConstants.{GREATEST_GENERATION}
-use Rattle.arena.specs.declared.TheConstants.{FIRST_GENERATION}
-use Rattle.arena.proofs.Sound.{IsTaken, free_within, IsSound-fill, IsSound-vacate, IsSound-set}
+use Rattle.entries.specs.declared.TheConstants.{FIRST_GENERATION}
+use Rattle.arena.proofs.Sound.{IsTaken, free_within, IsSound-push, IsSound-fill, IsSound-vacate}
+use Rattle.arena.proofs.Sound.{IsSound-set}
 
 -- what a search of the list finds is in it
 Has-from_any : (xs : List ℕ) (q : ℕ) → list_any (eqb q) xs ≡ true → Has xs q
@@ -45,6 +49,10 @@ unfolding IsDistinct
 IsDistinct-from_once [] once = tt
 IsDistinct-from_once (x ∷ xs) once =
     IsDistinct-cons eqb x xs (all_apart x xs once.0) (IsDistinct-from_once xs once.1)
+
+-- a number that isn't at most another one is above it
+nat_le_past : (n m : ℕ) → nat_le n m ≡ false → m < n
+nat_le_past n m fails = grind arith
 
 module _ {T : Type 0} where
   -- there are no more free slots than slots
@@ -237,6 +245,45 @@ module _ {T : Type 0} where
       get_or_read es first e f.within read Retired ∙ f.read in
       rw is (fills_from linked f x)
 
+  -- a value is stored in a slot that was never used
+  pub record Adds (es : List (Entry T)) (first vacant len limit : ℕ) (x : T) : Type 0 where
+    pub linked :
+        let more = es ++ Occupied FIRST_GENERATION x ∷ [] in
+        IsLinked more first vacant (len + 1) limit
+    pub key :
+        let key : Key = record { slot = length es; generation = FIRST_GENERATION } in
+        key ≡ next_key (arena_of es first vacant limit)
+    pub within :
+        let key : Key = record { slot = length es; generation = FIRST_GENERATION } in
+        IsKey (arena_of es first vacant limit) key
+    pub done :
+        let more = es ++ Occupied FIRST_GENERATION x ∷ [] in
+        arena_of more first vacant limit ≡ inserted (arena_of es first vacant limit) x
+
+  pub adds : {es : List (Entry T)} {first vacant len limit : ℕ}
+      → IsLinked es first vacant len limit → (x : T) → vacant ≤ 0
+      → is_full (arena_of es first vacant limit) ≡ false → Adds es first vacant len limit x
+  adds {vacant = suc vacant} linked x none room = absurd (omega arith)
+  adds {es} {first} {vacant = zero} {len} {limit} linked x none room =
+      let slots = map slot_of es in
+      let new = slot.Occupied FIRST_GENERATION x in
+      let below : length slots < limit = nat_le_past limit (length slots) room in
+      let long : length slots ≡ length es = length-map es slot_of in
+      let pushed : map slot_of (es ++ Occupied FIRST_GENERATION x ∷ []) ≡ slots ++ new ∷ [] =
+      map_push slot_of es (Occupied FIRST_GENERATION x) in
+      let counted = sum_by_push (λ (s : Slot T). cond (is_occupied s) 1 0) slots new in
+      record {
+        linked = record {
+          sound =
+              rw pushed
+              (IsSound-push slots limit FIRST_GENERATION x (omega arith) below linked.sound);
+          counted = rw pushed (omega (arith, linked.counted, counted));
+        };
+        key = rw long refl;
+        within = record { slot = omega (arith, below, long); generation = omega arith };
+        done = rw pushed refl;
+      }
+
   -- the value of the greatest generation is removed
   pub record Retires (es : List (Entry T)) (first vacant len limit : ℕ) (key : Key) : Type 0 where
     pub linked : IsLinked (set es key.slot Retired) first vacant (len - 1) limit
@@ -251,6 +298,13 @@ module _ {T : Type 0} where
     pub done :
         let emptied = set es key.slot (Free (key.generation + 1) first) in
         arena_of emptied key.slot (vacant + 1) limit ≡ vacated (arena_of es first vacant limit) key
+
+  -- this entry holds the value under the key
+  pub record Holds (es : List (Entry T)) (first vacant limit : ℕ) (key : Key) (e : Entry T)
+      : Type 0 where
+    pub held : IsSome (held_by e)
+    pub generation : generation_of (slot_of e) ≡ key.generation
+    pub value : (v : T) → held_by e ≡ Some v → Some v ≡ get (arena_of es first vacant limit) key
 
   -- the value is written
   pub record LendsOut (es : List (Entry T)) (first vacant len limit : ℕ) (key : Key) (e : Entry T)
@@ -312,6 +366,18 @@ module _ {T : Type 0} {es : List (Entry T)} {first vacant len limit : ℕ}
         };
         done = rw (test, chained, map-set);
       }
+
+  -- the entry that was read there holds the value
+  pub holds : (e : Entry T) → IsSome (get (arena_of es first vacant limit) key)
+      → e ≡ get_or es key.slot e → Holds es first vacant limit key e
+  holds e some read =
+      let f = found es first vacant limit key some in
+      let is : e ≡ Occupied key.generation f.value =
+      get_or_read es key.slot e f.within read Retired ∙ f.read in
+      let at = found_slot f in
+      let test = eq-eqb key.generation key.generation refl in
+      let has : get (arena_of es first vacant limit) key ≡ Some f.value = rw (at, test) refl in
+      rw is (record { held = refl; generation = refl; value = λ v same. sym (has ∙ same) })
 
   lends_from : (f : IsFound es key) (w : T)
       → LendsOut es first vacant len limit key (Occupied key.generation f.value) w

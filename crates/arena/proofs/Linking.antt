@@ -6,18 +6,22 @@ use Rattle.std.proofs.Common.{refl, sym, ap, ◌∙◌, subst, inl, inr, arith, 
 use Rattle.std.proofs.lemmas.Bool.{cases_lt, ne_eqb, and_parts, and_from, cases_Bool}
 use Rattle.std.proofs.Math.ListN.{get_or-map, length-append}
 use Rattle.std.proofs.lemmas.List.Sums.{sum_by-set, sum_by-cons, sum_by_push}
+use Rattle.std.proofs.lemmas.List.Sums.{count_by-le-length}
 use Rattle.std.proofs.Math.Seq.{map-set_same, drop-nil, drop-cons}
 use Rattle.std.proofs.lemmas.List.{get_or_past, get_or_read, get_or-set_same, map_push, length-map}
-use Rattle.arena.specs.Arena.{Has, Once, IsFree, IsBorn, IsSound, plain, is_occupied}
-use Rattle.arena.specs.Entry.{slot_of, next_of, chain, arena_of, IsLinked}
-use Rattle.arena.specs.Made.{unlinked_of, is_unlinked, linked_to, entry_at, AreCounted, IsLinking}
+use Rattle.arena.specs.Arena.{Has, Once, IsSound, plain}
+use Rattle.entries.specs.Slot.{IsFree, IsBorn, is_occupied}
+use Rattle.arena.specs.Entry.{chain, arena_of, IsLinked}
+use Rattle.entries.specs.Entry.{slot_of, next_of}
+use Rattle.arena.specs.Made.{entry_at, AreCounted, IsLinking}
+use Rattle.entries.specs.Entry.{unlinked_of, is_unlinked, linked_to}
 use Rattle.arena.specs.Row.{Row, row}
-use Rattle.arena.specs.declared.Slot.{Slot}
-use Rattle.arena.specs.declared.Slot.TheVariants as slot
-use Rattle.arena.specs.declared.entry.Entry.{Entry}
-use Rattle.arena.specs.declared.entry.Entry.TheVariants.{Free, Occupied, Retired}
-use Rattle.arena.specs.declared.entry.TheConstants.{UNLINKED}
-use Rattle.arena.proofs.Sound.{at_set}
+use Rattle.entries.specs.declared.Slot.{Slot}
+use Rattle.entries.specs.declared.Slot.TheVariants as slot
+use Rattle.entries.specs.declared.Entry.{Entry}
+use Rattle.entries.specs.declared.Entry.TheVariants.{Free, Occupied, Retired}
+use Rattle.entries.specs.declared.TheConstants.{UNLINKED}
+use Rattle.arena.proofs.Sound.{at_set, each_push}
 use Rattle.arena.proofs.Chains.{chain-set, length-free}
 
 -- what is in a tail of a list is in the list
@@ -52,15 +56,7 @@ module _ {T : Type 0} where
   free_unlinked (slot.Occupied g x) free = absurd free
   free_unlinked slot.Retired free = absurd free
 
-  -- another slot, and whether each generation is at least the first
-  born_push : (ss : List (Slot T)) (s : Slot T)
-      → ((i : ℕ) → IsBorn (get_or ss i slot.Retired)) → IsBorn s → (i : ℕ)
-      → IsBorn (get_or (ss ++ s ∷ []) i slot.Retired)
-  born_push [] s all born zero = born
-  born_push [] s all born (suc i) = tt
-  born_push (x ∷ ss) s all born zero = all 0
-  born_push (x ∷ ss) s all born (suc i) = born_push ss s (λ j. all (suc j)) born i
-
+  -- if each generation is at least the first with another slot, it is without it
   born_before : (ss : List (Slot T)) (s : Slot T)
       → ((i : ℕ) → IsBorn (get_or (ss ++ s ∷ []) i slot.Retired)) → (i : ℕ)
       → IsBorn (get_or ss i slot.Retired)
@@ -95,7 +91,7 @@ module _ {T : Type 0} where
         all_born = rw (slots_more es.items s) (
           λ both.
               let two = and_parts born b both in
-              born_push ss s (before.all_born.0 two.0) (is.0 two.1),
+              each_push IsBorn tt ss s (before.all_born.0 two.0) (is.0 two.1),
           λ all.
               and_from born b (before.all_born.1 (born_before ss s all)) (is.1 (born_last ss s all)),
         );
@@ -107,6 +103,17 @@ module _ {T : Type 0} where
         );
         short = before.short;
       }
+
+  -- the counts of free and of occupied slots are below the limit
+  pub counts_fit : {es : Row (Entry T)} {occupied vacant : ℕ} {born : Bool}
+      → AreCounted es occupied vacant born → (vacant < 2 ^ 32) × (occupied < 2 ^ 32)
+  counts_fit {es} counted =
+      let long = length-map es.items slot_of in
+      let free = count_by-le-length is_unlinked es.items in
+      let taken = count_by-le-length is_occupied (map slot_of es.items) in (
+        omega (arith, free, counted.vacant_ones, counted.within, counted.short),
+        omega (arith, taken, long, counted.occupied_ones, counted.within, counted.short),
+      )
 
   -- at first none is linked
   pub starts : (ss : List (Slot T)) → IsLinking (map unlinked_of ss) [] 0

@@ -1,12 +1,14 @@
 -- What each change of an arena's slots preserves.
-use Rattle.std.proofs.Common.{◌≡◌, ◌≢◌, ◌⊎◌, ℕ, zero, suc, ◌<◌, ◌≤◌, List, [], ◌∷◌, length}
+use Rattle.std.proofs.Common.{◌≡◌, ◌≢◌, ◌⊎◌, ℕ, zero, suc, ◌<◌, ◌≤◌, List, [], ◌∷◌, ◌++◌, length}
 use Rattle.std.proofs.Common.{get_or, set, refl, subst, inl, inr, arith}
 use Rattle.std.proofs.lemmas.Bool.{cases_eq}
+use Rattle.std.proofs.Math.ListN.{length-append}
 use Rattle.std.proofs.lemmas.List.{get_or-set_same, get_or-set_other, length-set}
-use Rattle.arena.specs.Arena.{Has, plain, IsFree, IsBorn, IsSound}
-use Rattle.arena.specs.declared.Slot.{Slot}
-use Rattle.arena.specs.declared.Slot.TheVariants.{Free, Occupied, Retired}
-use Rattle.arena.specs.declared.TheConstants.{FIRST_GENERATION}
+use Rattle.arena.specs.Arena.{Has, plain, IsSound}
+use Rattle.entries.specs.Slot.{IsFree, IsBorn}
+use Rattle.entries.specs.declared.Slot.{Slot}
+use Rattle.entries.specs.declared.Slot.TheVariants.{Free, Occupied, Retired}
+use Rattle.entries.specs.declared.TheConstants.{FIRST_GENERATION}
 
 -- a look-up after a write
 pub at_set : {X : Type 0} (xs : List X) (k i : ℕ) (x d : X) → k < length xs
@@ -25,6 +27,32 @@ module _ {T : Type 0} where
   free_within [] k free = absurd free
   free_within (s ∷ slots) zero free = omega arith
   free_within (s ∷ slots) (suc k) free = let rest = free_within slots k free in omega arith
+
+  -- what holds of each slot, and of another one behind them
+  pub each_push : (P : Slot T → Type 0) → P Retired → (slots : List (Slot T)) (s : Slot T)
+      → ((i : ℕ) → P (get_or slots i Retired)) → P s → (i : ℕ)
+      → P (get_or (slots ++ s ∷ []) i Retired)
+  each_push P past [] s all last zero = last
+  each_push P past [] s all last (suc i) = past
+  each_push P past (x ∷ slots) s all last zero = all 0
+  each_push P past (x ∷ slots) s all last (suc i) =
+      each_push P past slots s (λ j. all (suc j)) last i
+
+  -- a slot with a value is added, while no slot is free
+  pub IsSound-push : (slots : List (Slot T)) (limit g : ℕ) (x : T) → FIRST_GENERATION ≤ g
+      → length slots < limit → IsSound (plain slots [] limit)
+      → IsSound (plain (slots ++ Occupied g x ∷ []) [] limit)
+  IsSound-push slots limit g x born room sound =
+      record {
+        small = sound.small;
+        within = omega (arith, room, length-append slots (Occupied g x ∷ []));
+        born = each_push IsBorn tt slots (Occupied g x) sound.born born;
+        named = λ i has. absurd has;
+        listed = λ i free. absurd
+            (each_push (λ s. IsFree s → ⊥) (λ f. f) slots (Occupied g x)
+            (λ j f. sound.listed j f) (λ f. f) i free);
+        once = tt;
+      }
 
   -- a free slot gets a value
   pub IsSound-fill : (slots : List (Slot T)) (k : ℕ) (ks : List ℕ) (limit g : ℕ) (x : T)

@@ -2,14 +2,15 @@
 use Rattle.std.specs.Prelude.{◌≡◌, ◌⊎◌, ℕ, ◌+◌, ◌^◌, ◌<◌, ◌≤◌, List, [], ◌∷◌, ◌++◌, length}
 use Rattle.std.specs.Prelude.{Bool, true, false, ◌==◌, ◌&&◌, nat_le, if◌then◌else◌, ⊤}
 use Rattle.std.specs.Prelude.{Option, Some, None, count_by, slice_index_or, slice_set}
-use Rattle.std.specs.Borrow.{Bor}
-use Rattle.arena.specs.declared.Slot.{Slot}
-use Rattle.arena.specs.declared.Slot.TheVariants.{Free, Occupied, Retired}
+use Rattle.entries.specs.Slot.{IsFree, IsBorn, is_occupied, value_of, generation_in, slot_generation}
+use Rattle.entries.specs.Slot.{generation_of}
+use Rattle.entries.specs.declared.Slot.{Slot}
+use Rattle.entries.specs.declared.Slot.TheVariants.{Free, Occupied, Retired}
 use Rattle.arena.specs.declared.Key.{Key}
 use Rattle.arena.specs.declared.ArenaError.{ArenaError}
 use Rattle.arena.specs.declared.ArenaError.TheVariants.{Full, Memory, Shape}
 use Rattle.ids.specs.declared.limits.TheConstants.{GREATEST_GENERATION}
-use Rattle.arena.specs.declared.TheConstants.{FIRST_GENERATION}
+use Rattle.entries.specs.declared.TheConstants.{FIRST_GENERATION}
 
 -- the slots that have been used, the free ones in order of use, and how many slots there may be
 pub record Arena (T : Type 0) : Type 0 where
@@ -41,17 +42,6 @@ module _ {T : Type 0} where
   abbrev pub slot_at : Arena T → ℕ → Slot T
   slot_at a i = slice_index_or a.slots i Retired
 
-  abbrev pub IsFree : Slot T → Type 0
-  IsFree (Free g) = ⊤
-  IsFree (Occupied g x) = ⊥
-  IsFree Retired = ⊥
-
-  -- the generation, if there is one, is at least the first
-  abbrev pub IsBorn : Slot T → Type 0
-  IsBorn (Free g) = FIRST_GENERATION ≤ g
-  IsBorn (Occupied g x) = FIRST_GENERATION ≤ g
-  IsBorn Retired = ⊤
-
   -- what holds of every arena
   pub record IsSound (a : Arena T) : Type 0 where
     pub small : a.limit < 2 ^ 32
@@ -62,41 +52,19 @@ module _ {T : Type 0} where
     pub listed : (i : ℕ) → IsFree (slot_at a i) → Has a.free i
     pub once : Once a.free
 
-  abbrev pub is_occupied : Slot T → Bool
-  is_occupied (Free g) = false
-  is_occupied (Occupied g x) = true
-  is_occupied Retired = false
-
   -- the number of values
   abbrev pub occupied_count : Arena T → ℕ
   occupied_count a = count_by is_occupied a.slots
 
-  -- the value in a slot, if it has this generation
-  abbrev pub value_of : Slot T → ℕ → Option T
-  value_of (Free g) generation = None
-  value_of (Occupied g x) generation = if g == generation then Some x else None
-  value_of Retired generation = None
-
   -- the value under a key
   abbrev pub get : Arena T → Key → Option T
   get a key = value_of (slot_at a key.slot) key.generation
-
-  -- the generation of the value in a slot
-  abbrev pub generation_in : Slot T → Option ℕ
-  generation_in (Free g) = None
-  generation_in (Occupied g x) = Some g
-  generation_in Retired = None
 
   -- the key of the value in a slot
   abbrev pub key_at : Arena T → ℕ → Option Key
   key_at a slot = key_of slot (generation_in (slot_at a slot))
 
   -- the generation of the value in a slot, or of the next one if the slot is free
-  abbrev pub slot_generation : Slot T → Option ℕ
-  slot_generation (Free g) = Some g
-  slot_generation (Occupied g x) = Some g
-  slot_generation Retired = None
-
   abbrev pub generation_at : Arena T → ℕ → Option ℕ
   generation_at a slot = slot_generation (slot_at a slot)
 
@@ -113,18 +81,6 @@ module _ {T : Type 0} where
   IsErrorOf a Full = is_full a ≡ true
   IsErrorOf a Memory = (is_full a ≡ false) × (a.free ≡ [])
   IsErrorOf a Shape = ⊥
-
-  -- the slot with its borrowed value
-  abbrev pub slot_read : Slot (Bor T) → Slot T
-  slot_read (Free g) = Free g
-  slot_read (Occupied g x) = Occupied g x.now
-  slot_read Retired = Retired
-
-  -- the generation of the next value of a free slot
-  abbrev pub generation_of : Slot T → ℕ
-  generation_of (Free g) = g
-  generation_of (Occupied g x) = g
-  generation_of Retired = FIRST_GENERATION
 
   abbrev pub first_key : List ℕ → Arena T → Key
   first_key [] a = record { slot = length a.slots; generation = FIRST_GENERATION }

@@ -1,36 +1,11 @@
 -- How an `Arena` is laid out in memory. No public clause cites this module.
 use Rattle.std.specs.Prelude.{◌≡◌, ℕ, zero, suc, List, [], ◌∷◌, map, slice_index_or}
-use Rattle.std.specs.Prelude.{Option, Some, None}
 use Rattle.arena.specs.Arena.{Arena, IsSound, occupied_count, plain}
-use Rattle.arena.specs.declared.Slot.{Slot}
-use Rattle.arena.specs.declared.Slot.TheVariants as slot
-use Rattle.arena.specs.declared.entry.Entry.{Entry}
-use Rattle.arena.specs.declared.entry.Entry.TheVariants.{Free, Occupied, Retired}
+use Rattle.entries.specs.Entry.{slot_of, next_of}
+use Rattle.entries.specs.declared.Entry.{Entry}
+use Rattle.entries.specs.declared.Entry.TheVariants.{Retired}
 
 module _ {T : Type 0} where
-  abbrev pub slot_of : Entry T → Slot T
-  slot_of (Free g next) = slot.Free g
-  slot_of (Occupied g x) = slot.Occupied g x
-  slot_of Retired = slot.Retired
-
-  -- the value, whatever its generation
-  abbrev pub held_by : Entry T → Option T
-  held_by (Free g next) = None
-  held_by (Occupied g x) = Some x
-  held_by Retired = None
-
-  -- the free slot that is used after a free one
-  abbrev pub next_of : Entry T → ℕ
-  next_of (Free g next) = next
-  next_of (Occupied g x) = 0
-  next_of Retired = 0
-
-  -- the entry with another value
-  abbrev pub occupied_by : Entry T → T → Entry T
-  occupied_by (Free g next) x = Free g next
-  occupied_by (Occupied g y) x = Occupied g x
-  occupied_by Retired x = Retired
-
   -- this many slots, beginning with slot k, each followed by the one that it names
   abbrev pub chain : List (Entry T) → ℕ → ℕ → List ℕ
   chain es zero k = []

@@ -1,33 +1,17 @@
 -- How an `Arena` is made from its slots and its free list. No public clause cites this module.
-use Rattle.std.specs.Prelude.{◌≡◌, ℕ, ◌^◌, ◌<◌, ◌≤◌, Bool, false, ◌==◌, List, length, map, count_by}
+use Rattle.std.specs.Prelude.{◌≡◌, ℕ, ◌^◌, ◌<◌, ◌≤◌, Bool, false, List, length, map, count_by}
 use Rattle.std.specs.Prelude.{slice_index_or, IsTrue, ◌↔◌}
-use Rattle.arena.specs.Arena.{Has, Once, IsFree, IsBorn, is_occupied}
+use Rattle.arena.specs.Arena.{Has, Once}
+use Rattle.entries.specs.Slot.{IsFree, IsBorn, is_occupied}
 use Rattle.arena.specs.Row.{Row}
-use Rattle.arena.specs.Entry.{slot_of, chain}
-use Rattle.arena.specs.declared.Slot.{Slot}
-use Rattle.arena.specs.declared.Slot.TheVariants as slot
-use Rattle.arena.specs.declared.entry.Entry.{Entry}
-use Rattle.arena.specs.declared.entry.Entry.TheVariants.{Free, Occupied, Retired}
-use Rattle.arena.specs.declared.entry.TheConstants.{UNLINKED}
+use Rattle.arena.specs.Entry.{chain}
+use Rattle.entries.specs.Entry.{slot_of, unlinked_of, is_unlinked}
+use Rattle.entries.specs.declared.Slot.TheVariants as slot
+use Rattle.entries.specs.declared.Entry.{Entry}
+use Rattle.entries.specs.declared.Entry.TheVariants.{Retired}
+use Rattle.entries.specs.declared.TheConstants.{UNLINKED}
 
 module _ {T : Type 0} where
-  -- the entry of a slot that isn't linked yet
-  abbrev pub unlinked_of : Slot T → Entry T
-  unlinked_of (slot.Free g) = Free g UNLINKED
-  unlinked_of (slot.Occupied g x) = Occupied g x
-  unlinked_of slot.Retired = Retired
-
-  abbrev pub is_unlinked : Entry T → Bool
-  is_unlinked (Free g next) = next == UNLINKED
-  is_unlinked (Occupied g x) = false
-  is_unlinked Retired = false
-
-  -- the entry, naming this slot as the next one if it is free
-  abbrev pub linked_to : Entry T → ℕ → Entry T
-  linked_to (Free g old) next = Free g next
-  linked_to (Occupied g x) next = Occupied g x
-  linked_to Retired next = Retired
-
   -- the entries of slots, none of which is linked, with their counts and whether all are born
   pub record AreCounted (es : Row (Entry T)) (occupied vacant : ℕ) (born : Bool) : Type 0 where
     pub unlinked : es.items ≡ map unlinked_of (map slot_of es.items)

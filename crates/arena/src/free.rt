@@ -1,12 +1,14 @@
 //! The list of the free slots, read in order. It is threaded through the slots, so it is followed
 //! rather than searched.
 ghost use Rattle.std.specs.Prelude.{◌≡◌, ℕ};
-ghost use Rattle.arena.specs.Arena.{Has, IsFree};
-ghost use Rattle.arena.specs.Entry.{slot_of, chain};
+ghost use Rattle.arena.specs.Arena.{Has};
+ghost use Rattle.entries.specs.Slot.{IsFree};
+ghost use Rattle.arena.specs.Entry.{chain};
+ghost use Rattle.entries.specs.Entry.{slot_of};
 ghost use Rattle.arena.specs.Made.{entry_at};
 
-use crate::entry::Entry;
 use crate::store::Store;
+use entries::Entry;
 use std::marker::Model;
 
 /// An iterator over the free slots of an [`Arena`](crate::Arena), in order of next use.
@@ -19,8 +21,10 @@ pub struct FreeSlots<'a, T> {
 
 impl<'a, T> Model for FreeSlots<'a, T> {
     ghost use Rattle.std.specs.Prelude.{ℕ, List};
-    ghost use Rattle.arena.specs.Arena.{Has, IsFree};
-    ghost use Rattle.arena.specs.Entry.{slot_of, chain};
+    ghost use Rattle.arena.specs.Arena.{Has};
+    ghost use Rattle.entries.specs.Slot.{IsFree};
+    ghost use Rattle.arena.specs.Entry.{chain};
+    ghost use Rattle.entries.specs.Entry.{slot_of};
     ghost use Rattle.arena.specs.Made.{entry_at};
 
     ghost Value = { List ℕ };

@@ -15,6 +15,8 @@
 //! block             Block, Title: raw memory, the six functions that follow a pointer
 //! ```
 //!
+//! What one slot holds, and how it lies in memory, is in the crate `entries`.
+//!
 //! Items are stored in chunks of 1,024, each in a block that never moves. If all chunks are full, a
 //! push allocates another one. The block with the pointers to the chunks doubles when it is full,
 //! and only these pointers are moved. So an arena with one value takes one chunk and room for four
@@ -37,45 +39,31 @@ ghost use Rattle.std.specs.Prelude.{IsSome, IsOk, OnOk, OnErr, IfOk, IfErr, Some
 ghost use Rattle.std.specs.Option.{option_copied_mut};
 ghost use Rattle.std.specs.Borrow.{sem};
 ghost use Rattle.arena.specs.Arena.{IsSound, IsErrorOf, IsKey, get, key_at, generation_at, next_key};
-ghost use Rattle.arena.specs.Arena.{inserted, removed, occupied_count, is_full};
-ghost use Rattle.arena.specs.Arena.{slot_at, slot_read, plain};
+ghost use Rattle.arena.specs.Arena.{inserted, removed, occupied_count, is_full, slot_at, plain};
+ghost use Rattle.entries.specs.Slot.{slot_read};
 ghost use Rattle.arena.specs.declared.ArenaError.TheVariants.{Shape};
 
 mod block;
 mod chunk;
-mod entry;
 mod free;
 mod made;
 mod root;
 mod store;
 
-use crate::entry::Entry;
 pub use crate::free::FreeSlots;
 pub use crate::made::Slots;
 use crate::store::Store;
+use entries::Entry;
+pub use entries::{FIRST_GENERATION, Slot};
 use ids::{GREATEST_GENERATION, Generation};
 use std::alloc::Global;
 use std::marker::Model;
-
-/// The generation of the first value of a slot.
-pub const FIRST_GENERATION: Generation = 1;
 
 /// The name of one value of an arena: its slot, and which of the slot's values it is.
 #[derive(Clone, Copy, Debug, PartialEq, Eq)]
 pub struct Key {
     pub slot: u32,
     pub generation: Generation,
-}
-
-/// What a slot of an arena holds.
-#[derive(Debug, PartialEq, Eq, Drop)]
-pub enum Slot<T> {
-    /// No value; the next one will have this generation.
-    Free(Generation),
-    /// A value, and its generation.
-    Occupied(Generation, T),
-    /// No value, ever again.
-    Retired,
 }
 
 /// Why an arena took no value, or why no arena was made.
@@ -354,7 +342,7 @@ impl<T> Arena<T> {
         if key.generation == GREATEST_GENERATION {
             return Some(entry.retire());
         }
-        let value = entry.free(key.generation + 1, self.first);
+        let value = entry.free(self.first);
         self.first = key.slot;
         self.vacant += 1;
         Some(value)

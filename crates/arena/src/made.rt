@@ -3,17 +3,18 @@
 ghost use Rattle.std.specs.Prelude.{◌≡◌, ℕ, ◌+◌, ◌^◌, ◌<◌, ◌++◌, ◌∷◌, [], length, map, count_by};
 ghost use Rattle.std.specs.Prelude.{slice_set, slice_index_or, true, IsTrue, ◌↔◌};
 ghost use Rattle.std.specs.Prelude.{IfOk, IfErr, OnOk, OnErr};
-ghost use Rattle.arena.specs.Arena.{IsBorn, IsSound, is_occupied, plain, slot_read};
-ghost use Rattle.arena.specs.Entry.{slot_of};
-ghost use Rattle.arena.specs.Made.{AreCounted, IsLinking};
-ghost use Rattle.arena.specs.Made.{unlinked_of, is_unlinked, linked_to, entry_at};
+ghost use Rattle.arena.specs.Arena.{IsSound, plain};
+ghost use Rattle.entries.specs.Slot.{IsBorn, is_occupied, slot_read};
+ghost use Rattle.entries.specs.Entry.{slot_of};
+ghost use Rattle.arena.specs.Made.{AreCounted, IsLinking, entry_at};
+ghost use Rattle.entries.specs.Entry.{unlinked_of, is_unlinked, linked_to};
 ghost use Rattle.arena.specs.Row.{row};
-ghost use Rattle.arena.specs.declared.Slot.TheVariants as slot;
+ghost use Rattle.entries.specs.declared.Slot.TheVariants as slot;
 ghost use Rattle.arena.specs.declared.ArenaError.TheVariants.{Shape};
 
-use crate::entry::Entry;
+use crate::ArenaError;
 use crate::store::Store;
-use crate::{ArenaError, FIRST_GENERATION, Slot};
+use entries::{Entry, FIRST_GENERATION, Slot};
 use std::alloc::{AllocError, Global};
 use std::marker::Model;
 
@@ -42,12 +43,12 @@ impl<T: Drop> Drop for Slots<T> {
 
 impl<T> Model for Slots<T> {
     ghost use Rattle.arena.specs.Row.{Row, row};
-    ghost use Rattle.arena.specs.declared.Slot.{Slot};
+    ghost use Rattle.entries.specs.declared.Slot.{Slot};
 
     ghost Value = { Row (Slot T) };
 
     ghost use Rattle.std.specs.Prelude.{map};
-    ghost use Rattle.arena.specs.Entry.{slot_of};
+    ghost use Rattle.entries.specs.Entry.{slot_of};
     ghost use Rattle.arena.specs.Made.{AreCounted};
 
     ghost view = { λ s. row (map slot_of s.entries.items) s.entries.capacity };
@@ -110,7 +111,7 @@ impl<T> Slots<T> {
             (self.new ≡ row (self.old.items ++ slot ∷ []) self.old.capacity) }
         ensures unchanged { OnErr result (self.new ≡ self.old) }
     {
-        let (free, occupied, born) = (slot.is_free(), slot.is_occupied(), slot.is_born());
+        let (free, occupied, born) = (is_free(&slot), is_occupied(&slot), is_born(&slot));
         let Ok(()) = self.entries.push(Entry::unlinked(slot)) else {
             return Err(AllocError);
         };
@@ -121,29 +122,27 @@ impl<T> Slots<T> {
     }
 }
 
-impl<T> Slot<T> {
-    // Whether the generation, if there is one, is at least the first.
-    fn is_born(&self) -> bool
-        ensures { IsTrue result ↔ IsBorn self.now }
-    {
-        match self {
-            Slot::Free(generation) => *generation >= FIRST_GENERATION,
-            Slot::Occupied(generation, _) => *generation >= FIRST_GENERATION,
-            Slot::Retired => true,
-        }
+// Whether the generation of a slot, if there is one, is at least the first.
+fn is_born<T>(slot: &Slot<T>) -> bool
+    ensures { IsTrue result ↔ IsBorn slot.now }
+{
+    match slot {
+        Slot::Free(generation) => *generation >= FIRST_GENERATION,
+        Slot::Occupied(generation, _) => *generation >= FIRST_GENERATION,
+        Slot::Retired => true,
     }
+}
 
-    fn is_free(&self) -> bool
-        ensures { result ≡ is_unlinked (unlinked_of self.now) }
-    {
-        matches!(self, Slot::Free(_))
-    }
+fn is_free<T>(slot: &Slot<T>) -> bool
+    ensures { result ≡ is_unlinked (unlinked_of slot.now) }
+{
+    matches!(slot, Slot::Free(_))
+}
 
-    fn is_occupied(&self) -> bool
-        ensures { result ≡ is_occupied self.now }
-    {
-        matches!(self, Slot::Occupied(_, _))
-    }
+fn is_occupied<T>(slot: &Slot<T>) -> bool
+    ensures { result ≡ is_occupied slot.now }
+{
+    matches!(slot, Slot::Occupied(_, _))
 }
 
 /// Links the slots that `free` names, in its order, and returns the first one. If `free` is empty,

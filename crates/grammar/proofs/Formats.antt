@@ -20,7 +20,7 @@ use Rattle.msg.specs.Formats.{generation}
 use Rattle.msg.proofs.Formats.{any, generation_grows, reference_grows, optional_grows, body_grows}
 use Rattle.msg.proofs.Formats.{colour_sound, token_sound}
 use Rattle.msg.specs.Lengths.{reference_long, optional_long}
-use Rattle.arena.specs.declared.Slot.TheVariants as slot
+use Rattle.entries.specs.declared.Slot.TheVariants as slot
 use Rattle.model.specs.State.{Object}
 use Rattle.grammar.specs.Links.{StoredSlot}
 use Rattle.grammar.specs.Grammar.{version_format, Start, is_start, start_format, most_nodes}

@@ -4,12 +4,14 @@ use Rattle.std.proofs.lemmas.Bool.{eq-eqb, cases_lt, cond-true, cond-false}
 use Rattle.std.proofs.lemmas.List.{map-set, length-set, length-map, get_or_past}
 use Rattle.std.proofs.Math.ListN.{get_or-map}
 use Rattle.std.proofs.Math.Nat.{min-eq_left, min-eq_right}
-use Rattle.arena.specs.Arena.{Arena, key_of, value_of, freed, retired, without, removed}
+use Rattle.arena.specs.Arena.{Arena, key_of, freed, retired, without, removed}
+use Rattle.entries.specs.Slot.{value_of}
 use Rattle.arena.specs.Arena as arena
+use Rattle.entries.specs.Slot as entries
 use Rattle.ids.specs.declared.limits.TheConstants.{GREATEST_GENERATION}
 use Rattle.arena.specs.declared.Key.{Key}
-use Rattle.arena.specs.declared.Slot.{Slot}
-use Rattle.arena.specs.declared.Slot.TheVariants.{Free, Occupied, Retired}
+use Rattle.entries.specs.declared.Slot.{Slot}
+use Rattle.entries.specs.declared.Slot.TheVariants.{Free, Occupied, Retired}
 use Rattle.model.specs.State.{Object, Heap, slot_at}
 use Rattle.model.specs.State as state
 use Rattle.model.specs.Collecting as collecting
@@ -70,7 +72,7 @@ record IsHeld (s : Slot Object) (slot : ℕ) (key : Key) : Type 0 where
   there : s ≡ Occupied generation object
   name : key ≡ record { slot = slot; generation = generation }
 
-held : (s : Slot Object) (slot : ℕ) (key : Key) → Some key ≡ key_of slot (arena.generation_in s)
+held : (s : Slot Object) (slot : ℕ) (key : Key) → Some key ≡ key_of slot (entries.generation_in s)
     → IsHeld s slot key
 held (Free g) slot key h = absurd cc
 held (Occupied g o) slot key h = record { generation = g; object = o; there = refl; name = cc }

@@ -5,9 +5,9 @@ use Rattle.std.proofs.Math.ListN.{get_or-map}
 use Rattle.ids.specs.Limits.{Shaped}
 use Rattle.ids.specs.declared.limits.TheConstants.{GREATEST_SLOTS}
 use Rattle.arena.specs.Arena.{Arena, plain, IsSound}
-use Rattle.arena.specs.Arena as arena
-use Rattle.arena.specs.declared.Slot as stored
-use Rattle.arena.specs.declared.Slot.TheVariants.{Free, Occupied, Retired}
+use Rattle.entries.specs.Slot as entries
+use Rattle.entries.specs.declared.Slot as stored
+use Rattle.entries.specs.declared.Slot.TheVariants.{Free, Occupied, Retired}
 use Rattle.model.specs.State.{Object, Slot, Heap, slot_at}
 use Rattle.model.specs.State as state
 use Rattle.heap.specs.Heap.{IsFree, IsBorn, IsSlotted, IsHeapFor, slot_of}
@@ -16,22 +16,22 @@ slot_seen : (ss : List (stored.Slot Object)) (i : ℕ)
     → get_or (map slot_of ss) i state.Retired ≡ slot_of (get_or ss i Retired)
 slot_seen ss i = get_or-map slot_of ss i Retired
 
-free_seen : (s : stored.Slot Object) → arena.IsFree s → IsFree (slot_of s)
+free_seen : (s : stored.Slot Object) → entries.IsFree s → IsFree (slot_of s)
 free_seen (Free g) free = tt
 free_seen (Occupied g o) free = absurd free
 free_seen Retired free = absurd free
 
-free_stored : (s : stored.Slot Object) → IsFree (slot_of s) → arena.IsFree s
+free_stored : (s : stored.Slot Object) → IsFree (slot_of s) → entries.IsFree s
 free_stored (Free g) free = tt
 free_stored (Occupied g o) free = absurd free
 free_stored Retired free = absurd free
 
-born_seen : (s : stored.Slot Object) → arena.IsBorn s → IsBorn (slot_of s)
+born_seen : (s : stored.Slot Object) → entries.IsBorn s → IsBorn (slot_of s)
 born_seen (Free g) born = born
 born_seen (Occupied g o) born = born
 born_seen Retired born = tt
 
-born_stored : (s : stored.Slot Object) → IsBorn (slot_of s) → arena.IsBorn s
+born_stored : (s : stored.Slot Object) → IsBorn (slot_of s) → entries.IsBorn s
 born_stored (Free g) born = born
 born_stored (Occupied g o) born = born
 born_stored Retired born = tt

@@ -1,6 +1,6 @@
 use Rattle.std.proofs.Common.{◌≡◌, ◌≤◌, ◌+◌, drop, length, map, count_by}
-use Rattle.arena.specs.Entry.{slot_of}
-use Rattle.arena.specs.Made.{is_unlinked, IsLinking}
+use Rattle.entries.specs.Entry.{slot_of, is_unlinked}
+use Rattle.arena.specs.Made.{IsLinking}
 use Rattle.arena.proofs.made.link.Given as goal
 
 abbrev pub invariant-loop-left : goal.invariant-loop-left

@@ -1,32 +1,51 @@
-//! A slot of an arena in memory. A free slot names the free slot to be used after it, in the place
-//! that a value would take. So the free list needs no memory of its own.
-ghost use Rattle.std.specs.Prelude.{◌≡◌, IsSome, Some, option_copied};
-ghost use Rattle.std.specs.Borrow.{Lends, sem};
-ghost use Rattle.arena.specs.Arena.{IsFree, value_of, generation_of, generation_in, slot_generation};
-ghost use Rattle.arena.specs.Arena.{slot_read};
-ghost use Rattle.arena.specs.Entry.{slot_of, held_by, next_of, occupied_by};
-ghost use Rattle.arena.specs.Made.{unlinked_of, is_unlinked, linked_to};
+//! One slot of an arena: what it holds, and how it lies in memory.
+//!
+//! A [`Slot`] is what an arena shows. An [`Entry`] is the slot in memory. A free one names the free
+//! slot to be used after it, in the place that a value would take. So the free list needs no memory
+//! of its own.
+#![tactic(auto)]
 
-use crate::Slot;
+ghost use Rattle.std.specs.Prelude.{◌≡◌, ◌+◌, ◌<◌, IsSome, Some, option_copied};
+ghost use Rattle.std.specs.Borrow.{Lends, sem};
+ghost use Rattle.entries.specs.Slot.{IsFree, value_of, generation_of, generation_in};
+ghost use Rattle.entries.specs.Slot.{slot_generation, slot_read};
+ghost use Rattle.entries.specs.Entry.{slot_of, held_by, next_of, occupied_by};
+ghost use Rattle.entries.specs.Entry.{unlinked_of, is_unlinked, linked_to};
+ghost use Rattle.ids.specs.declared.limits.TheConstants.{GREATEST_GENERATION};
+
 use ids::Generation;
 use std::mem;
 
-/// A slot: like [`crate::Slot`], but a free one also names the free slot that is used after it.
+/// The generation of the first value of a slot.
+pub const FIRST_GENERATION: Generation = 1;
+
+/// What a slot of an arena holds.
+#[derive(Debug, PartialEq, Eq, Drop)]
+pub enum Slot<T> {
+    /// No value; the next one will have this generation.
+    Free(Generation),
+    /// A value, and its generation.
+    Occupied(Generation, T),
+    /// No value, ever again.
+    Retired,
+}
+
+/// A slot in memory: like [`Slot`], but a free one also names the free slot that is used after it.
 #[derive(Drop)]
-pub(crate) enum Entry<T> {
+pub enum Entry<T> {
     Free(Generation, u32),
     Occupied(Generation, T),
     Retired,
 }
 
 /// What a free slot names until it is linked; no slot has this number.
-pub(crate) const UNLINKED: u32 = 4_294_967_295;
+pub const UNLINKED: u32 = 4_294_967_295;
 
 impl<T> Entry<T> {
-    ghost use Rattle.arena.specs.contracts.entry.Entry.{the_row};
+    ghost use Rattle.entries.specs.contracts.Entry.{the_row};
 
     /// The value, if there is one and it has this generation.
-    pub(crate) fn value(&self, generation: Generation) -> Option<&T>
+    pub fn value(&self, generation: Generation) -> Option<&T>
         ensures { option_copied result ≡ value_of (slot_of self.now) generation }
     {
         match self {
@@ -42,7 +61,7 @@ impl<T> Entry<T> {
     }
 
     /// The generation of the value, if there is one.
-    pub(crate) fn generation(&self) -> Option<Generation>
+    pub fn generation(&self) -> Option<Generation>
         ensures { result ≡ generation_in (slot_of self.now) }
     {
         match self {
@@ -52,7 +71,7 @@ impl<T> Entry<T> {
     }
 
     /// The generation of the value, or of the next one if the slot is free.
-    pub(crate) fn slot_generation(&self) -> Option<Generation>
+    pub fn slot_generation(&self) -> Option<Generation>
         ensures { result ≡ slot_generation (slot_of self.now) }
     {
         match self {
@@ -63,7 +82,7 @@ impl<T> Entry<T> {
     }
 
     /// The slot, with its value borrowed.
-    pub(crate) fn slot(&self) -> Slot<&T>
+    pub fn slot(&self) -> Slot<&T>
         ensures { slot_read result ≡ slot_of self.now }
     {
         match self {
@@ -74,7 +93,7 @@ impl<T> Entry<T> {
     }
 
     /// The free slot that is used after this one.
-    pub(crate) fn next(&self) -> u32
+    pub fn next(&self) -> u32
         requires { IsFree (slot_of self.now) }
         ensures { result ≡ next_of self.now }
     {
@@ -85,7 +104,7 @@ impl<T> Entry<T> {
     }
 
     /// The entry of a slot, which isn't linked yet.
-    pub(crate) fn unlinked(slot: Slot<T>) -> Entry<T>
+    pub fn unlinked(slot: Slot<T>) -> Entry<T>
         ensures { result ≡ unlinked_of slot }
     {
         match slot {
@@ -96,7 +115,7 @@ impl<T> Entry<T> {
     }
 
     /// Whether the slot is free and isn't linked yet.
-    pub(crate) fn is_unlinked(&self) -> bool
+    pub fn is_unlinked(&self) -> bool
         ensures { result ≡ is_unlinked self.now }
     {
         match self {
@@ -106,7 +125,7 @@ impl<T> Entry<T> {
     }
 
     /// Makes this slot name the free slot that is used after it, if this one is free.
-    pub(crate) fn link(&mut self, slot: u32)
+    pub fn link(&mut self, slot: u32)
         ensures { self.new ≡ linked_to self.old slot }
     {
         if let Entry::Free(_, next) = self {
@@ -115,7 +134,7 @@ impl<T> Entry<T> {
     }
 
     /// The value for writing.
-    pub(crate) fn value_mut(&mut self) -> &mut T
+    pub fn value_mut(&mut self) -> &mut T
         requires { IsSome (held_by self.old) }
         ensures* writes_back { sem 𝓛
             (Lends (the_row T.row) T.row self.entry result (λ x. occupied_by self.old x)) }
@@ -128,7 +147,7 @@ impl<T> Entry<T> {
     }
 
     /// The value.
-    pub(crate) fn into_value(self) -> T
+    pub fn into_value(self) -> T
         requires { IsSome (held_by self) }
         ensures { held_by self ≡ Some result }
     {
@@ -138,18 +157,23 @@ impl<T> Entry<T> {
         }
     }
 
-    /// Takes the value out of a slot. The slot is then free, with the generation of its next value,
-    /// and names the free slot that is used after it.
-    pub(crate) fn free(&mut self, generation: Generation, next: u32) -> T
-        requires { IsSome (held_by self.old) }
+    /// Takes the value out of a slot. The slot is then free, with the generation after that of the
+    /// value, and names the free slot that is used after it.
+    pub fn free(&mut self, next: u32) -> T
+        requires held { IsSome (held_by self.old) }
+        requires more { generation_of (slot_of self.old) < GREATEST_GENERATION }
         ensures value { held_by self.old ≡ Some result }
-        ensures done { self.new ≡ Entry.Free generation next }
+        ensures done { self.new ≡ Entry.Free (generation_of (slot_of self.old) + 1) next }
     {
-        mem::replace(self, Entry::Free(generation, next)).into_value()
+        let generation = match self {
+            Entry::Occupied(generation, _) => *generation,
+            _ => unreachable!(),
+        };
+        mem::replace(self, Entry::Free(generation + 1, next)).into_value()
     }
 
     /// Takes the value out of a slot that is never used again.
-    pub(crate) fn retire(&mut self) -> T
+    pub fn retire(&mut self) -> T
         requires { IsSome (held_by self.old) }
         ensures value { held_by self.old ≡ Some result }
         ensures done { self.new ≡ Entry.Retired }
@@ -159,7 +183,7 @@ impl<T> Entry<T> {
 
     /// Puts a value into a free slot, under the generation that the slot has for it. It returns
     /// that generation and the free slot that was named.
-    pub(crate) fn occupy(&mut self, value: T) -> (Generation, u32)
+    pub fn occupy(&mut self, value: T) -> (Generation, u32)
         requires { IsFree (slot_of self.old) }
         ensures generation { result.0 ≡ generation_of (slot_of self.old) }
         ensures next { result.1 ≡ next_of self.old }
