@@ -1,5 +1,5 @@
 -- Cells that threads have given back are those of one wire, and their disks are of one moment.
-use Rattle.std.proofs.Common.{◌≡◌, ◌<◌, ◌≤◌, ◌+◌, ℕ, Bool, IsTrue, IfErr, IfOk, Result, Ok, Err, List, drop, get_or, length, map, Option, Some, slice_get, refl, sym, ap, ◌∙◌, subst, arith}
+use Rattle.std.proofs.Common.{◌≡◌, ◌<◌, ◌≤◌, ◌+◌, ℕ, Bool, IsTrue, IfErr, IfOk, IsErrOf, OnOk, Result, is_ok, true, Ok, Err, List, [], drop, get_or, length, map, Option, Some, slice_get, refl, sym, ap, ◌∙◌, subst, arith}
 use Rattle.std.proofs.lemmas.Option.{get_or_from_slice_get, slice_get_read, slice_get_within}
 use mathlib.Core.Logic.{dite}
 use native.Mathlib.Decide.{ℕ_discrete}
@@ -152,6 +152,23 @@ module _ {D : Type 0} where
       (subst (λ (j : ℕ). slice_get all j ≡ Some d) same there) in
       subst (λ (j : ℕ). P j d) (sym same) (subst (P place) is now))
       (λ apart. each k d there (let before : k < place = omega (arith, below, apart) in before))
+
+-- what holds of each cell of none
+pub none-yet : {D : Type 0} (P : ℕ → CellView D → Type 0) (cells : List (CellView D)) → cells ≡ []
+    → EachCell P cells
+none-yet P cells none k c there =
+    let no : ◌≡◌ {A = Option (CellView _)} (slice_get [] k) (Some c) =
+    subst (λ l. slice_get l k ≡ Some c) none there in
+    absurd cc
+
+-- what holds of a call that succeeded
+pub ok-then : {V E A : Type 0} (r : Result V E) → is_ok r ≡ true → OnOk r A → A
+ok-then (Ok v) is h = h
+ok-then (Err e) is h = absurd cc
+
+-- a value is no error
+pub no-error : {V W E : Type 0} (v : V) (r : Result W E) (e : E) → IsErrOf (Ok v) e → IsErrOf r e
+no-error v r e is = absurd cc
 
 -- what holds of a result if one thing and another hold of it
 pub both-ok : {V E : Type 0} (P Q R : V → Type 0) (r : Result V E) → ((v : V) → P v → Q v → R v)

@@ -1,5 +1,7 @@
 -- The seats of cells that are passed on one after another.
 use Rattle.std.proofs.Common.{◌≡◌, ◌<◌, ◌∙◌, ℕ, suc, List, [], ◌∷◌, Some, ap, drop, get_or, length, map, refl, slice_get, subst, sym, arith}
+use Rattle.std.proofs.lemmas.Option.{slice_get_read}
+use Rattle.wire.proofs.Places.{mapped-there}
 use Rattle.wire.specs.Readers.{IsSeatOf}
 use Rattle.wire.specs.declared.seats.NodeSeat.{NodeSeat}
 use Rattle.wire.specs.declared.seats.Wire.{Wire}
@@ -33,3 +35,12 @@ later-of P [] rest h is k d there =
     h k d (ap (λ l. slice_get l k) (sym is) ∙ there)
 later-of P (x ∷ xs) rest h is k d there =
     h (suc k) d (ap (λ l. slice_get l k) (sym is) ∙ there)
+
+-- what is in a place of a list, as it was read from an equal list
+pub found-in : {A B : Type 0} (f : A → B) (all xs : List A) (place k : ℕ) (x : A) (y : B)
+    → xs ≡ all → k ≡ place → k < length xs → x ≡ get_or xs k x → y ≡ f x
+    → slice_get (map f all) place ≡ Some y
+found-in f all xs place k x y same here inside is last =
+    subst (λ l. slice_get (map f l) place ≡ Some y) same
+    (subst (λ i. slice_get (map f xs) i ≡ Some y) here
+    (mapped-there f xs k x (slice_get_read xs (length xs) k x refl inside is) ∙ ap Some (sym last)))

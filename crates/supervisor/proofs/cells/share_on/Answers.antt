@@ -13,3 +13,6 @@ pub share_all-requires-clause-seats : goal.share_all-requires-clause-seats
 share_all-requires-clause-seats g c =
     subst (λ (w : Wire). AreSeats w (map (λ y. y.seat) c.args.cells.items))
     (sym c.in_ok-wire.ensures.ok) c.requires.seats
+
+pub share_all-requires-clause-begun : goal.share_all-requires-clause-begun
+share_all-requires-clause-begun g c = c.requires.begun

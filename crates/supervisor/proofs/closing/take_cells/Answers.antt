@@ -1,7 +1,8 @@
-use Rattle.std.proofs.Common.{◌≡◌, arith, length, subst, sym}
+use Rattle.std.proofs.Common.{◌≡◌, ◌∙◌, arith, length, subst, sym}
 use Rattle.wire.proofs.Rows.{each-push}
 use Rattle.cell.specs.Moments.{EachCell}
 use Rattle.supervisor.specs.Closing.{IsBack}
+use Rattle.supervisor.proofs.Backs.{none-yet, ok-then}
 use Rattle.supervisor.proofs.closing.take_cells.Goals as goal
 
 pub loop-node-preserved : goal.loop-node-preserved
@@ -21,4 +22,14 @@ loop-node-preserved g c = record {
         width = c.into_cell.ensures.width;
         begun = c.into_cell.ensures.begun;
       }));
+}
+
+pub loop-node-init : goal.loop-node-init
+loop-node-init g c = record {
+  left = omega (arith, c.requires);
+  made = c.reserve.ensures.len ∙ c.new-cells.ensures.len;
+  room = let room = ok-then c.reserve.result c.if-is_err.ensures.negation c.reserve.ensures.ok in
+      omega (arith, room, c.from.ensures);
+  back = none-yet (IsBack g.W.Naming.wire g.W.Naming.begun) c.reserve.new.self.items
+      (c.reserve.ensures.items ∙ c.new-cells.ensures.items);
 }

@@ -15,3 +15,6 @@ invariant_of-result g c =
       wide = ap (λ (w : Wire). nodes_of (opened_with w)) same ∙ opened.wide;
       of = subst (λ (w : Wire). AreWatches w opened.watches.items) (sym same) opened.of;
     }
+
+pub share_on-requires-clause-begun : goal.share_on-requires-clause-begun
+share_on-requires-clause-begun g c = c.args.self.begun
