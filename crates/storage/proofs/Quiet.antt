@@ -1,8 +1,8 @@
 -- Calls that change nothing of a disk, and refusals that are passed on.
-use Rattle.std.proofs.Common.{◌≡◌, ◌∙◌, ℕ, Result, Ok, Err, IsErrOf, OnOk}
-use Rattle.std.proofs.Common.{refl, sym}
+use Rattle.std.proofs.Common.{◌≡◌, ◌≢◌, ◌∙◌, ◌⊎◌, ℕ, Result, Ok, Err, IsErrOf, OnOk}
+use Rattle.std.proofs.Common.{inl, inr, refl, sym}
 use Rattle.ids.specs.declared.refusal.Refusal.{Refusal}
-use Rattle.ids.specs.declared.refusal.Refusal.TheVariants.{BadImage, Closed, Disk}
+use Rattle.ids.specs.declared.refusal.Refusal.TheVariants.{BadImage, Closed, Disk, Memory}
 use Rattle.disk.specs.Areas.{Areas}
 use Rattle.disk.specs.Crashes.{Elapses, HasCause, Only, Unmoved}
 use Rattle.storage.proofs.Moments.{goes_on, joined, started, weaker}
@@ -62,6 +62,23 @@ ok_no_err is = absurd cc
 pub bad_no_disk : {T : Type 0} {r : Result T Refusal} → r ≡ Err BadImage → IsErrOf r Disk → ⊥
 bad_no_disk bad is = absurd cc
 
+pub memory_no_disk : {T : Type 0} → IsErrOf {T = T} (Err Memory) Disk → ⊥
+memory_no_disk is = absurd cc
+
 -- nor is `Closed`
 pub closed_no_disk : {T : Type 0} → IsErrOf {T = T} (Err Closed) Disk → ⊥
 closed_no_disk is = absurd cc
+
+-- a refusal to read an image
+pub bad_no_memory : {e : Refusal} → e ≡ BadImage → e ≢ Memory
+bad_no_memory bad is = absurd cc
+
+pub read_no_disk : {T X : Type 0} {e : Refusal} → (e ≢ Memory → (e ≡ BadImage) × X) →
+    IsErrOf {T = T} (Err e) Disk → ⊥
+read_no_disk refused is =
+    let bad = (refused (λ was. absurd cc)).0 in absurd cc
+
+pub read_refused : {X : Type 0} (e : Refusal) → (e ≢ Memory → (e ≡ BadImage) × X) →
+    (e ≡ Memory) ⊎ ((e ≡ BadImage) ⊎ (e ≡ Disk))
+read_refused Memory refused = inl refl
+read_refused e refused = inr (inl (refused (λ is. absurd cc)).0)
