@@ -1,5 +1,5 @@
 -- Calls that change nothing of a disk, and refusals that are passed on.
-use Rattle.std.proofs.Common.{◌≡◌, ◌≢◌, ◌∙◌, ◌⊎◌, ℕ, Result, Ok, Err, IsErrOf, OnOk}
+use Rattle.std.proofs.Common.{◌≡◌, ◌≢◌, ◌∙◌, ◌⊎◌, ℕ, Result, Ok, Err, IsErrOf, OnOk, Option, None, Some}
 use Rattle.std.proofs.Common.{inl, inr, refl, sym}
 use Rattle.ids.specs.declared.refusal.Refusal.{Refusal}
 use Rattle.ids.specs.declared.refusal.Refusal.TheVariants.{BadImage, Closed, Disk, Memory}
@@ -55,6 +55,9 @@ pub handed_err : {T U E : Type 0} {e x : E} {r : Result U E} → r ≡ Err e →
     IsErrOf {T = T} (Err e) x
 handed_err is from = cc (is, from)
 
+pub same_err : {T E : Type 0} {x y : E} → IsErrOf {T = T} (Err x) y → x ≡ y
+same_err both = cc both
+
 -- what succeeded isn't refused, and `BadImage` is no failure of the disk
 pub ok_no_err : {T E : Type 0} {x : T} {e : E} → Ok x ≡ Err e → ⊥
 ok_no_err is = absurd cc
@@ -68,6 +71,15 @@ memory_no_disk is = absurd cc
 -- nor is `Closed`
 pub closed_no_disk : {T : Type 0} → IsErrOf {T = T} (Err Closed) Disk → ⊥
 closed_no_disk is = absurd cc
+
+pub memory_no_bad : {T : Type 0} → IsErrOf {T = T} (Err Memory) BadImage → ⊥
+memory_no_bad is = absurd cc
+
+pub some_no_none : {A : Type 0} {o : Option A} {x : A} → o ≡ Some x → o ≡ None → ⊥
+some_no_none some none = absurd cc
+
+pub same_some : {A : Type 0} {x y : A} → ◌≡◌ {A = Option A} (Some x) (Some y) → x ≡ y
+same_some both = cc both
 
 -- a refusal to read an image
 pub bad_no_memory : {e : Refusal} → e ≡ BadImage → e ≢ Memory

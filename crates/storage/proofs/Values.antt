@@ -8,6 +8,7 @@ use Rattle.std.specs.declared.alloc.Global.{Global}
 use Rattle.storage.specs.Journal.{EndsAt, HasLog, IsBehind, IsKept, IsLoggedIf, IsNext, LeadAll, Opens}
 use Rattle.storage.specs.Journal.{IsLoggedTo, OldOrWhole, OpensIf, Restores, RestoresEither}
 use Rattle.storage.specs.Shelf.{half, image_at, opened, recorded, side}
+use Rattle.storage.proofs.Quiet.{some_no_none}
 use Rattle.storage.proofs.Logs.{one_log, one_meaning, read_one, selected_if, Read}
 
 -- ---- which image is found
@@ -181,7 +182,7 @@ module _ {V : Type 0} {logs : List ℕ → Bool} {reads : List ℕ → V → Typ
       ∙ holds_image (logs r.image) r.image r.batches (part (half found.in_b) d) found.holds
 
   pub restores_some : {v : V} {d : Areas} → Restores logs reads leads v d → opened d ≡ None → ⊥
-  restores_some {d = d} r none = let is = restores_opened r in absurd cc
+  restores_some r none = some_no_none (restores_opened r) none
 
   pub restores_read : {v : V} {d : Areas} {image : List ℕ} (r : Restores logs reads leads v d) →
       opened d ≡ Some image → reads image r.first
