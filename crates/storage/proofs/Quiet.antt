@@ -1,8 +1,8 @@
 -- Calls that change nothing of a disk, and refusals that are passed on.
-use Rattle.std.proofs.Common.{◌≡◌, ◌≢◌, ◌∙◌, ◌⊎◌, ℕ, Result, Ok, Err, IsErrOf, OnOk, Option, None, Some}
-use Rattle.std.proofs.Common.{inl, inr, refl, sym}
+use Rattle.std.proofs.Common.{◌≡◌, ◌≢◌, ◌∙◌, ◌⊎◌, ◌<◌, ◌≤◌, ℕ, Result, Ok, Err, IsErrOf, OnOk, Option, None, Some}
+use Rattle.std.proofs.Common.{arith, inl, inr, refl, sym, ⊎_elim}
 use Rattle.ids.specs.declared.refusal.Refusal.{Refusal}
-use Rattle.ids.specs.declared.refusal.Refusal.TheVariants.{BadImage, Closed, Disk, Memory}
+use Rattle.ids.specs.declared.refusal.Refusal.TheVariants.{BadImage, Closed, Disk, ImageTooLarge, Memory}
 use Rattle.disk.specs.Areas.{Areas}
 use Rattle.disk.specs.Crashes.{Elapses, HasCause, Only, Unmoved}
 use Rattle.storage.proofs.Moments.{goes_on, joined, started, weaker}
@@ -94,3 +94,17 @@ pub read_refused : {X : Type 0} (e : Refusal) → (e ≢ Memory → (e ≡ BadIm
     (e ≡ Memory) ⊎ ((e ≡ BadImage) ⊎ (e ≡ Disk))
 read_refused Memory refused = inl refl
 read_refused e refused = inr (inl (refused (λ is. absurd cc)).0)
+
+-- nor does a value that can't be written, or one that is too large for that
+pub disk_no_bad : {T : Type 0} → IsErrOf {T = T} (Err Disk) BadImage → ⊥
+disk_no_bad is = absurd cc
+
+pub disk_not_large : {T : Type 0} → IsErrOf {T = T} (Err Disk) ImageTooLarge → ⊥
+disk_not_large is = absurd cc
+
+pub spelled_no_disk : {T : Type 0} {e : Refusal} → (e ≡ Memory) ⊎ (e ≡ ImageTooLarge) →
+    IsErrOf {T = T} (Err e) Disk → ⊥
+spelled_no_disk others is = ⊎_elim (λ (m : _ ≡ Memory). absurd cc) (λ (l : _ ≡ ImageTooLarge). absurd cc) others
+
+pub not_above : {m n : ℕ} → m ≤ n → n < m → ⊥
+not_above within above = omega (arith, within, above)
