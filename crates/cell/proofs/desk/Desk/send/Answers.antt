@@ -1,4 +1,5 @@
-use Rattle.std.proofs.Common.{List, slice_index_or, sym, ◌∙◌, subst, ℕ}
+use Rattle.std.proofs.Common.{List, refl, slice_index_or, sym, ◌∙◌, subst, ℕ}
+use Rattle.std.proofs.lemmas.Result.{err_from_is_err_and}
 use Rattle.msg.specs.Grammar.{Plain}
 use Rattle.wire.specs.Readers.{known}
 use Rattle.wire.specs.Rule.{Spells}
@@ -86,3 +87,14 @@ invariant_of-self-inside-else-is_sent c =
         ),
       ),
     )
+
+pub returns-in_err-bytes : goal.returns-in_err-bytes
+returns-in_err-bytes c =
+    let p = err_from_is_err_and c.from_residual.result c.from_residual.ensures.1 in
+    rw (p.1, p.2) (record {
+      same = (refl, refl, refl, refl, refl);
+      sent = tt;
+      places = tt;
+      refused = (c.in_err-bytes.ensures.refused, refl);
+      stays = refl;
+    })
