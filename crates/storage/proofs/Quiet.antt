@@ -1,6 +1,6 @@
 -- Calls that change nothing of a disk, and refusals that are passed on.
-use Rattle.std.proofs.Common.{◌≡◌, ◌≢◌, ◌∙◌, ◌⊎◌, ◌↔◌, ◌<◌, ◌≤◌, ℕ, Result, Ok, Err, IsErrOf, OnOk, Option, None, Some}
-use Rattle.std.proofs.Common.{arith, inl, inr, refl, sym, ⊎_elim}
+use Rattle.std.proofs.Common.{◌≡◌, ◌≢◌, ◌∙◌, ◌⊎◌, ◌↔◌, ◌<◌, ◌≤◌, ℕ, Result, Ok, Err, IfErr, IsErrOf, OnOk, Option, None, Some}
+use Rattle.std.proofs.Common.{arith, inl, inr, refl, subst, sym, ⊎_elim}
 use Rattle.ids.specs.declared.refusal.Refusal.{Refusal}
 use Rattle.ids.specs.declared.refusal.Refusal.TheVariants.{BadImage, Closed, Disk, ImageTooLarge, Memory}
 use Rattle.disk.specs.Areas.{Areas}
@@ -120,3 +120,37 @@ pub spelled_which : {X : Type 0} (e : Refusal) → (e ≢ Memory → (e ≡ Imag
     (e ≡ Memory) ⊎ (e ≡ ImageTooLarge)
 spelled_which Memory refused = inl refl
 spelled_which e refused = inr (refused (λ is. absurd cc)).0
+
+-- ---- refusals of a call that is the last one
+
+pub closed_not_large : {T : Type 0} → IsErrOf {T = T} (Err Closed) ImageTooLarge → ⊥
+closed_not_large is = absurd cc
+
+pub err_weaker : {T : Type 0} {P Q : Refusal → Type 0} (r : Result T Refusal) → IfErr r P →
+    ((e : Refusal) → P e → Q e) → IfErr r Q
+err_weaker (Ok x) which more = tt
+err_weaker (Err e) which more = more e which
+
+not_refused : {T : Type 0} (P : Refusal → Type 0) {x : Refusal} (r : Result T Refusal) → IfErr r P →
+    (P x → ⊥) → IsErrOf r x → ⊥
+not_refused P r which never is = never (subst (λ s. IfErr s P) is which)
+
+pub renew_not_closed : {T : Type 0} (r : Result T Refusal) →
+    IfErr r (λ e. (e ≡ ImageTooLarge) ⊎ ((e ≡ Memory) ⊎ (e ≡ Disk))) → IsErrOf r Closed → ⊥
+renew_not_closed r which =
+    not_refused (λ e. (e ≡ ImageTooLarge) ⊎ ((e ≡ Memory) ⊎ (e ≡ Disk))) r which
+    (⊎_elim (λ (is : Closed ≡ ImageTooLarge). absurd cc)
+    (⊎_elim (λ (is : Closed ≡ Memory). absurd cc) (λ (is : Closed ≡ Disk). absurd cc)))
+
+pub append_not_closed : {T : Type 0} (r : Result T Refusal) →
+    IfErr r (λ e. (e ≡ Memory) ⊎ (e ≡ Disk)) → IsErrOf r Closed → ⊥
+append_not_closed r which =
+    not_refused (λ e. (e ≡ Memory) ⊎ (e ≡ Disk)) r which
+    (⊎_elim (λ (is : Closed ≡ Memory). absurd cc) (λ (is : Closed ≡ Disk). absurd cc))
+
+pub append_not_large : {T : Type 0} (r : Result T Refusal) →
+    IfErr r (λ e. (e ≡ Memory) ⊎ (e ≡ Disk)) → IsErrOf r ImageTooLarge → ⊥
+append_not_large r which =
+    not_refused (λ e. (e ≡ Memory) ⊎ (e ≡ Disk)) r which
+    (⊎_elim (λ (is : ImageTooLarge ≡ Memory). absurd cc)
+    (λ (is : ImageTooLarge ≡ Disk). absurd cc))
