@@ -1,5 +1,5 @@
 -- Calls that change nothing of a disk, and refusals that are passed on.
-use Rattle.std.proofs.Common.{◌≡◌, ◌≢◌, ◌∙◌, ◌⊎◌, ◌↔◌, ◌<◌, ◌≤◌, ℕ, Result, Ok, Err, IfErr, IsErrOf, OnOk, Option, None, Some}
+use Rattle.std.proofs.Common.{◌≡◌, ◌≢◌, ◌∙◌, ◌⊎◌, ◌<◌, ◌≤◌, ℕ, Result, Ok, Err, IfErr, IsErrOf, OnOk, Option, None, Some}
 use Rattle.std.proofs.Common.{arith, inl, inr, refl, subst, sym, ⊎_elim}
 use Rattle.ids.specs.declared.refusal.Refusal.{Refusal}
 use Rattle.ids.specs.declared.refusal.Refusal.TheVariants.{BadImage, Closed, Disk, ImageTooLarge, Memory}
@@ -108,18 +108,6 @@ spelled_no_disk others is = ⊎_elim (λ (m : _ ≡ Memory). absurd cc) (λ (l :
 
 pub not_above : {m n : ℕ} → m ≤ n → n < m → ⊥
 not_above within above = omega (arith, within, above)
-
-pub spelled_large : {n most : ℕ} (e : Refusal) →
-    (e ≢ Memory → (e ≡ ImageTooLarge) × (most < n)) → (e ≡ Memory → n ≤ most) →
-    (e ≡ ImageTooLarge) ↔ (most < n)
-spelled_large Memory refused last = (λ is. absurd cc, λ large. absurd (not_above (last refl) large))
-spelled_large e refused last =
-    let said = refused (λ is. absurd cc) in (λ _. said.1, λ _. said.0)
-
-pub spelled_which : {X : Type 0} (e : Refusal) → (e ≢ Memory → (e ≡ ImageTooLarge) × X) →
-    (e ≡ Memory) ⊎ (e ≡ ImageTooLarge)
-spelled_which Memory refused = inl refl
-spelled_which e refused = inr (refused (λ is. absurd cc)).0
 
 -- ---- refusals of a call that is the last one
 
