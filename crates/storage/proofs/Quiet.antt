@@ -1,6 +1,6 @@
 -- Calls that change nothing of a disk, and refusals that are passed on.
 use Rattle.std.proofs.Common.{◌≡◌, ◌≢◌, ◌∙◌, ◌⊎◌, ◌<◌, ◌≤◌, ℕ, Result, Ok, Err, IfErr, IsErrOf, OnOk, Option, None, Some}
-use Rattle.std.proofs.Common.{arith, inl, inr, refl, subst, sym, ⊎_elim}
+use Rattle.std.proofs.Common.{ap, arith, inl, inr, refl, subst, sym, ⊎_elim}
 use Rattle.ids.specs.declared.refusal.Refusal.{Refusal}
 use Rattle.ids.specs.declared.refusal.Refusal.TheVariants.{BadImage, Closed, Disk, ImageTooLarge, Memory}
 use Rattle.disk.specs.Areas.{Areas}
@@ -51,6 +51,14 @@ handed_cause is cause = record {
   fine = λ none. cause.fine (λ same. none (cc));
 }
 
+pub passed_cause : {old new : ℕ} {T E : Type 0} {e x : E} →
+    HasCause old new (IsErrOf {T = T} (Err e) x) → HasCause old new (e ≡ x)
+passed_cause cause = record {
+  later = cause.later;
+  failed = λ same. cause.failed (ap Err same);
+  fine = λ none. cause.fine (λ is. none (cc is));
+}
+
 pub handed_err : {T U E : Type 0} {e x : E} {r : Result U E} → r ≡ Err e → IsErrOf r x →
     IsErrOf {T = T} (Err e) x
 handed_err is from = cc (is, from)
@@ -98,6 +106,14 @@ read_refused e refused = inr (inl (refused (λ is. absurd cc)).0)
 -- nor does a value that can't be written, or one that is too large for that
 pub disk_no_bad : {T : Type 0} → IsErrOf {T = T} (Err Disk) BadImage → ⊥
 disk_no_bad is = absurd cc
+
+pub disk_no_memory : {T : Type 0} → IsErrOf {T = T} (Err Disk) Memory → ⊥
+disk_no_memory is = absurd cc
+
+pub told_no_memory : {T : Type 0} {e : Refusal} → (e ≡ BadImage) ⊎ (e ≡ Disk) →
+    IsErrOf {T = T} (Err e) Memory → ⊥
+told_no_memory others is =
+    ⊎_elim (λ (bad : _ ≡ BadImage). absurd cc) (λ (disk : _ ≡ Disk). absurd cc) others
 
 pub disk_not_large : {T : Type 0} → IsErrOf {T = T} (Err Disk) ImageTooLarge → ⊥
 disk_not_large is = absurd cc
