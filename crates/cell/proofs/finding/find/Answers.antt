@@ -16,7 +16,13 @@ returns-then-len-from g c = record {
   disks = λ _. refl;
   why = λ same. c.if-len-from.true (c.len.ensures ∙ c.args.disks.now.ok.0 ∙ same ∙ sym (c.from.ensures ∙ c.nodes.ensures.value));
   untouched = search rules;
-  taken = tt; count = tt; found = tt; logs = tt; read = tt; all = tt; one_age = tt;
+  taken = tt;
+  count = tt;
+  found = tt;
+  logs = tt;
+  read = tt;
+  all = tt;
+  one_age = tt;
 }
 
 pub returns-in_err-nodes : goal.returns-in_err-nodes
@@ -32,7 +38,13 @@ returns-in_err-nodes g c =
           c.in_err-nodes.field-0.0) c.as_mut_slice.ensures.value c.in_err-nodes.ensures.why;
       untouched = λ _. rw (with_items_is c.args.disks.now c.look_at_all.new.disks
           (quiet.count ∙ sym c.args.disks.now.ok.0)) quiet;
-      taken = tt; count = tt; found = tt; logs = tt; read = tt; all = tt; one_age = tt;
+      taken = tt;
+      count = tt;
+      found = tt;
+      logs = tt;
+      read = tt;
+      all = tt;
+      one_age = tt;
     })
 
 pub returns-in-Some : goal.returns-in-Some
@@ -51,16 +63,22 @@ returns-in-Some g c =
     record {
       disks = λ other. absurd (other same);
       why = record {
-      nodes = c.in_ok-nodes.nodes.items;
-      count = found.nodes_count ∙ sym many;
-      read = all-read g.D.Disk.seen g.D.Disk.may_leave g.D.Disk.faults c.args.shape old new
-          c.in_ok-nodes.nodes.items c.in_ok-nodes.areas.items found many quiet.count;
-      are = subst (λ l. AreApart l c.in-Some.sender c.in-Some.receiver) c.as_slice.ensures.value
-          c.in-Some.ensures.apart;
+        nodes = c.in_ok-nodes.nodes.items;
+        count = found.nodes_count ∙ sym many;
+        read = all-read g.D.Disk.seen g.D.Disk.may_leave g.D.Disk.faults c.args.shape old new
+            c.in_ok-nodes.nodes.items c.in_ok-nodes.areas.items found many quiet.count;
+        are = subst (λ l. AreApart l c.in-Some.sender c.in-Some.receiver) c.as_slice.ensures.value
+            c.in-Some.ensures.apart;
       };
       untouched = λ _. rw (with_items_is c.args.disks.now c.look_at_all.new.disks
           (quiet.count ∙ sym c.args.disks.now.ok.0)) quiet;
-      taken = tt; count = tt; found = tt; logs = tt; read = tt; all = tt; one_age = tt;
+      taken = tt;
+      count = tt;
+      found = tt;
+      logs = tt;
+      read = tt;
+      all = tt;
+      one_age = tt;
     }
 
 pub put_all_on-requires-clause-on : goal.put_all_on-requires-clause-on
@@ -114,10 +132,16 @@ returns-in_err-stores g c =
     rw (p.1, p.2) (record {
       disks = λ other. absurd (other same);
       why = why-before g.D.Disk.seen g.D.Disk.may_leave g.D.Disk.faults c.args.shape g.D.Disk.moment
-    g.D.Disk.left_since old new _ c.in_ok-nodes.nodes.items c.in_ok-nodes.areas.items _ found many
-    quiet items c.in_err-stores.ensures.all_read c.in_err-stores.ensures.why;
+          g.D.Disk.left_since old new _ c.in_ok-nodes.nodes.items c.in_ok-nodes.areas.items _ found many
+          quiet items c.in_err-stores.ensures.all_read c.in_err-stores.ensures.why;
       untouched = λ reading. absurd (c.in_err-stores.ensures.all_read reading);
-      taken = tt; count = tt; found = tt; logs = tt; read = tt; all = tt; one_age = tt;
+      taken = tt;
+      count = tt;
+      found = tt;
+      logs = tt;
+      read = tt;
+      all = tt;
+      one_age = tt;
     })
 
 pub returns : goal.returns

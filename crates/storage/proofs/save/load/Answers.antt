@@ -64,14 +64,14 @@ returns-then-not-branch g c =
     record {
       image = tt;
       none = λ _. recorded_cut _ (omega (
-            arith,
-            whole.short c.if-not-branch.true,
-            ap (λ d. length (drop c.args.at (part c.args.area d)))
+        arith,
+        whole.short c.if-not-branch.true,
+        ap (λ d. length (drop c.args.at (part c.args.area d)))
             c.told_length.ensures.quiet.same,
-            c.in_ok-len.ensures.told,
-            c.in_ok-image.ensures.len,
-            c.deref_mut.ensures.len,
-          ));
+        c.in_ok-len.ensures.told,
+        c.in_ok-image.ensures.len,
+        c.deref_mut.ensures.len,
+      ));
       memory = λ is. absurd (bad_no_memory refl (same_err is));
       quiet = both_unmoved c.told_length.ensures.quiet c.read_whole.ensures.quiet;
       cause = later_cause (c.in_ok-len.ensures.cause.fine ok_no_err)

@@ -1,4 +1,4 @@
-use Rattle.std.proofs.Common.{ap, Err, refl}
+use Rattle.std.proofs.Common.{refl}
 use Rattle.std.proofs.lemmas.Result.{err_from_is_err_and}
 use Rattle.storage.proofs.Quiet.{ok_no_err, passed_cause}
 use Rattle.storage.proofs.journal.Journal.open.Goals as goal
