@@ -1,6 +1,6 @@
 -- Calls that change nothing of a disk, and refusals that are passed on.
 use Rattle.std.proofs.Common.{◌≡◌, ◌≢◌, ◌∙◌, ◌⊎◌, ◌<◌, ◌≤◌, ℕ, Result, Ok, Err, IfErr, IsErrOf, OnOk, Option, None, Some}
-use Rattle.std.proofs.Common.{ap, arith, inl, inr, refl, subst, sym, ⊎_elim}
+use Rattle.std.proofs.Common.{arith, inl, inr, refl, subst, sym, ⊎_elim}
 use Rattle.ids.specs.declared.refusal.Refusal.{Refusal}
 use Rattle.ids.specs.declared.refusal.Refusal.TheVariants.{BadImage, Closed, Disk, ImageTooLarge, Memory}
 use Rattle.disk.specs.Areas.{Areas}
@@ -49,14 +49,6 @@ handed_cause is cause = record {
   later = cause.later;
   failed = λ same. cause.failed (cc);
   fine = λ none. cause.fine (λ same. none (cc));
-}
-
-pub passed_cause : {old new : ℕ} {T E : Type 0} {e x : E} →
-    HasCause old new (IsErrOf {T = T} (Err e) x) → HasCause old new (e ≡ x)
-passed_cause cause = record {
-  later = cause.later;
-  failed = λ same. cause.failed (ap Err same);
-  fine = λ none. cause.fine (λ is. none (cc is));
 }
 
 pub handed_err : {T U E : Type 0} {e x : E} {r : Result U E} → r ≡ Err e → IsErrOf r x →

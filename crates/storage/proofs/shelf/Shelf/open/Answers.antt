@@ -1,35 +1,7 @@
-use Rattle.std.proofs.Common.{refl}
 use Rattle.std.proofs.lemmas.Result.{err_from_is_err_and}
-use Rattle.storage.proofs.Quiet.{ok_no_err, passed_cause}
 use Rattle.storage.proofs.shelf.Shelf.open.Goals as goal
 
-pub returns-in_err-in_b : goal.returns-in_err-in_b
-returns-in_err-in_b g c =
+pub returns-in_err-in_b-clause-bad : goal.returns-in_err-in_b-clause-bad
+returns-in_err-in_b-clause-bad g c =
     let p = err_from_is_err_and c.from_residual.result c.from_residual.ensures.1 in
-    let said = c.in_err-in_b.ensures in
-    rw (p.1, p.2) (record {
-      opened = tt;
-      same = tt;
-      ready = tt;
-      bad = said.bad;
-      memory = said.memory;
-      quiet = tt;
-      fine = tt;
-      given_up = (c.recall.new.disk, c.recall.ensures.quiet, passed_cause said.cause);
-      others = said.others;
-    })
-
-pub returns : goal.returns
-returns g c =
-    let said = c.in_ok-in_b.ensures in
-    record {
-      opened = said.value;
-      same = c.recall.ensures.quiet.same;
-      ready = refl;
-      bad = tt;
-      memory = tt;
-      quiet = c.recall.ensures.quiet;
-      fine = said.cause.fine ok_no_err;
-      given_up = tt;
-      others = tt;
-    }
+    rw (p.1, p.2) c.in_err-in_b.ensures.bad
