@@ -1,6 +1,6 @@
 use Rattle.std.proofs.Common.{◌≡◌, true, false, IsTrue, List, Ok, Err, refl, sym, ap, ◌∙◌, subst, Result}
 use Rattle.std.proofs.Math.Logic.{∥∥₁_map}
-use Rattle.std.proofs.lemmas.Bool.{cond-true, cond-false}
+use Rattle.std.proofs.lemmas.Bool.{cond-true, cond-false, false≢true}
 use Rattle.std.proofs.lemmas.Result.{err_from_is_err_and}
 use Rattle.ids.specs.declared.refusal.Refusal.{Refusal}
 use Rattle.msg.specs.Grammar.{Plain}
@@ -82,7 +82,7 @@ invariant_of-self-inside-then-enter c =
             desk.ended_is
                 ∙ sym (ap (λ (p : Pair). p.saved.local.phases.ended) pair_is),
             (
-              λ never. absurd cc,
+              λ never. absurd (false≢true (sym never)),
               (
                 subst (λ (ts : List Plain). AreTaken ts c.act.new.node.early)
                     (sym (ap (λ (w : Known). w.taken) known_is))
