@@ -174,7 +174,7 @@ module _ {V : Type 0} {logs : List ℕ → Bool} {reads : List ℕ → V → Typ
         (subst (λ l. LeadAll leads l a.first v) batches a.led)) b.led
 
   -- a disk that restores a value opens to its image
-  pub restores_opened : {v : V} {d : Areas} (r : Restores logs reads leads v d) →
+  restores_opened : {v : V} {d : Areas} (r : Restores logs reads leads v d) →
       opened d ≡ Some r.image
   restores_opened {d = d} r =
       let found = r.found in
