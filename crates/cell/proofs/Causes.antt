@@ -1,8 +1,8 @@
 -- Why opening a node from its disk fails.
-use Rattle.std.proofs.Common.{◌≡◌, ◌≢◌, ◌⊎◌, ◌≤◌, ◌<◌, ℕ, List, [], length, Some, slice_get, Result, Err, refl, sym, ap, subst, ⊎_elim, arith}
+use Rattle.std.proofs.Common.{◌≡◌, ◌≢◌, ◌⊎◌, ◌≤◌, ◌<◌, ℕ, List, [], length, Some, slice_get, Result, Ok, Err, refl, sym, ap, subst, ⊎_elim, arith}
 use Rattle.ids.specs.Limits.{Shaped}
 use Rattle.ids.specs.declared.refusal.Refusal.{Refusal}
-use Rattle.ids.specs.declared.refusal.Refusal.TheVariants.{BadImage, Disk, ImageTooLarge, Memory}
+use Rattle.ids.specs.declared.refusal.Refusal.TheVariants.{BadImage, Closed, Disk, ImageTooLarge, Memory}
 use Rattle.disk.specs.Areas.{Areas}
 use Rattle.disk.specs.Crashes.{Grew}
 use Rattle.ids.specs.declared.limits.TheConstants.{GREATEST_IMAGE}
@@ -53,6 +53,22 @@ all-read-then k r e which good reading =
 pub same-error : {A B E : Type 0} (e f : E) → ◌≡◌ {A = Result A E} (Err e) (Err f)
     → ◌≡◌ {A = Result B E} (Err e) (Err f)
 same-error e f is = ap Err (let same : e ≡ f = cc in same)
+
+pub ok-no-error : {A E : Type 0} {x : A} {e : E} → Ok x ≡ Err e → ⊥
+ok-no-error is = absurd cc
+
+pub same-refusal : {A E : Type 0} {e f : E} → ◌≡◌ {A = Result A E} (Err e) (Err f) → e ≡ f
+same-refusal is = cc is
+
+-- other refusals are no failure of the disk
+pub closed-no-disk : Closed ≡ Disk → ⊥
+closed-no-disk is = absurd cc
+
+pub large-no-disk : ImageTooLarge ≡ Disk → ⊥
+large-no-disk is = absurd cc
+
+pub memory-no-disk : Memory ≡ Disk → ⊥
+memory-no-disk is = absurd cc
 
 -- for a node that is read
 pub reading-cause : {D : Type 0} (seen : D → Areas) (moment faults : D → ℕ) (shape : Shaped)

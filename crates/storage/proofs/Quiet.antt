@@ -1,8 +1,8 @@
 -- Calls that change nothing of a disk, and refusals that are passed on.
-use Rattle.std.proofs.Common.{◌≡◌, ◌∙◌, ℕ, Result, Ok, Err, IsErrOf, OnOk}
-use Rattle.std.proofs.Common.{refl, sym}
+use Rattle.std.proofs.Common.{◌≡◌, ◌≢◌, ◌∙◌, ◌⊎◌, ◌<◌, ◌≤◌, ℕ, Result, Ok, Err, IfErr, IsErrOf, OnOk, Option, None, Some}
+use Rattle.std.proofs.Common.{arith, inl, inr, refl, subst, sym, ⊎_elim}
 use Rattle.ids.specs.declared.refusal.Refusal.{Refusal}
-use Rattle.ids.specs.declared.refusal.Refusal.TheVariants.{BadImage, Closed, Disk}
+use Rattle.ids.specs.declared.refusal.Refusal.TheVariants.{BadImage, Closed, Disk, ImageTooLarge, Memory}
 use Rattle.disk.specs.Areas.{Areas}
 use Rattle.disk.specs.Crashes.{Elapses, HasCause, Only, Unmoved}
 use Rattle.storage.proofs.Moments.{goes_on, joined, started, weaker}
@@ -55,6 +55,9 @@ pub handed_err : {T U E : Type 0} {e x : E} {r : Result U E} → r ≡ Err e →
     IsErrOf {T = T} (Err e) x
 handed_err is from = cc (is, from)
 
+pub same_err : {T E : Type 0} {x y : E} → IsErrOf {T = T} (Err x) y → x ≡ y
+same_err both = cc both
+
 -- what succeeded isn't refused, and `BadImage` is no failure of the disk
 pub ok_no_err : {T E : Type 0} {x : T} {e : E} → Ok x ≡ Err e → ⊥
 ok_no_err is = absurd cc
@@ -62,6 +65,88 @@ ok_no_err is = absurd cc
 pub bad_no_disk : {T : Type 0} {r : Result T Refusal} → r ≡ Err BadImage → IsErrOf r Disk → ⊥
 bad_no_disk bad is = absurd cc
 
+pub memory_no_disk : {T : Type 0} → IsErrOf {T = T} (Err Memory) Disk → ⊥
+memory_no_disk is = absurd cc
+
 -- nor is `Closed`
 pub closed_no_disk : {T : Type 0} → IsErrOf {T = T} (Err Closed) Disk → ⊥
 closed_no_disk is = absurd cc
+
+pub memory_no_bad : {T : Type 0} → IsErrOf {T = T} (Err Memory) BadImage → ⊥
+memory_no_bad is = absurd cc
+
+pub some_no_none : {A : Type 0} {o : Option A} {x : A} → o ≡ Some x → o ≡ None → ⊥
+some_no_none some none = absurd cc
+
+pub same_some : {A : Type 0} {x y : A} → ◌≡◌ {A = Option A} (Some x) (Some y) → x ≡ y
+same_some both = cc both
+
+-- a refusal to read an image
+pub bad_no_memory : {e : Refusal} → e ≡ BadImage → e ≢ Memory
+bad_no_memory bad is = absurd cc
+
+pub read_no_disk : {T X : Type 0} {e : Refusal} → (e ≢ Memory → (e ≡ BadImage) × X) →
+    IsErrOf {T = T} (Err e) Disk → ⊥
+read_no_disk refused is =
+    let bad = (refused (λ was. absurd cc)).0 in absurd cc
+
+pub read_refused : {X : Type 0} (e : Refusal) → (e ≢ Memory → (e ≡ BadImage) × X) →
+    (e ≡ Memory) ⊎ ((e ≡ BadImage) ⊎ (e ≡ Disk))
+read_refused Memory refused = inl refl
+read_refused e refused = inr (inl (refused (λ is. absurd cc)).0)
+
+-- nor does a value that can't be written, or one that is too large for that
+pub disk_no_bad : {T : Type 0} → IsErrOf {T = T} (Err Disk) BadImage → ⊥
+disk_no_bad is = absurd cc
+
+pub disk_no_memory : {T : Type 0} → IsErrOf {T = T} (Err Disk) Memory → ⊥
+disk_no_memory is = absurd cc
+
+pub told_no_memory : {T : Type 0} {e : Refusal} → (e ≡ BadImage) ⊎ (e ≡ Disk) →
+    IsErrOf {T = T} (Err e) Memory → ⊥
+told_no_memory others is =
+    ⊎_elim (λ (bad : _ ≡ BadImage). absurd cc) (λ (disk : _ ≡ Disk). absurd cc) others
+
+pub disk_not_large : {T : Type 0} → IsErrOf {T = T} (Err Disk) ImageTooLarge → ⊥
+disk_not_large is = absurd cc
+
+pub spelled_no_disk : {T : Type 0} {e : Refusal} → (e ≡ Memory) ⊎ (e ≡ ImageTooLarge) →
+    IsErrOf {T = T} (Err e) Disk → ⊥
+spelled_no_disk others is = ⊎_elim (λ (m : _ ≡ Memory). absurd cc) (λ (l : _ ≡ ImageTooLarge). absurd cc) others
+
+pub not_above : {m n : ℕ} → m ≤ n → n < m → ⊥
+not_above within above = omega (arith, within, above)
+
+-- ---- refusals of a call that is the last one
+
+pub closed_not_large : {T : Type 0} → IsErrOf {T = T} (Err Closed) ImageTooLarge → ⊥
+closed_not_large is = absurd cc
+
+pub err_weaker : {T : Type 0} {P Q : Refusal → Type 0} (r : Result T Refusal) → IfErr r P →
+    ((e : Refusal) → P e → Q e) → IfErr r Q
+err_weaker (Ok x) which more = tt
+err_weaker (Err e) which more = more e which
+
+not_refused : {T : Type 0} (P : Refusal → Type 0) {x : Refusal} (r : Result T Refusal) → IfErr r P →
+    (P x → ⊥) → IsErrOf r x → ⊥
+not_refused P r which never is = never (subst (λ s. IfErr s P) is which)
+
+pub renew_not_closed : {T : Type 0} (r : Result T Refusal) →
+    IfErr r (λ e. (e ≡ ImageTooLarge) ⊎ ((e ≡ Memory) ⊎ (e ≡ Disk))) → IsErrOf r Closed → ⊥
+renew_not_closed r which =
+    not_refused (λ e. (e ≡ ImageTooLarge) ⊎ ((e ≡ Memory) ⊎ (e ≡ Disk))) r which
+    (⊎_elim (λ (is : Closed ≡ ImageTooLarge). absurd cc)
+    (⊎_elim (λ (is : Closed ≡ Memory). absurd cc) (λ (is : Closed ≡ Disk). absurd cc)))
+
+pub append_not_closed : {T : Type 0} (r : Result T Refusal) →
+    IfErr r (λ e. (e ≡ Memory) ⊎ (e ≡ Disk)) → IsErrOf r Closed → ⊥
+append_not_closed r which =
+    not_refused (λ e. (e ≡ Memory) ⊎ (e ≡ Disk)) r which
+    (⊎_elim (λ (is : Closed ≡ Memory). absurd cc) (λ (is : Closed ≡ Disk). absurd cc))
+
+pub append_not_large : {T : Type 0} (r : Result T Refusal) →
+    IfErr r (λ e. (e ≡ Memory) ⊎ (e ≡ Disk)) → IsErrOf r ImageTooLarge → ⊥
+append_not_large r which =
+    not_refused (λ e. (e ≡ Memory) ⊎ (e ≡ Disk)) r which
+    (⊎_elim (λ (is : ImageTooLarge ≡ Memory). absurd cc)
+    (λ (is : ImageTooLarge ≡ Disk). absurd cc))

@@ -1,13 +1,14 @@
 -- Values that disks restore: each is what an image and the batches behind it lead to.
 use Rattle.std.proofs.Common.{◌≡◌, ℕ, ◌+◌, Bool, true, false, List, [], ◌∷◌, ◌++◌}
-use Rattle.std.proofs.Common.{length, drop, Option, Some, Vec, inl, inr, ⊎_elim, refl, sym, ◌∙◌, subst}
+use Rattle.std.proofs.Common.{length, drop, Option, Some, None, Vec, inl, inr, ⊎_elim, refl, sym, ◌∙◌, subst, ap}
 use Rattle.std.proofs.Math.Logic.{∥∥₁_elim}
 use Rattle.std.proofs.Props.{props}
 use Rattle.disk.specs.Areas.{Areas, part}
 use Rattle.std.specs.declared.alloc.Global.{Global}
 use Rattle.storage.specs.Journal.{EndsAt, HasLog, IsBehind, IsKept, IsLoggedIf, IsNext, LeadAll, Opens}
 use Rattle.storage.specs.Journal.{IsLoggedTo, OldOrWhole, OpensIf, Restores, RestoresEither}
-use Rattle.storage.specs.Shelf.{half, recorded, side}
+use Rattle.storage.specs.Shelf.{half, image_at, opened, recorded, side}
+use Rattle.storage.proofs.Quiet.{some_no_none}
 use Rattle.storage.proofs.Logs.{one_log, one_meaning, read_one, selected_if, Read}
 
 -- ---- which image is found
@@ -41,6 +42,10 @@ same_batches false d a b = a.holds.1 ∙ sym b.holds.1
 
 same_offset : {m n : ℕ} → ◌≡◌ {A = Option ℕ} (Some m) (Some n) → m ≡ n
 same_offset both = cc both
+
+opened_half : (in_b : Bool) (d : Areas) → image_at (Some in_b) d ≡ recorded (part (half in_b) d)
+opened_half true d = refl
+opened_half false d = refl
 
 -- ---- where batches lead
 
@@ -167,6 +172,21 @@ module _ {V : Type 0} {logs : List ℕ → Bool} {reads : List ℕ → V → Typ
         one_lead one_end b.batches b.first v w
         (subst (λ x. LeadAll leads b.batches x v) first
         (subst (λ l. LeadAll leads l a.first v) batches a.led)) b.led
+
+  -- a disk that restores a value opens to its image
+  restores_opened : {v : V} {d : Areas} (r : Restores logs reads leads v d) →
+      opened d ≡ Some r.image
+  restores_opened {d = d} r =
+      let found = r.found in
+      ap (λ (o : Option Bool). image_at o d) found.selected ∙ opened_half found.in_b d
+      ∙ holds_image (logs r.image) r.image r.batches (part (half found.in_b) d) found.holds
+
+  pub restores_some : {v : V} {d : Areas} → Restores logs reads leads v d → opened d ≡ None → ⊥
+  restores_some r none = some_no_none (restores_opened r) none
+
+  pub restores_read : {v : V} {d : Areas} {image : List ℕ} (r : Restores logs reads leads v d) →
+      opened d ≡ Some image → reads image r.first
+  restores_read r is = subst (λ i. reads i r.first) (same_found (sym (restores_opened r) ∙ is)) r.read
 
   -- ---- a journal whose log ends at an offset
 

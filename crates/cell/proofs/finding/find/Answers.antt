@@ -1,20 +1,58 @@
-use Rattle.std.proofs.Common.{◌≡◌, ◌∙◌, true, ap, arith, length, subst, sym}
+use Rattle.std.proofs.Common.{◌≡◌, ◌∙◌, true, ap, length, refl, rules, subst, sym}
 use Rattle.std.proofs.lemmas.List.{with_items_is}
 use Rattle.std.proofs.lemmas.Result.{err_from_is_err_and}
 use Rattle.replays.specs.Stores.{disk_of, is_ready_in, logs_in}
-use Rattle.wire.specs.OneAge.{AreApart}
+use Rattle.wire.specs.OneAge.{AreApart, AreOfOneAge}
 use Rattle.cell.specs.Disks.{OpensToNode}
+use Rattle.cell.specs.Ages.{IsWhy}
 use Rattle.cell.specs.Looking.{AreLookedAt, AreOn, AreUnmoved, logs_at}
 use Rattle.cell.specs.Opened.{AreBeside, AreFound, IsChosen}
 use Rattle.cell.proofs.Beside.{beside-by, chosen-as}
 use Rattle.cell.proofs.Looking.{all-on, all-read, why-before}
 use Rattle.cell.proofs.finding.find.Goals as goal
 
-pub returns-in-Some-clause-why : goal.returns-in-Some-clause-why
-returns-in-Some-clause-why g c =
+pub returns-then-len-from : goal.returns-then-len-from
+returns-then-len-from g c = record {
+  disks = λ _. refl;
+  why = λ same. c.if-len-from.true (c.len.ensures ∙ c.args.disks.now.ok.0 ∙ same ∙ sym (c.from.ensures ∙ c.nodes.ensures.value));
+  untouched = search rules;
+  taken = tt;
+  count = tt;
+  found = tt;
+  logs = tt;
+  read = tt;
+  all = tt;
+  one_age = tt;
+}
+
+pub returns-in_err-nodes : goal.returns-in_err-nodes
+returns-in_err-nodes g c =
+    let p = err_from_is_err_and c.from_residual.result c.from_residual.ensures.1 in
+    let same = sym c.len.ensures ∙ c.if-len-from.false ∙ c.from.ensures ∙ c.nodes.ensures.value in
+    let quiet = subst
+    (λ l. AreUnmoved g.D.Disk.seen g.D.Disk.may_leave g.D.Disk.moment g.D.Disk.left_since l
+    c.look_at_all.new.disks) c.as_mut_slice.ensures.value c.in_err-nodes.ensures.untouched in
+    rw (p.1, p.2) (record {
+      disks = λ other. absurd (other same);
+      why = subst (λ l. IsWhy g.D.Disk.seen g.D.Disk.moment g.D.Disk.faults c.args.shape l
+          c.in_err-nodes.field-0.0) c.as_mut_slice.ensures.value c.in_err-nodes.ensures.why;
+      untouched = λ _. rw (with_items_is c.args.disks.now c.look_at_all.new.disks
+          (quiet.count ∙ sym c.args.disks.now.ok.0)) quiet;
+      taken = tt;
+      count = tt;
+      found = tt;
+      logs = tt;
+      read = tt;
+      all = tt;
+      one_age = tt;
+    })
+
+pub returns-in-Some : goal.returns-in-Some
+returns-in-Some g c =
+    let same = sym c.len.ensures ∙ c.if-len-from.false ∙ c.from.ensures ∙ c.nodes.ensures.value in
     let old = c.args.disks.now.items in
     let new = c.look_at_all.new.disks in
-    let many : length old ≡ c.args.shape.nodes = omega (arith, c.args.disks.now.ok) in
+    let many : length old ≡ c.args.shape.nodes = sym c.args.disks.now.ok.0 ∙ same in
     let quiet = subst
     (λ l. AreUnmoved g.D.Disk.seen g.D.Disk.may_leave g.D.Disk.moment g.D.Disk.left_since l new)
     c.as_mut_slice.ensures.value c.in_ok-nodes.ensures.untouched in
@@ -23,19 +61,32 @@ returns-in-Some-clause-why g c =
     c.args.shape.nodes l new c.in_ok-nodes.nodes.items c.in_ok-nodes.areas.items)
     c.as_mut_slice.ensures.value c.in_ok-nodes.ensures.found in
     record {
-      nodes = c.in_ok-nodes.nodes.items;
-      count = found.nodes_count ∙ sym many;
-      read = all-read g.D.Disk.seen g.D.Disk.may_leave g.D.Disk.faults c.args.shape old new
-          c.in_ok-nodes.nodes.items c.in_ok-nodes.areas.items found many quiet.count;
-      are = subst (λ l. AreApart l c.in-Some.sender c.in-Some.receiver) c.as_slice.ensures.value
-          c.in-Some.ensures.apart;
+      disks = λ other. absurd (other same);
+      why = record {
+        nodes = c.in_ok-nodes.nodes.items;
+        count = found.nodes_count ∙ sym many;
+        read = all-read g.D.Disk.seen g.D.Disk.may_leave g.D.Disk.faults c.args.shape old new
+            c.in_ok-nodes.nodes.items c.in_ok-nodes.areas.items found many quiet.count;
+        are = subst (λ l. AreApart l c.in-Some.sender c.in-Some.receiver) c.as_slice.ensures.value
+            c.in-Some.ensures.apart;
+      };
+      untouched = λ _. rw (with_items_is c.args.disks.now c.look_at_all.new.disks
+          (quiet.count ∙ sym c.args.disks.now.ok.0)) quiet;
+      taken = tt;
+      count = tt;
+      found = tt;
+      logs = tt;
+      read = tt;
+      all = tt;
+      one_age = tt;
     }
 
 pub put_all_on-requires-clause-on : goal.put_all_on-requires-clause-on
 put_all_on-requires-clause-on g c =
+    let same = sym c.len.ensures ∙ c.if-len-from.false ∙ c.from.ensures ∙ c.nodes.ensures.value in
     let old = c.args.disks.now.items in
     let new = c.look_at_all.new.disks in
-    let many : length old ≡ c.args.shape.nodes = omega (arith, c.args.disks.now.ok) in
+    let many : length old ≡ c.args.shape.nodes = sym c.args.disks.now.ok.0 ∙ same in
     let quiet = subst
     (λ l. AreUnmoved g.D.Disk.seen g.D.Disk.may_leave g.D.Disk.moment g.D.Disk.left_since l new)
     c.as_mut_slice.ensures.value c.in_ok-nodes.ensures.untouched in
@@ -46,7 +97,7 @@ put_all_on-requires-clause-on g c =
     let items : c.replace-found.result.items ≡ new =
     ap (λ v. v.items) c.replace-found.ensures.value
     ∙ with_items_is c.args.disks.now new
-    (let count = quiet.count in omega (arith, count, c.args.disks.now.ok)) in
+    (quiet.count ∙ sym c.args.disks.now.ok.0) in
     subst
     (λ l. AreOn g.D.Disk.seen g.D.Disk.may_leave c.args.shape l c.as_slice-2.result.now
     c.as_slice-3.result.now) (sym items)
@@ -59,52 +110,14 @@ put_all_on-requires-clause-on g c =
     (all-on g.D.Disk.seen g.D.Disk.may_leave g.D.Disk.faults c.args.shape old new
     c.in_ok-nodes.nodes.items c.in_ok-nodes.areas.items found many quiet.count)))
 
-pub returns-clause-found : goal.returns-clause-found
-returns-clause-found g c =
-    subst
-    (λ l. AreFound (λ n s. (is_ready_in s ≡ true) × OpensToNode n (g.D.Disk.seen (disk_of s)))
-    c.args.shape l c.in_ok-stores.stores.items)
-    c.as_slice-2.ensures.value c.in_ok-stores.ensures.found
-
-pub returns-clause-logs : goal.returns-clause-logs
-returns-clause-logs g c =
-    let old = c.args.disks.now.items in
-    let seen = g.D.Disk.seen in
-    let saves = c.args.saves in
-    let many : length old ≡ c.args.shape.nodes = omega (arith, c.args.disks.now.ok) in
-    let areas = c.in_ok-nodes.areas.items in
-    let chosen = subst
-    (λ l. AreBeside (λ k d place. IsChosen saves (seen d) (logs_at saves place)) l areas)
-    c.as_mut_slice.ensures.value c.in_ok-nodes.ensures.chosen in
-    let logs = subst
-    (λ l. AreBeside (λ k place s. logs_in s ≡ logs_at saves place) l c.in_ok-stores.stores.items)
-    c.as_slice-3.ensures.value c.in_ok-stores.ensures.logs in
-    beside-by old areas c.in_ok-stores.stores.items
-    (c.in_ok-nodes.ensures.found.places_count ∙ sym many)
-    (λ d place s. chosen-as saves (seen d) place (logs_in s)) chosen logs
-
-pub returns-clause-read : goal.returns-clause-read
-returns-clause-read g c =
-    let old = c.args.disks.now.items in
-    let new = c.look_at_all.new.disks in
-    let many : length old ≡ c.args.shape.nodes = omega (arith, c.args.disks.now.ok) in
-    let quiet = subst
-    (λ l. AreUnmoved g.D.Disk.seen g.D.Disk.may_leave g.D.Disk.moment g.D.Disk.left_since l new)
-    c.as_mut_slice.ensures.value c.in_ok-nodes.ensures.untouched in
-    let found = subst
-    (λ l. AreLookedAt g.D.Disk.seen g.D.Disk.may_leave g.D.Disk.faults c.args.shape
-    c.args.shape.nodes l new c.in_ok-nodes.nodes.items c.in_ok-nodes.areas.items)
-    c.as_mut_slice.ensures.value c.in_ok-nodes.ensures.found in
-    all-read g.D.Disk.seen g.D.Disk.may_leave g.D.Disk.faults c.args.shape old new
-    c.in_ok-nodes.nodes.items c.in_ok-nodes.areas.items found many quiet.count
-
-pub returns-in_err-stores-clause-why : goal.returns-in_err-stores-clause-why
-returns-in_err-stores-clause-why g c =
+pub returns-in_err-stores : goal.returns-in_err-stores
+returns-in_err-stores g c =
     let p = err_from_is_err_and c.from_residual-in_err-stores.result
     c.from_residual-in_err-stores.ensures.1 in
+    let same = sym c.len.ensures ∙ c.if-len-from.false ∙ c.from.ensures ∙ c.nodes.ensures.value in
     let old = c.args.disks.now.items in
     let new = c.look_at_all.new.disks in
-    let many : length old ≡ c.args.shape.nodes = omega (arith, c.args.disks.now.ok) in
+    let many : length old ≡ c.args.shape.nodes = sym c.args.disks.now.ok.0 ∙ same in
     let quiet = subst
     (λ l. AreUnmoved g.D.Disk.seen g.D.Disk.may_leave g.D.Disk.moment g.D.Disk.left_since l new)
     c.as_mut_slice.ensures.value c.in_ok-nodes.ensures.untouched in
@@ -115,14 +128,59 @@ returns-in_err-stores-clause-why g c =
     let items : c.replace-found.result.items ≡ new =
     ap (λ v. v.items) c.replace-found.ensures.value
     ∙ with_items_is c.args.disks.now new
-    (let count = quiet.count in omega (arith, count, c.args.disks.now.ok)) in
-    rw (p.1, p.2)
-    (why-before g.D.Disk.seen g.D.Disk.may_leave g.D.Disk.faults c.args.shape g.D.Disk.moment
-    g.D.Disk.left_since old new _ c.in_ok-nodes.nodes.items c.in_ok-nodes.areas.items _ found many
-    quiet items c.in_err-stores.ensures.all_read c.in_err-stores.ensures.why)
+    (quiet.count ∙ sym c.args.disks.now.ok.0) in
+    rw (p.1, p.2) (record {
+      disks = λ other. absurd (other same);
+      why = why-before g.D.Disk.seen g.D.Disk.may_leave g.D.Disk.faults c.args.shape g.D.Disk.moment
+          g.D.Disk.left_since old new _ c.in_ok-nodes.nodes.items c.in_ok-nodes.areas.items _ found many
+          quiet items c.in_err-stores.ensures.all_read c.in_err-stores.ensures.why;
+      untouched = λ reading. absurd (c.in_err-stores.ensures.all_read reading);
+      taken = tt;
+      count = tt;
+      found = tt;
+      logs = tt;
+      read = tt;
+      all = tt;
+      one_age = tt;
+    })
 
-pub returns-in_err-stores-clause-untouched : goal.returns-in_err-stores-clause-untouched
-returns-in_err-stores-clause-untouched g c =
-    let p = err_from_is_err_and c.from_residual-in_err-stores.result
-    c.from_residual-in_err-stores.ensures.1 in
-    rw (p.1, p.2) (λ reading. absurd (c.in_err-stores.ensures.all_read reading))
+pub returns : goal.returns
+returns g c =
+    let old = c.args.disks.now.items in
+    let new = c.look_at_all.new.disks in
+    let seen = g.D.Disk.seen in
+    let saves = c.args.saves in
+    let same = sym c.len.ensures ∙ c.if-len-from.false ∙ c.from.ensures ∙ c.nodes.ensures.value in
+    let many : length old ≡ c.args.shape.nodes = sym c.args.disks.now.ok.0 ∙ same in
+    let quiet = subst
+    (λ l. AreUnmoved g.D.Disk.seen g.D.Disk.may_leave g.D.Disk.moment g.D.Disk.left_since l new)
+    c.as_mut_slice.ensures.value c.in_ok-nodes.ensures.untouched in
+    let found = subst
+    (λ l. AreLookedAt g.D.Disk.seen g.D.Disk.may_leave g.D.Disk.faults c.args.shape
+    c.args.shape.nodes l new c.in_ok-nodes.nodes.items c.in_ok-nodes.areas.items)
+    c.as_mut_slice.ensures.value c.in_ok-nodes.ensures.found in
+    let areas = c.in_ok-nodes.areas.items in
+    let chosen = subst
+    (λ l. AreBeside (λ k d place. IsChosen saves (seen d) (logs_at saves place)) l areas)
+    c.as_mut_slice.ensures.value c.in_ok-nodes.ensures.chosen in
+    let logs = subst
+    (λ l. AreBeside (λ k place s. logs_in s ≡ logs_at saves place) l c.in_ok-stores.stores.items)
+    c.as_slice-3.ensures.value c.in_ok-stores.ensures.logs in
+    record {
+      disks = λ other. absurd (other same);
+      why = tt;
+      untouched = tt;
+      taken = ap (λ v. v.items) c.replace-found.ensures.after ∙ c.new.ensures.items;
+      count = found.nodes_count;
+      found = subst
+          (λ l. AreFound (λ n s. (is_ready_in s ≡ true) × OpensToNode n (seen (disk_of s)))
+          c.args.shape l c.in_ok-stores.stores.items)
+          c.as_slice-2.ensures.value c.in_ok-stores.ensures.found;
+      logs = beside-by old areas c.in_ok-stores.stores.items
+          (c.in_ok-nodes.ensures.found.places_count ∙ sym many)
+          (λ d place s. chosen-as saves (seen d) place (logs_in s)) chosen logs;
+      read = all-read seen g.D.Disk.may_leave g.D.Disk.faults c.args.shape old new
+          c.in_ok-nodes.nodes.items areas found many quiet.count;
+      all = found.nodes_count ∙ sym many;
+      one_age = subst AreOfOneAge c.as_slice.ensures.value c.in_default.ensures.fit;
+    }

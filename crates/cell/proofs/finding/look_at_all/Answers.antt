@@ -1,42 +1,66 @@
-use Rattle.std.proofs.Common.{get_or, ◌∙◌, arith, length-set}
+use Rattle.std.proofs.Common.{◌≡◌, ℕ, get_or, ◌∙◌, arith, length-set, subst}
 use Rattle.std.proofs.lemmas.Result.{err_from_is_err_and}
-use Rattle.cell.specs.Looking.{logs_at}
+use Rattle.cell.specs.Looking.{AreLookedAt, logs_at}
 use Rattle.cell.specs.Opened.{IsChosen}
 use Rattle.cell.proofs.Beside.{beside-next}
 use Rattle.cell.proofs.Causes.{why-there}
 use Rattle.cell.proofs.Looking.{looked-at, read-there, unmoved-at}
 use Rattle.cell.proofs.finding.look_at_all.Goals as goal
 
-pub returns-in_err-node-clause-untouched : goal.returns-in_err-node-clause-untouched
-returns-in_err-node-clause-untouched g c =
-    let x = get_or c.loop-number.disks c.from.result c.index-disks-from.result in
-    let there = read-there c.from.result c.index-disks-from.result c.loop-number.invariant.looked
-    c.loop-number.invariant.quiet.count c.from.ensures (omega (arith, c.requires)) in
-    unmoved-at c.loop-number.number c.from.result x c.look_at.new.disk c.loop-number.invariant.quiet c.from.ensures there c.look_at.ensures.quiet
-
-pub returns-in_err-keep-clause-untouched : goal.returns-in_err-keep-clause-untouched
-returns-in_err-keep-clause-untouched g c =
-    let x = get_or c.loop-number.disks c.from.result c.index-disks-from.result in
-    let there = read-there c.from.result c.index-disks-from.result c.loop-number.invariant.looked
-    c.loop-number.invariant.quiet.count c.from.ensures (omega (arith, c.requires)) in
-    unmoved-at c.loop-number.number c.from.result x c.look_at.new.disk c.loop-number.invariant.quiet c.from.ensures there c.look_at.ensures.quiet
-
-pub returns-in_err-keep-2-clause-untouched : goal.returns-in_err-keep-2-clause-untouched
-returns-in_err-keep-2-clause-untouched g c =
-    let x = get_or c.loop-number.disks c.from.result c.index-disks-from.result in
-    let there = read-there c.from.result c.index-disks-from.result c.loop-number.invariant.looked
-    c.loop-number.invariant.quiet.count c.from.ensures (omega (arith, c.requires)) in
-    unmoved-at c.loop-number.number c.from.result x c.look_at.new.disk c.loop-number.invariant.quiet c.from.ensures there c.look_at.ensures.quiet
-
-pub returns-in_err-node-clause-why : goal.returns-in_err-node-clause-why
-returns-in_err-node-clause-why g c =
+pub returns-in_err-node : goal.returns-in_err-node
+returns-in_err-node g c =
     let x = get_or c.loop-number.disks c.from.result c.index-disks-from.result in
     let there = read-there c.from.result c.index-disks-from.result c.loop-number.invariant.looked
     c.loop-number.invariant.quiet.count c.from.ensures (omega (arith, c.requires)) in
     let p = err_from_is_err_and c.from_residual.result c.from_residual.ensures.1 in
-    rw (p.1, p.2)
-    (why-there g.D.Disk.seen g.D.Disk.moment g.D.Disk.faults c.args.shape c.args.disks.now
-    c.loop-number.number x there _ c.in_err-node.ensures.why)
+    rw (p.1, p.2) (record {
+      untouched = unmoved-at c.loop-number.number c.from.result x c.look_at.new.disk
+          c.loop-number.invariant.quiet c.from.ensures there c.look_at.ensures.quiet;
+      why = why-there g.D.Disk.seen g.D.Disk.moment g.D.Disk.faults c.args.shape c.args.disks.now
+          c.loop-number.number x there _ c.in_err-node.ensures.why;
+      found = tt;
+      chosen = tt;
+    })
+
+pub returns-in_err-keep : goal.returns-in_err-keep
+returns-in_err-keep g c =
+    let x = get_or c.loop-number.disks c.from.result c.index-disks-from.result in
+    let there = read-there c.from.result c.index-disks-from.result c.loop-number.invariant.looked
+    c.loop-number.invariant.quiet.count c.from.ensures (omega (arith, c.requires)) in
+    let p = err_from_is_err_and c.from_residual-in_err-keep.result c.from_residual-in_err-keep.ensures.1 in
+    rw (p.1, p.2, c.in_err-keep.ensures.refused) (record {
+      untouched = unmoved-at c.loop-number.number c.from.result x c.look_at.new.disk
+          c.loop-number.invariant.quiet c.from.ensures there c.look_at.ensures.quiet;
+      why = tt;
+      found = tt;
+      chosen = tt;
+    })
+
+pub returns-in_err-keep-2 : goal.returns-in_err-keep-2
+returns-in_err-keep-2 g c =
+    let x = get_or c.loop-number.disks c.from.result c.index-disks-from.result in
+    let there = read-there c.from.result c.index-disks-from.result c.loop-number.invariant.looked
+    c.loop-number.invariant.quiet.count c.from.ensures (omega (arith, c.requires)) in
+    let p = err_from_is_err_and c.from_residual-in_err-keep-2.result c.from_residual-in_err-keep-2.ensures.1 in
+    rw (p.1, p.2, c.in_err-keep-2.ensures.refused) (record {
+      untouched = unmoved-at c.loop-number.number c.from.result x c.look_at.new.disk
+          c.loop-number.invariant.quiet c.from.ensures there c.look_at.ensures.quiet;
+      why = tt;
+      found = tt;
+      chosen = tt;
+    })
+
+pub returns : goal.returns
+returns g c =
+    let all : c.loop-number.number ≡ c.args.shape.nodes = omega arith in
+    record {
+      untouched = c.loop-number.invariant.quiet;
+      why = tt;
+      found = subst (λ (n : ℕ). AreLookedAt g.D.Disk.seen g.D.Disk.may_leave g.D.Disk.faults
+          c.args.shape n c.args.disks.now c.loop-number.disks c.loop-number.nodes.items
+          c.loop-number.areas.items) all c.loop-number.invariant.looked;
+      chosen = c.loop-number.invariant.chosen;
+    }
 
 pub loop-number-preserved : goal.loop-number-preserved
 loop-number-preserved g c =

@@ -1,5 +1,6 @@
 use Rattle.std.proofs.Common.{◌≡◌, ◌<◌, ◌∙◌, All, [], ap, length, arith, subst, sym}
 use Rattle.std.proofs.lemmas.List.{length-map}
+use Rattle.std.proofs.lemmas.Result.{err_from_is_err_and}
 use Rattle.std.proofs.lemmas.List.Elements.{All-append, All-cons, All-nil}
 use Rattle.replays.specs.Stores.{disk_of, logs_in}
 use Rattle.cell.specs.Cells.{IsNew}
@@ -40,24 +41,34 @@ loop-preserved g c =
           (All-cons IsNew _ [] (made-new _ _ _ _ _ made) (All-nil IsNew)));
     }
 
-pub returns-clause-nodes : goal.returns-clause-nodes
-returns-clause-nodes g c =
-    let none : length c.loop.nodes.items ≡ 0 = omega arith in
-    handed-on _ _ _ c.loop.invariant.nodes none
+pub returns-in_err-new : goal.returns-in_err-new
+returns-in_err-new g c =
+    let p = err_from_is_err_and c.from_residual.result c.from_residual.ensures.1 in
+    rw (p.1, p.2) (record {
+      nodes = tt;
+      disks = tt;
+      logs = tt;
+      seats = tt;
+      new = tt;
+      refused = c.in_err-new.ensures.refused;
+    })
 
-pub returns-clause-disks : goal.returns-clause-disks
-returns-clause-disks g c =
-    let none : length c.loop.nodes.items ≡ 0 = omega arith in
-    handed-on _ _ _ c.loop.invariant.disks
-    (length-map c.loop.stores.items disk_of ∙ c.loop.invariant.ready.shelved ∙ none)
+pub returns-in_err-push : goal.returns-in_err-push
+returns-in_err-push g c =
+    let exit = c.from_residual-in_err-push in
+    let p = err_from_is_err_and exit.result exit.ensures.1 in
+    rw p.1 (record { nodes = tt; disks = tt; logs = tt; seats = tt; new = tt; refused = p.2 })
 
-pub returns-clause-logs : goal.returns-clause-logs
-returns-clause-logs g c =
+pub returns : goal.returns
+returns g c =
+    let was = c.loop.invariant in
     let none : length c.loop.nodes.items ≡ 0 = omega arith in
-    handed-on _ _ _ c.loop.invariant.logs
-    (length-map c.loop.stores.items logs_in ∙ c.loop.invariant.ready.shelved ∙ none)
-
-pub returns-clause-seats : goal.returns-clause-seats
-returns-clause-seats g c =
-    let none : length c.loop.nodes.items ≡ 0 = omega arith in
-    handed-on _ _ _ c.loop.invariant.seats (c.loop.invariant.ready.seated ∙ none)
+    let shelved = was.ready.shelved ∙ none in
+    record {
+      nodes = handed-on _ _ _ was.nodes none;
+      disks = handed-on _ _ _ was.disks (length-map c.loop.stores.items disk_of ∙ shelved);
+      logs = handed-on _ _ _ was.logs (length-map c.loop.stores.items logs_in ∙ shelved);
+      seats = handed-on _ _ _ was.seats (was.ready.seated ∙ none);
+      new = was.new;
+      refused = tt;
+    }

@@ -1,39 +1,54 @@
-use Rattle.disk.proofs.Causes.{no_cause}
-use Rattle.storage.proofs.Quiet.{handed_cause, ok_no_err}
-use Rattle.std.proofs.Common.{◌≡◌, ◌≢◌, ◌∙◌, Err, ap, subst}
+use Rattle.std.proofs.Common.{◌∙◌, Err, ap, refl, subst, sym}
 use Rattle.std.proofs.lemmas.Result.{err_from_is_err_and}
-use Rattle.ids.specs.declared.refusal.Refusal.TheVariants.{Memory}
+use Rattle.disk.proofs.Causes.{no_cause}
+use Rattle.storage.proofs.Quiet.{bad_no_memory, handed_cause, ok_no_err, read_no_disk, read_refused, same_some, some_no_none}
 use Rattle.storage.proofs.shelf.recall.Goals as goal
 
-pub returns-in_err-value-clause-bad : goal.returns-in_err-value-clause-bad
-returns-in_err-value-clause-bad g c =
+pub returns-in_err-in_b : goal.returns-in_err-in_b
+returns-in_err-in_b g c =
+    let p = err_from_is_err_and c.from_residual.result c.from_residual.ensures.1 in
+    rw (p.1, p.2) (record {
+      side = tt;
+      value = tt;
+      durable = tt;
+      bad = λ is v read. some_no_none read.1 (c.in_err-in_b.ensures.bad (ap Err is));
+      memory = λ is. c.in_err-in_b.ensures.memory (ap Err is);
+      quiet = c.recall_image.ensures.quiet;
+      cause = handed_cause refl c.in_err-in_b.ensures.cause;
+      others = c.in_err-in_b.ensures.others;
+    })
+
+pub returns-in_err-value : goal.returns-in_err-value
+returns-in_err-value g c =
     let exit = c.from_residual-in_err-value in
     let p = err_from_is_err_and exit.result exit.ensures.1 in
-    rw (p.1, p.2) (λ is value read.
-    let same : read.0 ≡ c.deref.result.now =
-    cc (read.1, c.in_ok-in_b.ensures.image, c.deref.ensures.value) in
-    let other : c.in_err-value.field-0.0 ≢ Memory = λ was. absurd cc in
-    (c.in_err-value.ensures.refused other).1 value
-    (subst (λ l. g.P.Persist.reads l value) same read.2))
+    let refused = c.in_err-value.ensures.refused in
+    rw (p.1, p.2) (record {
+      side = tt;
+      value = tt;
+      durable = tt;
+      bad = λ is value read. (refused (bad_no_memory is)).1 value
+          (subst (λ l. g.P.Persist.reads l value)
+          (same_some (sym read.1 ∙ c.in_ok-in_b.ensures.image) ∙ sym c.deref.ensures.value) read.2);
+      memory = λ _. c.in_ok-in_b.ensures.tells;
+      quiet = c.recall_image.ensures.quiet;
+      cause = no_cause (c.in_ok-in_b.ensures.cause.fine ok_no_err) (read_no_disk refused);
+      others = read_refused _ refused;
+    })
 
-pub returns-clause-value : goal.returns-clause-value
-returns-clause-value g c = (
-  c.in_ok-in_b.image.items,
-  c.in_ok-in_b.ensures.image,
-  subst (λ l. g.P.Persist.reads l c.in_ok-value.value) c.deref.ensures.value
-      c.in_ok-value.ensures.value,
-)
-
-pub returns-in_err-in_b-clause-cause : goal.returns-in_err-in_b-clause-cause
-returns-in_err-in_b-clause-cause g c =
-    let p = err_from_is_err_and c.from_residual.result c.from_residual.ensures.1 in
-    handed_cause (p.1 ∙ ap Err p.2) c.in_err-in_b.ensures.cause
-
-pub returns-in_err-in_b-clause-others : goal.returns-in_err-in_b-clause-others
-returns-in_err-in_b-clause-others g c =
-    let p = err_from_is_err_and c.from_residual.result c.from_residual.ensures.1 in
-    rw (p.1, p.2) c.in_err-in_b.ensures.others
-
-pub returns-clause-cause : goal.returns-clause-cause
-returns-clause-cause g c =
-    no_cause (c.in_ok-in_b.ensures.cause.fine ok_no_err) ok_no_err
+pub returns : goal.returns
+returns g c = record {
+  side = c.in_ok-in_b.ensures.side;
+  value = (
+    c.in_ok-in_b.image.items,
+    c.in_ok-in_b.ensures.image,
+    subst (λ l. g.P.Persist.reads l c.in_ok-value.value) c.deref.ensures.value
+        c.in_ok-value.ensures.value,
+  );
+  durable = c.in_ok-in_b.ensures.durable;
+  bad = tt;
+  memory = tt;
+  quiet = c.recall_image.ensures.quiet;
+  cause = no_cause (c.in_ok-in_b.ensures.cause.fine ok_no_err) ok_no_err;
+  others = tt;
+}

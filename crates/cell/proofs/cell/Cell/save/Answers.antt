@@ -1,5 +1,5 @@
-use Rattle.std.proofs.Common.{◌≡◌, ◌≢◌, Bool, true, false, Err, ⊎_elim, sym, ap, ◌∙◌, subst}
-use Rattle.std.proofs.lemmas.Bool.{cases_Bool}
+use Rattle.std.proofs.Common.{◌≡◌, ◌≢◌, Bool, true, Err, ⊎_elim, sym, ap, ◌∙◌, subst}
+use Rattle.std.proofs.lemmas.Bool.{cases_Bool, false≢true}
 use Rattle.ids.specs.declared.refusal.Refusal.{Refusal}
 use Rattle.ids.specs.declared.refusal.Refusal.TheVariants as refusal
 use Rattle.model.specs.View.{kept_view}
@@ -9,6 +9,7 @@ use Rattle.node.specs.Keeping.{alone}
 use Rattle.cell.specs.Disks.{HoldsSaved, OpensTo, OpensToEither}
 use Rattle.wire.specs.Readers.{known}
 use Rattle.cell.specs.Desks.{HasDropped}
+use Rattle.cell.proofs.Causes.{closed-no-disk, large-no-disk, memory-no-disk, ok-no-error, same-refusal}
 use Rattle.cell.proofs.Dropping.{dropped-kept, took-same}
 use Rattle.cell.proofs.Opening.{IsImaged, failed-left, imaged-found, open-holds, saved-by, stays-open}
 use Rattle.cell.proofs.Views.{cell_at}
@@ -36,11 +37,10 @@ invariant_of-self-inside-in-Err g c =
     (let was_open : is_ready_in cell.store ≡ true =
     ⊎_elim (λ opens. opens)
     (λ shut.
-    let closed : e ≡ refusal.Closed = (let both = said.closed.1 shut in cc) in
-    let never : refusal.Disk ≡ refusal.Closed = sym is ∙ closed in
-    absurd cc) (cases_Bool (is_ready_in cell.store)) in (
-      λ ready. (let never : ◌≡◌ {A = Bool} true false =
-          sym ready ∙ (said.disk (ap (λ (r : Refusal). Err r) is)).1 in absurd cc),
+    let closed : e ≡ refusal.Closed = same-refusal (said.closed.1 shut) in
+    absurd (closed-no-disk (sym closed ∙ is))) (cases_Bool (is_ready_in cell.store)) in (
+      λ ready. absurd (false≢true
+          (sym (said.disk (ap (λ (r : Refusal). Err r) is)).1 ∙ ready)),
       failed-left g.D.Disk.may_leave g.D.Disk.moment g.D.Disk.left_since old new saved n
           (g.met.D.Disk.counts_now new)
           (saved-by (cell.while_open was_open (g.D.Disk.seen old) (g.met.D.Disk.reads_left old))
@@ -48,9 +48,9 @@ invariant_of-self-inside-in-Err g c =
           ((rw c.node.ensures.value at (said.any_moment is)) (alone saved))),
     )) in
     let kept : Kept =
-    ⊎_elim (λ is. unchanged (λ d. (let never = sym is ∙ d in absurd cc)))
-    (⊎_elim (λ is. unchanged (λ d. (let never = sym is ∙ d in absurd cc)))
-    (⊎_elim (λ is. unchanged (λ d. (let never = sym is ∙ d in absurd cc))) failed))
+    ⊎_elim (λ is. unchanged (λ d. absurd (closed-no-disk (sym is ∙ d))))
+    (⊎_elim (λ is. unchanged (λ d. absurd (large-no-disk (sym is ∙ d))))
+    (⊎_elim (λ is. unchanged (λ d. absurd (memory-no-disk (sym is ∙ d)))) failed))
     said.others in
     let imaged : IsImaged (logs_in c.save.new.self) saved = λ none.
     cell.imaged (sym c.save.ensures.logs ∙ none) in
@@ -72,7 +72,7 @@ invariant_of-self-inside g c =
     let first = cell.first.value in
     let kept = dropped-kept first v w n took cell.dropped in
     let was_open : is_ready_in cell.store ≡ true =
-    ⊎_elim (λ opens. opens) (λ shut. let never = said.closed.1 shut in absurd cc)
+    ⊎_elim (λ opens. opens) (λ shut. absurd (ok-no-error (said.closed.1 shut)))
     (cases_Bool (is_ready_in cell.store)) in
     let seen = g.D.Disk.seen (disk_of store) in
     let opens : ∥ OpensTo (kept_view n) seen ∥₁ =

@@ -1,12 +1,13 @@
-use Rattle.std.proofs.Common.{◌≡◌, true, false, List, Ok, sym, ap, ◌∙◌, subst, Result}
+use Rattle.std.proofs.Common.{◌≡◌, true, false, IsTrue, List, Ok, Err, refl, sym, ap, ◌∙◌, subst, Result}
 use Rattle.std.proofs.Math.Logic.{∥∥₁_map}
-use Rattle.std.proofs.lemmas.Bool.{cond-true, cond-false}
+use Rattle.std.proofs.lemmas.Bool.{cond-true, cond-false, false≢true}
+use Rattle.std.proofs.lemmas.Result.{err_from_is_err_and}
 use Rattle.ids.specs.declared.refusal.Refusal.{Refusal}
 use Rattle.msg.specs.Grammar.{Plain}
 use Rattle.model.specs.declared.event.Answer.{Answer}
 use Rattle.model.specs.declared.event.Event.{Event}
 use Rattle.model.specs.State.{NodeState}
-use Rattle.model.specs.Steps.{act}
+use Rattle.model.specs.Steps.{act, is_memory_free}
 use Rattle.model.specs.View.{NodeView}
 use Rattle.node.specs.Keeping.{met}
 use Rattle.wire.specs.Entering.{is_counted, known_after, pair_by, state_of}
@@ -81,7 +82,7 @@ invariant_of-self-inside-then-enter c =
             desk.ended_is
                 ∙ sym (ap (λ (p : Pair). p.saved.local.phases.ended) pair_is),
             (
-              λ never. absurd cc,
+              λ never. absurd (false≢true (sym never)),
               (
                 subst (λ (ts : List Plain). AreTaken ts c.act.new.node.early)
                     (sym (ap (λ (w : Known). w.taken) known_is))
@@ -151,66 +152,97 @@ enter-requires-clause-event c counts =
     ((rw (← c.self.view_is) at c.requires.may).happens found.0 c.in_ok-answer.answer answered
     counts)
 
-pub returns-then-enter-clause-given : goal.returns-then-enter-clause-given
-returns-then-enter-clause-given c =
+pub returns-in_err-answer : goal.returns-in_err-answer
+returns-in_err-answer c =
+    let p = err_from_is_err_and c.from_residual.result c.from_residual.ensures.1 in
+    let desk = c.self.inside in
+    let v = known desk.seat in
+    let e = c.in_err-answer.field-0.0 in
+    let said = c.in_err-answer.ensures in
+    let meant = rw (← c.self.view_is) at c.requires.met in
+    rw (p.1, p.2, ← c.self.view_is) (record {
+      given = subst (λ (m : Event).
+          Given c.args.event m c.args.step (Err e) desk.node c.act.new.node v v) (sym meant)
+          record {
+            acted = record {
+              performs = said.performs;
+              states = said.states v.pair.current desk.stands.shows;
+              unchanged = said.unchanged;
+              known = refl;
+              entered = tt;
+            };
+            early = said.early;
+            turn = said.turn;
+            due = λ from d next is.
+                (rw (← c.self.view_is) at c.requires.due) from d next (meant ∙ is);
+          };
+      memory_free = λ free. said.memory_free
+          (subst (λ (m : Event). IsTrue (is_memory_free desk.node.core.local m)) meant free);
+      unsaved = refl;
+      same = (refl, refl, refl, refl, refl);
+      stays = refl;
+    })
+
+pub returns-then-enter : goal.returns-then-enter
+returns-then-enter c =
     let desk = c.self.inside in
     let v = known desk.seat in
     let a = c.in_ok-answer.answer in
-    rw (← c.self.view_is)
-    (subst (λ (m : Event).
-    Given c.args.event m c.args.step (Ok a) desk.node c.act.new.node v (known c.enter.new.seat))
-    (sym (rw (← c.self.view_is) at c.requires.met))
-    record {
-      acted = record {
-        performs = c.in_ok-answer.ensures.performs;
-        states = c.in_ok-answer.ensures.states v.pair.current desk.stands.shows;
-        unchanged = tt;
-        known = c.enter.ensures.known
-            ∙ ap (λ (m : Event). known_after m c.args.step (Ok a) v)
-            (rw (← c.self.view_is) at c.requires.met);
-        entered = c.enter.ensures.entered;
-      };
-      early = c.in_ok-answer.ensures.early;
-      turn = c.in_ok-answer.ensures.turn;
-      due = λ from d next is.
-          (rw (← c.self.view_is) at c.requires.due) from d next
-          ((rw (← c.self.view_is) at c.requires.met) ∙ is);
+    let said = c.in_ok-answer.ensures in
+    let meant = rw (← c.self.view_is) at c.requires.met in
+    rw (← c.self.view_is) (record {
+      given = subst (λ (m : Event).
+          Given c.args.event m c.args.step (Ok a) desk.node c.act.new.node v (known c.enter.new.seat))
+          (sym meant)
+          record {
+            acted = record {
+              performs = said.performs;
+              states = said.states v.pair.current desk.stands.shows;
+              unchanged = tt;
+              known = c.enter.ensures.known
+                  ∙ ap (λ (m : Event). known_after m c.args.step (Ok a) v) meant;
+              entered = c.enter.ensures.entered;
+            };
+            early = said.early;
+            turn = said.turn;
+            due = λ from d next is.
+                (rw (← c.self.view_is) at c.requires.due) from d next (meant ∙ is);
+          };
+      memory_free = λ _. tt;
+      unsaved = sym (cond-true (is_counted a) true desk.is_unsaved
+          (sym c.enter.ensures.counted ∙ c.if-enter.true));
+      same = c.enter.ensures.same;
+      stays = refl;
     })
 
-pub returns-else-enter-clause-given : goal.returns-else-enter-clause-given
-returns-else-enter-clause-given c =
+pub returns-else-enter : goal.returns-else-enter
+returns-else-enter c =
     let desk = c.self.inside in
     let v = known desk.seat in
     let a = c.in_ok-answer.answer in
-    rw (← c.self.view_is)
-    (subst (λ (m : Event).
-    Given c.args.event m c.args.step (Ok a) desk.node c.act.new.node v (known c.enter.new.seat))
-    (sym (rw (← c.self.view_is) at c.requires.met))
-    record {
-      acted = record {
-        performs = c.in_ok-answer.ensures.performs;
-        states = c.in_ok-answer.ensures.states v.pair.current desk.stands.shows;
-        unchanged = tt;
-        known = c.enter.ensures.known
-            ∙ ap (λ (m : Event). known_after m c.args.step (Ok a) v)
-            (rw (← c.self.view_is) at c.requires.met);
-        entered = c.enter.ensures.entered;
-      };
-      early = c.in_ok-answer.ensures.early;
-      turn = c.in_ok-answer.ensures.turn;
-      due = λ from d next is.
-          (rw (← c.self.view_is) at c.requires.due) from d next
-          ((rw (← c.self.view_is) at c.requires.met) ∙ is);
+    let said = c.in_ok-answer.ensures in
+    let meant = rw (← c.self.view_is) at c.requires.met in
+    rw (← c.self.view_is) (record {
+      given = subst (λ (m : Event).
+          Given c.args.event m c.args.step (Ok a) desk.node c.act.new.node v (known c.enter.new.seat))
+          (sym meant)
+          record {
+            acted = record {
+              performs = said.performs;
+              states = said.states v.pair.current desk.stands.shows;
+              unchanged = tt;
+              known = c.enter.ensures.known
+                  ∙ ap (λ (m : Event). known_after m c.args.step (Ok a) v) meant;
+              entered = c.enter.ensures.entered;
+            };
+            early = said.early;
+            turn = said.turn;
+            due = λ from d next is.
+                (rw (← c.self.view_is) at c.requires.due) from d next (meant ∙ is);
+          };
+      memory_free = λ _. tt;
+      unsaved = sym (cond-false (is_counted a) true desk.is_unsaved
+          (sym c.enter.ensures.counted ∙ c.if-enter.false));
+      same = c.enter.ensures.same;
+      stays = refl;
     })
-
-pub returns-then-enter-clause-unsaved : goal.returns-then-enter-clause-unsaved
-returns-then-enter-clause-unsaved c =
-    rw (← c.self.view_is)
-    (sym (cond-true (is_counted c.in_ok-answer.answer) true c.self.inside.is_unsaved
-    (sym c.enter.ensures.counted ∙ c.if-enter.true)))
-
-pub returns-else-enter-clause-unsaved : goal.returns-else-enter-clause-unsaved
-returns-else-enter-clause-unsaved c =
-    rw (← c.self.view_is)
-    (sym (cond-false (is_counted c.in_ok-answer.answer) true c.self.inside.is_unsaved
-    (sym c.enter.ensures.counted ∙ c.if-enter.false)))

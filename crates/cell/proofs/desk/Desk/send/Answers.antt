@@ -1,14 +1,25 @@
-use Rattle.std.proofs.Common.{List, slice_index_or, sym, ◌∙◌, subst, ℕ}
+use Rattle.std.proofs.Common.{◌≡◌, Bool, true, false, List, refl, slice_index_or, slice_set, sym, ◌∙◌, subst, ℕ}
+use Rattle.std.proofs.lemmas.Result.{err_from_is_err_and}
 use Rattle.msg.specs.Grammar.{Plain}
-use Rattle.wire.specs.Readers.{known}
+use Rattle.model.specs.View.{NodeView}
+use Rattle.wire.specs.Readers.{known, outbox}
 use Rattle.wire.specs.Rule.{Spells}
 use Rattle.wire.specs.Plays.{Releases}
 use Rattle.cell.specs.Desks.{AreTaken}
-use Rattle.wire.specs.Sending.{frame_due}
+use Rattle.wire.specs.Sending.{IsSent, frame_due, next_place, places_after}
 use Rattle.cell.proofs.Releasing.{due-releases}
 use Rattle.wire.proofs.Mailed.{due-to, sent-pair, sent-taken}
 use Rattle.cell.proofs.Seats.{other-on, steps-on}
 use Rattle.cell.proofs.desk.Desk.send.Goals as goal
+
+placed : (is : Bool) (n : NodeView) (to i j next : ℕ) (places : List ℕ) → is ≡ true → i ≡ to
+    → j ≡ to → next ≡ next_place n to (slice_index_or places i 0)
+    → slice_set places j next ≡ places_after is n to places
+placed is n to i j next places sent from at follows = rw (sent, follows, from, at) refl
+
+unplaced : (is : Bool) (n : NodeView) (to : ℕ) (places : List ℕ) → is ≡ false
+    → places ≡ places_after is n to places
+unplaced is n to places unsent = rw unsent refl
 
 pub send-is_sent-requires-clause-to : goal.send-is_sent-requires-clause-to
 send-is_sent-requires-clause-to c =
@@ -86,3 +97,43 @@ invariant_of-self-inside-else-is_sent c =
         ),
       ),
     )
+
+pub returns-in_err-bytes : goal.returns-in_err-bytes
+returns-in_err-bytes c =
+    let p = err_from_is_err_and c.from_residual.result c.from_residual.ensures.1 in
+    rw (p.1, p.2) (record {
+      same = (refl, refl, refl, refl, refl);
+      sent = tt;
+      places = tt;
+      refused = (c.in_err-bytes.ensures.refused, refl);
+      stays = refl;
+    })
+
+pub returns-then-is_sent : goal.returns-then-is_sent
+returns-then-is_sent c =
+    let desk = c.self.inside in
+    rw (← c.self.view_is) (record {
+      same = c.send-is_sent.ensures.same;
+      sent = subst (λ (i : ℕ). IsSent (outbox desk.seat c.args.to)
+          (frame_due desk.node.core c.args.to (slice_index_or desk.places i 0))
+          c.send-is_sent.result (known desk.seat) (known c.send-is_sent.new.seat))
+          c.from.ensures c.send-is_sent.ensures.sent;
+      places = placed _ desk.node.core _ _ _ _ desk.places c.if-is_sent.true c.from.ensures
+          c.from-then-is_sent.ensures c.due-frame.ensures.next;
+      refused = tt;
+      stays = refl;
+    })
+
+pub returns-else-is_sent : goal.returns-else-is_sent
+returns-else-is_sent c =
+    let desk = c.self.inside in
+    rw (← c.self.view_is) (record {
+      same = c.send-is_sent.ensures.same;
+      sent = subst (λ (i : ℕ). IsSent (outbox desk.seat c.args.to)
+          (frame_due desk.node.core c.args.to (slice_index_or desk.places i 0))
+          c.send-is_sent.result (known desk.seat) (known c.send-is_sent.new.seat))
+          c.from.ensures c.send-is_sent.ensures.sent;
+      places = unplaced _ desk.node.core c.args.to desk.places c.if-is_sent.false;
+      refused = tt;
+      stays = refl;
+    })
