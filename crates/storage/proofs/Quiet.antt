@@ -112,7 +112,8 @@ disk_not_large is = absurd cc
 
 pub spelled_no_disk : {T : Type 0} {e : Refusal} → (e ≡ Memory) ⊎ (e ≡ ImageTooLarge) →
     IsErrOf {T = T} (Err e) Disk → ⊥
-spelled_no_disk others is = ⊎_elim (λ (m : _ ≡ Memory). absurd cc) (λ (l : _ ≡ ImageTooLarge). absurd cc) others
+spelled_no_disk others is =
+    ⊎_elim (λ (m : _ ≡ Memory). absurd cc) (λ (l : _ ≡ ImageTooLarge). absurd cc) others
 
 pub not_above : {m n : ℕ} → m ≤ n → n < m → ⊥
 not_above within above = omega (arith, within, above)

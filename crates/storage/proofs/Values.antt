@@ -186,7 +186,8 @@ module _ {V : Type 0} {logs : List ℕ → Bool} {reads : List ℕ → V → Typ
 
   pub restores_read : {v : V} {d : Areas} {image : List ℕ} (r : Restores logs reads leads v d) →
       opened d ≡ Some image → reads image r.first
-  restores_read r is = subst (λ i. reads i r.first) (same_found (sym (restores_opened r) ∙ is)) r.read
+  restores_read r is =
+      subst (λ i. reads i r.first) (same_found (sym (restores_opened r) ∙ is)) r.read
 
   -- ---- a journal whose log ends at an offset
 

@@ -14,7 +14,8 @@ use Rattle.cell.proofs.finding.find.Goals as goal
 pub returns-then-len-from : goal.returns-then-len-from
 returns-then-len-from g c = record {
   disks = λ _. refl;
-  why = λ same. c.if-len-from.true (c.len.ensures ∙ c.args.disks.now.ok.0 ∙ same ∙ sym (c.from.ensures ∙ c.nodes.ensures.value));
+  why = λ same. c.if-len-from.true (c.len.ensures ∙ c.args.disks.now.ok.0 ∙ same
+      ∙ sym (c.from.ensures ∙ c.nodes.ensures.value));
   untouched = search rules;
   taken = tt;
   count = tt;
@@ -132,8 +133,8 @@ returns-in_err-stores g c =
     rw (p.1, p.2) (record {
       disks = λ other. absurd (other same);
       why = why-before g.D.Disk.seen g.D.Disk.may_leave g.D.Disk.faults c.args.shape g.D.Disk.moment
-          g.D.Disk.left_since old new _ c.in_ok-nodes.nodes.items c.in_ok-nodes.areas.items _ found many
-          quiet items c.in_err-stores.ensures.all_read c.in_err-stores.ensures.why;
+          g.D.Disk.left_since old new _ c.in_ok-nodes.nodes.items c.in_ok-nodes.areas.items _ found
+          many quiet items c.in_err-stores.ensures.all_read c.in_err-stores.ensures.why;
       untouched = λ reading. absurd (c.in_err-stores.ensures.all_read reading);
       taken = tt;
       count = tt;

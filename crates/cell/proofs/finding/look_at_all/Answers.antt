@@ -27,7 +27,8 @@ returns-in_err-keep g c =
     let x = get_or c.loop-number.disks c.from.result c.index-disks-from.result in
     let there = read-there c.from.result c.index-disks-from.result c.loop-number.invariant.looked
     c.loop-number.invariant.quiet.count c.from.ensures (omega (arith, c.requires)) in
-    let p = err_from_is_err_and c.from_residual-in_err-keep.result c.from_residual-in_err-keep.ensures.1 in
+    let exit = c.from_residual-in_err-keep in
+    let p = err_from_is_err_and exit.result exit.ensures.1 in
     rw (p.1, p.2, c.in_err-keep.ensures.refused) (record {
       untouched = unmoved-at c.loop-number.number c.from.result x c.look_at.new.disk
           c.loop-number.invariant.quiet c.from.ensures there c.look_at.ensures.quiet;
@@ -41,7 +42,8 @@ returns-in_err-keep-2 g c =
     let x = get_or c.loop-number.disks c.from.result c.index-disks-from.result in
     let there = read-there c.from.result c.index-disks-from.result c.loop-number.invariant.looked
     c.loop-number.invariant.quiet.count c.from.ensures (omega (arith, c.requires)) in
-    let p = err_from_is_err_and c.from_residual-in_err-keep-2.result c.from_residual-in_err-keep-2.ensures.1 in
+    let exit = c.from_residual-in_err-keep-2 in
+    let p = err_from_is_err_and exit.result exit.ensures.1 in
     rw (p.1, p.2, c.in_err-keep-2.ensures.refused) (record {
       untouched = unmoved-at c.loop-number.number c.from.result x c.look_at.new.disk
           c.loop-number.invariant.quiet c.from.ensures there c.look_at.ensures.quiet;
@@ -68,8 +70,8 @@ loop-number-preserved g c =
     let there = read-there c.from.result c.index-disks-from.result c.loop-number.invariant.looked
     c.loop-number.invariant.quiet.count c.from.ensures (omega (arith, c.requires)) in
     record {
-      quiet = unmoved-at c.loop-number.number c.from.result x c.look_at.new.disk c.loop-number.invariant.quiet c.from.ensures there
-          c.look_at.ensures.quiet;
+      quiet = unmoved-at c.loop-number.number c.from.result x c.look_at.new.disk
+          c.loop-number.invariant.quiet c.from.ensures there c.look_at.ensures.quiet;
       looked = looked-at c.from.result x c.look_at.new.disk
           c.in_ok-node.node c.in_ok-node.area c.loop-number.invariant.looked c.from.ensures there
           (record {

@@ -88,8 +88,9 @@ returns-in-Ok g c =
             seat.node,
           )));
       new = c.in-Ok.ensures.new;
-      made = subst (λ (l : List WholeNode). IsMade (world_of (cores l)) c.args.watches c.in-Ok.opened.0
-          (map (λ v. v.seat) c.in-Ok.opened.1.items) c.in-Ok.opened.2.items) (sym same) made;
+      made = subst (λ (l : List WholeNode). IsMade (world_of (cores l)) c.args.watches
+          c.in-Ok.opened.0 (map (λ v. v.seat) c.in-Ok.opened.1.items) c.in-Ok.opened.2.items)
+          (sym same) made;
     }
 
 pub returns : goal.returns

@@ -51,7 +51,8 @@ pub returns-in_err-bytes : goal.returns-in_err-bytes
 returns-in_err-bytes g c =
     let was = c.args.self.now.disk in
     let kept = c.args.self.now.kept c.requires.ready in
-    let p = err_from_is_err_and c.from_residual-in_err-bytes.result c.from_residual-in_err-bytes.ensures.1 in
+    let exit = c.from_residual-in_err-bytes in
+    let p = err_from_is_err_and exit.result exit.ensures.1 in
     rw (p.1, p.2) (record {
       added = tt;
       ready = tt;

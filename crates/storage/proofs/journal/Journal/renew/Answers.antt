@@ -40,7 +40,10 @@ returns-in_err-bytes g c =
           inl (subst (Restores g.P.Replay.logs g.P.Persist.reads g.P.Replay.leads old)
           (sym (kept.only x (g.met.D.Disk.only_now was x left))) r));
       disk = λ is. absurd (spelled_no_disk refused.others is);
-      too_large = (λ is. refused.too_large.0 (same_err is), λ large. ap Err (refused.too_large.1 large));
+      too_large = (
+        λ is. refused.too_large.0 (same_err is),
+        λ large. ap Err (refused.too_large.1 large),
+      );
       unchanged = λ _. (refl, refl);
       others = ⊎_elim (λ m. inr (inl m)) (λ large. inl large) refused.others;
     })

@@ -57,7 +57,11 @@ returns-in_default-place_for g c =
       );
       disk = said.disk;
       too_large = (
-        λ is. (is_open, rw c.in-Some.is (sym c.place_for.ensures.value ∙ c.in_default-place_for.is), said.too_large.0 is),
+        λ is. (
+          is_open,
+          rw c.in-Some.is (sym c.place_for.ensures.value ∙ c.in_default-place_for.is),
+          said.too_large.0 is,
+        ),
         λ all. said.too_large.1 all.2,
       );
       unchanged = said.unchanged;
