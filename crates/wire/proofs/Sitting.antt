@@ -10,7 +10,8 @@ use Rattle.atomic_table.specs.Table.{rest, turned}
 use Rattle.atomic_table.proofs.Lists.{at_snoc}
 use Rattle.msg.specs.Grammar.{Plain, spelling}
 use Rattle.wire.specs.Lists.{has, found, cleared, once}
-use Rattle.wire.specs.Views.{Known, is_node, claims, takes_in, posts, clears}
+use Rattle.model.specs.declared.step.Step.{Step}
+use Rattle.wire.specs.Views.{Known, Pair, Visit, is_node, claims, takes_in, posts, clears}
 use Rattle.wire.specs.Plays.{IsFresh}
 use Rattle.wire.specs.Seated.{minds, boxes_of, IsOwnBox, Sits}
 use Rattle.wire.proofs.Lists.{has-here, has-more, has-gone, has-stays, found-here, found-more, found-gone, found-stays}
@@ -105,6 +106,33 @@ abbrev Seated : {S : Type 0} → (S → List ℕ) → ℕ → ℕ → List ℕ �
 Seated bytes me nodes held v out = Sits bytes me nodes held (v, out)
 
 module _ {S : Type 0} {bytes : S → List ℕ} {me nodes : ℕ} where
+  -- a step on no slot
+  pub sits-still : {held : List ℕ} {v : Known} {out : List (ℕ × S)} {pair : Pair}
+      {events seen : List Step} {taken sent : List Plain} {visits : List Visit} {number shown : ℕ}
+      → Seated bytes me nodes held v out
+      → Seated bytes me nodes held (record v {
+        pair = pair;
+        events = events;
+        taken = taken;
+        sent = sent;
+        visits = visits;
+        number = number;
+        shown = shown;
+        seen = seen;
+      }) out
+  sits-still s = record {
+    role = s.role;
+    me_is = s.me_is;
+    nodes_is = s.nodes_is;
+    within = s.within;
+    few = s.few;
+    order = s.order;
+    minded = s.minded;
+    single = s.single;
+    own = s.own;
+    spells = s.spells;
+  }
+
   pub sits-claimed : {held : List ℕ} {v : Known} {out : List (ℕ × S)} (at place : ℕ) (x : S)
       → Seated bytes me nodes held v out → IsFresh at v → IsOwnBox me nodes at
       → Seated bytes me nodes (at ∷ held) (claims at place v) ((at, x) ∷ out)
