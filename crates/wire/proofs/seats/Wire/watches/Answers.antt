@@ -9,7 +9,7 @@ loop-preserved c =
       search rules,
       search rules,
       c.next_watch.ensures.dealer,
-      (λ k x e. each-push (λ _. IsFreshWatch c.args.self.now) c.loop.watching.items c.next_watch.result
-          c.loop.counter i.0 i.3 c.next_watch.ensures.watch k x
+      (λ k x e. each-push (λ _. IsFreshWatch c.args.self.now) c.loop.watching.items
+          c.next_watch.result c.loop.counter i.0 i.3 c.next_watch.ensures.watch k x
           (ap (λ l. slice_get l k) (sym c.push_reserved.ensures.items) ∙ e)),
     )
