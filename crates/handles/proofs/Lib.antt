@@ -1,6 +1,7 @@
 pub mod Batches
 pub mod Behind
 pub mod Crossing
+pub mod Filling
 pub mod Logs
 pub mod Names
 pub mod Packs

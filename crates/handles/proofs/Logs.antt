@@ -44,6 +44,11 @@ pub if_kept : {first n m : NodeView} {counts others : Option (Vec Counts)} (logs
 if_kept true old new f = f
 if_kept false old new f = λ led bytes is. absurd cc
 
+pub if_none : {first m : NodeView} {others : Option (Vec Counts)} (logs : Bool)
+    (log : Option (List ℕ)) → logs ≡ false → LedIf (cond logs log None) first m others
+if_none true log off = absurd (true≢false off)
+if_none false log off = λ bytes is. absurd cc
+
 -- ---- an event
 
 -- what isn't both of two is not the first if it is the second

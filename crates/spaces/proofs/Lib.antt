@@ -1,3 +1,4 @@
 pub mod Given
 pub mod Lists
+pub mod Staying
 pub mod Sent

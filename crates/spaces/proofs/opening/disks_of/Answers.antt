@@ -1,7 +1,10 @@
-use Rattle.std.proofs.Common.{◌≡◌, ◌<◌, ◌++◌, ◌∷◌, ◌∙◌, [], ap, arith, get_or, length, map, sym, take}
-use Rattle.std.proofs.lemmas.List.{map-append, take_more}
+use Rattle.std.proofs.Common.{◌≡◌, ◌<◌, ◌≤◌, ◌++◌, ◌∷◌, ◌∙◌, [], ap, arith, get_or, inr, length, map, refl, sym, take}
+use Rattle.std.proofs.lemmas.List.{map-append, take_all, take_more}
 use Rattle.std.proofs.lemmas.Option.{slice_get_within}
+use Rattle.std.proofs.lemmas.Result.{err_from_is_err_and}
 use Rattle.disk.specs.Memory.{held_by}
+use Rattle.storage.proofs.Quiet.{handed_err, memory_no_bad, ok_no_err}
+use Rattle.wire.proofs.NewWires.{there}
 use Rattle.spaces.specs.Opening.{Image, IsShort, areas_in}
 use Rattle.spaces.proofs.Lists.{each-more}
 use Rattle.spaces.proofs.opening.disks_of.Goals as goal
@@ -25,8 +28,53 @@ loop-place-preserved c =
       end = was.end;
     }
 
-pub returns-clause-short : goal.returns-clause-short
-returns-clause-short c =
+pub loop-place-init : goal.loop-place-init
+loop-place-init c = record {
+  held = ap (map held_by) c.new-disks.ensures.items;
+  short = λ k i below at. absurd (omega (arith, below));
+  end = refl;
+}
+
+pub returns-in_err-disk : goal.returns-in_err-disk
+returns-in_err-disk c =
+    let p = err_from_is_err_and c.from_residual.result c.from_residual.ensures.1 in
     let images = c.args.images.now in
-    λ k i at. c.loop-place.invariant.short k i
-    (omega (arith, slice_get_within images k i at, c.loop-place-test.false)) at
+    let place = c.loop-place.place in
+    let image : Image = c.index-images-place.result in
+    let inside : place < length images = omega arith in
+    let said = c.in_err-disk.ensures in
+    rw (p.1, p.2) (record {
+      held = tt;
+      short = tt;
+      long = λ is. record {
+        place = place;
+        value = image;
+        there = there images place image inside c.index-images-place.is;
+        is = said.long (handed_err refl is);
+      };
+      others = said.others;
+    })
+
+pub returns-in_err-push : goal.returns-in_err-push
+returns-in_err-push c =
+    let exit = c.from_residual-in_err-push in
+    let p = err_from_is_err_and exit.result exit.ensures.1 in
+    rw (p.1, p.2) (record {
+      held = tt;
+      short = tt;
+      long = λ is. absurd (memory_no_bad is);
+      others = inr refl;
+    })
+
+pub returns : goal.returns
+returns c =
+    let images = c.args.images.now in
+    let was = c.loop-place.invariant in
+    let all : length images ≤ c.loop-place.place =
+    omega (arith, was.end, c.loop-place-test.false) in
+    record {
+      held = was.held ∙ ap (map areas_in) (take_all c.loop-place.place images all);
+      short = λ k i at. was.short k i (omega (arith, slice_get_within images k i at, all)) at;
+      long = λ is. absurd (ok_no_err is);
+      others = tt;
+    }

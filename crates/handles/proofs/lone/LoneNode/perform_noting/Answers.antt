@@ -1,5 +1,6 @@
 use Rattle.std.proofs.Common.{◌≡◌, ◌∙◌, ap, refl, subst, sym, true, false}
 use Rattle.std.proofs.lemmas.Bool.{true≢false}
+use Rattle.std.proofs.lemmas.Result.{err_from_is_err_and}
 use Rattle.model.specs.View.{view_act}
 use Rattle.node.specs.Keeping.{met}
 use Rattle.replays.proofs.Quiet.{quiet-same}
@@ -60,3 +61,24 @@ returns-else-is_counted c =
           subst (λ n. Led bytes first n old.counts) (sym same) (led bytes is);
       quiet = λ none. refl;
     }
+
+pub returns-in_err-answer : goal.returns-in_err-answer
+returns-in_err-answer c =
+    let p = err_from_is_err_and c.from_residual.result c.from_residual.ensures.1 in
+    let old = c.args.self.now in
+    let said = c.in_err-answer.ensures in
+    rw (p.1, p.2) (record {
+      acts = record {
+        performs = said.performs;
+        states = said.states;
+        unchanged = said.unchanged;
+        leaves = said.leaves;
+        memory_free = said.memory_free;
+        early = said.early;
+        turn = said.turn;
+      };
+      stays = after_uncounted old c.act.new.self false refl;
+      logs = λ first led bytes is.
+          subst (λ n. Led bytes first n old.counts) (sym said.unchanged) (led bytes is);
+      quiet = λ none. refl;
+    })

@@ -1,5 +1,6 @@
 use Rattle.std.proofs.Common.{◌≡◌, ◌∙◌, Ok, ap, refl, subst, sym, true, false}
 use Rattle.std.proofs.lemmas.Bool.{true≢false}
+use Rattle.std.proofs.lemmas.Result.{err_from_is_err_and}
 use Rattle.model.specs.View.{view_act}
 use Rattle.node.specs.Keeping.{met}
 use Rattle.replays.specs.Logs.{is_turn}
@@ -7,7 +8,7 @@ use Rattle.replays.proofs.Quiet.{quiet-same}
 use Rattle.replays.proofs.Turns.{met_same}
 use Rattle.handles.specs.Logs.{Led}
 use Rattle.handles.specs.Lone.{Gave, is_counted}
-use Rattle.handles.proofs.Logs.{after_counted, after_uncounted, counted_now, if_kept, led_noted, other_than, uncounted_quiet}
+use Rattle.handles.proofs.Logs.{after_counted, after_uncounted, counted_now, if_kept, if_none, led_noted, other_than, uncounted_quiet}
 use Rattle.handles.proofs.lone.LoneNode.perform_plain.Goals as goal
 
 pub returns-then-self : goal.returns-then-self
@@ -63,5 +64,47 @@ returns-else-is_counted c =
       stays = after_uncounted old new (is_counted c.in_ok-answer.answer) counts;
       logs = λ first led bytes is.
           subst (λ n. Led bytes first n old.counts) (sym same) (led bytes is);
+      quiet = λ none. refl;
+    }
+
+pub returns-in_err-answer : goal.returns-in_err-answer
+returns-in_err-answer c =
+    let p = err_from_is_err_and c.from_residual.result c.from_residual.ensures.1 in
+    let old = c.args.self.now in
+    let said = c.in_err-answer.ensures in
+    rw (p.1, p.2) (record {
+      acts = record {
+        performs = said.performs;
+        states = said.states;
+        unchanged = said.unchanged;
+        leaves = said.leaves;
+        memory_free = said.memory_free;
+        early = said.early;
+        turn = said.turn;
+      };
+      stays = after_uncounted old c.act.new.self false refl;
+      logs = λ first led bytes is.
+          subst (λ n. Led bytes first n old.counts) (sym said.unchanged) (led bytes is);
+      quiet = λ none. refl;
+    })
+
+pub returns-else-self : goal.returns-else-self
+returns-else-self c =
+    let old = c.args.self.now in
+    let a = c.in_ok-answer.answer in
+    let said = c.in_ok-answer.ensures in
+    let counts : is_counted a ≡ true = sym c.is_counted.ensures ∙ c.if-is_counted.true in
+    record {
+      acts = record {
+        performs = said.performs;
+        states = said.states;
+        unchanged = said.unchanged;
+        leaves = said.leaves;
+        memory_free = said.memory_free;
+        early = said.early;
+        turn = said.turn;
+      };
+      stays = after_counted old c.act.new.self old.log (is_counted a) counts;
+      logs = λ first led. if_none old.logs old.log c.if-self.false;
       quiet = λ none. refl;
     }
