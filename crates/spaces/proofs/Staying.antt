@@ -30,15 +30,16 @@ refused-still None box from e old new v w before after h =
     handled-still h.frame e old new _ w h.handled
 
 empty-still : (o : Option _) (box from : ℕ) (old new : WholeNode) (v w : Known)
-    (before after : List TraceLine) → PumpedBy o box from (Ok inbound.Empty) old new v w before after
-    → new.core ≡ old.core
+    (before after : List TraceLine)
+    → PumpedBy o box from (Ok inbound.Empty) old new v w before after → new.core ≡ old.core
 empty-still (Some d) box from old new v w before after h = absurd h
 empty-still None box from old new v w before after h = ap (λ (n : WholeNode). n.core) h.node
 
 -- Nothing of the cell changes if it is closed or has no such node.
 module _ (from : ℕ) (old new : CellView MemoryDisk) (R : Type 0)
     (shut : old.is_open ≡ false → new ≡ old)
-    (no_node : IsTrue old.is_open → is_other old.node.core.local from ≡ false → R × (new ≡ old)) where
+    (no_node : IsTrue old.is_open → is_other old.node.core.local from ≡ false
+    → R × (new ≡ old)) where
   still : (r : Result Inbound Refusal) → (PumpedIn from r old new → new.node.core ≡ old.node.core)
       → (IsTrue old.is_open → IsTrue (is_other old.node.core.local from) → PumpedIn from r old new)
       → new.node.core ≡ old.node.core
