@@ -1,6 +1,8 @@
--- The count of calls that failed.
-use Rattle.std.proofs.Common.{◌≡◌, ℕ, true, refl, subst, arith}
+-- The count of calls that failed, and which fault a call had.
+use Rattle.std.proofs.Common.{◌≡◌, ℕ, true, Ok, Err, IsErrOf, refl, subst, arith}
 use Rattle.disk.specs.Crashes.{HasCause}
+use Rattle.disk.specs.declared.device.DiskFault.{DiskFault}
+use Rattle.disk.specs.declared.device.DiskFault.TheVariants.{Device, Memory}
 
 -- a call that failed, or not, when the count was the same before
 pub later_cause : {old mid new : ℕ} {Q : Type 0} → mid ≡ old → HasCause mid new Q →
@@ -32,3 +34,13 @@ no_cause same none = record {
   failed = λ q. absurd (none q);
   fine = λ _. same;
 }
+
+-- what succeeded has no fault, and no fault is another one
+pub ok_no_err : {T E : Type 0} {x : T} {e : E} → Ok x ≡ Err e → ⊥
+ok_no_err is = absurd cc
+
+pub memory_no_device : {T : Type 0} {e : DiskFault} → e ≡ Memory → IsErrOf {T = T} (Err e) Device → ⊥
+memory_no_device memory is = absurd cc
+
+pub device_no_memory : {T : Type 0} {e : DiskFault} → e ≡ Device → IsErrOf {T = T} (Err e) Memory → ⊥
+device_no_memory device is = absurd cc

@@ -7,6 +7,7 @@ use Rattle.std.specs.Prelude.{IfSome}
 use Rattle.std.proofs.Math.ListN.{drop_of_length-le}
 use Rattle.ids.specs.declared.refusal.Refusal.{Refusal}
 use Rattle.ids.specs.declared.refusal.Refusal.TheVariants.{Closed, Disk as DiskFailed}
+use Rattle.ids.specs.declared.saves.Saves.TheVariants.{Events, Images}
 use Rattle.std.proofs.lemmas.Simd.{map-map}
 use Rattle.msg.specs.declared.version.Version.{Version}
 use Rattle.msg.specs.declared.version.Version.TheVariants.{First, Second}
@@ -245,6 +246,11 @@ pub failed_before : {T : Type 0} {e : Refusal} (ready : Bool) → e ≡ DiskFail
 failed_before true failed shut = refl
 failed_before false failed shut =
     let never : DiskFailed ≡ Closed = sym failed ∙ same_refusal (shut refl) in absurd cc
+
+-- ---- how a node is saved
+
+pub images_no_events : Images ≡ Events → ⊥
+images_no_events is = absurd cc
 
 -- ---- bytes that may be there
 

@@ -1,74 +1,110 @@
-use Rattle.std.proofs.Common.{◌≡◌, IfSome, List, None, arith, subst, sym, ℕ}
+use Rattle.std.proofs.Common.{◌≡◌, IfSome, List, None, arith, refl, subst, sym, ℕ}
 use Rattle.storage.specs.Tails.{place_for}
+use Rattle.storage.proofs.Quiet.{ok_no_err}
 use Rattle.image.proofs.Logged.{same_length}
 use Rattle.replays.specs.Noted.{IsLogged}
 use Rattle.replays.proofs.Ends.{led_by}
 use Rattle.replays.proofs.Stores.{failed_before, mapped_some, open_before, some_mapped}
 use Rattle.replays.proofs.store.Store.save.Goals as goal
 
-pub returns-in-Ok-clause-any_moment : goal.returns-in-Ok-clause-any_moment
-returns-in-Ok-clause-any_moment g c =
-    rw c.in-Whole.is (λ old keeps logged. c.in-Ok.ensures.any_moment old keeps)
+pub returns-in-Ok : goal.returns-in-Ok
+returns-in-Ok g c =
+    let said = c.in-Ok.ensures in
+    rw c.in-Whole.is (record {
+      saved = λ old keeps logged. said.saved;
+      ready = said.ready;
+      only = (c.save.new.self.shelf.settled said.ready).0;
+      any_moment = λ old keeps logged. said.any_moment old keeps;
+      logs = refl;
+      closed = said.closed;
+      disk = said.disk;
+      too_large = (λ is. absurd (ok_no_err is), λ t. said.too_large.1 (t.0, t.2));
+      unchanged = tt;
+      others = tt;
+    })
 
-pub returns-in-Err-clause-any_moment : goal.returns-in-Err-clause-any_moment
-returns-in-Err-clause-any_moment g c =
-    rw c.in-Whole.is (λ is old keeps logged. c.in-Err.ensures.any_moment is old keeps)
+pub returns-in-Err : goal.returns-in-Err
+returns-in-Err g c =
+    let said = c.in-Err.ensures in
+    rw c.in-Whole.is (record {
+      saved = tt;
+      ready = tt;
+      only = tt;
+      any_moment = λ is old keeps logged. said.any_moment is old keeps;
+      logs = refl;
+      closed = said.closed;
+      disk = said.disk;
+      too_large = (
+        λ is. (let t = said.too_large.0 is in (t.0, tt, t.1)),
+        λ t. said.too_large.1 (t.0, t.2),
+      );
+      unchanged = said.unchanged;
+      others = said.others;
+    })
 
-pub returns-in-Ok-save-clause-saved : goal.returns-in-Ok-save-clause-saved
-returns-in-Ok-save-clause-saved g c =
-    rw c.in-Logged.is (λ old keeps logged.
-    c.in-Ok-save.ensures.saved old keeps
-    (led_by (λ b. b.now) c.bytes.result old c.args.node.now
-    (subst (λ l. IsLogged l old.core c.args.node.now.core) (sym c.bytes.ensures) logged)))
-
-pub returns-in-Ok-save-clause-any_moment : goal.returns-in-Ok-save-clause-any_moment
-returns-in-Ok-save-clause-any_moment g c =
-    rw c.in-Logged.is (λ old keeps logged.
-    c.in-Ok-save.ensures.any_moment
-    (open_before c.in-Logged.journal.ready c.in-Ok-save.ensures.closed.1) old keeps
-    (led_by (λ b. b.now) c.bytes.result old c.args.node.now
-    (subst (λ l. IsLogged l old.core c.args.node.now.core) (sym c.bytes.ensures) logged)))
-
-pub returns-in-Err-save-clause-any_moment : goal.returns-in-Err-save-clause-any_moment
-returns-in-Err-save-clause-any_moment g c =
-    rw c.in-Logged.is (λ is old keeps logged.
-    c.in-Err-save.ensures.any_moment
-    (failed_before c.in-Logged.journal.ready is c.in-Err-save.ensures.closed.1) old keeps
-    (led_by (λ b. b.now) c.bytes.result old c.args.node.now
-    (subst (λ l. IsLogged l old.core c.args.node.now.core) (sym c.bytes.ensures) logged)))
-
-pub returns-in-Ok-save-clause-too_large : goal.returns-in-Ok-save-clause-too_large
-returns-in-Ok-save-clause-too_large g c =
+pub returns-in-Ok-save : goal.returns-in-Ok-save
+returns-in-Ok-save g c =
     let Q : List ℕ → Type 0 = λ bytes. place_for c.in-Logged.journal.tail bytes ≡ None in
-    let h = c.in-Ok-save.ensures.too_large in
-    let same = same_length c.args.node.now.core in
-    rw c.in-Logged.is (
-      λ is. absurd cc,
-      λ t. h.1 (
-        t.0,
-        some_mapped c.bytes.result (λ b. b.now) Q
-            (subst (λ l. IfSome l Q) (sym c.bytes.ensures) t.1),
-        omega (arith, t.2, same),
-      ),
-    )
+    let n = c.args.node.now in
+    let said = c.in-Ok-save.ensures in
+    let same = same_length n.core in
+    rw c.in-Logged.is (record {
+      saved = λ old keeps logged. said.saved old keeps
+          (led_by (λ b. b.now) c.bytes.result old n
+          (subst (λ l. IsLogged l old.core n.core) (sym c.bytes.ensures) logged));
+      ready = said.ready;
+      only = (c.save-in-Logged.new.self.kept said.ready).only;
+      any_moment = λ old keeps logged. said.any_moment
+          (open_before c.in-Logged.journal.ready said.closed.1) old keeps
+          (led_by (λ b. b.now) c.bytes.result old n
+          (subst (λ l. IsLogged l old.core n.core) (sym c.bytes.ensures) logged));
+      logs = refl;
+      closed = said.closed;
+      disk = said.disk;
+      too_large = (
+        λ is. absurd (ok_no_err is),
+        λ t. said.too_large.1 (
+          t.0,
+          some_mapped c.bytes.result (λ b. b.now) Q
+              (subst (λ l. IfSome l Q) (sym c.bytes.ensures) t.1),
+          omega (arith, t.2, same),
+        ),
+      );
+      unchanged = tt;
+      others = tt;
+    })
 
-pub returns-in-Err-save-clause-too_large : goal.returns-in-Err-save-clause-too_large
-returns-in-Err-save-clause-too_large g c =
+pub returns-in-Err-save : goal.returns-in-Err-save
+returns-in-Err-save g c =
     let Q : List ℕ → Type 0 = λ bytes. place_for c.in-Logged.journal.tail bytes ≡ None in
-    let h = c.in-Err-save.ensures.too_large in
-    let same = same_length c.args.node.now.core in
-    rw c.in-Logged.is (
-      λ is.
-          (let t = h.0 is in (
-            t.0,
-            subst (λ l. IfSome l Q) c.bytes.ensures
-                (mapped_some c.bytes.result (λ b. b.now) Q t.1),
-            omega (arith, t.2, same),
-          )),
-      λ t. h.1 (
-        t.0,
-        some_mapped c.bytes.result (λ b. b.now) Q
-            (subst (λ l. IfSome l Q) (sym c.bytes.ensures) t.1),
-        omega (arith, t.2, same),
-      ),
-    )
+    let n = c.args.node.now in
+    let said = c.in-Err-save.ensures in
+    let same = same_length n.core in
+    rw c.in-Logged.is (record {
+      saved = tt;
+      ready = tt;
+      only = tt;
+      any_moment = λ is old keeps logged. said.any_moment
+          (failed_before c.in-Logged.journal.ready is said.closed.1) old keeps
+          (led_by (λ b. b.now) c.bytes.result old n
+          (subst (λ l. IsLogged l old.core n.core) (sym c.bytes.ensures) logged));
+      logs = refl;
+      closed = said.closed;
+      disk = said.disk;
+      too_large = (
+        λ is. (let t = said.too_large.0 is in (
+          t.0,
+          subst (λ l. IfSome l Q) c.bytes.ensures
+              (mapped_some c.bytes.result (λ b. b.now) Q t.1),
+          omega (arith, t.2, same),
+        )),
+        λ t. said.too_large.1 (
+          t.0,
+          some_mapped c.bytes.result (λ b. b.now) Q
+              (subst (λ l. IfSome l Q) (sym c.bytes.ensures) t.1),
+          omega (arith, t.2, same),
+        ),
+      );
+      unchanged = said.unchanged;
+      others = said.others;
+    })
