@@ -39,8 +39,10 @@ no_cause same none = record {
 pub ok_no_err : {T E : Type 0} {x : T} {e : E} → Ok x ≡ Err e → ⊥
 ok_no_err is = absurd cc
 
-pub memory_no_device : {T : Type 0} {e : DiskFault} → e ≡ Memory → IsErrOf {T = T} (Err e) Device → ⊥
+pub memory_no_device : {T : Type 0} {e : DiskFault} → e ≡ Memory → IsErrOf {T = T} (Err e) Device
+    → ⊥
 memory_no_device memory is = absurd cc
 
-pub device_no_memory : {T : Type 0} {e : DiskFault} → e ≡ Device → IsErrOf {T = T} (Err e) Memory → ⊥
+pub device_no_memory : {T : Type 0} {e : DiskFault} → e ≡ Device → IsErrOf {T = T} (Err e) Memory
+    → ⊥
 device_no_memory device is = absurd cc

@@ -110,7 +110,8 @@ returns-in_err-begin c =
     let Same : Account → Type 0 = λ a. (x : Areas) → leaves new.state x ↔ leaves a.state x in
     rw (p.1, p.2) (record {
       written = tt;
-      failed = changed_none c.args.area c.args.at n (areas_of s.held) (areas_of new.state.held) same;
+      failed = changed_none c.args.area c.args.at n (areas_of s.held) (areas_of new.state.held)
+          same;
       kept = same;
       crash = subst Crash c.keep.ensures.account c.begin.ensures.crash;
       torn = tt;
