@@ -92,7 +92,7 @@ impl<T> Entry<T> {
         }
     }
 
-    /// The free slot that is used after this one.
+    /// The free slot that is used after this one, which must be free.
     pub fn next(&self) -> u32
         requires { IsFree (slot_of self.now) }
         ensures { result ≡ next_of self.now }
@@ -133,7 +133,7 @@ impl<T> Entry<T> {
         }
     }
 
-    /// The value for writing.
+    /// The value for writing. The slot must have one.
     pub fn value_mut(&mut self) -> &mut T
         requires { IsSome (held_by self.old) }
         ensures* writes_back { sem 𝓛
@@ -146,7 +146,7 @@ impl<T> Entry<T> {
         }
     }
 
-    /// The value.
+    /// The value. The slot must have one.
     pub fn into_value(self) -> T
         requires { IsSome (held_by self) }
         ensures { held_by self ≡ Some result }
@@ -157,8 +157,8 @@ impl<T> Entry<T> {
         }
     }
 
-    /// Takes the value out of a slot. The slot is then free, with the generation after that of the
-    /// value, and names the free slot that is used after it.
+    /// Takes the value out of a slot, which must have one, and not of the last generation. The slot
+    /// is then free, under the next generation, and names the free slot that is used after it.
     pub fn free(&mut self, next: u32) -> T
         requires held { IsSome (held_by self.old) }
         requires more { generation_of (slot_of self.old) < GREATEST_GENERATION }
@@ -172,7 +172,7 @@ impl<T> Entry<T> {
         mem::replace(self, Entry::Free(generation + 1, next)).into_value()
     }
 
-    /// Takes the value out of a slot that is never used again.
+    /// Takes the value out of a slot, which must have one. The slot is never used again.
     pub fn retire(&mut self) -> T
         requires { IsSome (held_by self.old) }
         ensures value { held_by self.old ≡ Some result }
