@@ -15,9 +15,8 @@ module _ {X : Type 0} (Makes : Result X Fault → Type 0) where
   not_made None new e same is made =
       subst (λ (o : Option X). Filled Makes None o (Err e)) (sym same) made
 
-  pub filled : (old new : Option X) (x y : X) → new ≡ Some y → Ok tt ≡ empty old → y ≡ x
-      → Makes (Ok x) → Filled Makes old new (Ok tt)
-  filled (Some z) new x y put is same made = absurd cc
-  filled None new x y put is same made =
-      subst (λ (o : Option X). Filled Makes None o (Ok tt)) (sym put)
-      (subst (λ (z : X). Makes (Ok z)) (sym same) made)
+  pub filled : (old new : Option X) (x : X) → new ≡ Some x → Ok tt ≡ empty old → Makes (Ok x)
+      → Filled Makes old new (Ok tt)
+  filled (Some z) new x put is made = absurd cc
+  filled None new x put is made =
+      subst (λ (o : Option X). Filled Makes None o (Ok tt)) (sym put) made

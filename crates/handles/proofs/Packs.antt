@@ -37,11 +37,10 @@ window_none room n to after = all room n to after WINDOW
 
 -- ---- one more frame
 
-pub above_next : (room after n : ℕ) (p : Packed) (f : Plain) (part : List ℕ) → n ≡ number_of f
-    → after < n → part ≡ packed f → pack room p part ≡ pack_above room after p (Some f)
-above_next room after n p f part is above same =
-    ap (pack room p) same
-    ∙ sym (cond-true (nat_lt after (number_of f)) (pack room p (packed f)) p
+pub above_next : (room after n : ℕ) (p : Packed) (f : Plain) → n ≡ number_of f → after < n
+    → pack room p (packed f) ≡ pack_above room after p (Some f)
+above_next room after n p f is above =
+    sym (cond-true (nat_lt after (number_of f)) (pack room p (packed f)) p
     (lt-ltb after (number_of f) (subst (λ (k : ℕ). after < k) is above)))
 
 pub above_skipped : (room after n : ℕ) (p : Packed) (f : Plain) → n ≡ number_of f → n ≤ after

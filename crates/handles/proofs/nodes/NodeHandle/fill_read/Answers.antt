@@ -1,7 +1,9 @@
+use Rattle.std.proofs.Common.{Ok, subst, sym}
 use Rattle.std.proofs.lemmas.Result.{err_from_is_err_and}
 use Rattle.ids.specs.declared.refusal.Refusal.TheVariants.{Memory}
 use Rattle.values.specs.declared.fault.Fault.TheVariants as fault
 use Rattle.handles.specs.Lone.{Read}
+use Rattle.handles.specs.declared.lone.LoneNode.{LoneNode}
 use Rattle.handles.proofs.Filling.{filled, in_use, not_made}
 use Rattle.handles.proofs.nodes.NodeHandle.fill_read.Goals as goal
 
@@ -30,6 +32,7 @@ returns-in_err-full c =
 
 pub returns : goal.returns
 returns c =
-    filled (Read c.args.bytes.now c.args.limit) c.args.self.now.held c.put.new.self.held
-    c.in_ok-node.node c.in_ok-full.full.value c.put.ensures c.in_ok-test_empty.ensures.empty
-    c.in_ok-full.ensures.ok c.in_ok-node.ensures
+    let Makes = Read c.args.bytes.now c.args.limit in
+    filled Makes c.args.self.now.held c.put.new.self.held c.in_ok-full.full.value c.put.ensures
+    c.in_ok-test_empty.ensures.empty
+    (subst (λ (n : LoneNode). Makes (Ok n)) (sym c.in_ok-full.ensures.ok) c.in_ok-node.ensures)

@@ -1,6 +1,6 @@
-use Rattle.std.proofs.Common.{◌≡◌, ◌∙◌, length, subst}
+use Rattle.std.proofs.Common.{◌≡◌, ◌∙◌, ap, length, subst}
 use Rattle.msg.specs.Frames.{plain}
-use Rattle.handles.specs.Frames.{Holds, Packed, packed}
+use Rattle.handles.specs.Frames.{Holds, Packed, pack, packed}
 use Rattle.handles.proofs.Packs.{above_next, above_skipped, more, part_fits, part_within}
 use Rattle.handles.proofs.packing.Packing.add_above.Goals as goal
 
@@ -27,8 +27,9 @@ returns-then-after-number_of c =
     rw c.in-Some.is (record {
       added = λ whole p h.
           subst (λ (q : Packed). Holds whole q c.add.new.self c.add.new.buffer)
-          (above_next (length whole) c.args.after c.number_of.result p f part c.number_of.ensures
-          c.if-after-number_of.true same) (c.add.ensures.added whole p h);
+          (ap (pack (length whole) p) same
+          ∙ above_next (length whole) c.args.after c.number_of.result p f c.number_of.ensures
+          c.if-after-number_of.true) (c.add.ensures.added whole p h);
       needed = part_within c.args.self.now.needed c.add.new.self.needed part f same
           c.add.ensures.needed;
       count = c.add.ensures.count;

@@ -65,7 +65,7 @@ invariant_of-self c =
           h.goes_on.same;
       fresh = λ is.
           old.fresh is
-          ∙ sym (still-refused c.args.from old.cell c.pump_in.new.self _ h.shut h.no_node _
+          ∙ sym (still-refused c.args.from old.cell c.pump_in.new.self _ (h.shut, h.no_node) _
           h.pumped);
       plain = ap (λ (v : CellView MemoryDisk). v.logs) h.goes_on.stays ∙ old.plain;
     }
@@ -79,7 +79,8 @@ invariant_of-self-in-Empty c =
           h.goes_on.same;
       fresh = λ is.
           old.fresh is
-          ∙ sym (still-empty c.args.from old.cell c.pump_in.new.self _ h.shut h.no_node h.pumped);
+          ∙ sym (still-empty c.args.from old.cell c.pump_in.new.self _ (h.shut, h.no_node)
+          h.pumped);
       plain = ap (λ (v : CellView MemoryDisk). v.logs) h.goes_on.stays ∙ old.plain;
     }
 
