@@ -1,6 +1,5 @@
 //! What a disk opens to, and what crashes may leave of a disk in memory.
-use crate::out::Out;
-use crate::words::CaseError;
+use crate::case::Case;
 use disk::{Disk, MemoryDisk};
 use ids::{Refusal, Saves};
 use replays::read_node;
@@ -9,26 +8,31 @@ use storage::is_blank;
 
 /// For each byte with which a crash may fill what wasn't synced, what the disk then opens to: each
 /// outcome with the number of bytes for which it comes, in the order of the first.
-pub(crate) fn put_crashes(
-    alloc: Global,
-    disk: &MemoryDisk,
-    out: &mut Out,
-) -> Result<(), CaseError> {
+pub(crate) fn put_crashes(alloc: Global, disk: &MemoryDisk, case: &mut Case) {
     let mut found = Vec::new(alloc);
     for fill in 0..=u8::MAX {
-        match disk.after_crash(fill) {
-            Ok(mut left) => count(&mut found, opens_to(alloc, &mut left)?)?,
-            Err(_) => return Err(CaseError::Memory),
+        if count_crash(alloc, disk, fill, &mut found).is_err() {
+            case.lacks_memory();
         }
     }
     for (outcome, times) in &found {
-        out.show(&format_args!("{times} {outcome}"));
+        case.show(&format_args!("{times} {outcome}"));
     }
-    Ok(())
+}
+
+// Counts what the disk opens to after a crash.
+fn count_crash(
+    alloc: Global,
+    disk: &MemoryDisk,
+    fill: u8,
+    found: &mut Vec<(String, u64)>,
+) -> Result<(), Refusal> {
+    let mut left = disk.after_crash(fill)?;
+    count(found, opens_to(alloc, &mut left)?)
 }
 
 // Counts an outcome.
-fn count(found: &mut Vec<(String, u64)>, outcome: String) -> Result<(), CaseError> {
+fn count(found: &mut Vec<(String, u64)>, outcome: String) -> Result<(), Refusal> {
     for (known, times) in found.iter_mut() {
         if *known == outcome {
             *times = times.saturating_add(1);

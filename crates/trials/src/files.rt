@@ -1,7 +1,6 @@
 //! A disk in files of a folder: its calls, and what it opens to.
+use crate::case::{Case, Subject};
 use crate::crashes::opens_to;
-use crate::out::Out;
-use crate::words::{CaseError, Subject, bytes_of, number, verb, word};
 use disk::{Area, Disk, DiskFault, FileDisk, MemoryDisk};
 use ids::Refusal;
 use std::alloc::Global;
@@ -17,37 +16,37 @@ pub(crate) struct InFiles<'a, R> {
 }
 
 impl<R: Files<File = File>> Subject for InFiles<'_, R> {
-    fn take(&mut self, line: &str, out: &mut Out) -> Result<(), CaseError> {
-        match verb(line) {
-            "at" => self.hold(FileDisk::at(self.rt, self.alloc, word(line, 1)?), out),
+    fn take(&mut self, case: &mut Case) {
+        match case.verb() {
+            "at" => {
+                let disk = FileDisk::at(self.rt, self.alloc, case.word(1));
+                self.hold(disk, case);
+            }
             "over" => {
-                let disk = disk_over(self.rt, self.alloc, word(line, 1)?);
-                self.hold(disk.map_err(|_error| Refusal::Disk), out);
+                let disk = disk_over(self.rt, self.alloc, case.word(1));
+                self.hold(disk.map_err(|_error| Refusal::Disk), case);
             }
             "leave" => {
                 drop(self.disk.take());
-                out.text("ok");
+                case.text("ok");
             }
-            _ => {
-                return match &mut self.disk {
-                    Some(disk) => on_disk(self.alloc, disk, line, out),
-                    None => Err(CaseError::Unknown),
-                };
-            }
+            _ => match &mut self.disk {
+                Some(disk) => on_disk(self.alloc, disk, case),
+                None => case.unknown(),
+            },
         }
-        Ok(())
     }
 }
 
 impl<R> InFiles<'_, R> {
     // Holds the disk, unless it was refused.
-    fn hold(&mut self, disk: Result<FileDisk, Refusal>, out: &mut Out) {
+    fn hold(&mut self, disk: Result<FileDisk, Refusal>, case: &mut Case) {
         match disk {
             Ok(disk) => {
                 self.disk = Some(disk);
-                out.text("ok");
+                case.text("ok");
             }
-            Err(refusal) => out.refused(refusal),
+            Err(refusal) => case.refused(refusal),
         }
     }
 }
@@ -73,53 +72,56 @@ fn new_file<R: Files<File = File>>(
 }
 
 // A call of the disk.
-fn on_disk(alloc: Global, disk: &mut FileDisk, line: &str, out: &mut Out) -> Result<(), CaseError> {
-    match verb(line) {
-        "sync" => put_done(disk.sync(), out),
-        "failures" => out.show(&disk.failures()),
-        "opens" => out.show(&opens_to(alloc, disk)?),
-        "read" => return read_from(alloc, disk, line, out),
+fn on_disk(alloc: Global, disk: &mut FileDisk, case: &mut Case) {
+    match case.verb() {
+        "sync" => put_done(disk.sync(), case),
+        "failures" => case.show(&disk.failures()),
+        "opens" => match opens_to(alloc, disk) {
+            Ok(outcome) => case.show(&outcome),
+            Err(_) => case.lacks_memory(),
+        },
+        "read" => read_from(alloc, disk, case),
         "write" => {
-            let bytes = bytes_of(alloc, word(line, 2)?)?;
-            put_done(disk.write_at(area_of(word(line, 1)?)?, 0, &bytes), out);
+            let area = area_in(case);
+            let bytes = case.bytes(2);
+            if case.goes_on() {
+                put_done(disk.write_at(area, 0, &bytes), case);
+            }
         }
-        _ => return Err(CaseError::Unknown),
+        _ => case.unknown(),
     }
-    Ok(())
 }
 
 // `read AREA AT COUNT`
-fn read_from(
-    alloc: Global,
-    disk: &mut FileDisk,
-    line: &str,
-    out: &mut Out,
-) -> Result<(), CaseError> {
-    let area = area_of(word(line, 1)?)?;
-    let mut into = vec![in alloc; 0; number(line, 3)?]?;
-    match disk.read(area, number(line, 2)?, &mut into) {
+fn read_from(alloc: Global, disk: &mut FileDisk, case: &mut Case) {
+    let area = area_in(case);
+    let Ok(mut into) = vec![in alloc; 0; case.number(3)] else {
+        case.lacks_memory();
+        return;
+    };
+    match disk.read(area, case.number(2), &mut into) {
         Ok(found) => {
             into.truncate(found);
-            out.bytes(&into);
+            case.put_bytes(&into);
         }
-        Err(_) => out.refused(Refusal::Disk),
+        Err(_) => case.refused(Refusal::Disk),
     }
-    Ok(())
 }
 
-fn put_done(done: Result<(), DiskFault>, out: &mut Out) {
+fn put_done(done: Result<(), DiskFault>, case: &mut Case) {
     match done {
-        Ok(()) => out.text("ok"),
-        Err(_) => out.refused(Refusal::Disk),
+        Ok(()) => case.text("ok"),
+        Err(_) => case.refused(Refusal::Disk),
     }
 }
 
-// The area of a disk that the word names.
-fn area_of(word: &str) -> Result<Area, CaseError> {
-    match word {
-        "select" => Ok(Area::Select),
-        "a" => Ok(Area::A),
-        "b" => Ok(Area::B),
-        _ => Err(CaseError::Unknown),
+// The area of a disk that the second word names.
+fn area_in(case: &mut Case) -> Area {
+    match case.word(1) {
+        "select" => return Area::Select,
+        "a" => return Area::A,
+        "b" => return Area::B,
+        _ => case.unknown(),
     }
+    Area::Select
 }

@@ -1,6 +1,6 @@
 //! Gates of workers, which pause before each turn and may hold a worker up or end it, as the case
 //! says. Pollers pause for the same time.
-use crate::words::{CaseError, number, verb, word};
+use crate::case::Case;
 use std::alloc::{AllocError, Global};
 use std::sync::Wait;
 use std::sync::atomic::{AtomicBool, AtomicU64, Ordering};
@@ -70,42 +70,48 @@ impl Rules {
     }
 }
 
-/// The stage of a turn that the word names.
-pub(crate) fn stage_of(word: &str) -> Result<Stage, CaseError> {
-    match word {
-        "Start" => Ok(Stage::Start),
-        "TakenIn" => Ok(Stage::TakenIn),
-        "Collected" => Ok(Stage::Collected),
-        "Saved" => Ok(Stage::Saved),
-        "Sent" => Ok(Stage::Sent),
-        _ => Err(CaseError::Unknown),
+/// The stage of a turn that the word in this place names.
+pub(crate) fn stage_in(case: &mut Case, place: usize) -> Stage {
+    match case.word(place) {
+        "Start" => return Stage::Start,
+        "TakenIn" => return Stage::TakenIn,
+        "Collected" => return Stage::Collected,
+        "Saved" => return Stage::Saved,
+        "Sent" => return Stage::Sent,
+        _ => case.unknown(),
     }
+    Stage::Start
 }
 
 // The place that the words after the first one name: `NODE WORKER STAGE`.
-fn place_of(line: &str) -> Result<Place, CaseError> {
-    Ok(Place {
-        node: number(line, 1)?,
-        worker: number(line, 2)?,
-        stage: stage_of(word(line, 3)?)?,
-    })
+fn place_in(case: &mut Case) -> Place {
+    Place {
+        node: case.number(1),
+        worker: case.number(2),
+        stage: stage_in(case, 3),
+    }
 }
 
 /// Adds a rule, as the line says.
-pub(crate) fn rule(rules: &mut Rules, line: &str) -> Result<(), CaseError> {
-    match verb(line) {
-        "random" => rules.seed = Some(number(line, 1)?),
+pub(crate) fn rule(rules: &mut Rules, case: &mut Case) {
+    match case.verb() {
+        "random" => rules.seed = Some(case.number(1)),
         "late" => rules.is_late = true,
-        "end" => rules.ends.push(End {
-            place: place_of(line)?,
-            turn: number(line, 4)?,
-        })?,
-        _ => rules.holds.push(Hold {
-            place: place_of(line)?,
-            until: (number(line, 4)?, stage_of(word(line, 5)?)?),
-        })?,
+        "end" => {
+            let end = End {
+                place: place_in(case),
+                turn: case.number(4),
+            };
+            case.needs(rules.ends.push(end).is_ok());
+        }
+        _ => {
+            let hold = Hold {
+                place: place_in(case),
+                until: (case.number(4), stage_in(case, 5)),
+            };
+            case.needs(rules.holds.push(hold).is_ok());
+        }
     }
-    Ok(())
 }
 
 /// A gate that pauses before each turn, and then does what its rules say.

@@ -1,14 +1,13 @@
 //! Spaces of a case, on disks in memory or in files.
 ghost use Rattle.std.specs.Prelude.{◌≡◌, false, is_some, IfOk};
 
+use crate::case::Case;
 use crate::once::once;
-use crate::out::Out;
 use crate::sizes::{PAIR, Size, blank_disks, config_of};
 use crate::space::meet;
-use crate::words::{CaseError, number, verb};
 use disk::{Disk, FileDisk, MemoryDisk};
 use ids::Refusal;
-use std::alloc::Global;
+use std::alloc::{AllocError, Global};
 use std::fs::File;
 use std::rt::Files;
 use std::sync::Wait;
@@ -82,24 +81,30 @@ pub(crate) fn opened<R: Files<File = File>, D: Made + Drop>(
 }
 
 /// Runs the code of docs/EMBEDDING.md in a space of two nodes.
-pub(crate) fn show<R>(rt: &R, alloc: Global, line: &str, out: &mut Out) -> Result<(), CaseError>
+pub(crate) fn show<R>(rt: &R, alloc: Global, case: &mut Case)
 where
     R: Clock + Threads + Wait + Clone + Send + Sync + Drop + 'static,
 {
     let size = Size {
-        turns: number(line, 1)?,
+        turns: case.number(1),
         ..PAIR
     };
-    let text = size.text(alloc)?;
-    let disks = blank_disks(alloc, size.nodes)?;
-    if verb(line) == "meet" {
-        let reports = match meet(rt, alloc, text.as_str(), disks) {
-            Some(reports) => Some(reports.len()),
-            None => None,
-        };
-        out.debug(&reports);
-    } else {
-        out.debug(&once(rt, alloc, text.as_str(), disks));
+    let Ok((text, disks)) = begun(alloc, size) else {
+        case.lacks_memory();
+        return;
+    };
+    if case.verb() == "once" {
+        case.debug(&once(rt, alloc, text.as_str(), disks));
+        return;
     }
-    Ok(())
+    match meet(rt, alloc, text.as_str(), disks) {
+        Some(reports) => case.debug(&Some(reports.len())),
+        None => case.text("None"),
+    }
+}
+
+// The text of a configuration, and blank disks for it.
+fn begun(alloc: Global, size: Size) -> Result<(String, Vec<MemoryDisk>), AllocError> {
+    let text = size.text(alloc)?;
+    Ok((text, blank_disks(alloc, size.nodes)?))
 }

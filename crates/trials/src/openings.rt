@@ -4,11 +4,10 @@
 ghost use Rattle.std.specs.Prelude.{◌≡◌, true};
 ghost use Rattle.model.specs.Steps.{is_own};
 
+use crate::case::{Case, Subject, event_in};
 use crate::crashes::put_crashes;
 use crate::lent::Lent;
-use crate::out::Out;
 use crate::sizes::{PAIR, Size, blank_disks, config_of};
-use crate::words::{CaseError, Subject, event_in, node_in, number, saves_in, verb};
 use disk::{Disk, MemoryDisk};
 use ids::{Refusal, Saves};
 use model::{Answer, Event};
@@ -41,84 +40,96 @@ impl<'a, R> Openings<'a, R> {
 }
 
 impl<R: Wait> Subject for Openings<'_, R> {
-    fn take(&mut self, line: &str, out: &mut Out) -> Result<(), CaseError> {
-        match verb(line) {
-            "fresh" => {
-                self.disks = blank_disks(self.alloc, number(line, 1)?)?;
-                self.saves = saves_in(line);
-                out.text("ok");
-                Ok(())
-            }
+    fn take(&mut self, case: &mut Case) {
+        match case.verb() {
+            "fresh" => self.renew(case),
             "saves" => {
-                self.saves = saves_in(line);
-                out.text("ok");
-                Ok(())
+                self.saves = case.saves();
+                case.text("ok");
             }
-            "fail" | "fail-once" | "crash" | "crashes" => self.change(line, out),
-            "keep" => self.keep(line, out),
-            "restore" => self.restore(line, out),
-            _ => self.visit(line, out),
+            "fail" | "fail-once" | "crash" | "crashes" => change(self.alloc, &mut self.disks, case),
+            "keep" => self.keep(case),
+            "restore" => self.restore(case),
+            _ => match opened(self.alloc, &mut self.disks, self.saves) {
+                Ok(space) => within(self.rt, &space, case),
+                Err(fault) => case.show(&fault),
+            },
         }
     }
 }
 
-impl<R: Wait> Openings<'_, R> {
-    // Opens a space on the disks, does in it what the line says, and drops it.
-    fn visit(&mut self, line: &str, out: &mut Out) -> Result<(), CaseError> {
-        match opened(self.alloc, &mut self.disks, self.saves) {
-            Ok(space) => within(self.rt, &space, line, out),
-            Err(fault) => {
-                out.show(&fault);
-                Ok(())
+impl<R> Openings<'_, R> {
+    // `fresh NODES`: blank disks.
+    fn renew(&mut self, case: &mut Case) {
+        match blank_disks(self.alloc, case.number(1)) {
+            Ok(disks) => {
+                self.disks = disks;
+                self.saves = case.saves();
+                case.text("ok");
             }
+            Err(_) => case.lacks_memory(),
         }
     }
 
-    // Makes a disk fail or crash, or looks at what crashes may leave.
-    fn change(&mut self, line: &str, out: &mut Out) -> Result<(), CaseError> {
-        let disk = disk_of(&mut self.disks, number(line, 1)?)?;
-        match verb(line) {
-            "crashes" => return put_crashes(self.alloc, disk, out),
-            "fail" => disk.fail_from(number(line, 2)?),
-            "fail-once" => disk.fail_once(number(line, 2)?),
-            _ => *disk = copy_of(disk, number(line, 2)?)?,
-        }
-        out.text("ok");
-        Ok(())
-    }
-
-    // Copies the disk of a node; the number of the copy.
-    fn keep(&mut self, line: &str, out: &mut Out) -> Result<(), CaseError> {
-        let copy = copy_of(disk_of(&mut self.disks, number(line, 1)?)?, 0)?;
-        out.show(&self.copies.len());
-        self.copies.push(copy)?;
-        Ok(())
-    }
-
-    // Replaces the disk of a node with a copy that was kept.
-    fn restore(&mut self, line: &str, out: &mut Out) -> Result<(), CaseError> {
-        let Some(copy) = self.copies.get(number::<usize>(line, 2)?) else {
-            return Err(CaseError::Unknown);
+    // `keep NODE`: copies the disk of a node; the number of the copy.
+    fn keep(&mut self, case: &mut Case) {
+        let Some(disk) = self.disks.get(case.number::<usize>(1)) else {
+            case.unknown();
+            return;
         };
-        let disk = copy_of(copy, 0)?;
-        *disk_of(&mut self.disks, number(line, 1)?)? = disk;
-        out.text("ok");
-        Ok(())
+        match disk.after_crash(0) {
+            Ok(copy) => {
+                case.show(&self.copies.len());
+                case.needs(self.copies.push(copy).is_ok());
+            }
+            Err(_) => case.lacks_memory(),
+        }
+    }
+
+    // `restore NODE COPY`: replaces the disk of a node with a copy that was kept.
+    fn restore(&mut self, case: &mut Case) {
+        let (node, copy): (usize, usize) = (case.number(1), case.number(2));
+        match (self.disks.get_mut(node), self.copies.get(copy)) {
+            (Some(disk), Some(copy)) => replace(disk, copy.after_crash(0), case),
+            _ => case.unknown(),
+        }
     }
 }
 
-fn disk_of(held: &mut [MemoryDisk], node: u8) -> Result<&mut MemoryDisk, CaseError> {
-    match held.get_mut(usize::from(node)) {
-        Some(disk) => Ok(disk),
-        None => Err(CaseError::Unknown),
+// Makes a disk fail or crash, or looks at what crashes may leave.
+fn change(alloc: Global, disks: &mut [MemoryDisk], case: &mut Case) {
+    let Some(disk) = disks.get_mut(case.number::<usize>(1)) else {
+        case.unknown();
+        return;
+    };
+    match case.verb() {
+        "crashes" => put_crashes(alloc, disk, case),
+        "crash" => {
+            let left = disk.after_crash(case.number(2));
+            replace(disk, left, case);
+        }
+        _ => fail(disk, case),
     }
 }
 
-// The disk that a crash leaves, if each byte that wasn't synced became this one.
-fn copy_of(disk: &MemoryDisk, fill: u8) -> Result<MemoryDisk, CaseError> {
-    match disk.after_crash(fill) {
-        Ok(left) => Ok(left),
-        Err(_) => Err(CaseError::Memory),
+// Makes calls of the disk fail.
+fn fail(disk: &mut MemoryDisk, case: &mut Case) {
+    if case.verb() == "fail-once" {
+        disk.fail_once(case.number(2));
+    } else {
+        disk.fail_from(case.number(2));
+    }
+    case.text("ok");
+}
+
+// Replaces a disk with a copy, or with what a crash left.
+fn replace(disk: &mut MemoryDisk, by: Result<MemoryDisk, Refusal>, case: &mut Case) {
+    match by {
+        Ok(left) => {
+            *disk = left;
+            case.text("ok");
+        }
+        Err(_) => case.lacks_memory(),
     }
 }
 
@@ -145,21 +156,21 @@ fn opened<'a>(
 }
 
 // `open`, `carry FROM TO COUNT`, or an event for a node.
-fn within<R: Wait, D: Disk + Drop>(
-    rt: &R,
-    space: &Space<D>,
-    line: &str,
-    out: &mut Out,
-) -> Result<(), CaseError> {
-    match verb(line) {
-        "open" => out.text("ok"),
+fn within<R: Wait, D: Disk + Drop>(rt: &R, space: &Space<D>, case: &mut Case) {
+    match case.verb() {
+        "open" => case.text("ok"),
         "carry" => {
-            let (from, to) = (number(line, 1)?, number(line, 2)?);
-            out.answer(carry_on(rt, space, from, to, number(line, 3)?));
+            let (from, to, count) = (case.number(1), case.number(2), case.number(3));
+            case.answer(carry_on(rt, space, from, to, count));
         }
-        _ => out.answer(act_on(rt, space, node_in(line)?, event_in(line)?)),
+        _ => match event_in(case.line()) {
+            Some(event) => {
+                let node = case.node();
+                case.answer(act_on(rt, space, node, event));
+            }
+            None => case.unknown(),
+        },
     }
-    Ok(())
 }
 
 // A node's answer to an event, once the node is saved.

@@ -1,13 +1,12 @@
 //! A space of a case: what its programs do, and its workers, which a gate may hold up and end.
 ghost use Rattle.std.specs.Prelude.{◌≡◌, is_some};
 
+use crate::case::Case;
 use crate::gates::{Ruled, Rules, pause, rule};
 use crate::making::{Made, opened, show};
-use crate::out::Out;
 use crate::sizes::Size;
 use crate::space::Open;
 use crate::station::on_station;
-use crate::words::{CaseError, Source, node_in, number, saves_in, verb, word};
 use cell::Shared;
 use disk::Disk;
 use ids::Refusal;
@@ -75,12 +74,7 @@ pub(crate) struct Play<'a, R, D: Disk> {
 
 /// Does what the lines of a case say. (`Play` is no `Subject`: what a method of a trait sends to a
 /// thread isn't covered by its bounds.)
-pub(crate) fn run<R, B, D>(
-    rt: &R,
-    alloc: Global,
-    source: &mut Source<B>,
-    out: &mut Out,
-) -> Result<(), CaseError>
+pub(crate) fn run<R, B, D>(rt: &R, alloc: Global, reader: &mut B, case: &mut Case)
 where
     R: Files<File = File> + Print + Clock + Threads + Wait + Clone + Send + Sync + Drop + 'static,
     B: BufRead,
@@ -94,9 +88,13 @@ where
         gate: None,
         rules: Rules::new(alloc),
     };
-    let done = play.take_all(source, out);
-    drop(play);
-    done
+    for _ in rt.forever() {
+        if !case.next(rt, reader) {
+            break;
+        }
+        play.take(case);
+        case.flush(rt);
+    }
 }
 
 impl<R, D> Play<'_, R, D>
@@ -104,68 +102,48 @@ where
     R: Files<File = File> + Print + Clock + Threads + Wait + Clone + Send + Sync + Drop + 'static,
     D: Made + Send + Drop + 'static,
 {
-    // Does what the lines say.
-    fn take_all<B: BufRead>(
-        &mut self,
-        source: &mut Source<B>,
-        out: &mut Out,
-    ) -> Result<(), CaseError> {
-        for _ in self.rt.forever() {
-            let Some(line) = source.next(self.rt)? else {
-                break;
-            };
-            self.take(line, out)?;
-            out.flush(self.rt);
-        }
-        Ok(())
-    }
-
-    // Does what a line says.
-    fn take(&mut self, line: &str, out: &mut Out) -> Result<(), CaseError> {
-        match verb(line) {
-            "open" => self.open(line, out),
-            "start" | "revive" => self.work(line, out),
-            "close" | "ends" => self.close(verb(line), out),
-            "leave" => self.leave(out),
-            "ended" | "ended-and-revive" | "holders" => self.ask_gate(line, out),
-            _ => self.take_other(line, out),
+    // Does what the line says.
+    fn take(&mut self, case: &mut Case) {
+        match case.verb() {
+            "open" => self.open(case),
+            "start" | "revive" => self.work(case),
+            "close" | "ends" => self.close(case),
+            "leave" => self.leave(case),
+            "holders" | "ended" | "ended-and-revive" => self.ask_gate(case),
+            _ => self.take_other(case),
         }
     }
 
     // Does what a line says that starts and ends nothing.
-    fn take_other(&mut self, line: &str, out: &mut Out) -> Result<(), CaseError> {
-        match verb(line) {
-            "hold" | "end" | "random" | "late" | "fail-once" => self.note(line, out),
-            "meet" | "once" => show(self.rt, self.alloc, line, out),
+    fn take_other(&mut self, case: &mut Case) {
+        match case.verb() {
+            "hold" | "end" | "random" | "late" => {
+                rule(&mut self.rules, case);
+                case.text("ok");
+            }
+            "fail-once" => {
+                let call = (case.number(1), case.number(2));
+                case.needs(self.failing.push(call).is_ok());
+                case.text("ok");
+            }
+            "meet" | "once" => show(self.rt, self.alloc, case),
             _ => match &mut self.opened {
-                Some(opened) => on_space(self.rt, opened, line, out),
-                None => Err(CaseError::Unknown),
+                Some(opened) => on_space(self.rt, opened, case),
+                None => case.unknown(),
             },
         }
     }
 
-    // Notes what is to happen in the space that is opened next, or once workers are started.
-    fn note(&mut self, line: &str, out: &mut Out) -> Result<(), CaseError> {
-        if verb(line) == "fail-once" {
-            self.failing.push((number(line, 1)?, number(line, 2)?))?;
-        } else {
-            rule(&mut self.rules, line)?;
-        }
-        out.text("ok");
-        Ok(())
-    }
-
     // `open NODES REGISTERS SLOTS TURNS ..`: replaces the space, unless the new one isn't opened.
-    fn open(&mut self, line: &str, out: &mut Out) -> Result<(), CaseError> {
+    fn open(&mut self, case: &mut Case) {
         let size = Size {
-            nodes: number(line, 1)?,
-            registers: number(line, 2)?,
-            slots: number(line, 3)?,
-            turns: number(line, 4)?,
-            saves: saves_in(line),
+            nodes: case.number(1),
+            registers: case.number(2),
+            slots: case.number(3),
+            turns: case.number(4),
+            saves: case.saves(),
         };
-        let folder = word(line, 5).unwrap_or("space");
-        let space = opened(self.rt, self.alloc, size, folder, &self.failing);
+        let space = opened(self.rt, self.alloc, size, case.folder(), &self.failing);
         self.failing.clear();
         match space {
             Ok(space) => {
@@ -175,11 +153,10 @@ where
                     is_started: false,
                 });
                 self.gate = None;
-                out.text("ok");
+                case.text("ok");
             }
-            Err(fault) => out.show(&fault),
+            Err(fault) => case.show(&fault),
         }
-        Ok(())
     }
 
     // The gate. It is made with the rules so far if there isn't one.
@@ -195,60 +172,67 @@ where
     }
 
     // Starts the workers, or a new one of a node.
-    fn work(&mut self, line: &str, out: &mut Out) -> Result<(), CaseError> {
+    fn work(&mut self, case: &mut Case) {
         let gate = self.gate();
         let Some(opened) = &mut self.opened else {
-            return Err(CaseError::Unknown);
+            case.unknown();
+            return;
         };
         match gate {
-            Ok(gate) if verb(line) == "start" => out.done(opened.start(self.rt, gate)),
-            Ok(gate) => out.done(opened.revive(self.rt, number(line, 1)?, gate)),
-            Err(refusal) => out.refused(refusal),
+            Ok(gate) if case.verb() == "start" => case.done(opened.start(self.rt, gate)),
+            Ok(gate) => {
+                let node = case.number(1);
+                if case.goes_on() {
+                    case.done(opened.revive(self.rt, node, gate));
+                }
+            }
+            Err(refusal) => case.refused(refusal),
         }
-        Ok(())
     }
 
     // A question to the gate: how many workers of a node it has ended since this was asked
     // last, and whether the last one is to be revived; or how many hold it.
-    fn ask_gate(&mut self, line: &str, out: &mut Out) -> Result<(), CaseError> {
+    fn ask_gate(&mut self, case: &mut Case) {
         let Some(gate) = &self.gate else {
-            return Err(CaseError::Unknown);
+            case.unknown();
+            return;
         };
-        match verb(line) {
-            "holders" => out.show(&Arc::strong_count(gate)),
-            "ended" => out.show(&gate.take_ended(number(line, 1)?)),
-            _ => {
-                let node = number(line, 1)?;
-                if gate.take_ended(node) > 0 {
-                    return self.work(line, out);
-                }
-                out.text("-");
-            }
+        if case.verb() == "holders" {
+            case.show(&Arc::strong_count(gate));
+            return;
         }
-        Ok(())
+        let ended = gate.take_ended(case.number(1));
+        if case.verb() == "ended" {
+            case.show(&ended);
+        } else if ended > 0 {
+            self.work(case);
+        } else {
+            case.text("-");
+        }
     }
 
     // Closes the space: how many reports there are; or the stages at which workers were ended, and
     // then the nodes of all others.
-    fn close(&mut self, what: &str, out: &mut Out) -> Result<(), CaseError> {
+    fn close(&mut self, case: &mut Case) {
         let Some(opened) = self.opened.take() else {
-            return Err(CaseError::Unknown);
+            case.unknown();
+            return;
         };
         let reports = opened.space.close(self.rt);
         self.gate = None;
-        if what == "ends" {
-            put_ends(&reports, out);
+        if case.verb() == "ends" {
+            put_ends(&reports, case);
         } else {
-            out.show(&reports.len());
+            case.show(&reports.len());
         }
-        Ok(())
     }
 
     // Drops the space, and waits until no worker holds the gate.
-    fn leave(&mut self, out: &mut Out) -> Result<(), CaseError> {
+    fn leave(&mut self, case: &mut Case) {
         drop(self.opened.take());
         let Some(gate) = &self.gate else {
-            return Err(CaseError::Unknown);
+            case.unknown();
+            return;
         };
         for _ in self.rt.forever() {
             if Arc::strong_count(gate) == 1 {
@@ -256,107 +240,100 @@ where
             }
             pause(self.rt);
         }
-        out.text("ok");
-        Ok(())
+        case.text("ok");
     }
 }
 
 // The node and the stage of each worker that was ended, and then the node of each other one.
-fn put_ends(reports: &[Report], out: &mut Out) {
+fn put_ends(reports: &[Report], case: &mut Case) {
     for report in reports {
         if let Some(stage) = report.ended_at {
-            out.debug(&(report.node, stage));
+            case.debug(&(report.node, stage));
         }
     }
     for report in reports {
         if report.ended_at.is_none() {
-            out.show(&report.node);
+            case.show(&report.node);
         }
     }
 }
 
 // A command to an open space.
-fn on_space<R, D>(
-    rt: &R,
-    opened: &mut Opened<D>,
-    line: &str,
-    out: &mut Out,
-) -> Result<(), CaseError>
-where
-    R: Clock + Threads + Wait,
-    D: Disk + Send + Drop + 'static,
-{
-    match verb(line) {
-        "look" => match opened.space.watch() {
-            Some(mut watch) => out.show(&opened.space.look(&mut watch).number),
-            None => out.text("no watch is left"),
-        },
-        "over" => out.debug(&opened.space.ended().is_some()),
-        "wait" => {
-            await_end(rt, &opened.space);
-            out.text("ok");
-        }
-        "sleep" => thread::sleep(rt, Duration::from_micros(number(line, 1)?)),
-        _ => return on_node(rt, opened, line, out),
-    }
-    Ok(())
-}
-
-// A command to the node whose number comes first, or after the verb.
-fn on_node<R, D>(rt: &R, opened: &Opened<D>, line: &str, out: &mut Out) -> Result<(), CaseError>
+fn on_space<R, D>(rt: &R, opened: &mut Opened<D>, case: &mut Case)
 where
     R: Clock + Wait,
     D: Disk + Send + Drop + 'static,
 {
-    let node = node_in(line)?;
-    let Some(cell) = opened.space.program(node) else {
-        return Err(CaseError::Unknown);
-    };
-    match verb(line) {
-        "turn" => {
-            turn_often(rt, cell, node, opened.nodes, number(line, 2)?);
-            out.text("ok");
+    match case.verb() {
+        "look" => match opened.space.watch() {
+            Some(mut watch) => case.show(&opened.space.look(&mut watch).number),
+            None => case.text("no watch is left"),
+        },
+        "over" => case.debug(&opened.space.ended().is_some()),
+        "wait" => {
+            await_end(rt, &opened.space);
+            case.text("ok");
         }
-        "trace" => put_trace(rt, cell, out),
-        "send" => out.answer(cell.pump_out(rt, number(line, 2)?)),
-        "receive" => out.answer(cell.pump_in(rt, number(line, 2)?)),
-        _ => return on_cell(rt, cell, line, out),
+        "sleep" => thread::sleep(rt, Duration::from_micros(case.number(1))),
+        _ => on_node(rt, opened, case),
     }
-    Ok(())
+}
+
+// A command to the node whose number comes first, or after the verb.
+fn on_node<R, D>(rt: &R, opened: &Opened<D>, case: &mut Case)
+where
+    R: Clock + Wait,
+    D: Disk + Send + Drop + 'static,
+{
+    let node = case.node();
+    let Some(cell) = opened.space.program(node) else {
+        case.unknown();
+        return;
+    };
+    match case.verb() {
+        "turn" => {
+            turn_often(rt, cell, node, opened.nodes, case.number(2));
+            case.text("ok");
+        }
+        "trace" => put_trace(rt, cell, case),
+        "send" => {
+            let to = case.number(2);
+            case.answer(cell.pump_out(rt, to));
+        }
+        "receive" => {
+            let from = case.number(2);
+            case.answer(cell.pump_in(rt, from));
+        }
+        _ => on_cell(rt, cell, case),
+    }
 }
 
 // A command to a cell.
-fn on_cell<R: Clock + Wait, D: Disk>(
-    rt: &R,
-    cell: &Shared<D>,
-    line: &str,
-    out: &mut Out,
-) -> Result<(), CaseError> {
-    match verb(line) {
-        "save" => out.done(cell.save(rt)),
+fn on_cell<R: Clock + Wait, D: Disk>(rt: &R, cell: &Shared<D>, case: &mut Case) {
+    match case.verb() {
+        "save" => case.done(cell.save(rt)),
         "reopen" => match cell.reopen(rt) {
-            Ok(_) => out.text("ok"),
-            Err(shut) => out.refused(shut.refusal()),
+            Ok(_) => case.text("ok"),
+            Err(shut) => case.refused(shut.refusal()),
         },
         "raise" => match cell.raise(rt) {
-            Ok(_) => out.text("ok"),
-            Err(refusal) => out.refused(refusal),
+            Ok(_) => case.text("ok"),
+            Err(refusal) => case.refused(refusal),
         },
-        "unsaved" => out.debug(&cell.unsaved(rt)),
-        _ => return on_station(rt, cell, line, out),
+        "unsaved" => case.debug(&cell.unsaved(rt)),
+        _ => on_station(rt, cell, case),
     }
-    Ok(())
 }
 
 // The lines of the trace.
-fn put_trace<R: Wait, D: Disk>(rt: &R, cell: &Shared<D>, out: &mut Out) {
+fn put_trace<R: Wait, D: Disk>(rt: &R, cell: &Shared<D>, case: &mut Case) {
     match cell.trace_lines(rt) {
         Ok(lines) => {
             for line in &lines {
-                out.text(line.as_str());
+                case.text(line.as_str());
             }
         }
-        Err(refusal) => out.refused(refusal),
+        Err(refusal) => case.refused(refusal),
     }
 }
 

@@ -1,8 +1,7 @@
 //! Commands that keep nothing from one line to the next: runs of a worker, arenas whose values
 //! count how often one of them is dropped, a collection in one thread, and laws.
-use crate::out::Out;
+use crate::case::{Case, Subject};
 use crate::turns::run;
-use crate::words::{CaseError, Subject, number, verb};
 use arena::{Arena, Key};
 use ids::{Refusal, Shape};
 use model::Event;
@@ -19,20 +18,16 @@ pub(crate) struct Single<'a, R> {
 }
 
 impl<R: Wait> Subject for Single<'_, R> {
-    fn take(&mut self, line: &str, out: &mut Out) -> Result<(), CaseError> {
-        match verb(line) {
-            "run" | "stopped" => run(self.rt, line, out),
-            "drops" => put_drops(self.alloc, line, out),
+    fn take(&mut self, case: &mut Case) {
+        match case.verb() {
+            "run" | "stopped" => run(self.rt, case),
+            "drops" => put_drops(self.alloc, case),
             "laws" => {
                 call_laws();
-                out.text("ok");
-                Ok(())
+                case.text("ok");
             }
-            "collect" => {
-                out.answer(collect(self.alloc));
-                Ok(())
-            }
-            _ => Err(CaseError::Unknown),
+            "collect" => case.answer(collect(self.alloc)),
+            _ => case.unknown(),
         }
     }
 }
@@ -61,9 +56,9 @@ impl Drop for Counted<'_> {
 
 // `drops LIMIT STORED TAKEN AGAIN`: how often values were dropped after each of these steps, and
 // once the arena has ended.
-fn put_drops(alloc: Global, line: &str, out: &mut Out) -> Result<(), CaseError> {
-    let limit = number(line, 1)?;
-    let counts = [number(line, 2)?, number(line, 3)?, number(line, 4)?];
+fn put_drops(alloc: Global, case: &mut Case) {
+    let limit = case.number(1);
+    let counts = [case.number(2), case.number(3), case.number(4)];
     let drops = Cell::new(0);
     let mut arena = Arena::with_limit(alloc, limit);
     store(&mut arena, &drops, counts[0]);
@@ -74,8 +69,7 @@ fn put_drops(alloc: Global, line: &str, out: &mut Out) -> Result<(), CaseError> 
     let again = drops.get();
     drop(arena);
     let ended = drops.get();
-    out.show(&format_args!("{stored} {taken} {again} {ended}"));
-    Ok(())
+    case.show(&format_args!("{stored} {taken} {again} {ended}"));
 }
 
 // Stores this many values; a value that is refused is dropped.

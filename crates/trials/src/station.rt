@@ -2,9 +2,8 @@
 ghost use Rattle.std.specs.Prelude.{◌≡◌, true};
 ghost use Rattle.model.specs.Steps.{is_own};
 
+use crate::case::{Case, event_in};
 use crate::gates::pause;
-use crate::out::Out;
-use crate::words::{CaseError, event_in, number, rest, verb};
 use cell::Shared;
 use disk::Disk;
 use ids::Refusal;
@@ -19,18 +18,18 @@ const ASKED: u32 = u32::MAX;
 const TAKEN: u16 = 1;
 
 /// What a program does, as the line says.
-pub(crate) fn on_station<R: Clock + Wait, D: Disk>(
-    rt: &R,
-    cell: &Shared<D>,
-    line: &str,
-    out: &mut Out,
-) -> Result<(), CaseError> {
-    match verb(line) {
-        "take" => take_letters(rt, cell, number(line, 2)?, number(line, 3)?, out),
-        "until" => act_until(rt, cell, event_in(rest(line))?, out),
-        _ => out.answer(cell.act(rt, event_in(line)?)),
+pub(crate) fn on_station<R: Clock + Wait, D: Disk>(rt: &R, cell: &Shared<D>, case: &mut Case) {
+    match case.verb() {
+        "take" => take_letters(rt, cell, case.number(2), case.number(3), case),
+        "until" => match event_in(case.rest()) {
+            Some(event) => act_until(rt, cell, event, case),
+            None => case.unknown(),
+        },
+        _ => match event_in(case.line()) {
+            Some(event) => case.answer(cell.act(rt, event)),
+            None => case.unknown(),
+        },
     }
-    Ok(())
 }
 
 // Accepts at most this many letters into a register. The word of the object in register 1 becomes
@@ -40,12 +39,12 @@ fn take_letters<R: Wait, D: Disk>(
     cell: &Shared<D>,
     register: u16,
     count: u32,
-    out: &mut Out,
+    case: &mut Case,
 ) {
     for _ in 0..count {
         let answer = cell.act(rt, Event::Accept { register });
         let Ok(Answer::Letter(letter)) = answer else {
-            out.answer(answer);
+            case.answer(answer);
             return;
         };
         if letter.label != ASKED {
@@ -55,19 +54,19 @@ fn take_letters<R: Wait, D: Disk>(
             };
             let _ = cell.act(rt, taken);
         }
-        out.debug(&letter);
+        case.debug(&letter);
     }
 }
 
 // Repeats an event until there is a letter, a free slot, or no cycle under way.
-fn act_until<R: Clock + Wait, D: Disk>(rt: &R, cell: &Shared<D>, event: Event, out: &mut Out)
+fn act_until<R: Clock + Wait, D: Disk>(rt: &R, cell: &Shared<D>, event: Event, case: &mut Case)
     requires { is_own event ≡ true }
 {
     for _ in rt.forever() {
         match cell.act(rt, event) {
             Err(Refusal::NoLetter | Refusal::ArenaFull | Refusal::CycleRunning) => pause(rt),
             answer => {
-                out.answer(answer);
+                case.answer(answer);
                 return;
             }
         }

@@ -1,8 +1,7 @@
 //! Runs of a worker on a station that always has something to do. The gate ends the worker at a
 //! stage of a turn.
-use crate::gates::stage_of;
-use crate::out::Out;
-use crate::words::{CaseError, number, verb, word};
+use crate::case::Case;
+use crate::gates::stage_in;
 use ids::Refusal;
 use model::{Answer, Event};
 use std::cell::Cell;
@@ -76,22 +75,21 @@ struct Ran {
 
 /// A worker's run: `run NODE NODES TURNS END STAGE`; or one that was asked to stop before,
 /// `stopped`.
-pub(crate) fn run<R: Wait>(rt: &R, line: &str, out: &mut Out) -> Result<(), CaseError> {
+pub(crate) fn run<R: Wait>(rt: &R, case: &mut Case) {
     let busy = Busy {
-        end: (number(line, 4)?, stage_of(word(line, 5)?)?),
+        end: (case.number(4), stage_in(case, 5)),
         last: Cell::new(0),
     };
-    let (node, nodes, turns) = (number(line, 1)?, number(line, 2)?, number(line, 3)?);
+    let (node, nodes, turns) = (case.number(1), case.number(2), case.number(3));
     let stop = Stop::new();
-    if verb(line) == "stopped" {
+    if case.verb() == "stopped" {
         stop.ask();
     }
     let before = stop.ended();
     let report = run_node(rt, &busy, &busy, node, nodes, turns, &stop).report;
-    out.debug(&Ran {
+    case.debug(&Ran {
         report,
         last: busy.last.get(),
         ended: (before, stop.ended()),
     });
-    Ok(())
 }
