@@ -1,6 +1,6 @@
 #include "carrier.h"
 
-enum { RECONNECT_MS = 100, CONNECT_MS = 2000, PING_MS = 5000, BACKLOG = 1 << 20 };
+enum { RECONNECT_MS = 100, CONNECT_MS = 2000, PING_MS = 5000, BACKLOG = 1 << 20, ODD_ANSWERS = 5 };
 
 static void on_connected(natsConnection *connection, void *closure)
 {
@@ -98,6 +98,11 @@ natsStatus carrier_connect(natsConnection **it, const carrier_options *options, 
     const carrier_events *events)
 {
     natsStatus status = try_once(it, options, name, false, events);
+    // What a server sends while it begins or ends may look like another protocol.
+    for (int tries = 0; status == NATS_PROTOCOL_ERROR && tries < ODD_ANSWERS; tries++) {
+        nats_Sleep(RECONNECT_MS);
+        status = try_once(it, options, name, false, events);
+    }
     bool is_away = status == NATS_NO_SERVER || status == NATS_TIMEOUT || status == NATS_IO_ERROR
         || status == NATS_CONNECTION_CLOSED || status == NATS_CONNECTION_DISCONNECTED;
     return is_away ? try_once(it, options, name, true, events) : status;
