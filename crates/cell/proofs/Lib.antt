@@ -31,3 +31,4 @@ pub mod OneAge
 pub mod Together
 pub mod Closed
 pub mod Answered
+pub mod TraceLines

@@ -9,8 +9,8 @@ use Rattle.model.specs.declared.event.Answer.{Answer}
 use Rattle.model.specs.declared.event.Event.TheVariants as event
 use Rattle.model.specs.Steps.{is_memory_free}
 use Rattle.node.specs.Keeping.{WholeNode, next_event, next_step}
-use Rattle.trace.specs.Lines.{call_of}
-use Rattle.trace.specs.declared.trace.TraceLine.{TraceLine}
+use Rattle.cell.specs.Lines.{call_of}
+use Rattle.cell.specs.declared.trace.TraceLine.{TraceLine}
 use Rattle.wire.specs.Views.{Known}
 use Rattle.wire.specs.declared.pumped.Inbound.TheVariants as inbound
 use Rattle.cell.specs.Events.{outcome_of, Given}

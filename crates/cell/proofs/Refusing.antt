@@ -9,7 +9,7 @@ use Rattle.msg.specs.Frames.{plain}
 use Rattle.msg.specs.declared.frame.Data.{Data}
 use Rattle.msg.specs.declared.frame.Frame.{Frame}
 use Rattle.msg.specs.declared.frame.Frame.TheVariants as frame
-use Rattle.trace.specs.declared.trace.TraceLine.{TraceLine}
+use Rattle.cell.specs.declared.trace.TraceLine.{TraceLine}
 use Rattle.node.specs.Keeping.{WholeNode, waiting}
 use Rattle.wire.specs.Readers.{inbox, known}
 use Rattle.wire.specs.Views.{Known}

@@ -8,7 +8,7 @@ use Rattle.ids.proofs.names.Cycle.TheSendSync as Cycle
 use Rattle.node.proofs.keeping.Node.TheSendSync as Node
 use Rattle.events.proofs.log.Log.TheSendSync as Log
 use Rattle.replays.proofs.store.Store.TheSendSync as Store
-use Rattle.trace.proofs.trace.Trace.TheSendSync as Trace
+use Rattle.cell.proofs.trace.Trace.TheSendSync as Trace
 use Rattle.wire.proofs.seats.NodeSeat.TheSendSync as Seat
 use Rattle.wire.proofs.seats.Wire.TheSendSync as Wire
 use Rattle.disk.specs.declared.device.Disk as disk

@@ -1,7 +1,7 @@
 -- A cell as its callers see it, in terms of what it sees of its desk.
 use Rattle.std.specs.Prelude.{Bool, List}
 use Rattle.model.specs.View.{NodeView}
-use Rattle.trace.specs.declared.trace.TraceLine.{TraceLine}
+use Rattle.cell.specs.declared.trace.TraceLine.{TraceLine}
 use Rattle.cell.specs.Cells.{CellView}
 use Rattle.cell.specs.Desks.{DeskView}
 

@@ -4,7 +4,7 @@ use Rattle.std.specs.Prelude.{◌≡◌, ℕ, Bool, true, false, List, [], IsTru
 use Rattle.ids.specs.declared.limits.TheConstants.{GREATEST_NODES}
 use Rattle.model.specs.View.{NodeView}
 use Rattle.node.specs.Keeping.{WholeNode}
-use Rattle.trace.specs.declared.trace.TraceLine.{TraceLine}
+use Rattle.cell.specs.declared.trace.TraceLine.{TraceLine}
 use Rattle.disk.specs.Areas.{Areas}
 use Rattle.image.specs.Nodes.{HasImage}
 use Rattle.wire.specs.Readers.{known, seat_node, IsSame}

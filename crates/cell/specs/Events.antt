@@ -19,8 +19,8 @@ use Rattle.node.specs.Keeping.{WholeNode, early_after}
 use Rattle.wire.specs.Entering.{is_counted, known_after, Entered}
 use Rattle.wire.specs.Views.{Known, Pair, ticks}
 use Rattle.wire.specs.Plays.{Arrives, Happens, IsEventful}
-use Rattle.trace.specs.declared.call.CallOutcome as trace
-use Rattle.trace.specs.declared.call.CallOutcome.TheVariants as traced
+use Rattle.cell.specs.declared.call.CallOutcome as trace
+use Rattle.cell.specs.declared.call.CallOutcome.TheVariants as traced
 
 -- whether, after this answer, an event happened since the last save
 abbrev pub unsaved_after : Result Answer Refusal → Bool → Bool

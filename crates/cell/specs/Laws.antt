@@ -18,7 +18,7 @@ use Rattle.model.specs.State.{NodeState, Object, Occupied, got_from, node_at, sl
 use Rattle.model.specs.View.{NodeView, Shows}
 use Rattle.model.specs.World.{World, new_world, run}
 use Rattle.model.specs.Cuts.{cut, Reachable}
-use Rattle.trace.specs.declared.trace.TraceLine.{TraceLine}
+use Rattle.cell.specs.declared.trace.TraceLine.{TraceLine}
 use Rattle.node.specs.Keeping.{WholeNode}
 use Rattle.disk.specs.Areas.{Areas}
 use Rattle.wire.specs.Readers.{AreOpened}

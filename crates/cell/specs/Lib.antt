@@ -13,3 +13,4 @@ pub mod Closing
 pub mod Opened
 pub mod Looking
 pub mod Locked
+pub mod Lines

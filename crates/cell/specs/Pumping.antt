@@ -12,8 +12,8 @@ use Rattle.model.specs.declared.event.Event.TheVariants as event
 use Rattle.model.specs.declared.step.Step.TheVariants as step
 use Rattle.msg.specs.declared.frame.Data.{Data}
 use Rattle.node.specs.Keeping.{WholeNode, waiting}
-use Rattle.trace.specs.Lines.{call_of}
-use Rattle.trace.specs.declared.trace.TraceLine.{TraceLine}
+use Rattle.cell.specs.Lines.{call_of}
+use Rattle.cell.specs.declared.trace.TraceLine.{TraceLine}
 use Rattle.wire.specs.Rule as rule
 use Rattle.wire.specs.Plays.{Arrives, IsReleased}
 use Rattle.wire.specs.Readers.{inbox, known}

@@ -14,6 +14,7 @@ mod learning;
 mod pumping;
 mod saving;
 
+use crate::Trace;
 use crate::desk::Desk;
 use disk::Disk;
 use node::Core;
@@ -21,7 +22,6 @@ use replays::Store;
 use std::alloc::Global;
 use std::marker::Model;
 use std::snapshot::Snapshot;
-use trace::Trace;
 
 /// A node at its seat on a wire, the store that it is saved in, and a trace of its last calls.
 ///

@@ -34,6 +34,7 @@
 //! back what another node was told.
 #![tactic(auto)]
 
+mod call;
 mod cell;
 mod desk;
 mod disks;
@@ -47,8 +48,10 @@ mod moments;
 mod performing;
 mod sending;
 mod shared;
+mod trace;
 mod tracing;
 
+pub use call::{Call, CallOutcome};
 pub use cell::Cell;
 pub use fault::Unopened;
 pub use finding::find;
@@ -56,3 +59,4 @@ pub use headline::{laws, laws_at_once};
 pub use joining::{join, open};
 pub use moments::survey;
 pub use shared::{Naming, Reopened, Shared, SharedOn, Shut, Unnamed};
+pub use trace::{Trace, TraceLine};

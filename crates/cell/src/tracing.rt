@@ -3,9 +3,9 @@
 ghost use Rattle.std.specs.Prelude.{◌≡◌};
 ghost use Rattle.cell.specs.Events.{outcome_of, outcome_of_answer};
 
+use crate::CallOutcome;
 use ids::Refusal;
 use model::Answer;
-use trace::CallOutcome;
 
 fn answer_outcome(answer: &Answer) -> CallOutcome
     ensures { result ≡ outcome_of_answer answer.now }

@@ -4,7 +4,7 @@ use Rattle.circular_buffer.specs.Buffer.{keep_last}
 use Rattle.ids.specs.declared.limits.TheConstants.{GREATEST_IMAGE, GREATEST_NODES, TRACE_EVENTS}
 use Rattle.ids.specs.declared.refusal.Refusal.{Refusal}
 use Rattle.ids.specs.declared.refusal.Refusal.TheVariants as refusal
-use Rattle.trace.specs.Lines.{call_of}
+use Rattle.cell.specs.Lines.{call_of}
 use Rattle.model.specs.Steps.{is_memory_free}
 use Rattle.model.specs.View.{is_other, kept_view}
 use Rattle.model.specs.declared.event.Answer.{Answer}

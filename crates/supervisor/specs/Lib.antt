@@ -3,3 +3,4 @@ pub mod Closing
 pub mod Teams
 pub mod Spaces
 pub mod Reviving
+pub mod Settings

@@ -4,8 +4,8 @@ use Rattle.wire.specs.Readers.{IsSeatOf, IsWatchOf}
 use Rattle.wire.specs.declared.seats.NodeSeat.{NodeSeat}
 use Rattle.wire.specs.declared.seats.Wire.{Wire}
 use Rattle.wire.specs.declared.seats.Watch.{Watch}
-use Rattle.settings.specs.declared.fault.OpenFault.{OpenFault}
-use Rattle.settings.specs.declared.fault.OpenFault.TheVariants as fault
+use Rattle.supervisor.specs.declared.fault.OpenFault.{OpenFault}
+use Rattle.supervisor.specs.declared.fault.OpenFault.TheVariants as fault
 use Rattle.cell.specs.declared.fault.Unopened.{Unopened}
 use Rattle.cell.specs.declared.fault.Unopened.TheVariants as unopened
 

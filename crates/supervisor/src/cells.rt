@@ -12,14 +12,14 @@ ghost use Rattle.cell.specs.Closing.{AreOfOneMoment, HasBegun, HaveBegun};
 ghost use Rattle.cell.specs.Names.{name_of, IsNamed};
 ghost use Rattle.cell.specs.Opened.{AreBeside, IsChosen};
 ghost use Rattle.cell.specs.Reached.{IsReached};
-ghost use Rattle.settings.specs.declared.fault.OpenFault.TheVariants as fault;
+ghost use Rattle.supervisor.specs.declared.fault.OpenFault.TheVariants as fault;
 ghost use Rattle.supervisor.specs.Opened.{AreInPlace, AreSeats, AreWatches, IfUnopened};
 ghost use Rattle.supervisor.specs.declared.cells.TheConstants.{WATCHES};
 
+use crate::OpenFault;
 use cell::{Cell, Naming, SharedOn, Unopened};
 use disk::Disk;
 use ids::{Refusal, Saves, Shape};
-use settings::OpenFault;
 use std::alloc::Global;
 use std::sync::Arc;
 use wire::{Watch, Wire};

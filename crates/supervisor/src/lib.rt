@@ -4,14 +4,17 @@
 
 mod cells;
 mod closing;
+mod config;
+mod fault;
 mod reviving;
 mod serving;
 mod space;
 mod team;
 
 pub use closing::{CloseFault, Closed, Unclosed};
+pub use config::Config;
+pub use fault::OpenFault;
 pub use reviving::Unrevived;
 pub use serving::{Program, Served};
-pub use settings::{Config, OpenFault};
 pub use space::{AllEnded, LastLook, Opened, Space, SpaceOn};
 pub use team::{Team, TeamPlan};

@@ -20,7 +20,7 @@ ghost use Rattle.std.specs.Prelude.{
 ghost use Rattle.circular_buffer.specs.Buffer.{keep_last};
 ghost use Rattle.ids.specs.declared.limits.TheConstants.{TRACE_EVENTS};
 ghost use Rattle.ids.specs.declared.refusal.Refusal.TheVariants.{Memory};
-ghost use Rattle.trace.specs.Lines.{call_of, line_text};
+ghost use Rattle.cell.specs.Lines.{call_of, line_text};
 ghost use Rattle.model.specs.Steps.{is_memory_free, is_own};
 ghost use Rattle.node.specs.Keeping.{met, own_step};
 ghost use Rattle.wire.specs.Views.{raises};
@@ -42,6 +42,7 @@ ghost use Rattle.replays.specs.Stores.{disk_of, is_ready_in, logs_in};
 use super::Cell;
 use crate::desk::Desk;
 use crate::tracing::outcome;
+use crate::{Call, CallOutcome, Trace};
 use disk::Disk;
 use ids::Refusal;
 use model::{Answer, Event};
@@ -49,7 +50,6 @@ use node::Node;
 use replays::Store;
 use std::alloc::Global;
 use std::snapshot::Snapshot;
-use trace::{Call, CallOutcome, Trace};
 use wire::{NodeSeat, Raised, Wire};
 
 impl<D: Disk> Cell<D> {

@@ -24,12 +24,12 @@ ghost use Rattle.cell.specs.Pumping.{is_out, FoundEmpty, PumpedIn, TookFrom};
 ghost use Rattle.wire.specs.Sending.{frame_due, places_after, IsSent};
 
 use super::Cell;
+use crate::Call;
 use crate::tracing::outcome;
 use disk::Disk;
 use ids::Refusal;
 use model::{Answer, Event};
 use msg::Frame;
-use trace::Call;
 use wire::{Inbound, Outbound, Wire};
 
 // The event that a frame is.

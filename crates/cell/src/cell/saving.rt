@@ -24,7 +24,7 @@ ghost use Rattle.std.specs.Prelude.{
 ghost use Rattle.circular_buffer.specs.Buffer.{keep_last};
 ghost use Rattle.ids.specs.declared.limits.TheConstants.{GREATEST_IMAGE, GREATEST_NODES};
 ghost use Rattle.ids.specs.declared.limits.TheConstants.{TRACE_EVENTS};
-ghost use Rattle.trace.specs.declared.call.Call.TheVariants as call;
+ghost use Rattle.cell.specs.declared.call.Call.TheVariants as call;
 ghost use Rattle.model.specs.View.{kept_view};
 ghost use Rattle.node.specs.Keeping.{kept_whole};
 ghost use Rattle.image.specs.Images.{image_of};
@@ -39,9 +39,9 @@ ghost use Rattle.wire.specs.Entering.{Entered};
 ghost use Rattle.model.specs.declared.step.Step.TheVariants as step;
 
 use super::Cell;
+use crate::{Call, CallOutcome};
 use disk::{Disk, MemoryDisk};
 use ids::Refusal;
-use trace::{Call, CallOutcome};
 use wire::Wire;
 
 impl<D: Disk> Cell<D> {

@@ -2,8 +2,8 @@ use Rattle.std.proofs.Common.{◌≡◌, ◌⊎◌, Bool, IsTrue, Err, inl, inr,
 use Rattle.circular_buffer.specs.Buffer.{keep_last}
 use Rattle.ids.specs.declared.limits.TheConstants.{TRACE_EVENTS}
 use Rattle.node.specs.Keeping.{WholeNode}
-use Rattle.trace.specs.declared.call.Call.TheVariants as call
-use Rattle.trace.specs.declared.call.CallOutcome.TheVariants as outcome
+use Rattle.cell.specs.declared.call.Call.TheVariants as call
+use Rattle.cell.specs.declared.call.CallOutcome.TheVariants as outcome
 use Rattle.wire.specs.Readers.{known, IsSame}
 use Rattle.cell.specs.Cells.{CellView}
 use Rattle.cell.specs.Disks.{HoldsSaved, OpensTo, OpensToNode, is_same_node}

@@ -7,7 +7,7 @@ use Rattle.ids.specs.declared.limits.TheConstants.{TRACE_EVENTS}
 use Rattle.msg.specs.Frames.{plain}
 use Rattle.model.specs.Steps.{is_memory_free}
 use Rattle.node.specs.Keeping.{WholeNode}
-use Rattle.trace.specs.Lines.{call_of}
+use Rattle.cell.specs.Lines.{call_of}
 use Rattle.wire.specs.Rule.{sender}
 use Rattle.wire.specs.Views.{Known}
 use Rattle.wire.specs.Readers.{inbox, known}

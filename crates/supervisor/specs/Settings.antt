@@ -8,9 +8,9 @@ use Rattle.ids.specs.declared.saves.Saves.{Saves}
 use Rattle.ids.specs.declared.saves.Saves.TheVariants as saves
 use Rattle.toml.specs.Data.{Data, Members, no_members, member, as_integer, as_str, get_member}
 use Rattle.toml.specs.Parse.{parse_document}
-use Rattle.settings.specs.declared.config.Config.{Config}
-use Rattle.settings.specs.declared.config.Found.{Found}
-use Rattle.settings.specs.declared.config.TheConstants.{GREATEST_TURNS}
+use Rattle.supervisor.specs.declared.config.Config.{Config}
+use Rattle.supervisor.specs.declared.config.Found.{Found}
+use Rattle.supervisor.specs.declared.config.TheConstants.{GREATEST_TURNS}
 
 -- the sizes of a space, the most turns of a worker, what a save writes, and the folder of its disks
 pub record Settings : Type 0 where

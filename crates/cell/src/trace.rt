@@ -4,7 +4,7 @@ ghost use Rattle.std.specs.Prelude.{◌≡◌, ◌++◌, [], ◌∷◌, map, Som
 ghost use Rattle.circular_buffer.specs.Buffer.{keep_last};
 ghost use Rattle.ids.specs.declared.limits.TheConstants.{TRACE_EVENTS};
 ghost use Rattle.ids.specs.declared.refusal.Refusal.TheVariants.{Memory};
-ghost use Rattle.trace.specs.Lines.{line_text};
+ghost use Rattle.cell.specs.Lines.{line_text};
 
 use crate::call::{Call, CallOutcome};
 use circular_buffer::HeapCircularBuffer;
@@ -44,7 +44,7 @@ impl Drop for Trace {
 impl Model for Trace {
     ghost use Rattle.std.specs.Prelude.{◌≡◌, List};
     ghost use Rattle.ids.specs.declared.limits.TheConstants.{TRACE_EVENTS};
-    ghost use Rattle.trace.specs.declared.trace.TraceLine.{TraceLine};
+    ghost use Rattle.cell.specs.declared.trace.TraceLine.{TraceLine};
 
     ghost Value = { List TraceLine };
 

@@ -4,8 +4,8 @@ use Rattle.std.proofs.Math.Seq.{take-suc}
 use Rattle.std.proofs.lemmas.List.{map-append}
 use Rattle.std.proofs.lemmas.Option.{get_or_from_slice_get, slice_get_within}
 use Rattle.circular_buffer.proofs.Places.{slice_get-some}
-use Rattle.trace.specs.declared.trace.TraceLine.{TraceLine}
-use Rattle.trace.specs.Lines.{line_text}
+use Rattle.cell.specs.declared.trace.TraceLine.{TraceLine}
+use Rattle.cell.specs.Lines.{line_text}
 
 pub next_line : (lines : List TraceLine) (k : ℕ) (l : TraceLine) → slice_get lines k ≡ Some l
     → map line_text (take (k + 1) lines) ≡ map line_text (take k lines) ++ line_text l ∷ []

@@ -4,10 +4,10 @@ ghost use Rattle.std.specs.Prelude.{◌≡◌, ◌≤◌, ◌<◌, ◌+◌, ◌�
 ghost use Rattle.std.specs.Prelude.{◌==◌, option_and_then, option_map};
 ghost use Rattle.toml.specs.Data.{as_integer, get_member};
 ghost use Rattle.toml.specs.View.{table_view, view};
-ghost use Rattle.settings.specs.Settings.{count_keys, found_settings, settings_of, folder_in};
-ghost use Rattle.settings.specs.Settings.{number_at, shape_at, table_settings, text_settings};
-ghost use Rattle.settings.specs.Settings.{chosen, saves_in, saves_named, within};
-ghost use Rattle.settings.specs.declared.fault.OpenFault.TheVariants as fault;
+ghost use Rattle.supervisor.specs.Settings.{count_keys, found_settings, settings_of, folder_in};
+ghost use Rattle.supervisor.specs.Settings.{number_at, shape_at, table_settings, text_settings};
+ghost use Rattle.supervisor.specs.Settings.{chosen, saves_in, saves_named, within};
+ghost use Rattle.supervisor.specs.declared.fault.OpenFault.TheVariants as fault;
 
 use crate::fault::OpenFault;
 use ids::{GREATEST_NODES, GREATEST_REGISTERS, GREATEST_SLOTS, LEAST_NODES, Saves, Shape};

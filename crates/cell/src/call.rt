@@ -1,7 +1,7 @@
 //! What a node's thread was asked to do and the outcome, each in a few bytes. The words are those
 //! of scripts.
 ghost use Rattle.std.specs.Prelude.{◌≡◌, Some};
-ghost use Rattle.trace.specs.Lines.{call_of, outcome_text, word_of};
+ghost use Rattle.cell.specs.Lines.{call_of, outcome_text, word_of};
 
 use ids::Refusal;
 use model::Event;

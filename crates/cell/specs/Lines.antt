@@ -3,11 +3,11 @@ use Rattle.std.specs.Prelude.{ℕ, List, ◌++◌, codes, decimal}
 use Rattle.ids.specs.Refusals.{number_of}
 use Rattle.model.specs.declared.event.Event.{Event}
 use Rattle.model.specs.declared.event.Event.TheVariants as event
-use Rattle.trace.specs.declared.call.Call.{Call}
-use Rattle.trace.specs.declared.call.Call.TheVariants.{Alloc, Copy, Drop, Load, Store, Clear, Word, SetWord, Give, Accept, Put, Get, Begin, Scan, Pass, Sweep, Next, Data, Ack, Save, Reopen}
-use Rattle.trace.specs.declared.call.CallOutcome.{CallOutcome}
-use Rattle.trace.specs.declared.call.CallOutcome.TheVariants.{Done, Repeat, Early, Refused}
-use Rattle.trace.specs.declared.trace.TraceLine.{TraceLine}
+use Rattle.cell.specs.declared.call.Call.{Call}
+use Rattle.cell.specs.declared.call.Call.TheVariants.{Alloc, Copy, Drop, Load, Store, Clear, Word, SetWord, Give, Accept, Put, Get, Begin, Scan, Pass, Sweep, Next, Data, Ack, Save, Reopen}
+use Rattle.cell.specs.declared.call.CallOutcome.{CallOutcome}
+use Rattle.cell.specs.declared.call.CallOutcome.TheVariants.{Done, Repeat, Early, Refused}
+use Rattle.cell.specs.declared.trace.TraceLine.{TraceLine}
 
 abbrev pub call_of : Event → Call
 call_of (event.Alloc register places) = Alloc

@@ -1,6 +1,6 @@
 use Rattle.std.proofs.Common.{◌≡◌, map, take, string_bytes}
-use Rattle.trace.specs.Lines.{line_text}
-use Rattle.trace.proofs.trace.Trace.lines.Given as goal
+use Rattle.cell.specs.Lines.{line_text}
+use Rattle.cell.proofs.trace.Trace.lines.Given as goal
 
 -- the texts so far are those of the first lines
 abbrev pub invariant-loop-place : goal.invariant-loop-place

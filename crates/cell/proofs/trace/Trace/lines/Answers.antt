@@ -1,9 +1,9 @@
 use Rattle.std.proofs.Common.{◌++◌, [], ◌∷◌, map, string_bytes, ap, ap₂, sym, ◌∙◌, slice_get, subst, length, ◌<◌}
 use Rattle.std.proofs.lemmas.List.{map-append}
 use Rattle.std.specs.Option.{option_copied}
-use Rattle.trace.proofs.Taken.{never_past, next_line}
-use Rattle.trace.proofs.trace.Trace.lines.Goals as goal
-use Rattle.trace.proofs.trace.Trace.lines.Goals.{in-Some+in_ok-format+in_ok-push, in_default}
+use Rattle.cell.proofs.TraceLines.{never_past, next_line}
+use Rattle.cell.proofs.trace.Trace.lines.Goals as goal
+use Rattle.cell.proofs.trace.Trace.lines.Goals.{in-Some+in_ok-format+in_ok-push, in_default}
 
 pub loop-place-preserved : goal.loop-place-preserved
 loop-place-preserved c =

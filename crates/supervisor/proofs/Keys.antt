@@ -2,7 +2,7 @@
 use Rattle.std.proofs.Common.{◌≡◌, List, [], ◌∷◌, length, suc, String, Global, refl, ap}
 use Rattle.toml.specs.View.{members_view}
 use Rattle.toml.specs.declared.value.Value.{Value}
-use Rattle.settings.specs.Settings.{count_keys}
+use Rattle.supervisor.specs.Settings.{count_keys}
 
 pub as-many-keys : (es : List (String Global × Value)) → count_keys (members_view es) ≡ length es
 as-many-keys [] = refl
