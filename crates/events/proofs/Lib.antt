@@ -1,3 +1,3 @@
 pub mod Joins
 pub mod Sound
-pub mod Noting
+pub mod Within

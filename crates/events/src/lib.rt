@@ -2,15 +2,11 @@
 //!
 //! Each event is a tag in one byte and what the event says; numbers are big-endian. A message and
 //! an acknowledgement are spelled as their frames are. docs/FORMATS.md has the table ("Events").
-//!
-//! [`Log`] collects the events of a node since its last save.
 #![tactic(auto)]
 
-mod log;
 mod reading;
 mod tags;
 mod writing;
 
-pub use log::{GREATEST_LOG, Log};
 pub use reading::{read_event, spellings};
 pub use writing::add_event;

@@ -19,7 +19,7 @@ use Rattle.node.specs.Keeping.{WholeNode}
 use Rattle.image.specs.Wholes.{saved_whole}
 use Rattle.replays.specs.Laws.{one_led, one_whole}
 use Rattle.replays.specs.Values.{LeadsWhole}
-use Rattle.events.specs.declared.log.TheConstants.{GREATEST_LOG}
+use Rattle.logs.specs.declared.log.TheConstants.{GREATEST_LOG}
 use Rattle.handles.specs.Batches.{AreBatches, GaveBatch, IsStored, LogLeads, batch_of, short}
 use Rattle.handles.specs.Images.{counts_of}
 use Rattle.handles.specs.declared.lone.images.Counts.{Counts}

@@ -27,7 +27,7 @@ use Rattle.model.specs.View.{NodeView, all_kept, kept_of, kept_view, let_go, lin
 use Rattle.node.specs.Invariant.{IsNode}
 use Rattle.node.specs.Keeping.{WholeNode}
 use Rattle.replays.specs.Logs.{IsDone, Logged, is_quiet}
-use Rattle.events.specs.Noted.{Noted}
+use Rattle.logs.specs.Noted.{Noted}
 use Rattle.replays.proofs.Ends.{logged_more, logged_none}
 use Rattle.handles.specs.declared.lone.images.Counts.{Counts}
 use Rattle.image.specs.Logged.{IsAnyWholeOf}

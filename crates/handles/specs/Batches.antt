@@ -10,7 +10,7 @@ use Rattle.node.specs.Keeping.{WholeNode}
 use Rattle.image.specs.Logged.{IsAnyWholeOf}
 use Rattle.image.specs.Wholes.{saved_whole}
 use Rattle.replays.specs.Values.{LeadsWhole}
-use Rattle.events.specs.declared.log.TheConstants.{GREATEST_LOG}
+use Rattle.logs.specs.declared.log.TheConstants.{GREATEST_LOG}
 use Rattle.values.specs.Bytes.{Wrote}
 use Rattle.values.specs.declared.fault.Fault.{Fault}
 use Rattle.values.specs.declared.fault.Fault.TheVariants as fault

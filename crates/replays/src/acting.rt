@@ -9,7 +9,7 @@ ghost use Rattle.node.specs.Keeping.{AreKeptIn, early_after, met};
 ghost use Rattle.replays.specs.Logs.{is_quiet, is_turn};
 ghost use Rattle.replays.specs.Noted.{IsLogged};
 
-use events::Log;
+use logs::Log;
 use ids::Refusal;
 use model::{Answer, Event};
 use node::Node;

@@ -15,7 +15,7 @@ mod redoing;
 mod store;
 
 pub use acting::{act, is_turn, meant};
-pub use events::{GREATEST_LOG, Log};
+pub use logs::{GREATEST_LOG, Log};
 pub use images::Images;
 pub use place::Place;
 pub use redoing::LoggedImages;

@@ -21,7 +21,7 @@ use crate::place::Place;
 use crate::plain::{PlainShelf, read_plain};
 use crate::redoing::LoggedImages;
 use disk::{Disk, MemoryDisk};
-use events::Log;
+use logs::Log;
 use ids::{Refusal, Saves};
 use node::Node;
 use std::alloc::Global;

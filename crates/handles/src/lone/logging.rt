@@ -1,7 +1,7 @@
 //! The log of a node's events since its last image or batch.
 ghost use Rattle.std.specs.Prelude.{◌≡◌, false, nat_le};
 ghost use Rattle.model.specs.View.{link_to};
-ghost use Rattle.events.specs.Noted.{Noted};
+ghost use Rattle.logs.specs.Noted.{Noted};
 ghost use Rattle.handles.specs.Logs.{logging};
 ghost use Rattle.handles.specs.Lone.{Acknowledged, Given};
 

@@ -3,8 +3,9 @@ use Rattle.std.specs.Option.{option_map}
 use Rattle.std.specs.declared.alloc.Global.{Global}
 use Rattle.events.specs.Entries.{entry}
 use Rattle.events.specs.Events.{entry_of}
-use Rattle.events.proofs.Noting.{added, event_fits}
-use Rattle.events.proofs.log.Log.note.Goals as goal
+use Rattle.events.proofs.Within.{event_fits}
+use Rattle.logs.proofs.Noting.{added}
+use Rattle.logs.proofs.log.Log.note.Goals as goal
 
 pub returns-clause-noted : goal.returns-clause-noted
 returns-clause-noted c =

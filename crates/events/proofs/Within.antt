@@ -1,5 +1,4 @@
--- What becomes of a log.
-use Rattle.std.proofs.Common.{◌≡◌, ◌++◌, ℕ, List, Option, Some, None, sym, ◌∙◌}
+-- What events say is within the limits of their spellings.
 use Rattle.codec.specs.Formats.{Fits}
 use Rattle.codec.specs.Formats.{number2, number4, number8}
 use Rattle.msg.specs.declared.version.Version.TheVariants.{Second}
@@ -9,7 +8,6 @@ use Rattle.model.specs.declared.event.Event.{Event}
 use Rattle.model.specs.declared.event.Event.TheVariants as event
 use Rattle.events.specs.Entries.{entry}
 use Rattle.events.specs.Events.{entry_of}
-use Rattle.events.specs.Noted.{Noted}
 
 -- what an event says is within the limits
 pub entry_within : (e : Event) → entry.IsWithin (entry_of e)
@@ -29,19 +27,3 @@ entry_within e = tt
 
 pub event_fits : (e : Event) → entry.IsWide (entry_of e) → Fits entry (entry_of e)
 event_fits e wide = record { wide = wide; within = entry_within e }
-
-some_one : {x y : List ℕ} → ◌≡◌ {A = Option (List ℕ)} (Some x) (Some y) → x ≡ y
-some_one both = cc both
-
-pub lost : (old : Option (List ℕ)) {new : Option (List ℕ)} (e : Event) → new ≡ None
-    → Noted old new e
-lost old e none = record {
-  more = λ bytes is.
-      let both : ◌≡◌ {A = Option (List ℕ)} None (Some bytes) = sym none ∙ is in absurd cc;
-}
-
-pub added : (old : Option (List ℕ)) (e : Event) (before after : List ℕ) → Fits entry (entry_of e)
-    → old ≡ Some before → after ≡ before ++ entry.spell (entry_of e) → Noted old (Some after) e
-added old e before after fits was is = record {
-  more = λ bytes same. (fits, (before, was, sym (some_one same) ∙ is));
-}

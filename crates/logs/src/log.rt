@@ -6,10 +6,10 @@ ghost use Rattle.std.specs.Prelude.{is_some};
 ghost use Rattle.ids.specs.declared.refusal.Refusal.TheVariants.{Memory};
 ghost use Rattle.events.specs.Entries.{entry};
 ghost use Rattle.events.specs.Events.{entry_of};
-ghost use Rattle.events.specs.Noted.{Noted};
+ghost use Rattle.logs.specs.Noted.{Noted};
 
-use crate::writing::add_event;
 use codec::Piece;
+use events::add_event;
 use ids::Refusal;
 use model::Event;
 use std::alloc::Global;
