@@ -9,8 +9,8 @@ ghost use Rattle.node.specs.Keeping.{AreKeptIn, early_after, met};
 ghost use Rattle.replays.specs.Logs.{is_quiet, is_turn};
 ghost use Rattle.replays.specs.Noted.{IsLogged};
 
-use logs::Log;
 use ids::Refusal;
+use logs::Log;
 use model::{Answer, Event};
 use node::Node;
 

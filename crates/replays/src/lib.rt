@@ -15,8 +15,8 @@ mod redoing;
 mod store;
 
 pub use acting::{act, is_turn, meant};
-pub use logs::{GREATEST_LOG, Log};
 pub use images::Images;
+pub use logs::{GREATEST_LOG, Log};
 pub use place::Place;
 pub use redoing::LoggedImages;
 pub use store::{Store, read_node};
