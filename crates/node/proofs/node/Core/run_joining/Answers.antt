@@ -182,6 +182,15 @@ returns-in_err-asked c =
       unchanged = parts-same n c.make_room.ensures.same.heap refl refl left.unchanged;
     }))
 
+pub shade_held-requires : goal.shade_held-requires
+shade_held-requires c =
+    omega (
+      arith,
+      c.in_ok-make_room.ensures.room.room,
+      c.root_count.ensures.count,
+      ap (λ (h : Heap). length (roots h)) c.make_room.ensures.same.heap,
+    )
+
 pub join-requires-clause-next : goal.join-requires-clause-next
 join-requires-clause-next c = (may (goal.at.join-requires-clause-next c).After-make_room).next
 
