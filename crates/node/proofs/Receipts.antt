@@ -161,7 +161,10 @@ module _ (n : NodeView) (d : Data) where
   not-ordered addressed far =
       let is = offered-err (got_from n.local d.from) d.number far in
       subst Refuses is.0 (
-        record { performs = (λ _. rw (addressed, is.1) refl, λ memory. absurd cc); unchanged = refl },
+        record {
+          performs = (λ _. rw (addressed, is.1) refl, λ memory. absurd cc);
+          unchanged = refl;
+        },
         λ _ memory. absurd cc,
       )
 
