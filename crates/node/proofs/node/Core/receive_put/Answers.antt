@@ -19,7 +19,8 @@ pub returns-in_err-run : goal.returns-in_err-run
 returns-in_err-run c =
     let r = err_from_is_err_and c.from_residual.result c.from_residual.ensures.1 in
     rw (r.1, r.2)
-    (runs-same (put-followed c.args.from c.args.stamp _ _ c.args.target c.args.place c.args.reference
+    (runs-same
+    (put-followed c.args.from c.args.stamp _ _ c.args.target c.args.place c.args.reference
     c.is_late-due.ensures) (runs-refused refl c.in_err-run.ensures))
 
 pub returns : goal.returns

@@ -32,5 +32,6 @@ returns-in_err-run c =
 pub returns : goal.returns
 returns c =
     runs-same (swept-followed c.args.from c.args.stamp _)
-    (runs-done (run-then (λ (z : LocalState). record z { phases = with_report c.args.from c.args.stamp z.phases })
+    (runs-done (run-then
+    (λ (z : LocalState). record z { phases = with_report c.args.from c.args.stamp z.phases })
     c.in_ok-run.ensures.done c.note_swept.ensures))

@@ -16,10 +16,12 @@ pub returns-in_err-run : goal.returns-in_err-run
 returns-in_err-run c =
     let r = err_from_is_err_and c.from_residual.result c.from_residual.ensures.1 in
     rw (r.1, r.2)
-    (runs-same (token-followed c.args.from c.args.stamp _ c.args.token) (runs-refused refl c.in_err-run.ensures))
+    (runs-same (token-followed c.args.from c.args.stamp _ c.args.token)
+    (runs-refused refl c.in_err-run.ensures))
 
 pub returns : goal.returns
 returns c =
     runs-same (token-followed c.args.from c.args.stamp _ c.args.token)
-    (runs-done (run-then (λ (z : LocalState). record z { ring = record z.ring { token = Some c.args.token } })
+    (runs-done (run-then
+    (λ (z : LocalState). record z { ring = record z.ring { token = Some c.args.token } })
     c.in_ok-run.ensures.done c.hold.ensures))
