@@ -191,6 +191,16 @@ shade_held-requires c =
       ap (λ (h : Heap). length (roots h)) c.make_room.ensures.same.heap,
     )
 
+pub mark-requires-clause-room : goal.mark-requires-clause-room
+mark-requires-clause-room c =
+    omega (
+      arith,
+      c.in_ok-make_room.ensures.room.room,
+      c.shade_held.ensures.room,
+      c.root_count.ensures.count,
+      ap (λ (h : Heap). length (roots h)) c.make_room.ensures.same.heap,
+    )
+
 pub join-requires-clause-next : goal.join-requires-clause-next
 join-requires-clause-next c = (may (goal.at.join-requires-clause-next c).After-make_room).next
 

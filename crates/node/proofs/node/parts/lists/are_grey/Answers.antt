@@ -3,6 +3,14 @@ use Rattle.std.proofs.lemmas.List.{get_or_default, length-set}
 use Rattle.node.proofs.Lists.{came_more}
 use Rattle.node.proofs.node.parts.lists.are_grey.Goals as goal
 
+pub index-requires : goal.index-requires
+index-requires c =
+    omega (arith, c.is_marked.ensures.there c.if-not-is_marked.false, c.loop-slot.invariant.size)
+
+pub index_mut-requires : goal.index_mut-requires
+index_mut-requires c =
+    omega (arith, c.is_marked.ensures.there c.if-not-is_marked.false, c.loop-slot.invariant.size)
+
 pub loop-slot-preserved : goal.loop-slot-preserved
 loop-slot-preserved c =
     let now = c.loop-slot in
