@@ -35,15 +35,3 @@ invariant_of-result c =
       node = subst IsNode same (node-new shape own within there (links-new shape.nodes few));
       limit = heap.limit;
     }
-
-pub returns-clause-made : goal.returns-clause-made
-returns-clause-made c =
-    rw (
-      c.in_ok-new.ensures.made.heap,
-      c.new-2.ensures.empty,
-      c.in_ok-new-2.ensures.made,
-      c.new-4.ensures,
-      c.in_ok-new-3.ensures.made,
-      c.nodes-2.ensures.value,
-      c.nodes-3.ensures.value,
-    ) refl
