@@ -153,6 +153,9 @@ send_joining-requires-clause-nodes c =
     nodes-inside (view_of c.self.inside) _ c.self.invariant.node
     (within (goal.at.send_joining-requires-clause-nodes c).After-make_room)
 
+pub send_joining-requires-clause-sound : goal.send_joining-requires-clause-sound
+send_joining-requires-clause-sound c = c.self.invariant.node.links.links
+
 pub returns-in_err-asked : goal.returns-in_err-asked
 returns-in_err-asked c =
     let at = (goal.at.returns-in_err-asked c).After-make_room in
