@@ -1,5 +1,5 @@
 -- What the tests of a message and the limits of its frame imply.
-use Rattle.std.proofs.Common.{◌≡◌, ◌≢◌, ℕ, ◌+◌, ◌<◌, Bool, true, false, cond, ◌==◌, ◌&&◌, not, Option, Some, None, Result, Ok, Err, option_to_list, eq-eqb, refl, ap, sym, ◌∙◌, subst, arith}
+use Rattle.std.proofs.Common.{◌≡◌, ◌≢◌, ℕ, ◌+◌, ◌<◌, Bool, true, false, ◌==◌, ◌&&◌, not, Option, Some, None, Err, option_to_list, eq-eqb, refl, ap, sym, ◌∙◌, subst, arith}
 use Rattle.std.specs.Prelude.{is_none, is_some, nat_lt, nat_le, IsTrue}
 use Rattle.std.specs.List.{AllByRecursion}
 use Rattle.std.proofs.lemmas.Bool.{and_parts, cond-true, cond_both, le-leb, le-ltb, lt-leb, lt-ltb, ltb-false, ltb-true, ne_eqb}
@@ -24,8 +24,6 @@ use Rattle.model.specs.References.{IsWithin}
 use Rattle.model.proofs.Joining.{join-calm, join-phases, join-token}
 use Rattle.control.specs.Phases.{IsPhases}
 use Rattle.link.specs.Receivers.{offered}
-use Rattle.link.specs.declared.receiver.Offer.{Offer}
-use Rattle.link.specs.declared.receiver.Offer.TheVariants.{Early, Next, Repeat}
 use Rattle.node.specs.Taking.{IsTakable}
 
 reference-within : (shape : Shaped) (r : Ref) → is_within shape r ≡ true → reference_fits r ≡ true
@@ -126,17 +124,7 @@ module _ (p : LocalState) (stamp : ℕ) where
 
 offered-err : (taken number : ℕ) {e : Refusal} → offered taken number ≡ Err e
     → (OutOfOrder ≡ e) × (nat_le number (taken + WINDOW) ≡ false)
-offered-err taken number {e = e} =
-    either (nat_le number taken) (nat_le number (taken + 1)) (nat_le number (taken + WINDOW))
-  where
-    either : (a b c : Bool)
-        → ◌≡◌ {A = Result Offer Refusal}
-        (cond a (Ok Repeat) (cond b (Ok Next) (cond c (Ok Early) (Err OutOfOrder)))) (Err e)
-        → (OutOfOrder ≡ e) × (c ≡ false)
-    either true b c h = absurd cc
-    either false true c h = absurd cc
-    either false false true h = absurd cc
-    either false false false h = (cc, refl)
+offered-err taken number far = grind (arith, nat_tests)
 
 module _ (n : NodeView) (d : Data) where
   abbrev got : ℕ

@@ -58,7 +58,7 @@ impl Core {
     }
 
     #[inline(always)]
-    #[tactic(auto, unfolding(model::specs::View::view_act, model::specs::Heaps::heap_store))]
+    #[tactic(auto, using(crate::proofs::Refusing::store_refused), unfolding(model::specs::View::view_act, model::specs::Heaps::heap_store))]
     pub(crate) fn store(&mut self, object: u16, place: u8, register: u16) -> Result<Answer, Refusal>
         ensures performed { Performed false result self.old self.new
             (view_act self.old (event.Store object place register)) }

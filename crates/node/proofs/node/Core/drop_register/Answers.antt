@@ -1,5 +1,3 @@
-use Rattle.std.proofs.lemmas.Result.{err_from_is_err_and}
-use Rattle.node.proofs.Refusing.{drop-refused}
 use Rattle.node.proofs.Sound.{heap-back, node-dropped, sound-heap}
 use Rattle.node.proofs.node.Core.drop_register.Goals as goal
 
@@ -11,11 +9,3 @@ invariant_of-self-2 c =
     sound-heap c.self.invariant
     (node-dropped _ c.self.invariant.node _ _ c.in_ok-drop_register.ensures.done)
     c.in_ok-drop_register.ensures.limit
-
-pub returns-in_err-drop_register-clause-performed
-    : goal.returns-in_err-drop_register-clause-performed
-returns-in_err-drop_register-clause-performed c =
-    let p = err_from_is_err_and c.from_residual.result c.from_residual.ensures.1 in
-    let left = c.in_err-drop_register.ensures in
-    rw (p.1, p.2)
-    (drop-refused c.self.inside c.self.view_is left.unchanged _ left.refused)

@@ -2,7 +2,7 @@ use Rattle.std.proofs.Common.{◌≡◌, ◌-◌, ◌∙◌, ℕ, Bool, false, [
 use Rattle.std.proofs.lemmas.Result.{err_from_is_err_and}
 use Rattle.heap.specs.Asked.{AreSent, IsSeen}
 use Rattle.heap.proofs.Sent.{sent-then}
-use Rattle.link.specs.Links.{IsLinks, LinksView}
+use Rattle.link.specs.Links.{IsLinks}
 use Rattle.model.specs.Shading.{filled, marks_for, unasked}
 use Rattle.model.specs.Steps.{fits}
 use Rattle.model.specs.View.{used}
