@@ -130,7 +130,7 @@ module _ (n : NodeView) (d : Data) where
   abbrev got : ℕ
   got = got_from n.local d.from
 
-  -- it is refused without a look at what it says
+  -- it is refused, and not for lack of memory
   abbrev pub Refuses : Refusal → Type 0
   Refuses e =
       Performed true (Err e) n n (view_act n (event.Data d))

@@ -1,10 +1,8 @@
 -- Messages that are sent one after the other: whether all of them get numbers.
-use Rattle.std.proofs.Common.{◌≡◌, ℕ, ◌-◌, Bool, true, false, cond, List, [], ◌∷◌, ◌++◌, length, map, ap, ◌∙◌, subst, refl}
+use Rattle.std.proofs.Common.{◌≡◌, ℕ, ◌-◌, true, false, List, [], ◌∷◌, ◌++◌, length, map, ap, ◌∙◌, subst, refl}
 use Rattle.msg.specs.declared.body.Body.TheVariants as body
 use Rattle.msg.specs.declared.body.Message.{Message}
-use Rattle.ids.specs.declared.names.Ref.{Ref}
 use Rattle.model.specs.Collecting.{new_token}
-use Rattle.model.specs.Shading.{marks_for, unasked}
 use Rattle.model.specs.Steps.{fits}
 use Rattle.model.specs.View.{used}
 use Rattle.model.proofs.Appending.{fits-append}
@@ -13,8 +11,6 @@ use Rattle.link.proofs.EveryLink.{retracted_to-appended_to}
 use Rattle.heap.specs.Asked.{AreSent, all_appended}
 use Rattle.heap.proofs.Sent.{fits-then, sent-then, sent-width}
 use Rattle.node.specs.Cycles.{begins}
-use Rattle.node.specs.Errands.{extra_sends}
-use Rattle.node.specs.declared.node.errands.Extra.{Extra}
 
 -- if the first ones don't all get numbers, neither do all
 pub spent-before : (was : LinksView) (ms ns : List (ℕ × Message))
@@ -62,18 +58,6 @@ module _ (v : LinksView) (own cycle : ℕ) {last : ℕ} (last-is : last ≡ leng
       spent-after ((length v.links - 1, token) ∷ []) others first
       (subst (λ (k : ℕ). fits (map used l.links) (for_others own told k) ≡ false)
       (sent-width first) none)
-
--- ---- the Marks of references that aren't asked for yet, and then what an errand adds
-
-module _ (own cycle : ℕ) (due : Bool) (rs : List Ref) (x : Extra) where
-  abbrev pub later : List Ref → ℕ → List (ℕ × Message)
-  later keys width =
-      marks_for cycle (cond due (unasked own keys rs) []) ++ extra_sends own width cycle x
-
-  pub later-same : {keys first : List Ref} {width same : ℕ} → keys ≡ first → width ≡ same
-      → later keys width ≡ later first same
-  later-same {first = first} {width = width} is wide =
-      ap (λ (ks : List Ref). later ks width) is ∙ ap (later first) wide
 
 pub ruleset sending = (
   spent-before,

@@ -14,10 +14,3 @@ invariant_of-result c =
     AreKept c.args.core.local.shape.nodes c.args.core.local.own c.args.core.local.got es)
     (sym (c.in_ok-early.ensures.made ∙ ap (λ (k : ℕ). replicate k no_early) width))
     (alone-kept c.args.core c.state.ensures.sound)
-
-pub returns-clause-made : goal.returns-clause-made
-returns-clause-made c =
-    let width =
-    c.nodes-width.ensures.value ∙ ap (λ (s : Summary). s.shape.nodes) c.state.ensures.value in
-    ap (λ (es : Rings). record { core = c.args.core; early = es })
-    (c.in_ok-early.ensures.made ∙ ap (λ (k : ℕ). replicate k no_early) width)
