@@ -1,11 +1,14 @@
 -- What the tests of a message and the limits of its frame imply.
-use Rattle.std.proofs.Common.{◌≡◌, ℕ, ◌+◌, ◌<◌, true, false, ◌==◌, ◌&&◌, not, Option, Some, None, option_to_list, eq-eqb, refl, ap, sym, ◌∙◌, arith}
-use Rattle.std.specs.Prelude.{is_none, is_some, nat_lt, nat_le}
+use Rattle.std.proofs.Common.{◌≡◌, ◌≢◌, ℕ, ◌+◌, ◌<◌, Bool, true, false, ◌==◌, ◌&&◌, not, Option, Some, None, Err, option_to_list, eq-eqb, refl, ap, sym, ◌∙◌, subst, arith}
+use Rattle.std.specs.Prelude.{is_none, is_some, nat_lt, nat_le, IsTrue}
 use Rattle.std.specs.List.{AllByRecursion}
-use Rattle.std.proofs.lemmas.Bool.{and_parts, cond-true, cond_both, le-leb, lt-ltb, ltb-false, ltb-true, ne_eqb}
+use Rattle.std.proofs.lemmas.Bool.{and_parts, cond-true, cond_both, le-leb, le-ltb, lt-leb, lt-ltb, ltb-false, ltb-true, ne_eqb}
 use Rattle.std.proofs.lemmas.Bool.Decides.{nat_tests}
 use Rattle.ids.specs.Limits.{Shaped, reference_fits}
+use Rattle.ids.specs.declared.limits.TheConstants.{WINDOW}
 use Rattle.ids.specs.declared.names.Ref.{Ref}
+use Rattle.ids.specs.declared.refusal.Refusal.{Refusal}
+use Rattle.ids.specs.declared.refusal.Refusal.TheVariants.{Memory, OutOfOrder, WrongNode}
 use Rattle.msg.specs.Limits.{optional_fits, body_fits}
 use Rattle.msg.specs.declared.body.Body.{Body}
 use Rattle.msg.specs.declared.body.Token.{Token}
@@ -14,10 +17,13 @@ use Rattle.msg.specs.declared.body.Body.TheVariants as body
 use Rattle.model.specs.State.{LocalState, Phases, got_from}
 use Rattle.model.specs.Effects.{Work, at_rest}
 use Rattle.model.specs.Shading.{filled, is_calm, join, joined, roots, stays_calm}
-use Rattle.model.specs.Steps.{is_addressed, is_marking, is_within, are_within, mentioned, may_reach, may_take}
+use Rattle.model.specs.declared.event.Event.TheVariants as event
+use Rattle.model.specs.Steps.{is_addressed, is_marking, is_memory_free, is_within, are_within, mentioned, may_reach, may_take}
+use Rattle.model.specs.View.{NodeView, Performed, view_act}
 use Rattle.model.specs.References.{IsWithin}
 use Rattle.model.proofs.Joining.{join-calm, join-phases, join-token}
 use Rattle.control.specs.Phases.{IsPhases}
+use Rattle.link.specs.Receivers.{offered}
 use Rattle.node.specs.Taking.{IsTakable}
 
 reference-within : (shape : Shaped) (r : Ref) → is_within shape r ≡ true → reference_fits r ≡ true
@@ -113,5 +119,64 @@ module _ (p : LocalState) (stamp : ℕ) where
       ∙ eq-eqb stamp stamp refl
       ∙ sym (le-leb p.phases.cycle stamp (omega (arith, less))))
       (λ here. let most = ltb-false p.phases.cycle stamp here in grind (arith, nat_tests, most))
+
+-- ---- a message that isn't received
+
+offered-err : (taken number : ℕ) {e : Refusal} → offered taken number ≡ Err e
+    → (OutOfOrder ≡ e) × (nat_le number (taken + WINDOW) ≡ false)
+offered-err taken number far = grind (arith, nat_tests)
+
+module _ (n : NodeView) (d : Data) where
+  abbrev got : ℕ
+  got = got_from n.local d.from
+
+  -- it is refused, and not for lack of memory
+  abbrev pub Refuses : Refusal → Type 0
+  Refuses e =
+      Performed true (Err e) n n (view_act n (event.Data d))
+      × (IsTrue (is_memory_free n.local (event.Data d)) → e ≢ Memory)
+
+  pub not-addressed : is_addressed n.local d.from d.to ≡ false → Refuses WrongNode
+  unfolding view_act
+  not-addressed wrong = (
+    record { performs = (λ _. rw wrong refl, λ memory. absurd cc); unchanged = refl },
+    λ _ memory. absurd cc,
+  )
+
+  pub not-ordered : {e : Refusal} → is_addressed n.local d.from d.to ≡ true
+      → offered (got_from n.local d.from) d.number ≡ Err e → Refuses e
+  unfolding view_act
+  not-ordered addressed far =
+      let is = offered-err (got_from n.local d.from) d.number far in
+      subst Refuses is.0 (
+        record {
+          performs = (λ _. rw (addressed, is.1) refl, λ memory. absurd cc);
+          unchanged = refl;
+        },
+        λ _ memory. absurd cc,
+      )
+
+  -- its turn has come
+  module _ (addressed : is_addressed n.local d.from d.to ≡ true)
+      (turn : d.number ≡ got_from n.local d.from + 1) where
+    pub not-takable : may_take n.local d.from d.stamp d.body ≡ false → Refuses WrongNode
+    unfolding view_act
+    not-takable may =
+        let inside : nat_le d.number (got + WINDOW) ≡ true = le-leb _ _ (omega (arith, turn)) in
+        let new : nat_le d.number got ≡ false = lt-leb d.number got (omega (arith, turn)) in
+        let due : nat_lt (got + 1) d.number ≡ false =
+        le-ltb (got + 1) d.number (omega (arith, turn)) in (
+          record {
+            performs = (λ _. rw (addressed, inside, new, due, may) refl, λ memory. absurd cc);
+            unchanged = refl;
+          },
+          λ _ memory. absurd cc,
+        )
+
+    pub busy : IsTrue (is_memory_free n.local (event.Data d)) → ⊥
+    busy free =
+        let never : not true ≡ true =
+        subst (λ (b : Bool). not b ≡ true) (eq-eqb d.number (got + 1) turn) free in
+        absurd cc
 
 pub ruleset joining = (joined-token, joined-swept, marks-later, calm-later)

@@ -17,6 +17,7 @@ use Rattle.model.proofs.Checks.{guarded-ok, guarded-passes}
 use Rattle.model.proofs.References.{holds-letter_gone, holds-with_register, holds-with_object, holds-with_place, holds-with_word}
 use Rattle.model.proofs.Stocks.{stocked-letter_gone, stocked-object, stocked-place, stocked-register, stocked-word}
 use Rattle.heap.specs.Heap.{HeapView}
+use Rattle.link.specs.Links.{LinksView}
 use Rattle.node.specs.Inside.{view_of, IsSound}
 use Rattle.node.specs.Invariant.{IsNode}
 use Rattle.node.specs.declared.node.Core.TheInside.{Inside}
@@ -90,7 +91,7 @@ module _ (n : NodeView) (old : IsNode n) where
       → IsNode (with_heap n h) → IsNode (with_heap n g)
   tested tests h g e is = subst (λ (z : Heap). IsNode (with_heap n z)) (guarded-ok tests h g e) is
 
-  node-registered : (register : ℕ) (v : Option Ref) → IfAny (IsWithin n.local.shape) v
+  pub node-registered : (register : ℕ) (v : Option Ref) → IfAny (IsWithin n.local.shape) v
       → IsNode (with_heap n (with_register n.local.heap register v))
   node-registered register v within =
       let p = n.local in
@@ -173,5 +174,16 @@ module _ (n : NodeView) (old : IsNode n) where
 pub sound-heap : {m : Inside} {h : HeapView} → IsSound m → IsNode (with_heap (view_of m) h.heap)
     → h.limit ≡ m.heap.limit → IsSound (record m { heap = h })
 sound-heap was node same = record { node = node; limit = same ∙ was.limit }
+
+-- the struct as it was, since the part that a call could have changed is as it was
+pub heap-back : {m : Inside} {h : HeapView} → IsSound m → h ≡ m.heap
+    → IsSound (record m { heap = h })
+heap-back {m = m} was same =
+    subst (λ (z : HeapView). IsSound (record m { heap = z })) (sym same) was
+
+pub links-back : {m : Inside} {l : LinksView} → IsSound m → l ≡ m.links
+    → IsSound (record m { links = l })
+links-back {m = m} was same =
+    subst (λ (z : LinksView). IsSound (record m { links = z })) (sym same) was
 
 pub ruleset allocated = (alloc-answered)

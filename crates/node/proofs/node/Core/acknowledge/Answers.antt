@@ -1,7 +1,11 @@
 use Rattle.std.proofs.Common.{sym, ◌∙◌}
 use Rattle.node.specs.Inside.{view_of}
 use Rattle.node.proofs.Nodes.{node-trimmed}
+use Rattle.node.proofs.Sound.{links-back}
 use Rattle.node.proofs.node.Core.acknowledge.Goals as goal
+
+pub invariant_of-self : goal.invariant_of-self
+invariant_of-self c = links-back c.self.invariant c.in_err-trim.ensures.unchanged
 
 pub invariant_of-self-2 : goal.invariant_of-self-2
 invariant_of-self-2 c =

@@ -1,7 +1,10 @@
 use Rattle.std.proofs.Common.{arith, ◌∙◌}
 use Rattle.node.specs.Inside.{view_of}
-use Rattle.node.proofs.Sound.{Allocates, node-allocated}
+use Rattle.node.proofs.Sound.{Allocates, heap-back, node-allocated}
 use Rattle.node.proofs.node.Core.allocate.Goals as goal
+
+pub invariant_of-self : goal.invariant_of-self
+invariant_of-self c = heap-back c.self.invariant c.in_err-reference.ensures.unchanged
 
 pub invariant_of-self-2 : goal.invariant_of-self-2
 invariant_of-self-2 c =

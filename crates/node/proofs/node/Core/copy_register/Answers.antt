@@ -1,5 +1,8 @@
-use Rattle.node.proofs.Sound.{node-copied, sound-heap}
+use Rattle.node.proofs.Sound.{heap-back, node-copied, sound-heap}
 use Rattle.node.proofs.node.Core.copy_register.Goals as goal
+
+pub invariant_of-self : goal.invariant_of-self
+invariant_of-self c = heap-back c.self.invariant c.in_err-copy_register.ensures.unchanged
 
 pub invariant_of-self-2 : goal.invariant_of-self-2
 invariant_of-self-2 c =

@@ -1,3 +1,4 @@
+use Rattle.std.proofs.Common.{refl}
 use Rattle.std.proofs.lemmas.Result.{err_from_is_err_and}
 use Rattle.link.specs.Links.{LinksView}
 use Rattle.link.specs.Parts.{links_given}
@@ -13,6 +14,20 @@ returns-in_err-asked-clause-refused c =
     (λ other.
     let told = c.in_err-asked.ensures.refused other in
     (told.0, λ is. told.1 (parts-from (node_given c.args.parts) is.node)))
+
+pub returns-in_err-links-clause-refused : goal.returns-in_err-links-clause-refused
+returns-in_err-links-clause-refused c =
+    let exit = c.from_residual-in_err-links in
+    let r = err_from_is_err_and exit.result exit.ensures.1 in
+    rw (r.1, r.2)
+    (λ other.
+    let told = c.in_err-links.ensures.refused other in
+    (told.0, λ is. told.1 is.node.links.links))
+
+pub returns-clause-made : goal.returns-clause-made
+returns-clause-made c =
+    rw (c.in_ok-heap.ensures.made.heap, c.in_ok-asked.ensures.asked, c.in_ok-links.ensures.made)
+    refl
 
 pub returns-clause-right : goal.returns-clause-right
 returns-clause-right c =

@@ -13,11 +13,12 @@ use Rattle.link.specs.Links.{IsLinks}
 use Rattle.heap.specs.Asked.{IsRefused, all_appended}
 use Rattle.node.specs.Errands.{errand, extra_ring, extra_sends, listed, with_extra}
 use Rattle.node.specs.Inside.{view_of}
-use Rattle.node.specs.Invariant.{links_of}
+use Rattle.node.specs.Invariant.{IsNode, links_of}
 use Rattle.node.proofs.Balances.{balance-small}
 use Rattle.node.proofs.Errands.{IsDone, Parts, Plan, Ready, here-idle, here-run, here-sends, here-stands, marked-small, met-within, nodes-inside, planned}
 use Rattle.node.proofs.Events.{parts-same}
 use Rattle.node.proofs.Runs.{errand-joins, errand-stays, runs-done, runs-same}
+use Rattle.node.proofs.Sound.{sound-heap, with_heap}
 use Rattle.ids.specs.declared.names.Ref.{Ref}
 use Rattle.node.proofs.node.Core.run.Goals as goal
 use Rattle.node.proofs.node.Core.run.Goals.{After-count, After-count-arg-1, After-is_empty}
@@ -147,6 +148,23 @@ done c =
           (counted_marks k n.local.ring)) c.in_ok-marks.ensures.count;
       sent = c.in_ok-marks.ensures.done;
     })
+
+pub invariant_of-self : goal.invariant_of-self
+invariant_of-self c =
+    let same = c.make_room.ensures.same in
+    let n : NodeView = view_of c.self.inside in
+    sound-heap c.self.invariant
+    (subst (λ (h : Heap). IsNode (with_heap n h)) (sym same.heap) c.self.invariant.node) same.limit
+
+pub invariant_of-self-in_err-marks : goal.invariant_of-self-in_err-marks
+invariant_of-self-in_err-marks c =
+    let same = c.make_room.ensures.same in
+    let left = c.in_err-marks.ensures.unchanged in
+    record {
+      node = subst IsNode (sym (parts-same (view_of c.self.inside) same.heap left.0 refl left.1))
+          c.self.invariant.node;
+      limit = same.limit ∙ c.self.invariant.limit;
+    }
 
 pub invariant_of-self-2 : goal.invariant_of-self-2
 invariant_of-self-2 c =

@@ -24,6 +24,7 @@ use Rattle.node.specs.Invariant.{IsNode, links_of}
 use Rattle.node.proofs.Balances.{balance-small}
 use Rattle.node.proofs.Errands.{IsDone, Parts, Plan, Ready, here-run, here-stands, joined-stands, joined_node, joined_plan, joining-refused, joining-run, marked-small, nodes-inside}
 use Rattle.node.proofs.Events.{parts-same, with_parts}
+use Rattle.node.proofs.Sound.{sound-heap, with_heap}
 use Rattle.node.proofs.node.Core.run_joining.Goals as goal
 use Rattle.node.proofs.node.Core.run_joining.Goals.{After-make_room, After-count-arg-1, After-count}
 
@@ -152,6 +153,9 @@ send_joining-requires-clause-nodes c =
     nodes-inside (view_of c.self.inside) _ c.self.invariant.node
     (within (goal.at.send_joining-requires-clause-nodes c).After-make_room)
 
+pub send_joining-requires-clause-sound : goal.send_joining-requires-clause-sound
+send_joining-requires-clause-sound c = c.self.invariant.node.links.links
+
 pub returns-in_err-asked : goal.returns-in_err-asked
 returns-in_err-asked c =
     let at = (goal.at.returns-in_err-asked c).After-make_room in
@@ -181,6 +185,31 @@ returns-in_err-asked c =
       unchanged = parts-same n c.make_room.ensures.same.heap refl refl left.unchanged;
     }))
 
+pub shade_held-requires : goal.shade_held-requires
+shade_held-requires c =
+    omega (
+      arith,
+      c.in_ok-make_room.ensures.room.room,
+      c.root_count.ensures.count,
+      ap (λ (h : Heap). length (roots h)) c.make_room.ensures.same.heap,
+    )
+
+pub mark-requires-clause-room : goal.mark-requires-clause-room
+mark-requires-clause-room c =
+    omega (
+      arith,
+      c.in_ok-make_room.ensures.room.room,
+      c.shade_held.ensures.room,
+      c.root_count.ensures.count,
+      ap (λ (h : Heap). length (roots h)) c.make_room.ensures.same.heap,
+    )
+
+pub join-requires-clause-next : goal.join-requires-clause-next
+join-requires-clause-next c = (may (goal.at.join-requires-clause-next c).After-make_room).next
+
+pub join-requires-clause-swept : goal.join-requires-clause-swept
+join-requires-clause-swept c = (may (goal.at.join-requires-clause-swept c).After-make_room).swept
+
 pub join-requires-2 : goal.join-requires-2
 join-requires-2 c = balance-small (view_of c.self.inside) c.self.invariant.node
 
@@ -208,6 +237,22 @@ count-requires-clause-counted c =
     (sym (ap (λ (k : ℕ). counted_marks k c.count_marks.new.self) count
     ∙ ap (counted_marks _) (ring-joined c)))
     (marked-small (plan c) (ready c))
+
+pub invariant_of-self : goal.invariant_of-self
+invariant_of-self c =
+    let same = c.make_room.ensures.same in
+    let n : NodeView = view_of c.self.inside in
+    sound-heap c.self.invariant
+    (subst (λ (h : Heap). IsNode (with_heap n h)) (sym same.heap) c.self.invariant.node) same.limit
+
+pub invariant_of-self-in_err-asked : goal.invariant_of-self-in_err-asked
+invariant_of-self-in_err-asked c =
+    let same = c.make_room.ensures.same in
+    record {
+      node = subst IsNode (sym (parts-same (view_of c.self.inside) same.heap refl refl
+          c.in_err-asked.ensures.unchanged)) c.self.invariant.node;
+      limit = same.limit ∙ c.self.invariant.limit;
+    }
 
 pub invariant_of-self-2 : goal.invariant_of-self-2
 invariant_of-self-2 c =

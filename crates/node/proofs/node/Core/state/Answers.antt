@@ -3,9 +3,12 @@ use Rattle.heap.specs.Heap.{IsSlotted}
 use Rattle.link.proofs.EveryLink.{links-kept}
 use Rattle.model.specs.View.{NodeView, kept_view}
 use Rattle.node.specs.Inside.{view_of}
-use Rattle.node.specs.Invariant.{IsStanding, links_of}
+use Rattle.node.specs.Invariant.{IsNode, IsStanding, links_of}
 use Rattle.node.proofs.Nodes.{node-kept}
 use Rattle.node.proofs.node.Core.state.Goals as goal
+
+pub returns-clause-sound : goal.returns-clause-sound
+returns-clause-sound c = subst IsNode c.self.view_is c.self.invariant.node
 
 pub returns-clause-saved : goal.returns-clause-saved
 returns-clause-saved c =

@@ -4,9 +4,12 @@ use Rattle.model.specs.Heaps.{heap_store}
 use Rattle.model.specs.View.{NodeView}
 use Rattle.heap.specs.Heap.{HeapView}
 use Rattle.node.specs.Inside.{view_of}
-use Rattle.node.proofs.Sound.{node-stored, sound-heap}
+use Rattle.node.proofs.Sound.{heap-back, node-stored, sound-heap}
 use Rattle.node.proofs.Refusing.{store_refused}
 use Rattle.node.proofs.node.Core.store.Goals as goal
+
+pub invariant_of-self : goal.invariant_of-self
+invariant_of-self c = heap-back c.self.invariant c.in_err-store.ensures.unchanged
 
 pub invariant_of-self-2 : goal.invariant_of-self-2
 invariant_of-self-2 c =

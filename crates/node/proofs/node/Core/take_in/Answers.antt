@@ -7,7 +7,7 @@ use Rattle.link.specs.declared.receiver.Offer.{Offer}
 use Rattle.link.specs.Receivers.{offered}
 use Rattle.node.specs.Inside.{view_of}
 use Rattle.link.proofs.OneLink.{offered-next}
-use Rattle.node.proofs.Receipts.{takable}
+use Rattle.node.proofs.Receipts.{busy, not-addressed, not-ordered, not-takable, takable}
 use Rattle.node.proofs.Receiving.{run-sender, taken-performed, taken-refused}
 use Rattle.std.proofs.lemmas.Result.{err_from_is_err_and}
 use Rattle.model.specs.declared.event.Answer.TheVariants as answer
@@ -35,6 +35,34 @@ comes-next c asked =
     omega (arith, turn)
 
 -- ---- the goals
+
+pub returns-then-not-is_addressed : goal.returns-then-not-is_addressed
+returns-then-not-is_addressed c =
+    let refused = not-addressed c.args.self.now c.args.frame
+    (sym c.is_addressed.ensures ∙ c.if-not-is_addressed.true) in
+    record { performed = refused.0; memory_free = refused.1 }
+
+pub returns-in_err-offer : goal.returns-in_err-offer
+returns-in_err-offer c =
+    let r = err_from_is_err_and c.from_residual.result c.from_residual.ensures.1 in
+    let far = subst
+    (λ (n : NodeView). offered (got_from n.local c.args.frame.from) c.args.frame.number
+    ≡ Err c.in_err-offer.field-0.0) c.self.view_is (sym c.offer.ensures ∙ c.in_err-offer.was) in
+    let refused = not-ordered c.args.self.now c.args.frame
+    (sym c.is_addressed.ensures ∙ c.if-not-is_addressed.false) far in
+    rw (r.1, r.2) (record { performed = refused.0; memory_free = refused.1 })
+
+pub returns-then-not-may_take : goal.returns-then-not-may_take
+returns-then-not-may_take c =
+    let at = (goal.at.returns-then-not-may_take c).In-Next in
+    let refused = not-takable c.args.self.now c.args.frame (addressed at)
+    (comes-next at c.offer.ensures) (sym c.may_take.ensures ∙ c.if-not-may_take.true) in
+    record { performed = refused.0; memory_free = refused.1 }
+
+pub returns-in_err-receive-clause-memory_free : goal.returns-in_err-receive-clause-memory_free
+returns-in_err-receive-clause-memory_free c = λ free.
+    let at = (goal.at.returns-in_err-receive-clause-memory_free c).In-Next in
+    absurd (busy c.args.self.now c.args.frame (addressed at) (comes-next at c.offer.ensures) free)
 
 pub receive-requires : goal.receive-requires
 receive-requires c =

@@ -1,7 +1,11 @@
 use Rattle.model.specs.Counting.{stamped}
 use Rattle.model.specs.References.{IsSendable}
 use Rattle.node.proofs.Nodes.{node-told}
+use Rattle.node.proofs.Sound.{links-back}
 use Rattle.node.proofs.node.Core.tell.Goals as goal
+
+pub invariant_of-self : goal.invariant_of-self
+invariant_of-self c = links-back c.self.invariant c.in_err-announce.ensures.unchanged
 
 pub invariant_of-self-2 : goal.invariant_of-self-2
 invariant_of-self-2 c =
