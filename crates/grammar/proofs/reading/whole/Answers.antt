@@ -1,13 +1,7 @@
 use Rattle.std.proofs.Common.{refl, sym, ◌∙◌}
-use Rattle.std.proofs.lemmas.Result.{err_from_is_err_and}
 use Rattle.codec.proofs.Readers.{no_whole, whole_is}
 use Rattle.grammar.specs.Grammar.{image_format}
 use Rattle.grammar.proofs.reading.whole.Goals as goal
-
-pub returns-in_err-image : goal.returns-in_err-image
-returns-in_err-image c =
-    let p = err_from_is_err_and c.from_residual.result c.from_residual.ensures.1 in
-    rw (p.1, p.2) (λ other. absurd (other c.in_err-image.ensures.refused))
 
 pub returns-then-finish : goal.returns-then-finish
 returns-then-finish c =

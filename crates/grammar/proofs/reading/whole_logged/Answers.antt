@@ -1,5 +1,4 @@
 use Rattle.std.proofs.Common.{Some, ap, refl, sym, ◌∙◌}
-use Rattle.std.proofs.lemmas.Result.{err_from_is_err_and}
 use Rattle.codec.proofs.Readers.{no_whole, whole_is}
 use Rattle.msg.specs.declared.version.Version.TheVariants.{Second}
 use Rattle.grammar.specs.Grammar.{stored_format}
@@ -10,11 +9,6 @@ pub returns-then-not-begins_logged : goal.returns-then-not-begins_logged
 unfolding logged_at
 returns-then-not-begins_logged c = λ other.
     (refl, rw (sym c.begins_logged.ensures ∙ c.if-not-begins_logged.true) refl)
-
-pub returns-in_err-parts : goal.returns-in_err-parts
-returns-in_err-parts c =
-    let p = err_from_is_err_and c.from_residual.result c.from_residual.ensures.1 in
-    rw (p.1, p.2) (λ other. absurd (other c.in_err-parts.ensures.refused))
 
 pub returns-then-not-finish : goal.returns-then-not-finish
 unfolding logged_at
