@@ -274,7 +274,6 @@ impl Readable for Letter {
 impl Readable for Message {
     ghost format = { message_format };
 
-    #[tactic(auto, unfolding(crate::specs::Grammar::message_format), using(crate::proofs::Joins::both_read, crate::proofs::Joins::passed, crate::proofs::Joins::made))]
     fn read(_alloc: Global, version: Version, reader: &mut Reader) -> Result<Message, Refusal> {
         let stamp = reader.u64();
         let body = read_body(reader, version);
