@@ -189,10 +189,7 @@ impl Sim {
         ensures early { option_map (λ n. n.early) (option_copied result)
             ≡ slice_get self.now.early number }
     {
-        match self.sites.get(usize::from(number)) {
-            Some(site) => Some(site.node()),
-            None => None,
-        }
+        Some(self.sites.get(usize::from(number))?.node())
     }
 
     /// A summary, in numbers, of the current node of this number, if there is one.
