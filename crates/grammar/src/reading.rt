@@ -274,7 +274,6 @@ impl Readable for Letter {
 impl Readable for Message {
     ghost format = { message_format };
 
-    #[tactic(auto, unfolding(crate::specs::Grammar::message_format), using(crate::proofs::Joins::both_read, crate::proofs::Joins::passed, crate::proofs::Joins::made))]
     fn read(_alloc: Global, version: Version, reader: &mut Reader) -> Result<Message, Refusal> {
         let stamp = reader.u64();
         let body = read_body(reader, version);
@@ -366,7 +365,6 @@ fn read_each_slot(
 }
 
 // The slots, and which of them are free and which grey.
-#[tactic(auto, unfolding(crate::specs::Grammar::slots_format), using(crate::proofs::Joins::both_read, crate::proofs::Joins::counted_read))]
 fn read_slots(
     alloc: Global,
     version: Version,
@@ -402,7 +400,6 @@ fn read_others(
     Ok((asked, (letters, links)))
 }
 
-#[tactic(auto, unfolding(crate::specs::Grammar::stored_format, crate::specs::Grammar::lists_format), using(crate::proofs::Joins::both_read, crate::proofs::Joins::joined_read, crate::proofs::Joins::made))]
 fn read_stored(alloc: Global, version: Version, reader: &mut Reader) -> Result<StoredNode, Refusal>
     ensures value { IfOk result
         (λ x. Reads (stored_format version) reader.old reader.new (stored_of x)) }
@@ -430,7 +427,6 @@ fn read_stored(alloc: Global, version: Version, reader: &mut Reader) -> Result<S
     })
 }
 
-#[tactic(auto, unfolding(crate::specs::Grammar::image_format), using(crate::proofs::Joins::joined_read))]
 fn read_image(alloc: Global, reader: &mut Reader) -> Result<(Version, StoredNode), Refusal>
     ensures value { IfOk result
         (λ x. Reads image_format reader.old reader.new (x.0, stored_of x.1)) }
@@ -445,7 +441,6 @@ fn read_image(alloc: Global, reader: &mut Reader) -> Result<(Version, StoredNode
 /// contradict each other, and then no node has them. Fails with `BadImage` if the bytes spell no
 /// parts, and with `Memory` if an allocation fails. Memory and time are proportional to the number
 /// of bytes.
-#[tactic(auto, using(crate::proofs::Joins::whole_read))]
 pub fn whole(alloc: Global, bytes: &[u8]) -> Result<(Version, StoredNode), Refusal>
     ensures { Gives (λ x. (x.0, stored_of x.1)) result (whole_at image_format.read bytes.now) }
 {
@@ -472,7 +467,6 @@ pub fn begins_logged(bytes: &[u8]) -> bool
 
 /// The parts that all of the bytes together say, if they begin as [`begins_logged`] tests. It fails
 /// as [`whole`] does.
-#[tactic(auto, unfolding(crate::specs::Logs::logged_at), using(crate::proofs::Joins::whole_read))]
 pub fn whole_logged(alloc: Global, bytes: &[u8]) -> Result<StoredNode, Refusal>
     ensures { Gives stored_of result (logged_at bytes.now) }
 {

@@ -1,12 +1,14 @@
 -- The messages that the nodes of a space keep were released; this is so after each step.
 use Rattle.std.proofs.Common.{◌≡◌, ◌≢◌, ℕ, ◌-◌, ◌<◌, ◌≤◌, ◌==◌, ltb, ap₂, true, List, [], ◌∷◌, length, get_or, set, Option, Some, None, Result, Ok, Err, refl, ap, sym, ◌∙◌, subst, ⊎_elim, arith}
-use Rattle.std.specs.Prelude.{IfErr, IfOk, OnErr, OnOk, slice_get}
+use Rattle.std.specs.Prelude.{◌↔◌, IfErr, IfOk, OnErr, OnOk, slice_get}
 use Rattle.std.proofs.lemmas.Bool.{cases_lt, cond_both}
 use Rattle.std.proofs.lemmas.List.{length-set, length-map, get_or_read, get_or_past, set-get_or, set_past, map-set}
 use Rattle.std.proofs.Math.ListN.{get_or-map}
 use Rattle.ids.specs.Limits.{Shaped}
 use Rattle.ids.specs.declared.refusal.Refusal.{Refusal}
-use Rattle.ids.specs.declared.refusal.Refusal.TheVariants.{ImageTooLarge, NoNode}
+use Rattle.ids.specs.declared.refusal.Refusal.TheVariants.{ImageTooLarge, Memory, NoNode}
+use Rattle.ids.specs.declared.limits.TheConstants.{GREATEST_IMAGE}
+use Rattle.image.specs.Images.{image_of}
 use Rattle.msg.specs.Frames.{plain_data}
 use Rattle.msg.specs.Grammar.{Plain, Fits, spelling, data_frame}
 use Rattle.msg.specs.declared.body.Message.{Message}
@@ -29,6 +31,7 @@ use Rattle.laws.proofs.Onward.{run-saved}
 use Rattle.laws.proofs.KeepsSent.{SentMore, sent-onward}
 use Rattle.laws.proofs.Cuts.{released-numbered}
 use Rattle.laws.proofs.Net.{released-grows}
+use Rattle.node.specs.Invariant.{IsNode}
 use Rattle.node.specs.Keeping.{OfAll, Rings, early_after, no_rings, next_event, next_step, met, waiting}
 use Rattle.world.specs.Sites.{SiteView, KeepingSite, Acted, ActedKeeping, Saves, restarted}
 use Rattle.world.specs.Shows.{ShowsWorld, Stepped, Given, IsAckOf, IsSim, IsPlaced, frame_at, no_site, site_at}
@@ -36,7 +39,7 @@ use Rattle.world.specs.Spaces.{SpaceView, FollowsSpace, GivenSpace, IsOfNet, Kee
 use Rattle.node.proofs.Kept.{of-none, after-all}
 use Rattle.world.proofs.Runs.{extends_space}
 use Rattle.world.proofs.Shows.{Changes}
-use Rattle.world.proofs.Steps.{Gives, acted, given-follows, given-free, given-lets-go, given-small, given-unchanged, no-node}
+use Rattle.world.proofs.Steps.{Gives, acted, given-follows, given-free, given-lets-go, given-small, given-unchanged, no-node, save-refused, saved}
 use Rattle.world.proofs.Acks.{hands}
 use Rattle.world.proofs.Deliveries.{IsReleased, delivered, delivery-gives, delivery-lets-go, found}
 
@@ -151,6 +154,15 @@ pub site-read-in : {n : SpaceView} {i place : ℕ} {q : KeepingSite} (seen : Lis
 site-read-in {q = q} seen view named less read =
     (space-changes {p = q} seen view named less read).sites.old
 
+-- what a save does to its site
+pub record SavesSite (r : Result Unit Refusal) (q p : KeepingSite) : Type 0 where
+  pub done : OnOk r (Saves q.site p.site)
+  pub early : p.early ≡ q.early
+  pub node : OnOk r (IsNode q.site.current)
+  pub unchanged : OnErr r (p ≡ q)
+  pub refused : IfErr r (λ e. e ≢ Memory → e ≡ ImageTooLarge)
+  pub too_large : r ≡ Err ImageTooLarge ↔ GREATEST_IMAGE < length (image_of q.site.current)
+
 module _ {n m : SpaceView} {i : ℕ} {q p : KeepingSite} (c : SpaceChanges n m i q p) where
   pub keeps-changed : ((w : World) → ShowsSpace n w → OfAll (IsOfNet w i) p.early) → KeepsNet n m
   keeps-changed here w h = (
@@ -264,6 +276,16 @@ module _ {n m : SpaceView} {i : ℕ} {q p : KeepingSite} (c : SpaceChanges n m i
       → OnOk r (p ≡ restarted q) → OnErr r (p ≡ q) → IsSim m.sites
   sim-after-restart (Ok x) h done same = sim-restarted h done
   sim-after-restart (Err e) h done same = sim-same h same
+
+  -- and so is what the space is after it
+  pub saved-space : (r : Result Unit Refusal) → IsSim n.sites → SavesSite r q p
+      → SteppedSpace (outcome_by (λ _. outcome.Done) r) n m (step.Save i)
+  saved-space (Ok x) h s =
+      lifted refl (keeps-early s.early) (λ w shown. early-same s.early)
+      (saved c.sites h s.done s.node (λ over. let never = s.too_large.1 over in absurd cc))
+  saved-space (Err e) h s =
+      lifted refl (keeps-early s.early) (λ w shown. early-same s.early)
+      (save-refused c.sites _ (ap site_of s.unchanged) s.refused s.too_large)
 
 -- ---- a node is given an event
 

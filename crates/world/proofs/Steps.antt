@@ -1,9 +1,9 @@
 -- Each step of the code's space is the step of the definitions.
-use Rattle.std.proofs.Common.{◌≡◌, ◌≢◌, ℕ, ◌<◌, ◌≤◌, subst, true, false, ◌&&◌, List, length, set, slice_get, ⊎_elim, Some, None, Result, Ok, Err, ◌⊎◌, inl, inr, refl, ap, sym, ◌∙◌, arith}
+use Rattle.std.proofs.Common.{◌≡◌, ◌≢◌, ℕ, ◌<◌, ◌≤◌, subst, true, false, ◌&&◌, List, length, set, slice_get, ⊎_elim, Option, Some, None, Result, Ok, Err, ◌⊎◌, inl, inr, refl, ap, sym, ◌∙◌, arith}
 use Rattle.std.specs.Prelude.{IsOk, IfOk, IfErr, OnErr, ◌↔◌}
 use Rattle.std.specs.Option.{option_map}
 use Rattle.std.proofs.Math.ListN.{get_or-map}
-use Rattle.std.proofs.lemmas.Option.{same_Some, none-some, slice_get-get_or, slice_get_past}
+use Rattle.std.proofs.lemmas.Option.{slice_get-get_or, slice_get_past}
 use Rattle.std.proofs.lemmas.Bool.{cases_lt, lt-ltb, le-ltb, and_from, and_left, and_right, cond-true, cond-false, both_ways}
 use Rattle.std.proofs.lemmas.List.{set-get_or, map-set}
 use Rattle.std.proofs.lemmas.Simd.{map-map}
@@ -27,6 +27,7 @@ use Rattle.model.proofs.Shown.{act-shown}
 use Rattle.model.proofs.Refusals.{event-never}
 use Rattle.node.specs.Invariant.{IsNode}
 use Rattle.node.specs.Summaries.{summary_of}
+use Rattle.model.specs.declared.summary.Summary.{Summary}
 use Rattle.world.specs.Sites.{SiteView, Saves, bases, bases_acked}
 use Rattle.world.specs.Shows.{SiteBases, ShowsWorld, SavesTooLarge, Stepped, Given, IsSim, no_site, site_at, site_bases, bases_of, bases_at, bases_after, summary_at}
 use Rattle.world.specs.Spaces.{outcome_by}
@@ -377,15 +378,21 @@ module _ {n m : List SiteView} {i : ℕ} {q p : SiteView} (c : Changes n m i q p
 
 -- ---- a node in numbers
 
-pub state_shown : (n : List SiteView) (w : World) (i : ℕ) (v : NodeView) → ShowsWorld n w
-    → Some v ≡ option_map (λ (q : SiteView). q.current) (slice_get n i)
-    → Some (summary_of v.local) ≡ summary_at w i
-state_shown n w i v h is =
+pub state_here : {r : Option NodeView} (o : Option SiteView) → r ≡ option_map (λ q. q.current) o
+    → option_map (λ v. summary_of v.local) r ≡ option_map (λ q. summary_of q.current.local) o
+state_here None is = ap (option_map (λ v. summary_of v.local)) is
+state_here (Some q) is = ap (option_map (λ v. summary_of v.local)) is
+
+pub state_shown : {n : List SiteView} {w : World} (i : ℕ) → ShowsWorld n w
+    → option_map (λ q. summary_of q.current.local) (slice_get n i) ≡ summary_at w i
+state_shown {n = n} {w = w} i h =
+    let summary : SiteView → Summary = λ q. summary_of q.current.local in
     ⊎_elim
     (λ (less : i < length n).
-    let same : v ≡ (site_at n i).current = same_Some _ _
-    (rw (slice_get-get_or n i no_site less) at is) in
-    let local : v.local ≡ (node_at w.current i).local = rw same (h.each i).current.shows.local in
-    rw local (sym (cond-true _ _ _ (is-node h i less))))
-    (λ (past : length n ≤ i). absurd (none-some v (sym (rw (slice_get_past n i past) at is))))
+    ap (option_map summary) (slice_get-get_or n i no_site less)
+    ∙ ap (λ p. Some (summary_of p)) (h.each i).current.shows.local
+    ∙ sym (cond-true _ _ _ (is-node h i less)))
+    (λ (past : length n ≤ i).
+    ap (option_map summary) (slice_get_past n i past)
+    ∙ sym (cond-false _ _ _ (le-ltb i (length w.current) (omega (arith, past, h.width)))))
     (cases_lt i (length n))

@@ -132,8 +132,7 @@ impl Sim {
         }
         let alloc = self.alloc;
         let site = &mut self.sites[usize::from(node)];
-        site.save(alloc)?;
-        Ok(())
+        site.save(alloc)
     }
 
     /// Delivers the message of this number from one node to another. This is the step
@@ -194,13 +193,15 @@ impl Sim {
     }
 
     /// A summary, in numbers, of the current node of this number, if there is one.
-    #[tactic(auto, using(crate::proofs::Steps::state_shown))]
     pub fn state(&self, number: u8) -> Option<Summary>
         ensures here { result
             ≡ option_map (λ q. summary_of q.current.local) (slice_get self.now.sites number) }
         ensures shown { (w : World) → ShowsWorld self.now.sites w → result ≡ summary_at w number }
     {
-        Some(self.node(number)?.state())
+        match self.node(number) {
+            Some(node) => Some(node.state()),
+            None => None,
+        }
     }
 
     /// The phases of node 0.

@@ -94,7 +94,7 @@ impl Site {
 
     /// Gives the current node an event, and fails with whatever the node refuses. If it fails, the
     /// site is as before, except that an early message may have left its place.
-    #[tactic(auto, using(crate::proofs::SiteLemmas::site_acted, crate::proofs::SiteLemmas::acts))]
+    #[tactic(auto, using(crate::proofs::SiteLemmas::site_acted))]
     #[inline(always)]
     pub fn act(&mut self, event: Event) -> Result<Answer, Refusal>
         ensures { ActedKeeping result self.old self.new event }
@@ -124,7 +124,6 @@ impl Site {
 
     /// Makes the saved node, from its image, the current one. Early messages that were kept are
     /// lost. Fails with `Memory` if allocation fails; then nothing changes.
-    #[tactic(auto, using(crate::proofs::SiteLemmas::site_restarted))]
     pub fn restart(&mut self, alloc: Global) -> Result<(), Refusal>
         ensures done { OnOk result (self.new ≡ restarted self.old) }
         ensures unchanged { OnErr result (self.new ≡ self.old) }

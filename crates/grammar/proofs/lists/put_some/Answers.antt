@@ -15,3 +15,14 @@ returns-then-all_empty-clause-written c =
     take_all (length xs - c.args.done) left (omega (arith, length-drop c.args.done xs)) in
     subst (λ (n : ℕ). PutsAll (optional Second) c.args.out.now c.put_empty.new.out (take n left))
     count (rw all at c.put_empty.ensures)
+
+pub returns-clause-written : goal.returns-clause-written
+returns-clause-written c =
+    let xs : List (Option Ref) = c.args.registers.now in
+    let left : List (Option Ref) = drop c.args.done xs in
+    let some = c.min-count.result in
+    let count : some ≡ c.args.done + some - c.args.done = omega arith in
+    let all : take (length xs - c.args.done) left ≡ left =
+    take_all (length xs - c.args.done) left (omega (arith, length-drop c.args.done xs)) in
+    subst (λ (n : ℕ). PutsAll (optional Second) c.args.out.now c.put_few.new.out (take n left))
+    count (rw all at c.put_few.ensures)

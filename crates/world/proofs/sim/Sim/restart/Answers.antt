@@ -21,6 +21,15 @@ returns-in_err-restart c =
     (restart-starved change.sites _ (ap site_of c.in_err-restart.ensures.unchanged)
     c.in_err-restart.ensures.refused))
 
+pub invariant_of-self : goal.invariant_of-self
+invariant_of-self c =
+    sim-after-restart
+    (space-changes c.self.inside.sites.items c.self.view_is c.from.ensures
+    (omega (arith, c.count.ensures.value)) c.index_mut-site.ensures.value)
+    c.restart.result
+    (subst (λ (n : SpaceView). IsSim n.sites) c.self.view_is c.self.invariant)
+    c.restart.ensures.done c.restart.ensures.unchanged
+
 pub invariant_of-self-2 : goal.invariant_of-self-2
 invariant_of-self-2 c =
     sim-after-restart
