@@ -98,7 +98,7 @@ natsStatus carrier_connect(natsConnection **it, const carrier_options *options, 
     const carrier_events *events)
 {
     natsStatus status = try_once(it, options, name, false, events);
-    // What a server sends while it begins or ends may look like another protocol.
+    // (seen once while servers were killed)
     for (int tries = 0; status == NATS_PROTOCOL_ERROR && tries < ODD_ANSWERS; tries++) {
         nats_Sleep(RECONNECT_MS);
         status = try_once(it, options, name, false, events);
