@@ -53,3 +53,4 @@ pub mod Doings
 pub mod Telling
 pub mod Seeing
 pub mod Transparent
+mod rows

@@ -1,3 +1,6 @@
 pub mod Statements
 pub mod Objects
 pub mod Sights
+pub mod Strategy
+pub mod Bounds
+pub mod Progress

@@ -2,7 +2,9 @@
 //! hold for every shape and every list of a program's events, deliveries, saves and restarts.
 //! `specs/Statements` says each of them in a few lines, and `proofs/` proves it. `specs/Sights`
 //! says that programs can't see the collector, by comparison with a space without one
-//! (`specs/Objects`). There is no code here.
+//! (`specs/Objects`). `specs/Progress` says that collection never gets stuck; `progress.rt` has
+//! these theorems, and `proofs/progress` their proofs. `proofs/rows` has worked examples of the
+//! rules. There is no code here that does anything.
 //!
 //! # The ideas of the proofs
 //!
@@ -38,3 +40,5 @@
 //! comparison by itself, a sweep only weakens what must hold, and no lemma says what a step makes
 //! reachable.
 #![tactic(auto)]
+
+pub mod progress;

@@ -13,9 +13,9 @@ use Rattle.model.specs.World.{World}
 use Rattle.model.proofs.Shown.{used_is}
 use Rattle.model.specs.Cuts.{Cut}
 use Rattle.model.specs.Collecting.{is_swept_everywhere}
-use Rattle.progress.specs.Strategy.{now, first, Move, Bring, Do, is_waiting, has_waiting, is_grey, has_token, is_unswept, next_move, own_move, next_steps, steps_of}
-use Rattle.progress.specs.Progress.{IsSwept}
-use Rattle.progress.proofs.Choices.{number-at, first-passes, first-none}
+use Rattle.laws.specs.Strategy.{now, first, Move, Bring, Do, is_waiting, has_waiting, is_grey, has_token, is_unswept, next_move, own_move, next_steps, steps_of}
+use Rattle.laws.specs.Progress.{IsSwept}
+use Rattle.laws.proofs.progress.Choices.{number-at, first-passes, first-none}
 use Rattle.world.specs.Sites.{SiteView}
 use Rattle.world.specs.declared.collecting.Sign.{Sign}
 use Rattle.world.specs.declared.collecting.Sign.TheVariants as sign

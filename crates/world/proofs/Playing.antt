@@ -15,12 +15,12 @@ use Rattle.model.specs.declared.step.Step.TheVariants as step
 use Rattle.model.specs.declared.step.Outcome.{Outcome}
 use Rattle.model.specs.State.{LocalState, new_node}
 use Rattle.model.specs.World.{World, new_world, FollowsStep, take_step, outcome_of, world_after, is_shading_step, is_own_step, run, outcomes}
-use Rattle.progress.specs.Strategy.{now, is_collectors, next_steps, played, play}
-use Rattle.progress.specs.Progress.{IsSwept, Comes, current_cycle}
-use Rattle.progress.specs.Bounds.{cycle_moves}
-use Rattle.progress.proofs.Theorems.{cycle-can-end, garbage-can-go, gone}
+use Rattle.laws.specs.Strategy.{now, is_collectors, next_steps, played, play}
+use Rattle.laws.specs.Progress.{IsSwept, Comes, current_cycle}
+use Rattle.laws.specs.Bounds.{cycle_moves}
+use Rattle.laws.proofs.progress.Theorems.{cycle-can-end, garbage-can-go, gone}
 use Rattle.laws.proofs.KeepsSent.{run-count}
-use Rattle.progress.proofs.Paths.{run-append, outcomes-append}
+use Rattle.laws.proofs.progress.Paths.{run-append, outcomes-append}
 use Rattle.world.specs.Spaces.{SpaceView, ShowsSpace, FollowsSpace}
 use Rattle.world.specs.Collected.{IsOfCode, BreaksOff, TakesAll, Collects, StopsShort, PlaysUntil, CanFinish, CanCollect, HasCollected}
 use Rattle.world.specs.Answered.{is_taken}

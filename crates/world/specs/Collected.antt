@@ -7,9 +7,9 @@ use Rattle.ids.specs.declared.names.Ref.{Ref}
 use Rattle.ids.specs.declared.limits.TheConstants.{GREATEST_NUMBER, GREATEST_CYCLE}
 use Rattle.model.specs.declared.step.Step.{Step}
 use Rattle.model.specs.World.{World, run, outcomes}
-use Rattle.progress.specs.Strategy.{now, next_steps, play}
-use Rattle.progress.specs.Progress.{current_cycle, IsSwept, IsGone, saves}
-use Rattle.progress.specs.Bounds.{cycle_moves, both_moves, next_work, HasRoom}
+use Rattle.laws.specs.Strategy.{now, next_steps, play}
+use Rattle.laws.specs.Progress.{current_cycle, IsSwept, IsGone, saves}
+use Rattle.laws.specs.Bounds.{cycle_moves, both_moves, next_work, HasRoom}
 use Rattle.world.specs.Spaces.{SpaceView, ShowsSpace}
 
 -- Only the code fails for lack of memory, or because an image is too large.

@@ -5,7 +5,7 @@ use Rattle.model.specs.declared.step.Step.TheVariants as step
 use Rattle.model.specs.State.{LocalState, got_from}
 use Rattle.model.specs.Shading.{is_calm}
 use Rattle.model.specs.View.{link_to, used}
-use Rattle.progress.specs.Strategy.{Move, Bring, Do, first, is_collectors}
+use Rattle.laws.specs.Strategy.{Move, Bring, Do, first, is_collectors}
 use Rattle.world.specs.declared.collecting.Sign.{Sign}
 use Rattle.world.specs.declared.collecting.Sign.TheVariants as sign
 use Rattle.world.specs.declared.collecting.Next.{Next}

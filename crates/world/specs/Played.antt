@@ -3,7 +3,7 @@ use Rattle.std.specs.Prelude.{◌≡◌, ℕ, true, List, map, IsOk}
 use Rattle.std.specs.List.{AllByRecursion}
 use Rattle.model.specs.declared.step.Step.{Step}
 use Rattle.model.specs.World.{World}
-use Rattle.progress.specs.Strategy.{played, play, IsPlayed}
+use Rattle.laws.specs.Strategy.{played, play, IsPlayed}
 use Rattle.world.specs.Spaces.{SpaceView, ShowsSpace}
 use Rattle.world.specs.Answered.{Call, AreCalls, space_after, is_taken}
 

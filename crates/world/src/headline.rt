@@ -2,7 +2,7 @@
 //! are in `laws/specs`, and docs/RULES.md explains their terms.
 ghost use Rattle.laws.specs.Sights.{CollectorIsUnseen};
 ghost use Rattle.laws.specs.Statements.{OnlyEventsChange, CutsExtend, ReachIsLive, SweepsFreeNoneReachable, NodesAgree, BalancesAddUp, OldGarbageGoes, TargetsAreLive, NetGrows, NoneRefusedInTurn, NoneBeyond, AcknowledgementsGoThrough, HandsGoThrough, AcknowledgedIsTakenIn};
-ghost use Rattle.progress.specs.Progress.{MarkingCanEnd, CycleCanEnd, GarbageCanGo, EndIsFoundSoon};
+ghost use Rattle.laws.specs.Progress.{MarkingCanEnd, CycleCanEnd, GarbageCanGo, EndIsFoundSoon};
 ghost use Rattle.world.specs.Answered.{AnswersAreUnseen};
 ghost use Rattle.world.specs.Played.{PlayedIsAnswered};
 

@@ -5,7 +5,7 @@ use Rattle.laws.proofs.OldGarbage.{old-garbage-goes}
 use Rattle.laws.proofs.Deliveries.{targets-are-live, none-refused-in-turn}
 use Rattle.laws.proofs.Net.{net-grows, none-beyond, acknowledgements-go-through, hands-go-through, acknowledged-is-taken-in}
 use Rattle.laws.proofs.Transparent.{collector-is-unseen}
-use Rattle.progress.proofs.Theorems.{marking-can-end, cycle-can-end, garbage-can-go, end-is-found-soon}
+use Rattle.laws.proofs.progress.Theorems.{marking-can-end, cycle-can-end, garbage-can-go, end-is-found-soon}
 use Rattle.world.proofs.Answers.{answers-are-unseen}
 use Rattle.world.proofs.Plays.{played-is-answered}
 use Rattle.world.proofs.headline.laws.Goals as goal

@@ -1,5 +1,5 @@
 use Rattle.std.proofs.Common.{subst, ap}
-use Rattle.progress.specs.Strategy.{now, steps_of}
+use Rattle.laws.specs.Strategy.{now, steps_of}
 use Rattle.world.specs.Collected.{TakesAll}
 use Rattle.world.proofs.Moves.{steps-shown}
 use Rattle.world.proofs.sim.Sim.play.Goals as goal

@@ -1,0 +1,14 @@
+use Rattle.laws.proofs.progress.Theorems.{marking-can-end, cycle-can-end, garbage-can-go, end-is-found-soon}
+use Rattle.laws.proofs.progress.laws.Goals as goal
+
+pub returns-clause-marking : goal.returns-clause-marking
+returns-clause-marking c = marking-can-end
+
+pub returns-clause-cycle : goal.returns-clause-cycle
+returns-clause-cycle c = cycle-can-end
+
+pub returns-clause-garbage : goal.returns-clause-garbage
+returns-clause-garbage c = garbage-can-go
+
+pub returns-clause-soon : goal.returns-clause-soon
+returns-clause-soon c = end-is-found-soon

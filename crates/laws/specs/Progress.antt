@@ -1,0 +1,86 @@
+-- Collection never gets stuck ("Progress" in docs/RULES.md). Take a space after any list of steps.
+-- The collector alone, by the moves of `Strategy`, ends the cycle's marking, has each node sweep
+-- the cycle, and frees what was garbage. No step of it is refused, and the number of moves is
+-- bounded, if no link runs out of numbers.
+use Rattle.std.specs.Prelude.{◌≡◌, ℕ, ◌+◌, ◌*◌, ◌<◌, ◌≤◌, Bool, true, List, map}
+use Rattle.std.specs.List.{range_with_len}
+use Rattle.ids.specs.Limits.{Shaped, IsShape}
+use Rattle.ids.specs.declared.names.Ref.{Ref}
+use Rattle.ids.specs.declared.limits.TheConstants.{GREATEST_CYCLE}
+use Rattle.model.specs.declared.step.Step.{Step}
+use Rattle.model.specs.declared.step.Step.TheVariants as step
+use Rattle.model.specs.Collecting.{is_swept_everywhere}
+use Rattle.model.specs.World.{World, new_world, run}
+use Rattle.model.specs.Cuts.{Cut, cut, IsLive}
+use Rattle.model.specs.Agreement.{Terminated, OldGarbage}
+use Rattle.laws.specs.Strategy.{now, play, IsPlayed}
+use Rattle.laws.specs.Bounds.{flight, moves, cycle_moves, next_work, both_moves, HasRoom}
+
+abbrev pub current_cycle : World → ℕ
+current_cycle w = (now w 0).local.phases.cycle
+
+-- node 0 counts the cycle's marking as ended
+pub record HasEnded (cycle : ℕ) (c : Cut) : Type 0 where
+  pub current : (c 0).local.phases.cycle ≡ cycle
+  pub ended : (c 0).local.phases.ended ≡ cycle
+
+-- each node has swept the cycle, and node 0 was told so
+pub record IsSwept (n cycle : ℕ) (c : Cut) : Type 0 where
+  pub current : (c 0).local.phases.cycle ≡ cycle
+  pub swept : (i : ℕ) → i < n → (c i).local.phases.swept ≡ cycle
+  pub reported : is_swept_everywhere (c 0).local.phases ≡ true
+
+-- After some number of moves, at most `most`, this is true of the current states.
+pub record Comes (n most : ℕ) (w : World) (P : World → Type 0) : Type 0 where
+  pub moves : ℕ
+  pub few : moves ≤ most
+  pub played : IsPlayed n moves w
+  pub then : P (play n moves w)
+
+-- what is true of every space after any steps
+abbrev pub OfSpaces : (ℕ → World → Type 0) → Type 0
+OfSpaces P =
+    (shape : Shaped) → IsShape shape → (steps : List Step)
+    → P shape.nodes (run (new_world shape) steps)
+
+-- The cycle's marking ends.
+abbrev pub MarkingCanEnd : Type 0
+MarkingCanEnd =
+    OfSpaces
+    (λ n w.
+    HasRoom (moves n (now w) + n) (now w)
+    → Comes n (moves n (now w)) w (λ v. HasEnded (current_cycle w) (now v)))
+
+-- Each node sweeps the cycle.
+abbrev pub CycleCanEnd : Type 0
+CycleCanEnd =
+    OfSpaces
+    (λ n w.
+    HasRoom (cycle_moves n (now w) + n) (now w)
+    → Comes n (cycle_moves n (now w)) w (λ v. IsSwept n (current_cycle w) (now v)))
+
+-- Each node sweeps the next cycle too. Once each is saved after that, none of them has an object
+-- that was old garbage at the start, in any choice of current and saved states.
+abbrev pub saves : ℕ → List Step
+saves n = map step.Save (range_with_len 0 n)
+
+abbrev pub IsGone : World → World → Ref → Type 0
+IsGone w v r = OldGarbage w r → (choice : ℕ → Bool) → IsLive (cut v choice) r → ⊥
+
+abbrev pub GarbageCanGo : Type 0
+GarbageCanGo =
+    OfSpaces
+    (λ n w.
+    current_cycle w < GREATEST_CYCLE
+    → HasRoom (both_moves n (now w) + next_work n (now w) + 3 * n) (now w)
+    → Comes n (both_moves n (now w)) w
+    (λ v. IsSwept n (current_cycle w + 1) (now v) × ((r : Ref) → IsGone w (run v (saves n)) r)))
+
+-- Once marking has terminated, node 0 finds that in three rounds of the token, if nothing else is
+-- in flight.
+abbrev pub EndIsFoundSoon : Type 0
+EndIsFoundSoon =
+    OfSpaces
+    (λ n w.
+    Terminated n (current_cycle w) (now w) → HasRoom (6 * n + flight n (now w) + n) (now w)
+    → Comes n (6 * n + flight n (now w)) w (λ v. HasEnded (current_cycle w) (now v)))

@@ -1,0 +1,24 @@
+//! Collection never gets stuck. From every space that a run reaches, the collector alone ends the
+//! cycle, by moves that the space determines (`specs/Strategy`), and within a bound
+//! (`specs/Bounds`). `specs/Progress` says this in four statements, and `proofs/progress` proves
+//! them over the definitions of crate `model` and the invariant of this crate (`Invariant`).
+ghost use Rattle.laws.specs.Progress.{MarkingCanEnd, CycleCanEnd, GarbageCanGo, EndIsFoundSoon};
+
+/// The four theorems. They hold for every list of steps of every space, and for the moves that the
+/// strategy plays after it. Each step of these is answered, if no link runs out of numbers. Nothing
+/// is said about memory and the size of images, which the definitions don't know, nor about who
+/// plays the moves.
+///
+/// This function does nothing: its contract is the theorems.
+pub fn laws()
+    // Node 0 counts the cycle's marking as ended.
+    ensures marking { MarkingCanEnd }
+    // Each node has swept the cycle, and node 0 knows it.
+    ensures cycle { CycleCanEnd }
+    // Each node has swept the next cycle too. Once each is saved, none of them has an object that
+    // was old garbage at the start, rings of objects across nodes included.
+    ensures garbage { GarbageCanGo }
+    // Once marking has terminated, three rounds of the token are enough, and the moves for what
+    // else is in flight.
+    ensures soon { EndIsFoundSoon }
+{}

@@ -1,3 +1,0 @@
-pub mod Strategy
-pub mod Bounds
-pub mod Progress
