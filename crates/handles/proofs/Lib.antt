@@ -7,3 +7,7 @@ pub mod Names
 pub mod Packs
 pub mod Parts
 pub mod Short
+pub mod Given
+pub mod Lists
+pub mod Staying
+pub mod Sent

@@ -5,3 +5,7 @@ pub mod Images
 pub mod Logs
 pub mod Lone
 pub mod Reads
+pub mod Cells
+pub mod Opening
+pub mod Spaces
+pub mod Watches

@@ -2,21 +2,37 @@
 //! is a method here; the crate `markring_c` exports them.
 //!
 //! ```text
-//! C              exports          here                 below
-//! markring_node  markring_node_*  NodeHandle           LoneNode: node::Node, a limit, marks
+//! C               exports           here          below
+//! markring_node   markring_node_*   NodeHandle    LoneNode: node::Node, a limit, marks
+//! markring_space  markring_space_*  SpaceHandle   SeatedSpace: images, then cells and watches
+//! markring_cell   markring_cell_*   CellHandle    SeatedCell: cell::Cell, its wire, a mark
+//! markring_watch  markring_watch_*  WatchHandle   SeatedWatch: wire::Watch, its wire
 //! ```
 //!
 //! A method takes the box out of its handle, calls it, and puts it back; of an empty handle it
 //! fails with [`Fault::NoHandle`]. So only `swap` of each handle deals with a pointer.
+//!
+//! A cell is on a disk in memory, and its caller stores the images.
 #![tactic(auto)]
 
+mod cell_handle;
 mod held;
 mod lone;
 mod nodes;
+mod opening;
 mod packing;
+mod seated;
+mod space;
+mod space_handle;
+mod watch_handle;
+mod watching;
 
-pub use held::Held;
+pub use cell_handle::CellHandle;
 pub use lone::LoneNode;
-pub use lone::reading::{link_of, register_of};
 pub use lone::reopening::stored_once;
 pub use nodes::NodeHandle;
+pub use seated::SeatedCell;
+pub use space::SeatedSpace;
+pub use space_handle::SpaceHandle;
+pub use watch_handle::WatchHandle;
+pub use watching::SeatedWatch;

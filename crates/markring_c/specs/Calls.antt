@@ -10,8 +10,8 @@ use Rattle.values.specs.declared.fault.Fault.{Fault}
 use Rattle.values.specs.declared.fault.Fault.TheVariants as fault
 use Rattle.values.specs.declared.fields.CAnswer.{CAnswer}
 use Rattle.handles.specs.declared.lone.LoneNode.{LoneNode}
-use Rattle.spaces.specs.Cells.{CellActs}
-use Rattle.spaces.specs.declared.seated.SeatedCell.{SeatedCell}
+use Rattle.handles.specs.Cells.{CellActs}
+use Rattle.handles.specs.declared.seated.SeatedCell.{SeatedCell}
 
 -- The call did this with some result, which was written to the answer.
 pub record Answered {X : Type 0} (Does : Option X → Option X → Result Answer Fault → Type 0)

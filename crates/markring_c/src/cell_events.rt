@@ -2,8 +2,8 @@
 ghost use Rattle.model.specs.declared.event.Event.TheVariants as event;
 ghost use Rattle.markring_c.specs.Calls.{CellCalled};
 
+use handles::CellHandle;
 use model::Event;
-use spaces::CellHandle;
 use std::alloc::Global;
 use values::{CAnswer, answered};
 

@@ -4,11 +4,11 @@ ghost use Rattle.node.specs.Summaries.{summary_of};
 ghost use Rattle.values.specs.Faults.{Freed, Through, read, status, written};
 ghost use Rattle.values.specs.Fields.{bit, event_of, reference_fields, state_fields};
 ghost use Rattle.handles.specs.Reads.{link_of, register_of};
-ghost use Rattle.spaces.specs.Cells.{HandleImaged, Raised, Received, Reopened, Saved, Sent};
-ghost use Rattle.spaces.specs.Cells.{SizedSame};
+ghost use Rattle.handles.specs.Cells.{HandleImaged, Raised, Received, Reopened, Saved, Sent};
+ghost use Rattle.handles.specs.Cells.{SizedSame};
 ghost use Rattle.markring_c.specs.Calls.{Answered, CellActed, Finished, Flagged, Numbered};
 
-use spaces::CellHandle;
+use handles::CellHandle;
 use std::alloc::Global;
 use values::{CAnswer, CEvent, CLink, CRef, CState, Fault, OK, answered, flagged, status, written};
 

@@ -1,10 +1,10 @@
 //! Spaces and watches.
 ghost use Rattle.values.specs.Faults.{Filled, Freed, Through};
-ghost use Rattle.spaces.specs.Spaces.{Given, Made, Moved, Opens, TakesCell, TakesWatch};
-ghost use Rattle.spaces.specs.Watches.{Looks};
+ghost use Rattle.handles.specs.Spaces.{Given, Made, Moved, Opens, TakesCell, TakesWatch};
+ghost use Rattle.handles.specs.Watches.{Looks};
 ghost use Rattle.markring_c.specs.Calls.{Finished, Finishes, Numbered, OpenedOr};
 
-use spaces::{CellHandle, SpaceHandle, WatchHandle};
+use handles::{CellHandle, SpaceHandle, WatchHandle};
 use std::alloc::Global;
 use values::{Fault, OK, status, written};
 

@@ -23,7 +23,7 @@ pub(crate) fn other_node(core: &Core, node: u8) -> Result<(), Fault>
 
 /// The reference in a register. Fails with `NoRegister`, and with `Nothing` if the register is
 /// empty.
-pub fn register_of(core: &Core, register: u16) -> Result<Ref, Fault>
+pub(crate) fn register_of(core: &Core, register: u16) -> Result<Ref, Fault>
     ensures { result ≡ register_of core.now.local register }
 {
     match core.heap().registers().get(usize::from(register)) {
@@ -34,7 +34,7 @@ pub fn register_of(core: &Core, register: u16) -> Result<Ref, Fault>
 }
 
 /// What the node knows of the links between it and another node. Fails with `NoNode`.
-pub fn link_of(core: &Core, peer: u8) -> Result<CLink, Fault>
+pub(crate) fn link_of(core: &Core, peer: u8) -> Result<CLink, Fault>
     ensures { result ≡ link_of core.now peer }
 {
     other_node(core, peer)?;

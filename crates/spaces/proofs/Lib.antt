@@ -1,4 +1,0 @@
-pub mod Given
-pub mod Lists
-pub mod Staying
-pub mod Sent

@@ -1,4 +1,0 @@
-pub mod Cells
-pub mod Opening
-pub mod Spaces
-pub mod Watches
