@@ -7,9 +7,9 @@ use Rattle.std.proofs.lemmas.List.{take_at}
 use Rattle.std.proofs.Math.Nat.{le-max_left, max-le, min-le_left, min-le_right}
 use Rattle.msg.specs.declared.body.Message.{Message}
 use Rattle.model.specs.View.{Link, no_link, used, appended, retracted, trimmed, all_kept, kept_to}
-use Rattle.link.specs.declared.receiver.Offer.TheVariants.{Next}
-use Rattle.link.specs.Receivers.{offered}
-use Rattle.link.specs.Senders.{IsLink}
+use Rattle.ends.specs.declared.receiver.Offer.TheVariants.{Next}
+use Rattle.ends.specs.Receivers.{offered}
+use Rattle.ends.specs.Senders.{IsLink}
 
 pub used-appended : (l : Link) (x : Message) → used (appended l x) ≡ used l + 1
 used-appended l x = omega (arith, length-append l.unacknowledged (x ∷ []))

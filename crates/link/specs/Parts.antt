@@ -1,21 +1,12 @@
 -- The links with these parts, in which everything counts as held by a saved state.
 use Rattle.std.specs.Prelude.{ℕ, ◌+◌, ◌≤◌, List, length, map}
 use Rattle.ids.specs.declared.limits.TheConstants.{GREATEST_NUMBER}
-use Rattle.msg.specs.declared.body.Message.{Message}
 use Rattle.model.specs.View.{Link}
+use Rattle.ends.specs.Receivers.{received}
+use Rattle.ends.specs.Senders.{sent}
 use Rattle.link.specs.Links.{LinksView}
-use Rattle.link.specs.Receivers.{Received}
 use Rattle.link.specs.declared.links.Ends.{Ends}
 use Rattle.link.specs.declared.parts.LinkParts.{LinkParts}
-
--- what was sent
-abbrev pub sent : ℕ → List Message → Link
-sent base messages =
-    record { base = base; unacknowledged = messages; kept = base + length messages }
-
--- what was received
-abbrev pub received : ℕ → Received
-received taken = record { taken = taken; saved = taken }
 
 abbrev pub link_given : LinkParts → Link
 link_given p = sent p.base p.messages.items

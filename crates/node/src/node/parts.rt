@@ -5,17 +5,17 @@ ghost use Rattle.ids.specs.declared.refusal.Refusal.TheVariants.{BadImage, Memor
 ghost use Rattle.node.specs.Invariant.{IsStanding};
 ghost use Rattle.node.specs.Parts.{node_given, AreParts};
 
-mod ends;
 mod home;
+mod links;
 mod lists;
 
 use super::Core;
 use control::{Phases, Ring};
-use ends::{are_at_ends, is_bounded, number_sum};
 use heap::{Heap, HeapParts, RefSet};
 use home::is_at_home;
 use ids::{Ref, Refusal, Shape};
 use link::{LinkParts, Links};
+use links::{are_at_ends, is_bounded, number_sum};
 use lists::{are_grey, asked_once};
 use std::alloc::Global;
 

@@ -2,8 +2,7 @@
 //! suffice, since messages are received strictly in order.
 ghost use Rattle.std.specs.Prelude.{◌≡◌, ◌+◌, ◌<◌, ◌≤◌, ◌↔◌, IsSome, IfSome};
 ghost use Rattle.ids.specs.declared.limits.TheConstants.{GREATEST_NUMBER};
-ghost use Rattle.link.specs.Receivers.{IsReceived, new_received, offered, taken_next, all_saved, saved_to};
-ghost use Rattle.link.specs.Parts.{received};
+ghost use Rattle.ends.specs.Receivers.{IsReceived, new_received, received, offered, taken_next, all_saved, saved_to};
 
 use ids::{GREATEST_NUMBER, Refusal, WINDOW};
 use std::marker::Model;
@@ -27,7 +26,7 @@ pub struct Receiver {
 }
 
 impl Model for Receiver {
-    ghost use Rattle.link.specs.Receivers.{Received, IsReceived};
+    ghost use Rattle.ends.specs.Receivers.{Received, IsReceived};
 
     ghost Value = { Received };
 

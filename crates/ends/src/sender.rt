@@ -4,8 +4,7 @@ ghost use Rattle.std.specs.Prelude.{◌≡◌, ◌≢◌, ◌<◌, ◌≤◌, �
 ghost use Rattle.ids.specs.declared.limits.TheConstants.{GREATEST_NUMBER};
 ghost use Rattle.ids.specs.declared.refusal.Refusal.TheVariants.{AckBeyond, LinkSpent, Memory};
 ghost use Rattle.model.specs.View.{used, appended, retracted, trimmed, all_kept, kept_to, message_of, released_at, no_link};
-ghost use Rattle.link.specs.Senders.{IsLink};
-ghost use Rattle.link.specs.Parts.{sent};
+ghost use Rattle.ends.specs.Senders.{IsLink, sent};
 
 use ids::{GREATEST_NUMBER, Refusal, WINDOW};
 use msg::Message;
@@ -27,7 +26,7 @@ impl Model for Sender {
 
     ghost Value = { Link };
 
-    ghost use Rattle.link.specs.Senders.{IsLink};
+    ghost use Rattle.ends.specs.Senders.{IsLink};
 
     ghost view = { λ s.
         record { base = s.base; unacknowledged = s.unacknowledged.items; kept = s.kept } };

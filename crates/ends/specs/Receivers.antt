@@ -3,8 +3,8 @@ use Rattle.std.specs.Prelude.{ℕ, min, max, ◌+◌, ◌≤◌, nat_le, cond, R
 use Rattle.ids.specs.declared.limits.TheConstants.{GREATEST_NUMBER, WINDOW}
 use Rattle.ids.specs.declared.refusal.Refusal.{Refusal}
 use Rattle.ids.specs.declared.refusal.Refusal.TheVariants.{OutOfOrder}
-use Rattle.link.specs.declared.receiver.Offer.{Offer}
-use Rattle.link.specs.declared.receiver.Offer.TheVariants.{Next, Repeat, Early}
+use Rattle.ends.specs.declared.receiver.Offer.{Offer}
+use Rattle.ends.specs.declared.receiver.Offer.TheVariants.{Next, Repeat, Early}
 
 -- the number of the last message that was received, and of the last one that a saved state has
 -- received
@@ -18,6 +18,10 @@ pub record IsReceived (r : Received) : Type 0 where
 
 abbrev pub new_received : Received
 new_received = record { taken = 0; saved = 0 }
+
+-- what was received, if a saved state holds all of it
+abbrev pub received : ℕ → Received
+received taken = record { taken = taken; saved = taken }
 
 -- A message is a repeat up to the last number received, then the next one, then early up to the
 -- last number of the window, and out of order after that.

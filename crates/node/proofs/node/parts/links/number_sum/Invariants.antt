@@ -2,7 +2,7 @@ use Rattle.std.proofs.Common.{◌≡◌, ℕ, ◌+◌, ◌*◌, ◌≤◌, take}
 use Rattle.std.specs.List.{sum_by}
 use Rattle.ids.specs.declared.limits.TheConstants.{GREATEST_NUMBER}
 use Rattle.model.specs.View.{used}
-use Rattle.node.proofs.node.parts.ends.number_sum.Given as goal
+use Rattle.node.proofs.node.parts.links.number_sum.Given as goal
 
 abbrev pub invariant-loop-node : goal.invariant-loop-node
 invariant-loop-node l = record {
