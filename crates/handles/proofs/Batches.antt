@@ -8,7 +8,7 @@ use Rattle.std.proofs.lemmas.Bool.{cond_both, leb-true, true≢false}
 use Rattle.std.proofs.lemmas.Bool.Decides.{leb_tells}
 use Rattle.std.proofs.lemmas.List.{append-nil, drop_all, drop-append-le, take-append-le, length-take-le}
 use Rattle.ids.specs.declared.limits.TheConstants.{GREATEST_IMAGE}
-use Rattle.storage.specs.Journal.{LeadAll}
+use Rattle.storage.specs.Logs.{LeadAll}
 use Rattle.storage.specs.Shelf.{record_of, recorded, told}
 use Rattle.storage.proofs.Records.{recorded_cut, recorded_front, recorded_is, recorded_short, recorded_tells, record_length}
 use Rattle.storage.proofs.Values.{lead_more}

@@ -1,7 +1,7 @@
 -- What a disk holds of a node.
 use Rattle.std.specs.Prelude.{◌≡◌, ◌⊎◌, ℕ, false, List, Some}
 use Rattle.disk.specs.Areas.{Areas}
-use Rattle.storage.specs.Journal.{Restores}
+use Rattle.storage.specs.Logs.{Restores}
 use Rattle.storage.specs.Shelf.{opened}
 use Rattle.grammar.specs.Logs.{begins_logged}
 use Rattle.image.specs.Logged.{IsAnyWholeOf}

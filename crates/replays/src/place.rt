@@ -1,5 +1,6 @@
 //! The place of a node on its disk.
-use storage::{Selected, Tail};
+use journal::Tail;
+use storage::Selected;
 
 /// The place of a node on its disk, as [`read_node`](crate::read_node) found it.
 #[derive(Clone, Copy)]

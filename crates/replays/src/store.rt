@@ -22,10 +22,10 @@ use crate::plain::{PlainShelf, read_plain};
 use crate::redoing::LoggedImages;
 use disk::{Disk, MemoryDisk};
 use ids::{Refusal, Saves};
+use journal::{Journal, Tail, read_logged};
 use logs::Log;
 use node::Node;
 use std::alloc::Global;
-use storage::{Journal, Tail, read_logged};
 
 /// A node's store. Its disk opens to the node as it was saved last, even after a crash.
 ///

@@ -11,8 +11,8 @@ use Rattle.disk.specs.Areas.{Areas, part, Changes, Holds, Torn}
 use Rattle.std.proofs.Math.Logic.{∥∥₁_elim, ∥∥₁_map}
 use Rattle.std.proofs.Props.{props}
 use Rattle.disk.specs.Crashes.{Only}
-use Rattle.storage.specs.Journal.{EndsAt, HasLog, IsLogged, IsLoggedIf, IsLoggedTo, log_length, OldOrNewLog}
-use Rattle.storage.specs.Journal.{Opens, OpensIf}
+use Rattle.storage.specs.Logs.{EndsAt, HasLog, IsLogged, IsLoggedIf, IsLoggedTo, log_length, OldOrNewLog}
+use Rattle.storage.specs.Logs.{Opens, OpensIf}
 use Rattle.disk.specs.declared.device.Area.{Area}
 use Rattle.storage.specs.Shelf.{told, recorded, record_of, side, half}
 use Rattle.storage.proofs.Records.{recorded_cut, recorded_front, recorded_is, recorded_tells}

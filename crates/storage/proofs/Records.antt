@@ -1,11 +1,11 @@
 -- What is written for an image, and what is read.
-use Rattle.std.proofs.Common.{◌≡◌, ℕ, ◌+◌, ◌-◌, ◌≤◌, ◌<◌, List, [], ◌∷◌, ◌++◌, length, take, drop, Some}
+use Rattle.std.proofs.Common.{◌≡◌, ℕ, ◌+◌, ◌-◌, ◌≤◌, ◌<◌, List, [], ◌++◌, length, take, drop, Some}
 use Rattle.std.proofs.Common.{None, Bool, true, false, inl, inr, refl, sym, ◌∙◌, ap, arith}
 use Rattle.std.proofs.Common.{length-append, length-drop}
 use Rattle.std.specs.Int.{w64, to_be_bytes, from_be_bytes}
 use Rattle.std.proofs.lemmas.Nat.{from_be_bytes-to_be_bytes_8}
 use Rattle.std.proofs.lemmas.List.{append-nil, append_assoc, drop_all, take_all, take_at, drop_at}
-use Rattle.std.proofs.lemmas.List.{drop-append-le, drop-drop, length-take-le}
+use Rattle.std.proofs.lemmas.List.{drop-drop, length-take-le}
 use Rattle.std.proofs.lemmas.Bool.Decides.{leb_tells, nat_tests}
 use Rattle.ids.specs.declared.limits.TheConstants.{GREATEST_IMAGE}
 use Rattle.disk.specs.Areas.{Holds, Reads}
@@ -86,30 +86,6 @@ pub spelled_again : (image : List ℕ) {bytes text again part : List ℕ} → ag
     text ≡ bytes → bytes ≡ record_of image → part ≡ drop 8 text → again ≡ record_of part
 spelled_again image other same is here =
     other ∙ is ∙ ap record_of (sym (image_seen {image = image} same is here))
-
--- the same with a gate behind it
-pub shut_length : (image : List ℕ) {bytes : List ℕ} → bytes ≡ record_of image ++ 0 ∷ [] →
-    length bytes ≡ 9 + length image
-shut_length image is =
-    omega (arith, ap length is, length-append (record_of image) (0 ∷ []), record_length image)
-
-pub shut_image : {image bytes text part : List ℕ} → text ≡ bytes →
-    bytes ≡ record_of image ++ 0 ∷ [] → part ≡ take (length text - 9) (drop 8 text) →
-    part ≡ image
-shut_image {image} {bytes} {text} {part} same is here =
-    let count : length image ≡ length text - 9 =
-    omega (arith, ap length same, shut_length image is) in
-    let behind : drop 8 text ≡ image ++ 0 ∷ [] =
-    ap (drop 8) (same ∙ is)
-    ∙ drop-append-le 8 (record_of image) (0 ∷ []) (omega (arith, record_length image))
-    ∙ ap (λ l. l ++ 0 ∷ []) (record_image image) in
-    here ∙ ap (take (length text - 9)) behind ∙ take_at image (0 ∷ []) (length text - 9) count
-
-pub shut_again : (image : List ℕ) {bytes text again part : List ℕ} → again ≡ bytes →
-    text ≡ bytes → bytes ≡ record_of image ++ 0 ∷ [] →
-    part ≡ take (length text - 9) (drop 8 text) → again ≡ record_of part ++ 0 ∷ []
-shut_again image other same is here =
-    other ∙ is ∙ ap (λ l. record_of l ++ 0 ∷ []) (sym (shut_image {image = image} same is here))
 
 -- what was written is read, whatever follows it
 pub recorded_front : (image rest : List ℕ) → length image ≤ GREATEST_IMAGE →

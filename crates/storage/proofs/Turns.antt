@@ -5,7 +5,7 @@ use Rattle.std.proofs.Common.{refl, sym, ◌∙◌, ap, subst, arith, append_ass
 use Rattle.std.proofs.lemmas.List.{drop_at}
 use Rattle.ids.specs.declared.limits.TheConstants.{GREATEST_IMAGE}
 use Rattle.disk.specs.Areas.{Areas, part, Changes, Holds, Torn}
-use Rattle.storage.specs.Journal.{EndsAt, IsLogged, IsLoggedIf, NoneOrLog, OldOrWhole, Opens, OpensIf}
+use Rattle.storage.specs.Logs.{EndsAt, IsLogged, IsLoggedIf, NoneOrLog, OldOrWhole, Opens, OpensIf}
 use Rattle.storage.specs.Shelf.{recorded, record_of, side, half}
 use Rattle.disk.specs.declared.device.Area.{Area}
 use Rattle.disk.specs.declared.device.Area.TheVariants.{Select}

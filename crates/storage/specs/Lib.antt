@@ -1,3 +1,2 @@
 pub mod Shelf
-pub mod Journal
-pub mod Tails
+pub mod Logs

@@ -1,25 +1,43 @@
-//! The disk calls that keep batches behind an image, and find them again. The byte before a batch,
-//! its gate, makes it count; it is written only once the batch is synced.
+//! The disk calls that keep batches behind an image, and find them again; the crate `journal` makes
+//! them. The byte before a batch, its gate, makes it count; it is written only once the batch is
+//! synced.
 ghost use Rattle.std.specs.Prelude.{◌≡◌, ◌+◌, ◌<◌, ◌≤◌, ◌^◌, ◌++◌, ◌⊎◌, List, ℕ, [], ◌∷◌, length, not};
 ghost use Rattle.std.specs.Prelude.{Bool, drop, IfErr, IfOk, IsErr, IsErrOf, OnOk, Some, false};
 ghost use Rattle.ids.specs.declared.limits.TheConstants.{GREATEST_IMAGE};
 ghost use Rattle.disk.specs.Areas.{Areas, part};
 ghost use Rattle.disk.specs.Crashes.{HasCause, LeavesOnly, Only, Unmoved};
-ghost use Rattle.storage.specs.Journal.{HasLog, IsLoggedTo, IsNext, LeadAll, NoneOrLog, OldOrNewLog};
-ghost use Rattle.storage.specs.Journal.{OldOrWhole, Opens, OpensIf, Reached};
-ghost use Rattle.storage.specs.Shelf.{record_of, side};
+ghost use Rattle.storage.specs.Logs.{HasLog, IsKept, IsLoggedTo, IsNext, LeadAll, NoneOrLog};
+ghost use Rattle.storage.specs.Logs.{OldOrNewLog, OldOrWhole, Opens, OpensIf, Reached, Restores};
+ghost use Rattle.storage.specs.Shelf.{half as half_of, record_of, recorded, side};
 
 use crate::save::{half, load, mark, parity, put, put_both};
 use crate::{HEAD, Replay};
 use disk::{Area, Disk, DiskFault};
 use ids::Refusal;
-use std::alloc::Global;
+use std::alloc::{AllocError, Global};
 
 /// A gate that opens a batch.
 const OPEN: u8 = 1;
 
+/// A gate that ends the log.
+const SHUT: u8 = 0;
+
+/// What is written for an image or a batch, with the gate behind it. Fails if there is no memory
+/// for the gate; the bytes are then dropped.
+pub fn shut(bytes: Vec<u8>) -> Result<Vec<u8>, AllocError>
+    ensures { IfOk result (λ v. v.items ≡ bytes.items ++ 0 ∷ []) }
+{
+    let mut bytes = bytes;
+    bytes.push(SHUT)?;
+    Ok(bytes)
+}
+
 /// Adds a batch, as these bytes, behind the gate at the offset `end`, and then opens the gate.
-pub(crate) fn extend<D: Disk>(
+///
+/// A crash at any moment since the call began leaves the old log or the one with the batch; after
+/// `Ok` it leaves the latter. Fails if the device failed. Which of the two logs the disk has then,
+/// shows when it is read again.
+pub fn extend<D: Disk>(
     disk: &mut D,
     in_b: bool,
     end: usize,
@@ -48,12 +66,11 @@ pub(crate) fn extend<D: Disk>(
 
 /// Writes an image, as these bytes, into the area that isn't selected, and then selects that area.
 /// No batch is behind the image.
-pub(crate) fn turn<D: Disk>(
-    disk: &mut D,
-    in_b: bool,
-    image: &[u8],
-    bytes: &[u8],
-) -> Result<(), DiskFault>
+///
+/// A crash at any moment since the call began leaves the old image with its batches, or the new
+/// image; after `Ok` it leaves the new one. Fails if the device failed. Which of the two the disk
+/// has then, shows when it is read again.
+pub fn turn<D: Disk>(disk: &mut D, in_b: bool, image: &[u8], bytes: &[u8]) -> Result<(), DiskFault>
     requires durable { Only (D.seen disk.old) (D.may_leave disk.old) }
     requires selected { side (D.seen disk.old).select ≡ Some in_b }
     requires spelled { bytes.now ≡ record_of image.now ++ 0 ∷ [] }
@@ -75,7 +92,10 @@ pub(crate) fn turn<D: Disk>(
 
 /// Saves the first image of a disk, as these bytes: into both areas, so that a torn selector opens
 /// to it too. No batch is behind it.
-pub(crate) fn begin<D: Disk>(disk: &mut D, image: &[u8], bytes: &[u8]) -> Result<(), DiskFault>
+///
+/// A crash at any moment since the call began leaves an empty selector or the image; after `Ok` it
+/// leaves the image. Fails if the device failed.
+pub fn begin<D: Disk>(disk: &mut D, image: &[u8], bytes: &[u8]) -> Result<(), DiskFault>
     requires blank { (c : Areas) → D.may_leave disk.old c → c.select ≡ [] }
     requires spelled { bytes.now ≡ record_of image.now ++ 0 ∷ [] }
     requires fits { length image.now ≤ GREATEST_IMAGE }
@@ -124,7 +144,7 @@ fn next_batch<D: Disk>(
 /// Performs the batches from an offset of an area on, and returns the offset of the gate that ends
 /// them. Fails with `BadImage` if there are no batches and gates, or if a batch leads to no value,
 /// and with `Memory`. At any time it has one batch in memory.
-pub(crate) fn replay<D: Disk, P: Replay>(
+fn replay<D: Disk, P: Replay>(
     alloc: Global,
     disk: &mut D,
     area: Area,
@@ -152,4 +172,39 @@ pub(crate) fn replay<D: Disk, P: Replay>(
         end = next;
     }
     Ok(end)
+}
+
+/// Performs the batches behind an image that was read as this value, if a log follows it. The side
+/// is the one that is selected. Returns the offset of the gate that ends the log, or `None` if no
+/// log follows the image. It writes nothing.
+///
+/// Fails with `Disk` if the device failed, with `BadImage` if the disk holds no value, and with
+/// `Memory`. The value is then of no use, and the disk holds what it held, even after a crash.
+pub fn replay_log<D: Disk, P: Replay>(
+    alloc: Global,
+    disk: &mut D,
+    in_b: bool,
+    image: &[u8],
+    value: &mut P::Value,
+) -> Result<Option<usize>, Refusal>
+    requires durable { Only (D.seen disk.old) (D.may_leave disk.old) }
+    requires selected { side (D.seen disk.old).select ≡ Some in_b }
+    requires image { recorded (part (half_of in_b) (D.seen disk.old)) ≡ Some image.now }
+    requires read { P.reads image.now value.old }
+
+    ensures restored { OnOk result (Restores P.logs P.reads P.leads value.new (D.seen disk.old)) }
+    ensures kept { IfOk result (λ end. IsKept D.seen D.may_leave P.logs disk.new in_b end) }
+    ensures bad { IsErrOf result Refusal.BadImage → (v : P.Value)
+        → Restores P.logs P.reads P.leads v (D.seen disk.old) → ⊥ }
+    ensures quiet { Unmoved D.seen D.may_leave D.moment D.left_since disk.old disk.new }
+    ensures cause { HasCause (D.faults disk.old) (D.faults disk.new) (IsErrOf result Refusal.Disk) }
+    ensures others { IfErr result (λ e. (e ≡ Refusal.Memory)
+        ⊎ ((e ≡ Refusal.BadImage) ⊎ (e ≡ Refusal.Disk))) }
+{
+    let start = HEAD + image.len();
+    if !P::has_log(image) {
+        return Ok(None);
+    }
+    let end = replay::<D, P>(alloc, disk, half(in_b), start, value)?;
+    Ok(Some(end))
 }

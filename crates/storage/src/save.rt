@@ -27,9 +27,9 @@ pub(crate) fn mark(in_b: bool) -> u8
     if in_b { 1 } else { 0 }
 }
 
-/// What is written for an image: its length, and the image.
+/// What is written for an image: its length, and the image. Fails if there is no memory for that.
 #[tactic(auto, unfolding(crate::specs::Shelf::record_of))]
-pub(crate) fn record(alloc: Global, image: &[u8]) -> Result<Vec<u8>, AllocError>
+pub fn record(alloc: Global, image: &[u8]) -> Result<Vec<u8>, AllocError>
     ensures { IfOk result (λ v. v.items ≡ record_of image.now) }
 {
     let mut bytes = Vec::with_capacity(alloc, image.len().saturating_add(HEAD))?;

@@ -67,8 +67,12 @@ pub fn is_blank<D: Disk>(disk: &mut D) -> Result<bool, DiskFault>
 }
 
 /// Syncs a disk, so that no crash takes back what is read, and then returns the image that it opens
-/// to and the side that holds it.
-pub(crate) fn recall_image<D: Disk>(alloc: Global, disk: &mut D) -> Result<(bool, Vec<u8>), Refusal>
+/// to and the side that holds it: whether that is the area B. It writes nothing.
+///
+/// Fails with `Disk` if the device failed, and with `BadImage` if the disk opens to no image. Fails
+/// with `Memory` if the disk records a plausible length but there is no memory for the image. The
+/// disk then holds what it held, even after a crash.
+pub fn recall_image<D: Disk>(alloc: Global, disk: &mut D) -> Result<(bool, Vec<u8>), Refusal>
     ensures side { IfOk result (λ r. side (D.seen disk.old).select ≡ Some r.0) }
     ensures image { IfOk result (λ r. opened (D.seen disk.old) ≡ Some r.1.items) }
     ensures tells { OnOk result (SelectsLength (D.seen disk.old)) }
@@ -142,7 +146,7 @@ where
 /// What is written for a value: the length of its image, and the image. Fails as
 /// [`Persist::to_bytes`] does.
 #[tactic(auto, using(crate::proofs::Records::put_all))]
-pub(crate) fn spelled<P: Persist>(alloc: Global, value: &P::Value) -> Result<Vec<u8>, Refusal>
+pub fn spelled<P: Persist>(alloc: Global, value: &P::Value) -> Result<Vec<u8>, Refusal>
     ensures bytes { IfOk result (λ v. v.items ≡ record_of (P.image value.now)) }
     ensures readable { OnOk result (P.reads (P.image value.now) (P.saved value.now)) }
     ensures within { OnOk result (length (P.image value.now) ≤ GREATEST_IMAGE) }

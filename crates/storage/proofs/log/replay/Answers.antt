@@ -2,7 +2,7 @@ use Rattle.std.proofs.Common.{◌≡◌, ◌∙◌, Some, None, arith, drop, inl
 use Rattle.std.proofs.lemmas.Result.{err_from_is_err_and}
 use Rattle.disk.specs.Areas.{part}
 use Rattle.disk.proofs.Causes.{later_cause, no_cause}
-use Rattle.storage.specs.Journal.{HasLog, IsNext}
+use Rattle.storage.specs.Logs.{HasLog, IsNext}
 use Rattle.storage.proofs.Logs.{read_all}
 use Rattle.storage.proofs.Quiet.{bad_no_memory, both_unmoved, handed_cause, handed_err, memory_no_bad, memory_no_disk, ok_no_err, read_no_disk, read_refused, same_err}
 use Rattle.storage.proofs.Values.{fresh_led, next_led, performed_more}

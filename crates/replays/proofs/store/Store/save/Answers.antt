@@ -1,5 +1,5 @@
 use Rattle.std.proofs.Common.{◌≡◌, IfSome, List, None, arith, refl, subst, sym, ℕ}
-use Rattle.storage.specs.Tails.{place_for}
+use Rattle.journal.specs.Tails.{place_for}
 use Rattle.storage.proofs.Quiet.{ok_no_err}
 use Rattle.image.proofs.Logged.{same_length}
 use Rattle.replays.specs.Noted.{IsLogged}
