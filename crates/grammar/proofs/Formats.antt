@@ -17,8 +17,8 @@ use Rattle.ids.specs.declared.limits.TheConstants.{FIRST_VERSION_NODES, GREATEST
 use Rattle.frames.specs.declared.version.Version.{Version}
 use Rattle.frames.specs.declared.version.Version.TheVariants.{First, Second}
 use Rattle.frames.specs.Formats.{generation}
-use Rattle.frames.proofs.Formats.{any, generation_grows, reference_grows, optional_grows, body_grows}
-use Rattle.frames.proofs.Formats.{colour_sound, token_sound}
+use Rattle.frames.proofs.Formats.{any, generation_grows, reference_grows, optional_grows}
+use Rattle.frames.proofs.Formats.{body_grows, colour_sound, token_sound}
 use Rattle.frames.specs.Lengths.{reference_long, optional_long}
 use Rattle.entries.specs.declared.Slot.TheVariants as slot
 use Rattle.model.specs.State.{Object}
