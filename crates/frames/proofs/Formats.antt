@@ -13,8 +13,8 @@ use Rattle.msg.specs.declared.body.Colour.TheVariants.{White, Black}
 use Rattle.frames.specs.declared.version.Version.{Version}
 use Rattle.frames.specs.declared.version.Version.TheVariants.{First, Second}
 use Rattle.frames.specs.Formats.{generation, reference, optional, colour, token, give, put, get}
-use Rattle.frames.specs.Formats.{give_at, put_at, get_at, bodies, body_format, head, sent, sent_fits}
-use Rattle.frames.specs.Formats.{known, head_fits}
+use Rattle.frames.specs.Formats.{give_at, put_at, get_at, bodies, body_format, head, sent}
+use Rattle.frames.specs.Formats.{sent_fits, known, head_fits}
 
 -- a format that grows from the first version to the second is sound in both
 pub any : {A : Type 0} (F : Version → Format A) → Grows (F First) (F Second) → (v : Version)

@@ -1,4 +1,4 @@
-//! The law of frames.
+//! What holds of all spellings.
 ghost use Rattle.std.specs.Prelude.{◌≡◌, ◌++◌, [], ℕ, List};
 ghost use Rattle.msg.specs.Frames.{Plain};
 ghost use Rattle.frames.specs.Grammar.{Fits, spelling};

@@ -1,4 +1,4 @@
-//! How what nodes say to each other is spelled as bytes.
+//! How frames and messages are spelled as bytes.
 //!
 //! A frame is all of its bytes, and its numbers are big-endian. An acknowledgement is the byte 42
 //! hex, the node that acknowledges and the other node in a byte each, and a number in eight bytes.

@@ -15,7 +15,7 @@
 //! | Ended | |
 //! | Swept | |
 //!
-//! How these are spelled as bytes is in the crate `frames`.
+//! The crate `frames` says how they are spelled as bytes.
 #![tactic(auto)]
 
 mod body;
