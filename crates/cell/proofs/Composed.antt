@@ -4,8 +4,7 @@ use Rattle.ids.specs.declared.limits.TheConstants.{WINDOW}
 use Rattle.ids.specs.declared.names.Ref.{Ref}
 use Rattle.ids.specs.declared.refusal.Refusal.{Refusal}
 use Rattle.ids.specs.declared.refusal.Refusal.TheVariants.{LinkSpent, OutOfOrder}
-use Rattle.msg.specs.Frames.{plain, plain_data}
-use Rattle.msg.specs.Grammar.{data_frame}
+use Rattle.msg.specs.Frames.{data_frame, plain, plain_data}
 use Rattle.msg.specs.declared.body.Body.{Body}
 use Rattle.msg.specs.declared.body.Message.{Message}
 use Rattle.msg.specs.declared.frame.Data.{Data}

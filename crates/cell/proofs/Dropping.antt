@@ -5,8 +5,7 @@ use Rattle.std.proofs.Math.Logic.{∥∥₁_map}
 use Rattle.std.proofs.lemmas.Bool.{cases_Bool, cases_lt, cond_both}
 use Rattle.ids.specs.declared.refusal.Refusal.{Refusal}
 use Rattle.ids.specs.declared.refusal.Refusal.TheVariants.{Memory}
-use Rattle.msg.specs.Frames.{plain, plain_ack}
-use Rattle.msg.specs.Grammar.{Plain, ack_frame}
+use Rattle.msg.specs.Frames.{Plain, ack_frame, plain, plain_ack}
 use Rattle.msg.specs.declared.body.Message.{Message}
 use Rattle.msg.specs.declared.frame.Ack.{Ack}
 use Rattle.msg.specs.declared.frame.Data.{Data}

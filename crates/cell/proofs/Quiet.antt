@@ -18,7 +18,7 @@ use Rattle.model.specs.World.{World, take_step, outcome_of, world_after, happens
 use Rattle.laws.proofs.StepFacts.{Delivery, given_to, act-ok, Receipt, repeated, next, receipt-cases}
 use Rattle.laws.proofs.NoEvent.{only-events-change}
 use Rattle.wire.specs.Views.{Known}
-use Rattle.msg.specs.Grammar.{data_frame}
+use Rattle.msg.specs.Frames.{data_frame}
 use Rattle.cell.specs.Desks.{IsTaken}
 use Rattle.cell.specs.Events.{MayAct}
 use Rattle.wire.specs.Entering.{is_counted}

@@ -4,7 +4,7 @@ use Rattle.std.specs.Prelude.{nat_lt, slice_index_or}
 use Rattle.std.specs.Option.{option_map}
 use Rattle.std.proofs.lemmas.Bool.{and_parts, cases_Bool, cond-true, cond-false, eq-eqb, lt-ltb}
 use Rattle.ids.specs.declared.limits.TheConstants.{WINDOW}
-use Rattle.msg.specs.Grammar.{Plain}
+use Rattle.msg.specs.Frames.{Plain}
 use Rattle.msg.specs.declared.body.Message.{Message}
 use Rattle.model.specs.State.{LocalState, got_from, sent_to}
 use Rattle.model.specs.View.{Link, NodeView, is_other, link_to, released_at}

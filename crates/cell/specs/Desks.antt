@@ -1,8 +1,7 @@
 -- What holds of a node and its seat between two calls.
 use Rattle.std.specs.Prelude.{◌≡◌, ◌⊎◌, ◌≤◌, ℕ, Bool, false, List, Some, length, replicate, slice_get, take}
 use Rattle.ids.specs.declared.limits.TheConstants.{GREATEST_NODES}
-use Rattle.msg.specs.Frames.{plain_data}
-use Rattle.msg.specs.Grammar.{Plain, ack_frame}
+use Rattle.msg.specs.Frames.{Plain, ack_frame, plain_data}
 use Rattle.msg.specs.declared.frame.Data.{Data}
 use Rattle.model.specs.State.{NodeState, sent_to}
 use Rattle.model.specs.View.{NodeView, Shows, kept_view, link_to}

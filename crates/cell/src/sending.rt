@@ -37,9 +37,10 @@ ghost use Rattle.wire.specs.Sending.{emptied, frame_due, places_after, IsSent};
 ghost use Rattle.cell.specs.Events.{event_of, Handled, IsMarked};
 
 use crate::desk::Desk;
+use frames::encode;
 use ids::Refusal;
 use model::{Answer, Event, Step};
-use msg::{Frame, encode};
+use msg::Frame;
 use std::alloc::Global;
 use wire::{Raised, Wire, due};
 

@@ -5,7 +5,8 @@ use Rattle.std.specs.Io.KnownBytes.{Appends}
 use Rattle.hex.specs.Hex.{decode_of}
 use Rattle.hex.specs.declared.error.FromHexError.{FromHexError}
 use Rattle.ids.specs.declared.refusal.Refusal.TheVariants.{Memory, BadFrame}
-use Rattle.msg.specs.Grammar.{Plain, Fits, spelling}
+use Rattle.msg.specs.Frames.{Plain}
+use Rattle.frames.specs.Grammar.{Fits, spelling}
 use Rattle.lines.specs.Frames.{frame_text}
 use Rattle.lines.specs.Text.{refused_text}
 

@@ -3,7 +3,7 @@
 //! for every writer whose contents are known.
 #![tactic(auto)]
 
-mod frames;
+mod decoding;
 mod freed;
 mod output;
 mod reading;
@@ -11,7 +11,7 @@ mod script;
 mod splitting;
 mod streams;
 
-pub use frames::decode;
+pub use decoding::decode;
 pub use output::{Lost, print_refusal, print_unread};
 pub use reading::{Unread, read_file, read_text};
 pub use script::sim;

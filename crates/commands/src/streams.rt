@@ -1,7 +1,7 @@
 //! The commands on a program's files and standard streams.
 ghost use Rattle.std.specs.Prelude.{◌≤◌};
 
-use crate::frames::decode;
+use crate::decoding::decode;
 use crate::output::print_refusal;
 use crate::reading::{read_file, read_text};
 use crate::script::sim;

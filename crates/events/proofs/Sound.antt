@@ -4,9 +4,9 @@ use Rattle.codec.specs.Formats.{Fits, byte, number4, nothing}
 use Rattle.codec.specs.Reading.{IsSound}
 use Rattle.codec.proofs.Laws.{nothing_sound, ◌⊗◌, made_again, ◌⊕◌, found, tagged_takes}
 use Rattle.codec.proofs.Numbers.{byte_sound, number2_sound, number4_sound, number8_sound}
-use Rattle.msg.specs.Formats.{sent, known}
-use Rattle.msg.specs.Grammar.{Plain, data_frame, ack_frame}
-use Rattle.msg.proofs.Formats.{sent_sound, known_sound}
+use Rattle.frames.specs.Formats.{sent, known}
+use Rattle.msg.specs.Frames.{Plain, data_frame, ack_frame}
+use Rattle.frames.proofs.Formats.{sent_sound, known_sound}
 use Rattle.events.specs.Entries.{Entry, alloc, copy, dropped, load, store, clear, word, set_word}
 use Rattle.events.specs.Entries.{give, accept, put, get, begin, scan, pass, sweep, next, received}
 use Rattle.events.specs.Entries.{acknowledged, one, two, placed, loaded, stored, worded, given}

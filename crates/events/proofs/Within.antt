@@ -1,9 +1,9 @@
 -- What events say is within the limits of their spellings.
 use Rattle.codec.specs.Formats.{Fits}
 use Rattle.codec.specs.Formats.{number2, number4, number8}
-use Rattle.msg.specs.declared.version.Version.TheVariants.{Second}
-use Rattle.msg.specs.Formats.{sent, known, head}
-use Rattle.msg.proofs.Written.{any_body}
+use Rattle.frames.specs.declared.version.Version.TheVariants.{Second}
+use Rattle.frames.specs.Formats.{sent, known, head}
+use Rattle.frames.proofs.Written.{any_body}
 use Rattle.model.specs.declared.event.Event.{Event}
 use Rattle.model.specs.declared.event.Event.TheVariants as event
 use Rattle.events.specs.Entries.{entry}

@@ -3,7 +3,7 @@ use Rattle.std.specs.Prelude.{ℕ, List, [], ◌∷◌}
 use Rattle.codec.specs.Formats.{Format, Reader, Behind, byte, number2, number4, number8, nothing}
 use Rattle.codec.specs.Formats.{◌&◌, tag, tagged, made_at}
 use Rattle.msg.specs.declared.body.Body.{Body}
-use Rattle.msg.specs.Formats.{sent, known}
+use Rattle.frames.specs.Formats.{sent, known}
 
 -- an event without the proof that its message is within the limits
 pub data Entry : Type 0 where

@@ -4,7 +4,7 @@ ghost use Rattle.std.specs.Prelude.{◌≡◌, Some};
 ghost use Rattle.std.specs.Option.{option_map};
 ghost use Rattle.codec.specs.Readers.{Reads, Takes};
 ghost use Rattle.codec.specs.Reading.{IsSound};
-ghost use Rattle.msg.specs.Formats.{head};
+ghost use Rattle.frames.specs.Formats.{head};
 ghost use Rattle.events.specs.Entries.{alloc_at, copy_at, load_at, store_at, clear_at};
 ghost use Rattle.events.specs.Entries.{set_word_at, give_at, put_at, get_at, received_at};
 ghost use Rattle.events.specs.Entries.{acknowledged_at, entry};
@@ -15,9 +15,10 @@ use crate::tags::{
     SET_WORD, STORE, SWEEP, WORD,
 };
 use codec::Reader;
+use frames::Version;
+use frames::reading::read_body;
 use model::Event;
-use msg::reading::read_body;
-use msg::{Ack, Data, Version};
+use msg::{Ack, Data};
 
 /// No spelling of an event is a prefix of another one, and what is read has that spelling. The
 /// function does nothing; its contract states the law.
@@ -132,7 +133,7 @@ fn read_get(reader: &mut Reader) -> Event
     }
 }
 
-#[tactic(auto, unfolding(msg::specs::Formats::head), using(crate::proofs::Joins::both_read))]
+#[tactic(auto, unfolding(frames::specs::Formats::head), using(crate::proofs::Joins::both_read))]
 fn read_head(reader: &mut Reader) -> (u8, (u8, u64))
     ensures { Reads head reader.old reader.new result }
 {
@@ -142,7 +143,7 @@ fn read_head(reader: &mut Reader) -> (u8, (u8, u64))
     (from, (to, number))
 }
 
-#[tactic(auto, unfolding(crate::specs::Entries::received_at, msg::specs::Formats::sent), using(crate::proofs::Joins::both_read, crate::proofs::Joins::tested))]
+#[tactic(auto, unfolding(crate::specs::Entries::received_at, frames::specs::Formats::sent), using(crate::proofs::Joins::both_read, crate::proofs::Joins::tested))]
 fn read_data(reader: &mut Reader) -> Option<Data>
     ensures { Takes received_at reader.old reader.new (option_map received_of result) }
 {
@@ -152,7 +153,7 @@ fn read_data(reader: &mut Reader) -> Option<Data>
     Data::new(from, to, number, stamp, body)
 }
 
-#[tactic(auto, unfolding(crate::specs::Entries::acknowledged_at, msg::specs::Formats::known), using(crate::proofs::Joins::tested))]
+#[tactic(auto, unfolding(crate::specs::Entries::acknowledged_at, frames::specs::Formats::known), using(crate::proofs::Joins::tested))]
 fn read_ack(reader: &mut Reader) -> Option<Ack>
     ensures { Takes acknowledged_at reader.old reader.new (option_map acknowledged_of result) }
 {

@@ -4,7 +4,7 @@ ghost use Rattle.std.specs.Prelude.{◌≡◌, ◌≤◌, ◌+◌, ◌∷◌, le
 ghost use Rattle.codec.specs.Formats.{number2};
 ghost use Rattle.codec.specs.Pieces.{Adds, Gains};
 ghost use Rattle.codec.specs.declared.piece.TheConstants.{GREATEST_PIECE};
-ghost use Rattle.msg.specs.Formats.{head};
+ghost use Rattle.frames.specs.Formats.{head};
 ghost use Rattle.events.specs.Entries.{asked, entry, given, loaded, placed, stored, two, worded};
 ghost use Rattle.events.specs.Events.{acknowledged_of, entry_of, received_of};
 
@@ -13,8 +13,8 @@ use crate::tags::{
     SET_WORD, STORE, SWEEP, WORD,
 };
 use codec::Piece;
+use frames::writing::add_body;
 use model::Event;
-use msg::writing::add_body;
 use msg::{Ack, Data};
 
 // ---- a tag and numbers
@@ -111,7 +111,7 @@ fn add_asked(piece: &mut Piece, tag: u8, object: u16, place: u8, label: u32)
 
 // ---- messages and acknowledgements
 
-#[tactic(auto, unfolding(msg::specs::Formats::head), using(crate::proofs::Joins::gained))]
+#[tactic(auto, unfolding(frames::specs::Formats::head), using(crate::proofs::Joins::gained))]
 fn add_head(piece: &mut Piece, from: u8, to: u8, number: u64)
     requires { length piece.old + 10 ≤ GREATEST_PIECE }
     ensures { Adds head 10 piece.old piece.new (from, (to, number)) }
@@ -121,7 +121,7 @@ fn add_head(piece: &mut Piece, from: u8, to: u8, number: u64)
     piece.u64(number);
 }
 
-#[tactic(auto, unfolding(crate::specs::Entries::entry, msg::specs::Formats::sent), using(crate::proofs::Joins::gained))]
+#[tactic(auto, unfolding(crate::specs::Entries::entry, frames::specs::Formats::sent), using(crate::proofs::Joins::gained))]
 fn add_data(piece: &mut Piece, message: &Data)
     requires { length piece.old + 48 ≤ GREATEST_PIECE }
     ensures { Adds entry 48 piece.old piece.new (received_of message.now) }
@@ -132,7 +132,7 @@ fn add_data(piece: &mut Piece, message: &Data)
     add_body(piece, message.body);
 }
 
-#[tactic(auto, unfolding(crate::specs::Entries::entry, msg::specs::Formats::known), using(crate::proofs::Joins::gained))]
+#[tactic(auto, unfolding(crate::specs::Entries::entry, frames::specs::Formats::known), using(crate::proofs::Joins::gained))]
 fn add_ack(piece: &mut Piece, ack: &Ack)
     requires { length piece.old + 48 ≤ GREATEST_PIECE }
     ensures { Adds entry 48 piece.old piece.new (acknowledged_of ack.now) }

@@ -14,12 +14,12 @@ use Rattle.codec.proofs.Numbers.{signed8_sound}
 use Rattle.codec.proofs.Growing.{Later, Grows, same, mapped_grows, joined_grows, ◌⊛◌, kept_grows}
 use Rattle.codec.proofs.Growing.{many_grows, counted_grows}
 use Rattle.ids.specs.declared.limits.TheConstants.{FIRST_VERSION_NODES, GREATEST_NODES}
-use Rattle.msg.specs.declared.version.Version.{Version}
-use Rattle.msg.specs.declared.version.Version.TheVariants.{First, Second}
-use Rattle.msg.specs.Formats.{generation}
-use Rattle.msg.proofs.Formats.{any, generation_grows, reference_grows, optional_grows, body_grows}
-use Rattle.msg.proofs.Formats.{colour_sound, token_sound}
-use Rattle.msg.specs.Lengths.{reference_long, optional_long}
+use Rattle.frames.specs.declared.version.Version.{Version}
+use Rattle.frames.specs.declared.version.Version.TheVariants.{First, Second}
+use Rattle.frames.specs.Formats.{generation}
+use Rattle.frames.proofs.Formats.{any, generation_grows, reference_grows, optional_grows}
+use Rattle.frames.proofs.Formats.{body_grows, colour_sound, token_sound}
+use Rattle.frames.specs.Lengths.{reference_long, optional_long}
 use Rattle.entries.specs.declared.Slot.TheVariants as slot
 use Rattle.model.specs.State.{Object}
 use Rattle.grammar.specs.Links.{StoredSlot}

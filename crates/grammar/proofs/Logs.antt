@@ -7,8 +7,8 @@ use Rattle.std.specs.Option.{option_map}
 use Rattle.codec.specs.Formats.{whole_at, ◌>>=◌}
 use Rattle.codec.specs.Reading.{IsBytes, IsSound}
 use Rattle.codec.proofs.Wholes.{whole_takes}
-use Rattle.msg.specs.declared.version.Version.{Version}
-use Rattle.msg.specs.declared.version.Version.TheVariants.{Second}
+use Rattle.frames.specs.declared.version.Version.{Version}
+use Rattle.frames.specs.declared.version.Version.TheVariants.{Second}
 use Rattle.grammar.specs.Grammar.{Stored, Fits, spelling, image_format, start_format, stored_format}
 use Rattle.grammar.specs.Grammar.{version_format}
 use Rattle.grammar.specs.Logs.{begins_logged, logged_at}

@@ -7,7 +7,7 @@ use Rattle.codec.specs.Formats as codec
 use Rattle.codec.specs.Formats.{whole_at}
 use Rattle.codec.specs.Reading.{IsBytes}
 use Rattle.codec.proofs.Wholes.{whole_takes, whole_again, begins_none}
-use Rattle.msg.specs.declared.version.Version.{Version}
+use Rattle.frames.specs.declared.version.Version.{Version}
 use Rattle.grammar.specs.Grammar.{Stored, Fits, IsImage, spelling, image_format, stored_format}
 use Rattle.grammar.specs.Grammar.{reports_told, links_told, front_format, head_format, nodes_format}
 use Rattle.grammar.specs.Grammar.{lists_format, told_format, others_format}

@@ -8,8 +8,8 @@ use Rattle.codec.specs.declared.writer.Writer.{Writer}
 use Rattle.codec.proofs.Writing.{so}
 use Rattle.codec.specs.Writing.{Writes, PutsAll}
 use Rattle.std.specs.Prelude.{⊤}
-use Rattle.msg.specs.Formats.{optional}
-use Rattle.msg.specs.declared.version.Version.TheVariants.{Second}
+use Rattle.frames.specs.Formats.{optional}
+use Rattle.frames.specs.declared.version.Version.TheVariants.{Second}
 
 -- each empty register is spelled as one byte
 empty_spelled : (xs : List (Option Ref)) → list_all is_none xs ≡ true

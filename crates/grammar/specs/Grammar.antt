@@ -12,9 +12,9 @@ use Rattle.codec.specs.Formats.{many, counted}
 use Rattle.msg.specs.declared.body.Body.{Body}
 use Rattle.msg.specs.declared.body.Message.{Message}
 use Rattle.msg.specs.declared.body.Token.{Token}
-use Rattle.msg.specs.declared.version.Version.{Version}
-use Rattle.msg.specs.declared.version.Version.TheVariants.{First, Second}
-use Rattle.msg.specs.Formats.{generation, reference, optional, colour, token, body_format}
+use Rattle.frames.specs.declared.version.Version.{Version}
+use Rattle.frames.specs.declared.version.Version.TheVariants.{First, Second}
+use Rattle.frames.specs.Formats.{generation, reference, optional, colour, token, body_format}
 use Rattle.msg.specs.Limits.{optional_fits, body_fits}
 use Rattle.model.specs.State.{Object, Ring}
 use Rattle.model.specs.declared.event.Letter.{Letter}

@@ -3,7 +3,7 @@
 use Rattle.std.specs.Prelude.{ℕ, ◌==◌, ◌&&◌, List, ◌∷◌, Bool, false, drop, Option, None}
 use Rattle.std.specs.Prelude.{if◌then◌else◌}
 use Rattle.codec.specs.Formats.{whole_at}
-use Rattle.msg.specs.declared.version.Version.TheVariants.{Second}
+use Rattle.frames.specs.declared.version.Version.TheVariants.{Second}
 use Rattle.grammar.specs.Grammar.{Stored, stored_format}
 
 -- the bytes begin with `MR` and the number 3

@@ -1,6 +1,6 @@
 //! What holds of all spellings. The law is the contract of a function that does nothing.
 ghost use Rattle.std.specs.Prelude.{◌≡◌, ◌++◌, [], ℕ, List};
-ghost use Rattle.msg.specs.declared.version.Version.{Version};
+ghost use Rattle.frames.specs.declared.version.Version.{Version};
 ghost use Rattle.grammar.specs.Grammar.{Stored, Fits, spelling};
 
 /// No spelling of an image, of either version, is a prefix of another. So bytes are at most one

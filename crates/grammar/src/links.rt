@@ -5,15 +5,15 @@ ghost use Rattle.std.specs.List.{remove};
 ghost use Rattle.codec.specs.Formats.{number4, number8, counted};
 ghost use Rattle.codec.specs.Writing.{Puts, PutsAll};
 ghost use Rattle.link.specs.Links.{link_at, got_at, IsLinks};
-ghost use Rattle.msg.specs.declared.version.Version.TheVariants.{Second};
+ghost use Rattle.frames.specs.declared.version.Version.TheVariants.{Second};
 ghost use Rattle.grammar.specs.Grammar.{message_format, link_format};
 ghost use Rattle.grammar.specs.Stored.{stored_link, stored_links};
 
 use byteorder::{BigEndian, ByteOrder};
 use codec::Writer;
+use frames::writing::put_body;
 use link::Links;
 use msg::Message;
-use msg::writing::put_body;
 
 // ---- messages
 

@@ -10,16 +10,16 @@ ghost use Rattle.codec.specs.Readers.{Reads};
 ghost use Rattle.codec.specs.Reading.{IsLong};
 ghost use Rattle.codec.specs.Writing.{Puts, PutsAll};
 ghost use Rattle.codec.specs.Lengths.{number4_long, number8_long};
-ghost use Rattle.msg.specs.declared.version.Version.{Version};
-ghost use Rattle.msg.specs.declared.version.Version.TheVariants.{Second};
-ghost use Rattle.msg.specs.Formats.{reference, optional};
-ghost use Rattle.msg.specs.Lengths.{reference_long, optional_long};
+ghost use Rattle.frames.specs.declared.version.Version.{Version};
+ghost use Rattle.frames.specs.declared.version.Version.TheVariants.{Second};
+ghost use Rattle.frames.specs.Formats.{reference, optional};
+ghost use Rattle.frames.specs.Lengths.{reference_long, optional_long};
 
 use crate::tags::ABSENT;
 use codec::{Piece, Reader, Writer};
+use frames::Version;
+use frames::writing::{add_optional, put_optional, put_reference};
 use ids::{Ref, Refusal};
-use msg::Version;
-use msg::writing::{add_optional, put_optional, put_reference};
 use std::alloc::Global;
 
 /// An element of a list that is written.

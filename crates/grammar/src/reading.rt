@@ -21,13 +21,14 @@ use crate::parts::{Head, PhasesParts, StoredLink, StoredNode};
 use crate::tags::{ABSENT, FIRST, FREE, LOGGED, OCCUPIED, PRESENT, RETIRED, SECOND, START};
 use codec::Reader;
 use control::Ring;
+use frames::Version;
+use frames::reading::{
+    read_body, read_colour, read_generation, read_optional, read_reference, read_token,
+};
 use heap::{HeapParts, Object, Slot, Slots};
 use ids::{FIRST_VERSION_NODES, GREATEST_NODES, GREATEST_PLACES, Ref, Refusal};
 use model::Letter;
-use msg::reading::{
-    read_body, read_colour, read_generation, read_optional, read_reference, read_token,
-};
-use msg::{Message, Token, Version, body_fits, optional_fits};
+use msg::{Message, Token, body_fits, optional_fits};
 use std::alloc::Global;
 use std::collections::VecDeque;
 

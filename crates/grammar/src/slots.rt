@@ -5,7 +5,7 @@ ghost use Rattle.entries.specs.Slot.{slot_read};
 ghost use Rattle.entries.specs.declared.Slot.TheVariants.{Free, Occupied};
 ghost use Rattle.codec.specs.Formats.{number4, number8, counted};
 ghost use Rattle.codec.specs.Writing.{Puts};
-ghost use Rattle.msg.specs.declared.version.Version.TheVariants.{Second};
+ghost use Rattle.frames.specs.declared.version.Version.TheVariants.{Second};
 ghost use Rattle.grammar.specs.Grammar.{slot_format, letter_format};
 ghost use Rattle.grammar.specs.Stored.{stored_slot};
 
@@ -13,10 +13,10 @@ use crate::lists::put_all;
 use crate::tags::{FREE, OCCUPIED, RETIRED};
 use byteorder::{BigEndian, ByteOrder};
 use codec::{Piece, Writer};
+use frames::writing::add_optional;
 use heap::{Heap, Object, Slot};
 use ids::Generation;
 use model::Letter;
-use msg::writing::add_optional;
 
 // ---- slots
 

@@ -6,7 +6,7 @@ ghost use Rattle.codec.specs.Formats.{many, number8};
 ghost use Rattle.codec.specs.Pieces.{Adds};
 ghost use Rattle.codec.specs.declared.piece.TheConstants.{GREATEST_PIECE};
 ghost use Rattle.codec.specs.Writing.{Puts, PutsAll};
-ghost use Rattle.msg.specs.declared.version.Version.TheVariants.{Second};
+ghost use Rattle.frames.specs.declared.version.Version.TheVariants.{Second};
 ghost use Rattle.grammar.specs.Grammar.{head_format, phases_format, held_format, ring_format};
 ghost use Rattle.grammar.specs.Grammar.{start_format, front_format, slots_format};
 ghost use Rattle.grammar.specs.Grammar.{others_format, waiting_format};
@@ -19,11 +19,11 @@ use crate::slots::{put_free_list, put_letters, put_slot_list};
 use crate::tags::{ABSENT, PRESENT, SECOND, START};
 use codec::{Piece, Writer};
 use control::{Phases, Ring};
+use frames::writing::{add_colour, add_token};
 use heap::Heap;
 use ids::Ref;
 use link::Links;
 use msg::Token;
-use msg::writing::{add_colour, add_token};
 
 // The sizes of the space and the node's own number.
 #[tactic(auto, unfolding(crate::specs::Grammar::head_format, crate::specs::Grammar::nodes_format), using(crate::proofs::Joins::gained))]

@@ -2,7 +2,7 @@
 use Rattle.std.proofs.Common.{◌≡◌, ℕ, ◌+◌, ◌^◌, ◌<◌, ◌≤◌, ◌∙◌, Bool, true, false, cond, nat_lt, nat_le, zero, suc, List, [], length, Option, Some, None, ap, refl, subst, sym, arith}
 use Rattle.std.proofs.lemmas.Bool.{cond-false, cond-true, le-ltb, lt-ltb}
 use Rattle.ids.specs.declared.limits.TheConstants.{WINDOW}
-use Rattle.msg.specs.Grammar.{Plain}
+use Rattle.msg.specs.Frames.{Plain}
 use Rattle.model.specs.View.{NodeView}
 use Rattle.node.specs.Frames.{released_frame}
 use Rattle.handles.specs.Frames.{Packed, number_of, pack, pack_above, packed, packing, window}

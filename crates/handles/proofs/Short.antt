@@ -7,10 +7,11 @@ use Rattle.msg.specs.declared.body.Body.{Body}
 use Rattle.msg.specs.declared.body.Body.TheVariants as body
 use Rattle.msg.specs.declared.body.Colour.{Colour}
 use Rattle.msg.specs.declared.body.Colour.TheVariants.{White, Black}
-use Rattle.msg.specs.declared.version.Version.TheVariants.{Second}
-use Rattle.msg.specs.Formats.{reference, optional, colour, colour_tag, token, body_format, head, sent, known}
+use Rattle.frames.specs.declared.version.Version.TheVariants.{Second}
+use Rattle.frames.specs.Formats.{reference, optional, colour, colour_tag, token, body_format, head, sent, known}
 use Rattle.handles.specs.Frames.{packed}
-use Rattle.msg.specs.Grammar.{Plain, data_frame, ack_frame, frame, spelling}
+use Rattle.msg.specs.Frames.{Plain, data_frame, ack_frame}
+use Rattle.frames.specs.Grammar.{frame, spelling}
 
 four : (n : ℕ) → length (to_be_bytes w32 n) ≡ 4
 four n = refl

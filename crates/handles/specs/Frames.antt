@@ -4,7 +4,8 @@ use Rattle.std.specs.Int.{w16, w64, to_be_bytes}
 use Rattle.std.specs.Option.{option_map}
 use Rattle.ids.specs.declared.limits.TheConstants.{WINDOW}
 use Rattle.ids.specs.declared.refusal.Refusal.TheVariants.{NoNode}
-use Rattle.msg.specs.Grammar.{Plain, ack_frame, data_frame, spelling}
+use Rattle.msg.specs.Frames.{Plain, ack_frame, data_frame}
+use Rattle.frames.specs.Grammar.{spelling}
 use Rattle.model.specs.View.{NodeView, is_other}
 use Rattle.node.specs.Frames.{acknowledgement, released_frame}
 use Rattle.handles.specs.Reads.{found}

@@ -4,8 +4,8 @@ use Rattle.ids.specs.Limits.{Shaped, IsShape}
 use Rattle.ids.specs.declared.names.Ref.{Ref}
 use Rattle.ids.specs.declared.refusal.Refusal.{Refusal}
 use Rattle.ids.specs.declared.refusal.Refusal.TheVariants.{Memory, NoNode, BadFrame, BadImage}
-use Rattle.msg.specs.Frames.{plain}
-use Rattle.msg.specs.Grammar.{Plain, Fits, spelling}
+use Rattle.msg.specs.Frames.{Plain, plain}
+use Rattle.frames.specs.Grammar.{Fits, spelling}
 use Rattle.msg.specs.declared.frame.Ack.{Ack}
 use Rattle.msg.specs.declared.frame.Frame.{Frame}
 use Rattle.msg.specs.declared.frame.Frame.TheVariants as frame

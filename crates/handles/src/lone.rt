@@ -6,17 +6,18 @@ ghost use Rattle.handles.specs.Lone.{Acknowledged, Given, Made, Read, TookIn, is
 ghost use Rattle.handles.specs.Lone.{lone, receiver_of, unacknowledged};
 
 mod batches;
-mod frames;
 mod images;
 mod logging;
 pub(crate) mod reading;
 pub(crate) mod reopening;
+mod sending;
 
+use frames::decode;
 use ids::{NodeId, Ref, Refusal, Shape};
 use image::from_bytes;
 pub(crate) use images::Counts;
 use model::{Answer, Event};
-use msg::{Ack, Data, Frame, decode};
+use msg::{Ack, Data, Frame};
 use node::Node;
 use replays::{Log, is_turn};
 use std::alloc::Global;

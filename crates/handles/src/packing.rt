@@ -3,12 +3,12 @@
 ghost use Rattle.std.specs.Prelude.{◌≡◌, ◌+◌, ◌<◌, ◌≤◌, ◌^◌, List, ℕ, length};
 ghost use Rattle.std.specs.Option.{option_map};
 ghost use Rattle.msg.specs.Frames.{plain};
-ghost use Rattle.msg.specs.Grammar.{spelling};
+ghost use Rattle.frames.specs.Grammar.{spelling};
 ghost use Rattle.handles.specs.Frames.{Holds, Packed, number_of, pack, pack_above, packed};
 
 use codec::Piece;
+use frames::writing::add_frame;
 use msg::Frame;
-use msg::writing::add_frame;
 
 /// How many parts are in a buffer, and how many bytes all parts would take.
 #[derive(Drop)]

@@ -12,7 +12,7 @@ use Rattle.msg.specs.declared.body.Body.{Body}
 use Rattle.msg.specs.declared.body.Body.TheVariants as body
 use Rattle.msg.specs.declared.body.Message.{Message}
 use Rattle.msg.specs.Limits.{body_fits}
-use Rattle.msg.specs.declared.version.Version.{Version}
+use Rattle.frames.specs.declared.version.Version.{Version}
 use Rattle.model.specs.References.{IsPlaced, no_message}
 use Rattle.model.specs.View.{Link, NodeView, no_link, link_to, used}
 use Rattle.model.specs.WellFormed.{AreReports}

@@ -9,8 +9,8 @@ use Rattle.std.specs.Prelude.{IfErr, IfOk, OnOk}
 use Rattle.ids.specs.declared.limits.TheConstants.{GREATEST_IMAGE}
 use Rattle.ids.specs.declared.refusal.Refusal.{Refusal}
 use Rattle.ids.specs.declared.refusal.Refusal.TheVariants.{Memory, BadImage}
-use Rattle.msg.specs.declared.version.Version.{Version}
-use Rattle.msg.specs.declared.version.Version.TheVariants.{Second}
+use Rattle.frames.specs.declared.version.Version.{Version}
+use Rattle.frames.specs.declared.version.Version.TheVariants.{Second}
 use Rattle.model.specs.View.{NodeView, kept_view}
 use Rattle.codec.specs.Reading.{IsBytes}
 use Rattle.grammar.specs.Grammar.{Stored, IsImage, spelling, image_format, start_format}

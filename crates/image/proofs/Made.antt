@@ -7,7 +7,7 @@ use Rattle.std.proofs.lemmas.Option.{same_Some}
 use Rattle.ids.specs.declared.limits.TheConstants.{GREATEST_IMAGE}
 use Rattle.ids.specs.declared.refusal.Refusal.{Refusal}
 use Rattle.ids.specs.declared.refusal.Refusal.TheVariants.{Memory, BadImage}
-use Rattle.msg.specs.declared.version.Version.{Version}
+use Rattle.frames.specs.declared.version.Version.{Version}
 use Rattle.model.specs.View.{NodeView}
 use Rattle.node.specs.Invariant.{IsStanding}
 use Rattle.grammar.specs.Grammar.{Stored, Fits, IsImage}

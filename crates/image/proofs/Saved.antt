@@ -29,10 +29,10 @@ use Rattle.msg.specs.declared.body.Body.{Body}
 use Rattle.msg.specs.declared.body.Body.TheVariants as body
 use Rattle.msg.specs.declared.body.Message.{Message}
 use Rattle.msg.specs.declared.body.Token.{Token}
-use Rattle.msg.specs.declared.version.Version.TheVariants.{Second}
+use Rattle.frames.specs.declared.version.Version.TheVariants.{Second}
 use Rattle.msg.specs.Limits.{optional_fits, place_fits, body_fits}
 use Rattle.node.specs.Invariant.{AllSendable, IsNode, IsStanding}
-use Rattle.msg.proofs.Written.{any_colour, any_token, any_reference, any_optional, any_body}
+use Rattle.frames.proofs.Written.{any_colour, any_token, any_reference, any_optional, any_body}
 use Rattle.codec.proofs.Growing.{each}
 use Rattle.codec.specs.Formats.{number2, number4, number8, signed8}
 use Rattle.grammar.specs.Grammar.{Fits, near, near_optional, letter_format, slot_format}

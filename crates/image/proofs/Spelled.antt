@@ -5,8 +5,8 @@ use Rattle.std.specs.List.{insert, remove}
 use Rattle.std.proofs.lemmas.List.{append-nil, nil_from_length}
 use Rattle.std.proofs.lemmas.Simd.{map-map}
 use Rattle.ids.specs.declared.limits.TheConstants.{GREATEST_IMAGE}
-use Rattle.msg.specs.declared.version.Version.{Version}
-use Rattle.msg.specs.declared.version.Version.TheVariants.{First, Second}
+use Rattle.frames.specs.declared.version.Version.{Version}
+use Rattle.frames.specs.declared.version.Version.TheVariants.{First, Second}
 use Rattle.model.specs.View.{Link, NodeView, no_link, all_kept, kept_view}
 use Rattle.heap.specs.Heap.{slot_of}
 use Rattle.grammar.specs.Grammar.{Stored, Fits, spelling}

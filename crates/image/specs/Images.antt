@@ -1,7 +1,7 @@
 -- The bytes of a node's image.
 use Rattle.std.specs.Prelude.{ℕ, ◌==◌, if◌then◌else◌, List, [], map, drop}
 use Rattle.std.specs.List.{remove}
-use Rattle.msg.specs.declared.version.Version.TheVariants.{Second}
+use Rattle.frames.specs.declared.version.Version.TheVariants.{Second}
 use Rattle.model.specs.View.{NodeView}
 use Rattle.grammar.specs.Stored.{stored_slot, stored_links, phases_by}
 use Rattle.grammar.specs.Grammar.{Stored, spelling}

@@ -3,7 +3,7 @@ use Rattle.std.specs.Prelude.{◌≡◌, ℕ, ◌+◌, ◌==◌, if◌then◌els
 use Rattle.std.specs.List.{insert}
 use Rattle.heap.specs.Heap.{slot_of}
 use Rattle.model.specs.View.{Link, NodeView, no_link}
-use Rattle.msg.specs.declared.version.Version.{Version}
+use Rattle.frames.specs.declared.version.Version.{Version}
 use Rattle.grammar.specs.declared.parts.Head.{Head}
 use Rattle.grammar.specs.Links.{StoredLink}
 use Rattle.grammar.specs.Grammar.{Stored, IsImage}

@@ -2,8 +2,8 @@
 //! function that does nothing.
 ghost use Rattle.std.specs.Prelude.{◌≡◌, ◌≤◌, ◌↔◌, ℕ, List, length};
 ghost use Rattle.ids.specs.declared.limits.TheConstants.{GREATEST_IMAGE};
-ghost use Rattle.msg.specs.declared.version.Version.{Version};
-ghost use Rattle.msg.specs.declared.version.Version.TheVariants.{Second};
+ghost use Rattle.frames.specs.declared.version.Version.{Version};
+ghost use Rattle.frames.specs.declared.version.Version.TheVariants.{Second};
 ghost use Rattle.model.specs.View.{NodeView, kept_view};
 ghost use Rattle.image.specs.Images.{image_of};
 ghost use Rattle.image.specs.Conditions.{IsSaved};

@@ -2,7 +2,7 @@
 ghost use Rattle.std.specs.Prelude.{◌≡◌};
 ghost use Rattle.codec.specs.Formats.{number8};
 ghost use Rattle.codec.specs.Writing.{Puts, PutsAll};
-ghost use Rattle.msg.specs.declared.version.Version.TheVariants.{Second};
+ghost use Rattle.frames.specs.declared.version.Version.TheVariants.{Second};
 ghost use Rattle.grammar.specs.Grammar.{stored_format, image_format};
 ghost use Rattle.image.specs.Images.{stored_by};
 

@@ -5,8 +5,7 @@ use Rattle.ids.specs.Limits.{Shaped, IsShape}
 use Rattle.ids.specs.declared.names.Ref.{Ref}
 use Rattle.ids.specs.declared.refusal.Refusal.{Refusal}
 use Rattle.ids.specs.declared.refusal.Refusal.TheVariants.{LinkSpent, OutOfOrder}
-use Rattle.msg.specs.Frames.{plain_ack}
-use Rattle.msg.specs.Grammar.{Plain, data_frame, ack_frame}
+use Rattle.msg.specs.Frames.{Plain, data_frame, ack_frame, plain_ack}
 use Rattle.msg.specs.declared.body.Body.{Body}
 use Rattle.msg.specs.declared.body.Message.{Message}
 use Rattle.msg.specs.declared.frame.Ack.{Ack}

@@ -2,7 +2,7 @@
 use Rattle.std.specs.Prelude.{ℕ, List, ◌++◌, codes, decimal}
 use Rattle.std.specs.Fmt.{signed_decimal}
 use Rattle.ids.specs.Texts.{optional_text, reference_text}
-use Rattle.msg.specs.Grammar.{Plain, data_frame, ack_frame}
+use Rattle.msg.specs.Frames.{Plain, data_frame, ack_frame}
 use Rattle.msg.specs.declared.body.Body.{Body}
 use Rattle.msg.specs.declared.body.Body.TheVariants as body
 use Rattle.msg.specs.declared.body.Colour.{Colour}

@@ -5,7 +5,7 @@ use Rattle.std.specs.List.{range_with_len}
 use Rattle.ids.specs.Limits.{Shaped}
 use Rattle.ids.specs.declared.refusal.Refusal.{Refusal}
 use Rattle.ids.specs.declared.refusal.Refusal.TheVariants.{NoNode, AckBeyond, WrongNode, ImageTooLarge}
-use Rattle.msg.specs.Grammar.{Plain, data_frame, ack_frame}
+use Rattle.msg.specs.Frames.{Plain, data_frame, ack_frame}
 use Rattle.msg.specs.declared.body.Message.{Message}
 use Rattle.model.specs.declared.event.Answer.{Answer}
 use Rattle.model.specs.declared.event.Answer.TheVariants as answer

@@ -1,9 +1,17 @@
--- The frames of the code as plain data.
+-- Frames as plain data.
+use Rattle.std.specs.Prelude.{ℕ}
+use Rattle.msg.specs.declared.body.Body.{Body}
 use Rattle.msg.specs.declared.frame.Ack.{Ack}
 use Rattle.msg.specs.declared.frame.Data.{Data}
 use Rattle.msg.specs.declared.frame.Frame.{Frame}
 use Rattle.msg.specs.declared.frame.Frame.TheVariants as frame
-use Rattle.msg.specs.Grammar.{Plain, data_frame, ack_frame}
+
+-- a frame without the proof that it is within the limits
+pub data Plain : Type 0 where
+  -- from, to, number, stamp and body
+  data_frame : ℕ → ℕ → ℕ → ℕ → Body → Plain
+  -- from, to and number
+  ack_frame : ℕ → ℕ → ℕ → Plain
 
 abbrev pub plain_data : Data → Plain
 plain_data d = data_frame d.from d.to d.number d.stamp d.body

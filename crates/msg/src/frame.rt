@@ -1,9 +1,8 @@
 //! Frames, the units that links carry: a message with its addresses and number, or an
 //! acknowledgement. Every frame is within the limits by construction, so it has a spelling.
-ghost use Rattle.std.specs.Prelude.{◌≡◌, ◌++◌, [], ℕ, List, IsTrue, IsSome, IfSome, ◌↔◌};
+ghost use Rattle.std.specs.Prelude.{◌≡◌, IsTrue, IsSome, IfSome, ◌↔◌};
 ghost use Rattle.msg.specs.Limits.{nodes_fit, optional_fits, place_fits, body_fits};
 ghost use Rattle.msg.specs.Limits.{data_fits, ack_fits};
-ghost use Rattle.msg.specs.Grammar.{Plain, Fits, spelling, data_frame, ack_frame};
 
 use crate::body::Body;
 use ids::{GREATEST_CYCLE, GREATEST_NODES, GREATEST_NUMBER, GREATEST_PLACES, Ref};
@@ -81,7 +80,7 @@ pub fn body_fits(body: Body) -> bool
 
 /// Whether a message of these parts is within the limits.
 #[inline(never)]
-pub(crate) fn data_fits(from: u8, to: u8, number: u64, stamp: u64, body: &Body) -> bool
+pub fn data_fits(from: u8, to: u8, number: u64, stamp: u64, body: &Body) -> bool
     ensures { result ≡ data_fits from to number stamp body.now }
 {
     let number_fits = 1 <= number && number <= GREATEST_NUMBER;
@@ -89,7 +88,7 @@ pub(crate) fn data_fits(from: u8, to: u8, number: u64, stamp: u64, body: &Body) 
 }
 
 impl Data {
-    ghost use Rattle.msg.specs.Frames.{plain_data};
+    ghost use Rattle.msg.specs.Frames.{data_frame, plain_data};
 
     /// The message of these parts, or `None` if they aren't within the limits.
     pub fn new(from: u8, to: u8, number: u64, stamp: u64, body: Body) -> Option<Data>
@@ -111,7 +110,7 @@ impl Data {
 }
 
 impl Ack {
-    ghost use Rattle.msg.specs.Frames.{plain_ack};
+    ghost use Rattle.msg.specs.Frames.{ack_frame, plain_ack};
 
     /// The acknowledgement of these parts, or `None` if they aren't within the limits.
     pub fn new(from: u8, to: u8, number: u64) -> Option<Ack>
@@ -125,10 +124,3 @@ impl Ack {
         }
     }
 }
-
-/// No spelling of a frame is a prefix of another one, so bytes spell at most one frame. The
-/// function does nothing; its contract states the law.
-pub fn grammar()
-    ensures { (f g : Plain) (rest : List ℕ) → Fits f → Fits g
-        → spelling f ++ rest ≡ spelling g → (rest ≡ []) × (f ≡ g) }
-{}

@@ -1,35 +1,25 @@
-//! What nodes say to each other, and how it is spelled as bytes.
+//! What nodes say to each other.
 //!
-//! A frame is all of its bytes, and its numbers are big-endian. An acknowledgement is the byte 42
-//! hex, the node that acknowledges and the other node in a byte each, and a number in eight bytes.
-//! A message is the byte 45 hex, the sender and the receiver in a byte each, the message's number
-//! in eight bytes, its stamp in eight bytes, and a body: a tag, and what the body says.
+//! A frame is an acknowledgement or a message. An acknowledgement has the node that acknowledges,
+//! the other node, and a number. A message has the sender and the receiver, its number, its stamp,
+//! and a body:
 //!
-//! | Tag | Body | What it says |
-//! |---|---|---|
-//! | 1 | Begin | |
-//! | 2 | Token | a colour (0 white, 1 black), and q in eight bytes, in two's complement |
-//! | 3 | Mark | a reference |
-//! | 4 | Give | a label in four bytes, and an optional reference |
-//! | 5 | Put | a reference, a place in one byte, and an optional reference |
-//! | 6 | Get | a reference, a place in one byte, and a label in four bytes |
-//! | 7 | Ended | |
-//! | 8 | Swept | |
+//! | Body | What it says |
+//! |---|---|
+//! | Begin | |
+//! | Token | a colour, and q |
+//! | Mark | a reference |
+//! | Give | a label, and an optional reference |
+//! | Put | a reference, a place, and an optional reference |
+//! | Get | a reference, a place, and a label |
+//! | Ended | |
+//! | Swept | |
 //!
-//! A reference is its node in one byte, its slot in four and its generation in eight. An optional
-//! reference is the byte 0, or the byte 1 and a reference. In the first [`Version`], which only
-//! images may still have, a generation had four bytes.
+//! The crate `frames` says how they are spelled as bytes.
 #![tactic(auto)]
 
 mod body;
 mod frame;
-pub mod reading;
-mod tags;
-mod version;
-pub mod writing;
 
 pub use body::{Body, Colour, Message, Token};
-pub use frame::{Ack, Data, Frame, body_fits, grammar, optional_fits};
-pub use reading::decode;
-pub use version::Version;
-pub use writing::encode;
+pub use frame::{Ack, Data, Frame, body_fits, data_fits, optional_fits};

@@ -1,7 +1,7 @@
 -- The frames that a node sends, as plain data.
 use Rattle.std.specs.Prelude.{ℕ, ◌+◌, cond, Option, Some, None, slice_index_or}
 use Rattle.std.specs.Option.{option_map}
-use Rattle.msg.specs.Grammar.{Plain, data_frame, ack_frame}
+use Rattle.msg.specs.Frames.{Plain, data_frame, ack_frame}
 use Rattle.msg.specs.declared.body.Message.{Message}
 use Rattle.model.specs.View.{NodeView, link_to, is_other, message_of, released_at}
 

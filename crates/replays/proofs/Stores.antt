@@ -9,8 +9,8 @@ use Rattle.ids.specs.declared.refusal.Refusal.{Refusal}
 use Rattle.ids.specs.declared.refusal.Refusal.TheVariants.{Closed, Disk as DiskFailed}
 use Rattle.ids.specs.declared.saves.Saves.TheVariants.{Events, Images}
 use Rattle.std.proofs.lemmas.Simd.{map-map}
-use Rattle.msg.specs.declared.version.Version.{Version}
-use Rattle.msg.specs.declared.version.Version.TheVariants.{First, Second}
+use Rattle.frames.specs.declared.version.Version.{Version}
+use Rattle.frames.specs.declared.version.Version.TheVariants.{First, Second}
 use Rattle.model.specs.View.{Link, NodeView, all_kept, kept_view}
 use Rattle.grammar.specs.Grammar.{Stored, spelling, image_format, start_format, version_format}
 use Rattle.grammar.specs.Logs.{begins_logged}

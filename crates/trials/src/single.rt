@@ -31,7 +31,7 @@ impl<R: Wait> Subject for Single<'_, R> {
 
 // Calls each law once. A law does nothing when it is called.
 fn call_laws() {
-    msg::grammar();
+    frames::grammar();
     grammar::spellings();
     image::nodes_spelled();
     image::nodes_saved();

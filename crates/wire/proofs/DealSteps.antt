@@ -7,7 +7,7 @@ use Rattle.atomic_table.specs.Table.{State, Splits}
 use Rattle.atomic_table.specs.Table as table
 use Rattle.atomic_table.proofs.Lists.{at_set, set_else, set_again, at_longer, at_snoc, some_there}
 use Rattle.ids.specs.declared.limits.TheConstants.{GREATEST_CYCLE}
-use Rattle.msg.specs.Grammar.{Plain}
+use Rattle.msg.specs.Frames.{Plain}
 use Rattle.model.specs.World.{World, run}
 use Rattle.wire.specs.Views.{Role, dealer, node, watch, Visit, Known, pair_at, dealing, dealer_after, next_node, next_watch, note_of}
 use Rattle.wire.specs.Lists.{Continues}

@@ -4,7 +4,7 @@ use Rattle.std.proofs.lemmas.Bool.{cond-true, cond-false}
 use Rattle.std.proofs.lemmas.Nat.{div-add-mod'}
 use native.Mathlib.Decide.{ℕ_discrete}
 use mathlib.Core.Logic.{dite}
-use Rattle.msg.specs.Grammar.{Plain}
+use Rattle.msg.specs.Frames.{Plain}
 use Rattle.wire.specs.Rule.{sender, receiver, box_of, in_box}
 
 pub box-number : (n m : ℕ) (f : Plain) → sender f ≡ m / n → receiver f ≡ m % n → box_of n f ≡ m

@@ -3,7 +3,7 @@ use Rattle.std.proofs.Common.{◌≡◌, ◌≢◌, ℕ, ◌==◌, cond, eq-eqb,
 use Rattle.std.proofs.lemmas.Bool.{cond-true, cond-false}
 use native.Mathlib.Decide.{ℕ_discrete}
 use mathlib.Core.Logic.{dite}
-use Rattle.msg.specs.Grammar.{Plain}
+use Rattle.msg.specs.Frames.{Plain}
 use Rattle.wire.specs.Lists.{has, without, found, cleared, Continues}
 
 pub has-here : (m : ℕ) (xs : List ℕ) → has m (m ∷ xs) ≡ true

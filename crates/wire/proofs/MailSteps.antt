@@ -7,7 +7,7 @@ use lib.ListN.{get_elem?}
 use lib.Seq.{set-get_or}
 use Rattle.atomic_table.specs.Table.{State, keeps, takes, gives, stepped}
 use Rattle.atomic_table.proofs.Lists.{set_here}
-use Rattle.msg.specs.Grammar.{Plain, data_frame, ack_frame}
+use Rattle.msg.specs.Frames.{Plain, data_frame, ack_frame}
 use Rattle.model.specs.State.{NodeState, node_at, got_from, sent_to}
 use Rattle.model.specs.World.{World, run, numbered, IsInNet}
 use Rattle.laws.proofs.Lookups.{slice_get-push}

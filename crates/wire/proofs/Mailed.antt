@@ -3,9 +3,9 @@ use Rattle.std.proofs.Common.{◌++◌, ◌∷◌, ◌≡◌, ℕ, ◌+◌, ◌*
 use Rattle.std.specs.Prelude.{cond}
 use Rattle.std.specs.Option.{option_map}
 use Rattle.std.proofs.lemmas.List.{append-nil}
-use Rattle.msg.proofs.Frames.{no_spelling_begins_another}
-use Rattle.msg.specs.Frames.{plain}
-use Rattle.msg.specs.Grammar.{Plain, spelling}
+use Rattle.frames.proofs.Frames.{no_spelling_begins_another}
+use Rattle.msg.specs.Frames.{Plain, plain}
+use Rattle.frames.specs.Grammar.{spelling}
 use Rattle.msg.specs.declared.body.Message.{Message}
 use Rattle.msg.specs.declared.frame.Frame.{Frame}
 use Rattle.model.specs.View.{NodeView, is_other, link_to, released_at}

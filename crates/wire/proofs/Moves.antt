@@ -7,7 +7,7 @@ use mathlib.Core.Logic.{dite}
 use native.Mathlib.Decide.{ℕ_discrete}
 use Rattle.atomic_table.proofs.Lists.{set_else}
 use Rattle.ids.specs.declared.limits.TheConstants.{GREATEST_CYCLE}
-use Rattle.msg.specs.Grammar.{Plain}
+use Rattle.msg.specs.Frames.{Plain}
 use Rattle.model.specs.declared.step.Step.{Step}
 use Rattle.model.specs.World.{World, run, IsInNet}
 use Rattle.wire.specs.Lists.{has, found, Continues}

@@ -1,6 +1,6 @@
 -- Every saved state releases the acknowledgement of nothing.
 use Rattle.std.proofs.Common.{ℕ, ◌≡◌, ◌+◌, ◌*◌, ◌%◌, List, sym, ◌∙◌, zero-le}
-use Rattle.msg.specs.Grammar.{ack_frame}
+use Rattle.msg.specs.Frames.{ack_frame}
 use Rattle.wire.specs.Plays.{Owns}
 use Rattle.wire.specs.Readers.{known}
 use Rattle.wire.specs.Rule.{Spells}

@@ -8,7 +8,8 @@ use native.Mathlib.Decide.{ℕ_discrete}
 use lib.ListN.{get_elem?}
 use Rattle.atomic_table.specs.Table.{rest, turned}
 use Rattle.atomic_table.proofs.Lists.{at_snoc}
-use Rattle.msg.specs.Grammar.{Plain, spelling}
+use Rattle.msg.specs.Frames.{Plain}
+use Rattle.frames.specs.Grammar.{spelling}
 use Rattle.wire.specs.Lists.{has, found, cleared, once}
 use Rattle.model.specs.declared.step.Step.{Step}
 use Rattle.wire.specs.Views.{Known, Pair, Visit, is_node, claims, takes_in, posts, clears}

@@ -9,7 +9,7 @@ use lib.ListN.{get_elem?}
 use Rattle.atomic_table.specs.Table.{State}
 use Rattle.atomic_table.proofs.Lists.{at_set, set_else}
 use Rattle.ids.specs.declared.limits.TheConstants.{GREATEST_CYCLE}
-use Rattle.msg.specs.Grammar.{Plain}
+use Rattle.msg.specs.Frames.{Plain}
 use Rattle.model.specs.declared.step.Step.{Step}
 use Rattle.model.specs.World.{World, run, IsInNet}
 use Rattle.wire.specs.Lists.{has, found, Continues}

@@ -1,7 +1,7 @@
 -- Small sets of mailboxes, by number: those that a seat is filling, and those that it is emptying.
 -- Lists that begin with others.
 use Rattle.std.specs.Prelude.{◌≡◌, ℕ, Bool, true, false, cond, ◌==◌, List, [], ◌∷◌, ◌++◌, Option, Some, None}
-use Rattle.msg.specs.Grammar.{Plain}
+use Rattle.msg.specs.Frames.{Plain}
 
 abbrev pub has : ℕ → List ℕ → Bool
 has m [] = false

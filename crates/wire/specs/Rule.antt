@@ -8,7 +8,8 @@ use mathlib.Core.Option.{some}
 use lib.ListN.{get_elem?}
 use Rattle.atomic_table.specs.Table.{State}
 use Rattle.ids.specs.declared.limits.TheConstants.{GREATEST_CYCLE}
-use Rattle.msg.specs.Grammar.{Plain, data_frame, ack_frame, Fits, spelling}
+use Rattle.msg.specs.Frames.{Plain, data_frame, ack_frame}
+use Rattle.frames.specs.Grammar.{Fits, spelling}
 use Rattle.model.specs.declared.step.Step.{Step}
 use Rattle.model.specs.declared.step.Step.TheVariants as step
 use Rattle.model.specs.State.{node_at}

@@ -4,7 +4,8 @@ use mathlib.Core.Option.{some}
 use lib.ListN.{get_elem?}
 use Rattle.atomic_table.specs.Table.{Me}
 use Rattle.ids.specs.declared.limits.TheConstants.{GREATEST_NODES}
-use Rattle.msg.specs.Grammar.{Plain, spelling}
+use Rattle.msg.specs.Frames.{Plain}
+use Rattle.frames.specs.Grammar.{spelling}
 use Rattle.wire.specs.Lists.{has, found, once}
 use Rattle.wire.specs.Views.{Role, Known, is_node, is_watch}
 

@@ -1,7 +1,7 @@
 -- The frame that a node sends next to another one, and what becomes of one that it takes.
 use Rattle.std.specs.Prelude.{◌≡◌, ℕ, ◌+◌, Bool, true, false, List, Option, Some, None, slice_index_or, slice_set}
 use Rattle.wire.specs.Views.{Known, FindsOther, claims, clears, posts, takes_in}
-use Rattle.msg.specs.Grammar.{Plain, ack_frame}
+use Rattle.msg.specs.Frames.{Plain, ack_frame}
 use Rattle.model.specs.View.{NodeView}
 use Rattle.node.specs.Frames.{released_frame}
 

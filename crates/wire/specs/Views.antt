@@ -1,6 +1,6 @@
 -- What each seat of a wire knows, for proofs only.
 use Rattle.std.specs.Prelude.{◌≡◌, ◌≢◌, ℕ, ◌+◌, max, Bool, true, false, List, [], ◌∷◌, ◌++◌, length}
-use Rattle.msg.specs.Grammar.{Plain}
+use Rattle.msg.specs.Frames.{Plain}
 use Rattle.model.specs.declared.step.Step.{Step}
 use Rattle.model.specs.State.{NodeState, no_node, node_at}
 use Rattle.model.specs.World.{World}

@@ -20,7 +20,8 @@ ghost use Rattle.std.specs.Prelude.{
 };
 ghost use Rattle.std.specs.Global.{Global};
 ghost use Rattle.atomic_table.specs.Table.{rest};
-ghost use Rattle.msg.specs.Grammar.{Plain, Fits, spelling};
+ghost use Rattle.msg.specs.Frames.{Plain};
+ghost use Rattle.frames.specs.Grammar.{Fits, spelling};
 ghost use Rattle.wire.specs.Lists.{has, found};
 ghost use Rattle.wire.specs.Views.{FindsOther, claims, takes_in, posts, clears};
 ghost use Rattle.wire.specs.Rule.{sender, receiver, Spells};

@@ -10,7 +10,8 @@ ghost use Rattle.wire.specs.Sending.{emptied, frame_due, next_place, IsSent};
 ghost use Rattle.wire.specs.Views.{FindsOther};
 
 use crate::seats::{NodeSeat, Wire};
-use msg::{Frame, decode};
+use frames::decode;
+use msg::Frame;
 use node::Node;
 
 /// The frame that a node sends next to another one, and the place in the window that comes after

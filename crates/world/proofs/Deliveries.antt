@@ -4,8 +4,8 @@ use Rattle.std.specs.Prelude.{is_some}
 use Rattle.std.proofs.lemmas.Bool.{ne_eqb, cond-true, cond-false}
 use Rattle.ids.specs.declared.refusal.Refusal.{Refusal}
 use Rattle.ids.specs.declared.refusal.Refusal.TheVariants.{BadFrame, ImageTooLarge}
-use Rattle.msg.specs.Grammar.{Plain, data_frame, spelling, Fits}
-use Rattle.msg.specs.Frames.{plain_data}
+use Rattle.frames.specs.Grammar.{spelling, Fits}
+use Rattle.msg.specs.Frames.{Plain, data_frame, plain_data}
 use Rattle.msg.specs.declared.body.Body.{Body}
 use Rattle.msg.specs.declared.body.Message.{Message}
 use Rattle.msg.specs.declared.frame.Data.{Data}

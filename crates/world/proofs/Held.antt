@@ -9,8 +9,8 @@ use Rattle.ids.specs.declared.refusal.Refusal.{Refusal}
 use Rattle.ids.specs.declared.refusal.Refusal.TheVariants.{ImageTooLarge, Memory, NoNode}
 use Rattle.ids.specs.declared.limits.TheConstants.{GREATEST_IMAGE}
 use Rattle.image.specs.Images.{image_of}
-use Rattle.msg.specs.Frames.{plain_data}
-use Rattle.msg.specs.Grammar.{Plain, Fits, spelling, data_frame}
+use Rattle.msg.specs.Frames.{Plain, data_frame, plain_data}
+use Rattle.frames.specs.Grammar.{Fits, spelling}
 use Rattle.msg.specs.declared.body.Message.{Message}
 use Rattle.msg.specs.declared.frame.Ack.{Ack}
 use Rattle.msg.specs.declared.frame.Data.{Data}

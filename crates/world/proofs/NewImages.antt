@@ -7,8 +7,8 @@ use Rattle.ids.specs.Limits.{Shaped, IsShape}
 use Rattle.ids.specs.declared.limits.TheConstants.{GREATEST_IMAGE}
 use Rattle.ids.specs.declared.refusal.Refusal.{Refusal}
 use Rattle.ids.specs.declared.refusal.Refusal.TheVariants.{Memory, ImageTooLarge}
-use Rattle.msg.specs.declared.version.Version.TheVariants.{Second}
-use Rattle.msg.specs.Formats.{reference, optional, colour}
+use Rattle.frames.specs.declared.version.Version.TheVariants.{Second}
+use Rattle.frames.specs.Formats.{reference, optional, colour}
 use Rattle.model.specs.View.{no_link, new_view}
 use Rattle.grammar.specs.Links.{StoredLink}
 use Rattle.grammar.specs.Grammar.{Stored, spelling, version_format, start_format, image_format}

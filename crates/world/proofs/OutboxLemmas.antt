@@ -6,7 +6,8 @@ use Rattle.std.proofs.lemmas.Bool.{cases_lt, cond-true}
 use Rattle.std.proofs.Math.ListN.{get_or-map, get_or-eq_default}
 use Rattle.std.proofs.Math.Seq.{take-length}
 use borrow.Author.Count.{below_more}
-use Rattle.msg.specs.Grammar.{Plain, Fits, spelling}
+use Rattle.msg.specs.Frames.{Plain}
+use Rattle.frames.specs.Grammar.{Fits, spelling}
 use Rattle.msg.specs.declared.body.Message.{Message}
 use Rattle.model.specs.View.{Link, NodeView, no_link, link_to, is_other, used, message_of}
 use Rattle.model.proofs.Lookups.{slice_get-left}

@@ -1,6 +1,6 @@
 -- How one buffer holds its frames.
 use Rattle.std.specs.Prelude.{◌≡◌, ℕ, ◌≤◌, List, [], ◌∷◌, length, slice_range}
-use Rattle.world.specs.declared.frames.Frames.TheInside.{Inside}
+use Rattle.world.specs.declared.packed.Frames.TheInside.{Inside}
 
 -- the parts of the bytes that end at these offsets; the first part begins at `from`
 abbrev pub cut_at : List ℕ → ℕ → List ℕ → List (List ℕ)

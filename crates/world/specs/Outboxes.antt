@@ -1,6 +1,7 @@
 -- The frames of one node's messages to another.
 use Rattle.std.specs.Prelude.{◌≡◌, ◌≢◌, ℕ, ◌+◌, ◌-◌, ◌<◌, ◌≤◌, cond, nat_lt, List, [], take, length, Option, Some, None, slice_get, slice_index_or}
-use Rattle.msg.specs.Grammar.{Fits, spelling, data_frame}
+use Rattle.msg.specs.Frames.{data_frame}
+use Rattle.frames.specs.Grammar.{Fits, spelling}
 use Rattle.msg.specs.declared.body.Message.{Message}
 use Rattle.model.specs.View.{NodeView, link_to, used, message_of}
 

@@ -4,13 +4,13 @@
 //!
 //! `sim.rt` has the space. It leaves the work on one node to the node's `Site`, in `site.rt`: the
 //! current node, the image of the one saved last (`saved.rt`), and the frames of its messages that
-//! were released (`outbox.rt`, `frames.rt`).
+//! were released (`outbox.rt`, `packed.rt`).
 #![tactic(auto)]
 
 mod collecting;
-mod frames;
 mod headline;
 mod outbox;
+mod packed;
 mod saved;
 mod sim;
 mod site;

@@ -4,16 +4,16 @@ ghost use Rattle.std.specs.Prelude.{◌≡◌, ◌≢◌, ◌≤◌, ◌<◌, �
 ghost use Rattle.std.specs.Option.{option_map};
 ghost use Rattle.ids.specs.declared.refusal.Refusal.TheVariants.{Memory};
 ghost use Rattle.msg.specs.Frames.{plain};
-ghost use Rattle.msg.specs.Grammar.{Fits, spelling};
+ghost use Rattle.frames.specs.Grammar.{Fits, spelling};
 ghost use Rattle.model.specs.View.{link_to, is_other};
 ghost use Rattle.node.specs.Invariant.{IsNode};
 ghost use Rattle.world.specs.Outboxes.{no_outbox, released_frames, all_released, numbered_bytes, IsStaged, HasFrames, AreStagedTo, Releases};
 
-use crate::frames::Frames;
+use crate::packed::Frames;
 use codec::Piece;
+use frames::writing::add_frame;
 use ids::Refusal;
 use msg::Frame;
-use msg::writing::add_frame;
 use node::Core;
 use std::alloc::Global;
 use std::marker::Model;

@@ -26,9 +26,10 @@ ghost use Rattle.world.specs.Spaces.{
 
 use crate::site::Site;
 use control::Phases;
+use frames::decode;
 use ids::{NodeId, Refusal, Shape};
 use model::{Answer, Event, Outcome, Step};
-use msg::{Ack, Frame, decode};
+use msg::{Ack, Frame};
 use node::{Node, Summary};
 use std::alloc::Global;
 use std::marker::Model;

@@ -1,7 +1,7 @@
 use Rattle.std.proofs.Common.{ap}
 use Rattle.std.proofs.lemmas.Option.{IfSome_then}
 use Rattle.codec.proofs.Readers.{both_read, tested}
-use Rattle.msg.specs.Formats.{sent, sent_fits}
+use Rattle.frames.specs.Formats.{sent, sent_fits}
 use Rattle.events.specs.Entries.{received, received_at}
 use Rattle.events.specs.Events.{received_of}
 use Rattle.events.proofs.Sound.{of_frame}

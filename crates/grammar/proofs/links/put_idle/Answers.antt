@@ -4,7 +4,7 @@ use Rattle.codec.specs.Writing.{Puts}
 use Rattle.codec.proofs.Writing.{so}
 use Rattle.link.specs.Links.{link_at, got_at}
 use Rattle.msg.specs.declared.body.Message.{Message}
-use Rattle.msg.specs.declared.version.Version.TheVariants.{Second}
+use Rattle.frames.specs.declared.version.Version.TheVariants.{Second}
 use Rattle.grammar.specs.Grammar.{link_format}
 use Rattle.grammar.proofs.links.put_idle.Goals as goal
 

@@ -2,7 +2,7 @@ use Rattle.std.proofs.Common.{◌≡◌, ◌<◌, ◌≤◌, ℕ, List, take, le
 use Rattle.std.specs.List.{remove}
 use Rattle.codec.specs.Writing.{PutsAll}
 use Rattle.codec.proofs.Writing.{written_also}
-use Rattle.msg.specs.declared.version.Version.TheVariants.{Second}
+use Rattle.frames.specs.declared.version.Version.TheVariants.{Second}
 use Rattle.grammar.specs.Links.{StoredLink}
 use Rattle.grammar.specs.Grammar.{link_format}
 use Rattle.grammar.specs.Stored.{stored_links}

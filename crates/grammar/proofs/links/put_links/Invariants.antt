@@ -1,7 +1,7 @@
 use Rattle.std.proofs.Common.{take}
 use Rattle.std.specs.List.{remove}
 use Rattle.codec.specs.Writing.{PutsAll}
-use Rattle.msg.specs.declared.version.Version.TheVariants.{Second}
+use Rattle.frames.specs.declared.version.Version.TheVariants.{Second}
 use Rattle.grammar.specs.Grammar.{link_format}
 use Rattle.grammar.specs.Stored.{stored_links}
 use Rattle.grammar.proofs.links.put_links.Given as goal

@@ -1,5 +1,5 @@
 use Rattle.codec.proofs.Writing.{uncounted}
-use Rattle.msg.specs.declared.version.Version.TheVariants.{Second}
+use Rattle.frames.specs.declared.version.Version.TheVariants.{Second}
 use Rattle.grammar.proofs.Formats.{message_long}
 use Rattle.grammar.proofs.links.put_messages.Goals as goal
 

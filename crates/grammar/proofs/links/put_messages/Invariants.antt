@@ -1,7 +1,7 @@
 use Rattle.std.proofs.Common.{take}
 use Rattle.codec.specs.Writing.{PutsAll}
 use Rattle.link.specs.Links.{link_at}
-use Rattle.msg.specs.declared.version.Version.TheVariants.{Second}
+use Rattle.frames.specs.declared.version.Version.TheVariants.{Second}
 use Rattle.grammar.specs.Grammar.{message_format}
 use Rattle.grammar.proofs.links.put_messages.Given as goal
 

@@ -1,7 +1,7 @@
 use Rattle.std.proofs.Common.{◌*◌, take}
 use Rattle.codec.specs.Pieces.{AddsAll}
-use Rattle.msg.specs.Formats.{optional}
-use Rattle.msg.specs.declared.version.Version.TheVariants.{Second}
+use Rattle.frames.specs.Formats.{optional}
+use Rattle.frames.specs.declared.version.Version.TheVariants.{Second}
 use Rattle.grammar.proofs.lists.add_few.Given as goal
 
 abbrev pub invariant-loop-register : goal.invariant-loop-register

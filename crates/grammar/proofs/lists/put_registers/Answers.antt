@@ -3,8 +3,8 @@ use Rattle.std.proofs.Math.Seq.{take-add}
 use Rattle.codec.specs.Writing.{PutsAll}
 use Rattle.codec.proofs.Writing.{written_also}
 use Rattle.ids.specs.declared.names.Ref.{Ref}
-use Rattle.msg.specs.Formats.{optional}
-use Rattle.msg.specs.declared.version.Version.TheVariants.{Second}
+use Rattle.frames.specs.Formats.{optional}
+use Rattle.frames.specs.declared.version.Version.TheVariants.{Second}
 use Rattle.grammar.proofs.lists.put_registers.Goals as goal
 
 pub loop-done-preserved : goal.loop-done-preserved

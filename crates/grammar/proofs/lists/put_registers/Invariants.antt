@@ -1,7 +1,7 @@
 use Rattle.std.proofs.Common.{◌≤◌, ◌-◌, take, length}
 use Rattle.codec.specs.Writing.{PutsAll}
-use Rattle.msg.specs.Formats.{optional}
-use Rattle.msg.specs.declared.version.Version.TheVariants.{Second}
+use Rattle.frames.specs.Formats.{optional}
+use Rattle.frames.specs.declared.version.Version.TheVariants.{Second}
 use Rattle.grammar.proofs.lists.put_registers.Given as goal
 
 abbrev pub invariant-loop-done : goal.invariant-loop-done

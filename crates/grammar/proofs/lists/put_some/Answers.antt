@@ -2,8 +2,8 @@ use Rattle.std.proofs.Common.{◌≡◌, ◌+◌, ◌-◌, ℕ, List, Option, le
 use Rattle.std.proofs.lemmas.List.{take_all, length-drop}
 use Rattle.ids.specs.declared.names.Ref.{Ref}
 use Rattle.codec.specs.Writing.{PutsAll}
-use Rattle.msg.specs.Formats.{optional}
-use Rattle.msg.specs.declared.version.Version.TheVariants.{Second}
+use Rattle.frames.specs.Formats.{optional}
+use Rattle.frames.specs.declared.version.Version.TheVariants.{Second}
 use Rattle.grammar.proofs.lists.put_some.Goals as goal
 
 pub returns-then-all_empty-clause-written : goal.returns-then-all_empty-clause-written

@@ -1,6 +1,6 @@
 use Rattle.std.proofs.Common.{Some, ap, refl, sym, ◌∙◌}
 use Rattle.codec.proofs.Readers.{no_whole, whole_is}
-use Rattle.msg.specs.declared.version.Version.TheVariants.{Second}
+use Rattle.frames.specs.declared.version.Version.TheVariants.{Second}
 use Rattle.grammar.specs.Grammar.{stored_format}
 use Rattle.grammar.specs.Logs.{logged_at}
 use Rattle.grammar.proofs.reading.whole_logged.Goals as goal

@@ -1,6 +1,6 @@
 use Rattle.std.proofs.Common.{take}
 use Rattle.codec.specs.Writing.{PutsAll}
-use Rattle.msg.specs.declared.version.Version.TheVariants.{Second}
+use Rattle.frames.specs.declared.version.Version.TheVariants.{Second}
 use Rattle.grammar.specs.Grammar.{letter_format}
 use Rattle.grammar.proofs.slots.put_letters.Given as goal
 

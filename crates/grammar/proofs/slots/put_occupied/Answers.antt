@@ -4,7 +4,7 @@ use Rattle.codec.specs.Formats.{number8}
 use Rattle.codec.specs.Writing.{Puts}
 use Rattle.codec.proofs.Writing.{both, so}
 use Rattle.model.specs.State.{Object}
-use Rattle.msg.specs.declared.version.Version.TheVariants.{Second}
+use Rattle.frames.specs.declared.version.Version.TheVariants.{Second}
 use Rattle.grammar.specs.Grammar.{slot_format, object_format, places_format, width_format}
 use Rattle.grammar.proofs.slots.put_occupied.Goals as goal
 

@@ -3,7 +3,7 @@ use Rattle.std.proofs.lemmas.List.{length-map, take_all}
 use Rattle.codec.specs.Formats.{number4}
 use Rattle.codec.specs.Writing.{Puts}
 use Rattle.codec.proofs.Writing.{both, written_more}
-use Rattle.msg.specs.declared.version.Version.TheVariants.{Second}
+use Rattle.frames.specs.declared.version.Version.TheVariants.{Second}
 use Rattle.grammar.specs.Grammar.{slot_format}
 use Rattle.grammar.specs.Stored.{stored_slot}
 use Rattle.grammar.proofs.Kept.{slot_there}

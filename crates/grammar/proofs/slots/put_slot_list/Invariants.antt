@@ -1,6 +1,6 @@
 use Rattle.std.proofs.Common.{map, take}
 use Rattle.codec.specs.Writing.{PutsAll}
-use Rattle.msg.specs.declared.version.Version.TheVariants.{Second}
+use Rattle.frames.specs.declared.version.Version.TheVariants.{Second}
 use Rattle.grammar.specs.Grammar.{slot_format}
 use Rattle.grammar.specs.Stored.{stored_slot}
 use Rattle.grammar.proofs.slots.put_slot_list.Given as goal

@@ -5,7 +5,7 @@ use Rattle.codec.specs.Pieces.{Gains}
 use Rattle.codec.specs.Writing.{Puts}
 use Rattle.codec.proofs.Pieces.{then_more, tag_gained, tag_alone, piece_written}
 use Rattle.model.specs.State.{Ring}
-use Rattle.msg.specs.declared.version.Version.TheVariants.{Second}
+use Rattle.frames.specs.declared.version.Version.TheVariants.{Second}
 use Rattle.grammar.specs.Grammar.{front_format, ring_format, held_format}
 use Rattle.grammar.specs.Stored.{phases_by}
 use Rattle.grammar.proofs.writing.put_front.Goals as goal

@@ -1,6 +1,6 @@
 use Rattle.std.proofs.Common.{arith}
 use Rattle.std.proofs.lemmas.Result.{err_from_is_err_and}
-use Rattle.msg.specs.declared.version.Version.TheVariants.{Second}
+use Rattle.frames.specs.declared.version.Version.TheVariants.{Second}
 use Rattle.grammar.specs.Parts.{stored_of}
 use Rattle.image.proofs.Logged.{image_second, logged_image_is, logged_none, long_logged}
 use Rattle.image.proofs.Logged.{unread_logged}

@@ -1,7 +1,6 @@
 use Rattle.std.proofs.Common.{◌≡◌, None, Some, ap, slice_index_or, ◌∙◌}
 use Rattle.std.proofs.lemmas.Bool.{cond-true}
-use Rattle.msg.specs.Frames.{plain}
-use Rattle.msg.specs.Grammar.{ack_frame}
+use Rattle.msg.specs.Frames.{ack_frame, plain}
 use Rattle.model.specs.View.{is_other}
 use Rattle.wire.specs.Sending.{frame_or_ack, place_after}
 use Rattle.wire.proofs.sending.due.Goals as goal

@@ -1,7 +1,7 @@
 use Rattle.std.proofs.Common.{refl, sym, arith}
 use Rattle.std.proofs.lemmas.List.{length_push}
 use Rattle.msg.specs.Frames.{plain}
-use Rattle.msg.specs.Grammar.{spelling}
+use Rattle.frames.specs.Grammar.{spelling}
 use Rattle.world.proofs.OutboxLemmas.{staged_more}
 use Rattle.world.proofs.outbox.stage_frames.Goals as goal
 

@@ -1,5 +1,5 @@
 use Rattle.std.proofs.Common.{List, sym, ap, subst}
-use Rattle.msg.specs.Grammar.{Plain}
+use Rattle.msg.specs.Frames.{Plain}
 use Rattle.wire.specs.Views.{Known}
 use Rattle.cell.specs.Desks.{AreTaken}
 use Rattle.cell.proofs.Seats.{steps-on}

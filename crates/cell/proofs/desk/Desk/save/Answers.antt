@@ -3,7 +3,7 @@ use Rattle.model.specs.State.{LocalState}
 use Rattle.model.specs.View.{NodeView, kept_view}
 use Rattle.wire.specs.Readers.{known}
 use Rattle.wire.specs.Views.{Known, Pair}
-use Rattle.msg.specs.Grammar.{Plain}
+use Rattle.msg.specs.Frames.{Plain}
 use Rattle.node.specs.Keeping.{WholeNode}
 use Rattle.cell.specs.Desks.{AreTaken, IsSavedNode, StandsAt}
 use Rattle.cell.specs.Events.{both_states}

@@ -1,6 +1,6 @@
 use Rattle.std.proofs.Common.{◌≡◌, Bool, true, false, List, refl, slice_index_or, slice_set, sym, ◌∙◌, subst, ℕ}
 use Rattle.std.proofs.lemmas.Result.{err_from_is_err_and}
-use Rattle.msg.specs.Grammar.{Plain}
+use Rattle.msg.specs.Frames.{Plain}
 use Rattle.model.specs.View.{NodeView}
 use Rattle.wire.specs.Readers.{known, outbox}
 use Rattle.wire.specs.Rule.{Spells}

@@ -1,5 +1,5 @@
 use Rattle.std.proofs.Common.{List, sym, subst}
-use Rattle.msg.specs.Grammar.{Plain}
+use Rattle.msg.specs.Frames.{Plain}
 use Rattle.wire.specs.Readers.{inbox, known}
 use Rattle.wire.proofs.Mailed.{received-pair, received-taken}
 use Rattle.cell.specs.Desks.{AreTaken}

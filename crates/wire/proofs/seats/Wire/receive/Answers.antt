@@ -1,6 +1,6 @@
 use Rattle.std.proofs.Common.{◌≡◌, ◌<◌, ℕ, sym, ap, ◌∙◌, subst}
-use Rattle.msg.specs.Grammar.{Plain, spelling}
-use Rattle.msg.specs.Frames.{plain}
+use Rattle.frames.specs.Grammar.{spelling}
+use Rattle.msg.specs.Frames.{Plain, plain}
 use Rattle.wire.specs.Plays.{Arrives}
 use Rattle.wire.specs.Readers.{inbox, known}
 use Rattle.wire.specs.Rule.{receiver, sender}

@@ -1,0 +1,4 @@
+pub mod Formats
+pub mod Grammar
+pub mod Lengths
+pub mod Numbers

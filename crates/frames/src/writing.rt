@@ -1,0 +1,273 @@
+//! Writes frames as bytes. Each frame has one spelling. It is put together in a piece, which
+//! allocates nothing.
+ghost use Rattle.std.specs.Prelude.{◌≡◌, ◌≤◌, ◌+◌, ◌∷◌, ◌++◌, length, IfOk, IfErr};
+ghost use Rattle.ids.specs.declared.refusal.Refusal.TheVariants.{Memory};
+ghost use Rattle.codec.specs.Formats.{number4, number8};
+ghost use Rattle.codec.specs.Pieces.{Adds};
+ghost use Rattle.codec.specs.Writing.{Puts, Writes};
+ghost use Rattle.codec.specs.declared.piece.TheConstants.{GREATEST_PIECE};
+ghost use Rattle.frames.specs.Formats.{reference, optional, colour, token, body_format, head};
+ghost use Rattle.frames.specs.declared.version.Version.TheVariants.{Second};
+ghost use Rattle.frames.specs.Grammar.{Fits, spelling, frame};
+ghost use Rattle.msg.specs.Frames.{plain, plain_data, plain_ack};
+
+use crate::tags::{
+    ABSENT, ACK, BEGIN, BLACK, DATA, ENDED, GET, GIVE, MARK, PRESENT, PUT, SWEPT, TOKEN, WHITE,
+};
+use byteorder::{BigEndian, ByteOrder};
+use codec::{Piece, Writer};
+use ids::{Ref, Refusal};
+use msg::{Ack, Body, Colour, Data, Frame, Token};
+use std::alloc::Global;
+
+// A reference after a tag.
+#[tactic(auto, unfolding(crate::specs::Numbers::number4, crate::specs::Numbers::number8))]
+#[inline(always)]
+fn tagged_bytes(tag: u8, r: Ref) -> [u8; 14]
+    ensures { result ≡ tag ∷ r.node ∷ (number4.spell r.slot ++ number8.spell r.generation) }
+{
+    let mut part = [0; 14];
+    part[0] = tag;
+    part[1] = r.node;
+    BigEndian::write_u32(&mut part[2..], r.slot);
+    BigEndian::write_u64(&mut part[6..], r.generation);
+    part
+}
+
+/// Appends a reference.
+pub fn put_reference(out: &mut Writer, r: Ref)
+    ensures { Puts (reference Second) out.old out.new r }
+{
+    out.append(&tagged_bytes(0, r)[1..]);
+}
+
+// Appends a tag and a reference, in one piece.
+#[inline(always)]
+fn put_tagged(out: &mut Writer, tag: u8, r: Ref)
+    ensures { Writes out.old out.new (tag ∷ (reference Second).spell r)
+        ((reference Second).IsWide r) }
+{
+    out.array(tagged_bytes(tag, r));
+}
+
+/// Appends an optional reference.
+#[tactic(auto, unfolding(crate::specs::Formats::optional))]
+#[inline(always)]
+pub fn put_optional(out: &mut Writer, o: Option<Ref>)
+    ensures { Puts (optional Second) out.old out.new o }
+{
+    match o {
+        None => out.u8(ABSENT),
+        Some(r) => put_tagged(out, PRESENT, r),
+    }
+}
+
+/// Appends a reference to the piece, which must have room for it.
+#[tactic(auto, unfolding(crate::specs::Formats::reference), using(crate::proofs::Joins::gained))]
+#[inline(always)]
+pub fn add_reference(piece: &mut Piece, r: Ref)
+    requires { length piece.old + 13 ≤ GREATEST_PIECE }
+    ensures { Adds (reference Second) 13 piece.old piece.new r }
+{
+    piece.u8(r.node);
+    piece.u32(r.slot);
+    piece.u64(r.generation);
+}
+
+/// Appends an optional reference to the piece, which must have room for it.
+#[tactic(auto, unfolding(crate::specs::Formats::optional), using(crate::proofs::Joins::gained))]
+#[inline(always)]
+pub fn add_optional(piece: &mut Piece, o: Option<Ref>)
+    requires { length piece.old + 14 ≤ GREATEST_PIECE }
+    ensures { Adds (optional Second) 14 piece.old piece.new o }
+{
+    match o {
+        None => piece.u8(ABSENT),
+        Some(r) => {
+            piece.u8(PRESENT);
+            add_reference(piece, r);
+        }
+    }
+}
+
+/// Appends a colour to the piece, which must have room for it.
+#[tactic(auto, unfolding(crate::specs::Formats::colour), using(crate::proofs::Joins::gained))]
+#[inline(always)]
+pub fn add_colour(piece: &mut Piece, c: Colour)
+    requires { length piece.old + 1 ≤ GREATEST_PIECE }
+    ensures { Adds colour 1 piece.old piece.new c }
+{
+    piece.u8(match c {
+        Colour::White => WHITE,
+        Colour::Black => BLACK,
+    });
+}
+
+/// Appends a token to the piece, which must have room for it.
+#[tactic(auto, unfolding(crate::specs::Formats::token), using(crate::proofs::Joins::gained))]
+#[inline(always)]
+pub fn add_token(piece: &mut Piece, t: Token)
+    requires { length piece.old + 9 ≤ GREATEST_PIECE }
+    ensures { Adds token 9 piece.old piece.new t }
+{
+    add_colour(piece, t.colour);
+    piece.i64(t.q);
+}
+
+// Appends a token.
+#[tactic(auto, using(crate::proofs::Joins::piece_written))]
+#[inline(always)]
+fn put_token(out: &mut Writer, t: Token)
+    ensures { Puts token out.old out.new t }
+{
+    let mut piece = Piece::new();
+    add_token(&mut piece, t);
+    out.piece(piece);
+}
+
+/// Appends a tag and what the message says.
+#[tactic(auto, unfolding(crate::specs::Formats::body_format), using(crate::proofs::Joins::behind, crate::proofs::Joins::both, crate::proofs::Joins::first))]
+#[inline(always)]
+pub fn put_body(out: &mut Writer, body: Body)
+    ensures { Puts (body_format Second) out.old out.new body }
+{
+    match body {
+        Body::Begin => out.u8(BEGIN),
+        Body::Token(token) => {
+            out.u8(TOKEN);
+            put_token(out, token);
+        }
+        Body::Mark { target } => put_tagged(out, MARK, target),
+        Body::Give { label, reference } => {
+            out.u8(GIVE);
+            out.u32(label);
+            put_optional(out, reference);
+        }
+        Body::Put {
+            target,
+            place,
+            reference,
+        } => {
+            put_tagged(out, PUT, target);
+            out.u8(place);
+            put_optional(out, reference);
+        }
+        Body::Get {
+            target,
+            place,
+            label,
+        } => {
+            put_tagged(out, GET, target);
+            out.u8(place);
+            out.u32(label);
+        }
+        Body::Ended => out.u8(ENDED),
+        Body::Swept => out.u8(SWEPT),
+    }
+}
+
+/// Appends a tag and what the message says to the piece, which must have room for them.
+#[tactic(auto, unfolding(crate::specs::Formats::body_format), using(crate::proofs::Joins::gained))]
+#[inline(always)]
+pub fn add_body(piece: &mut Piece, body: Body)
+    requires { length piece.old + 29 ≤ GREATEST_PIECE }
+    ensures { Adds (body_format Second) 29 piece.old piece.new body }
+{
+    match body {
+        Body::Begin => piece.u8(BEGIN),
+        Body::Token(token) => {
+            piece.u8(TOKEN);
+            add_token(piece, token);
+        }
+        Body::Mark { target } => {
+            piece.u8(MARK);
+            add_reference(piece, target);
+        }
+        Body::Give { label, reference } => {
+            piece.u8(GIVE);
+            piece.u32(label);
+            add_optional(piece, reference);
+        }
+        Body::Put {
+            target,
+            place,
+            reference,
+        } => {
+            piece.u8(PUT);
+            add_reference(piece, target);
+            piece.u8(place);
+            add_optional(piece, reference);
+        }
+        Body::Get {
+            target,
+            place,
+            label,
+        } => {
+            piece.u8(GET);
+            add_reference(piece, target);
+            piece.u8(place);
+            piece.u32(label);
+        }
+        Body::Ended => piece.u8(ENDED),
+        Body::Swept => piece.u8(SWEPT),
+    }
+}
+
+#[tactic(auto, unfolding(crate::specs::Formats::head), using(crate::proofs::Joins::gained))]
+#[inline(always)]
+fn add_head(piece: &mut Piece, from: u8, to: u8, number: u64)
+    requires { length piece.old + 10 ≤ GREATEST_PIECE }
+    ensures { Adds head 10 piece.old piece.new (from, (to, number)) }
+{
+    piece.u8(from);
+    piece.u8(to);
+    piece.u64(number);
+}
+
+#[tactic(auto, unfolding(crate::specs::Grammar::frame, crate::specs::Formats::sent), using(crate::proofs::Joins::gained))]
+fn add_data(piece: &mut Piece, message: &Data)
+    requires { length piece.old + 48 ≤ GREATEST_PIECE }
+    ensures { Adds frame 48 piece.old piece.new (plain_data message.now) }
+{
+    piece.u8(DATA);
+    add_head(piece, message.from, message.to, message.number);
+    piece.u64(message.stamp);
+    add_body(piece, message.body);
+}
+
+#[tactic(auto, unfolding(crate::specs::Grammar::frame, crate::specs::Formats::known), using(crate::proofs::Joins::gained))]
+fn add_ack(piece: &mut Piece, ack: &Ack)
+    requires { length piece.old + 48 ≤ GREATEST_PIECE }
+    ensures { Adds frame 48 piece.old piece.new (plain_ack ack.now) }
+{
+    piece.u8(ACK);
+    add_head(piece, ack.from, ack.to, ack.number);
+}
+
+/// Appends the bytes that spell the frame to the piece, which must have room for them.
+#[tactic(auto, unfolding(crate::specs::Grammar::spelling), using(crate::proofs::Written::frame_fits))]
+pub fn add_frame(piece: &mut Piece, f: &Frame)
+    requires { length piece.old + 48 ≤ GREATEST_PIECE }
+    ensures spelled { piece.new ≡ piece.old ++ spelling (plain f.now) }
+    ensures fits { Fits (plain f.now) }
+{
+    match f {
+        Frame::Data(message) => add_data(piece, message),
+        Frame::Ack(ack) => add_ack(piece, ack),
+    }
+}
+
+/// The bytes that spell the frame.
+///
+/// # Errors
+///
+/// [`Refusal::Memory`] if an allocation fails; there are no other errors.
+pub fn encode(alloc: Global, f: &Frame) -> Result<Vec<u8>, Refusal>
+    ensures spelled { IfOk result
+        (λ v. Fits (plain f.now) × (v.items ≡ spelling (plain f.now))) }
+    ensures refused { IfErr result (λ e. e ≡ Memory) }
+{
+    let mut piece = Piece::new();
+    add_frame(&mut piece, f);
+    Ok(Vec::from_slice(alloc, piece.as_slice())?)
+}
