@@ -97,8 +97,8 @@ pub(crate) fn vouch(
     Ok(known)
 }
 
-/// Counts a reference as asked for without asking: if it is another node's and wasn't asked for
-/// before, it comes last in `asked`. If it is the node's own or there is none, nothing changes.
+/// Counts a reference as asked for without asking: it comes last in `asked` if it is another node's
+/// and wasn't asked for before. Otherwise nothing changes, nor does it without a reference.
 ///
 /// It fails with [`Refusal::Memory`] if an allocation fails; `asked` is then as it was.
 pub fn include(asked: &mut RefSet, own: u8, reference: Option<Ref>) -> Result<(), Refusal>
