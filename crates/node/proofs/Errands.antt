@@ -23,7 +23,7 @@ use Rattle.control.specs.Phases.{IsPhases, in_cycle}
 use Rattle.control.specs.Balances.{IsBounded}
 use Rattle.control.proofs.Bounds.{bounded_more}
 use Rattle.link.specs.Links.{LinksView, IsLinks, for_others}
-use Rattle.heap.specs.Asked.{AreSent, all_appended}
+use Rattle.barrier.specs.Asked.{AreSent, all_appended}
 use Rattle.node.specs.Cycles.{begins}
 use Rattle.node.specs.Errands.{HasEnds, IsFit, IsRun, MayJoin, errand_here, extra_ring, extra_sends, extra_work, is_nothing, listed, unlisted, with_extra}
 use Rattle.node.specs.Invariant.{IsNode, links_of, number_sum}

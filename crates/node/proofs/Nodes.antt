@@ -22,7 +22,7 @@ use Rattle.model.proofs.Balances.{down-token, up-token}
 use Rattle.model.proofs.References.{holds-new_heap}
 use Rattle.model.proofs.Stocks.{stocked-new}
 use Rattle.link.specs.Links.{LinksView, IsLinks, announced, appended_to, for_others, taken_next_from, trimmed_to, kept_links, kept_peer, new_links}
-use Rattle.heap.specs.Asked.{all_appended}
+use Rattle.barrier.specs.Asked.{all_appended}
 use Rattle.control.specs.Balances.{IsBounded}
 use Rattle.control.proofs.Bounds.{bounded_down, bounded_more, bounded_new, bounded_up}
 use Rattle.node.specs.Invariant.{AreLinked, IsBalanced, IsNode, links_of, number_sum}

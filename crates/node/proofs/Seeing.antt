@@ -20,7 +20,7 @@ use Rattle.control.specs.Phases.{IsPhases, in_cycle}
 use Rattle.control.specs.Balances.{IsBounded}
 use Rattle.control.proofs.Bounds.{bounded_entered, bounded_marks}
 use Rattle.link.specs.Links.{IsLinks}
-use Rattle.heap.specs.Asked.{all_appended}
+use Rattle.barrier.specs.Asked.{all_appended}
 use Rattle.node.specs.Errands.{MayJoin}
 use Rattle.node.specs.Invariant.{IsNode, links_of, number_sum}
 use Rattle.node.proofs.Appended.{MaySend, linked-appended, linked-later, marks-may, none-may, numbers-appended}

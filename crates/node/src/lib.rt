@@ -106,6 +106,7 @@
 
 mod keeping;
 mod node;
+mod roots;
 
 pub use keeping::Node;
 pub use model::{Answer, Event, Letter, Summary};

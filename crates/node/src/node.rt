@@ -17,8 +17,9 @@ mod receiving;
 mod steps;
 mod taking;
 
+use barrier::RefSet;
 use control::{Phases, Ring};
-use heap::{Heap, RefSet};
+use heap::Heap;
 use ids::{NodeId, Ref, Refusal, Shape};
 use link::Links;
 use model::{Answer, Event, Summary};

@@ -21,7 +21,7 @@ ghost use Rattle.model.specs.Steps.{fits};
 ghost use Rattle.model.specs.View.{append_to, used};
 ghost use Rattle.link.specs.Links.{IsLinks};
 ghost use Rattle.control.specs.Balances.{IsBounded};
-ghost use Rattle.heap.specs.Asked.{AreSent, IsRefused, all_appended};
+ghost use Rattle.barrier.specs.Asked.{AreSent, IsRefused, all_appended};
 ghost use Rattle.node.specs.Cycles.{begins};
 ghost use Rattle.node.specs.Errands.{
   HasEnds,
@@ -39,8 +39,9 @@ ghost use Rattle.node.specs.Errands.{
 ghost use Rattle.node.specs.Sending.{told, with_sent};
 
 use super::Core;
+use barrier::{RefSet, see, unsee};
 use control::{NEW_TOKEN, Ring, balance_of};
-use heap::{Heap, RefSet, see, unsee};
+use heap::Heap;
 use ids::{Ref, Refusal};
 use link::Links;
 use model::Letter;

@@ -21,12 +21,14 @@ ghost use Rattle.model.specs.Shading.{filled, join, make_all_grey, marks_for, ro
 ghost use Rattle.model.specs.Steps.{fits};
 ghost use Rattle.model.specs.View.{used};
 ghost use Rattle.link.specs.Links.{IsLinks};
-ghost use Rattle.heap.specs.Asked.{AreSent, IsAsked, IsRefused, all_appended};
+ghost use Rattle.barrier.specs.Asked.{AreSent, IsAsked, IsRefused, all_appended};
 ghost use Rattle.node.specs.Errands.{HasEnds, IsFit, MayJoin, Runs, errand_here, extra_sends};
 
 use super::Core;
 use super::errands::{Extra, count, letters_in, mark, send_out};
-use heap::{Heap, RefSet, ask_for_roots, unask};
+use crate::roots::ask_for_roots;
+use barrier::{RefSet, unask};
+use heap::Heap;
 use ids::{Ref, Refusal};
 use link::Links;
 use std::alloc::Global;

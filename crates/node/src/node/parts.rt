@@ -10,8 +10,9 @@ mod links;
 mod lists;
 
 use super::Core;
+use barrier::RefSet;
 use control::{Phases, Ring};
-use heap::{Heap, HeapParts, RefSet};
+use heap::{Heap, HeapParts};
 use home::is_at_home;
 use ids::{Ref, Refusal, Shape};
 use link::{LinkParts, Links};

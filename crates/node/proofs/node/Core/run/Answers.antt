@@ -10,7 +10,7 @@ use Rattle.model.specs.References.{IsWithin}
 use Rattle.model.specs.View.{NodeView}
 use Rattle.control.specs.Balances.{IsBounded}
 use Rattle.link.specs.Links.{IsLinks}
-use Rattle.heap.specs.Asked.{IsRefused, all_appended}
+use Rattle.barrier.specs.Asked.{IsRefused, all_appended}
 use Rattle.node.specs.Errands.{errand, extra_ring, extra_sends, listed, with_extra}
 use Rattle.node.specs.Inside.{view_of}
 use Rattle.node.specs.Invariant.{IsNode, links_of}

@@ -17,7 +17,7 @@ use Rattle.control.specs.Phases.{IsPhases}
 use Rattle.control.specs.Balances.{IsBounded}
 use Rattle.control.proofs.Bounds.{bounded_entered}
 use Rattle.link.specs.Links.{IsLinks}
-use Rattle.heap.specs.Asked.{AreSent, IsRefused, all_appended}
+use Rattle.barrier.specs.Asked.{AreSent, IsRefused, all_appended}
 use Rattle.node.specs.Errands.{IsRun, MayJoin, errand_here, extra_ring, extra_sends, listed, with_extra}
 use Rattle.node.specs.Inside.{view_of}
 use Rattle.node.specs.Invariant.{IsNode, links_of}
