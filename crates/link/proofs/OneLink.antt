@@ -11,9 +11,6 @@ use Rattle.ends.specs.declared.receiver.Offer.TheVariants.{Next}
 use Rattle.ends.specs.Receivers.{offered}
 use Rattle.ends.specs.Senders.{IsLink}
 
-pub used-appended : (l : Link) (x : Message) → used (appended l x) ≡ used l + 1
-used-appended l x = omega (arith, length-append l.unacknowledged (x ∷ []))
-
 -- messages that were dropped still count as appended
 pub used-trimmed : (l : Link) (number : ℕ) → used (trimmed l number) ≡ used l
 used-trimmed l number =
