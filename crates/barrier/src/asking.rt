@@ -98,7 +98,7 @@ pub(crate) fn vouch(
 }
 
 /// Counts a reference as asked for without asking: it comes last in `asked` if it is another node's
-/// and wasn't asked for before. Otherwise nothing changes, nor does it without a reference.
+/// and wasn't asked for before. Otherwise, and without a reference, nothing changes.
 ///
 /// It fails with [`Refusal::Memory`] if an allocation fails; `asked` is then as it was.
 pub fn include(asked: &mut RefSet, own: u8, reference: Option<Ref>) -> Result<(), Refusal>
