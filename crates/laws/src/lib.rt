@@ -2,9 +2,8 @@
 //! hold for every shape and every list of a program's events, deliveries, saves and restarts.
 //! `specs/Statements` says each of them in a few lines, and `proofs/` proves it. `specs/Sights`
 //! says that programs can't see the collector, by comparison with a space without one
-//! (`specs/Objects`). `specs/Progress` says that collection never gets stuck; `progress.rt` has
-//! these theorems, and `proofs/progress` their proofs. `proofs/rows` has worked examples of the
-//! rules. There is no code here that does anything.
+//! (`specs/Objects`), `specs/Progress` that collection never gets stuck (`progress.rt`).
+//! `proofs/rows` has worked examples of the rules. No code here does anything.
 //!
 //! # The ideas of the proofs
 //!
@@ -37,8 +36,7 @@
 //! collector has the cut's registers, letters and messages of programs. Each object that a node
 //! still has is in it unchanged, and it has no object under a reference that its node hasn't given
 //! out yet. All live objects are compared, not only the reachable ones. So each step preserves the
-//! comparison by itself, a sweep only weakens what must hold, and no lemma says what a step makes
-//! reachable.
+//! comparison by itself, and no lemma says what a step makes reachable.
 #![tactic(auto)]
 
 pub mod progress;
