@@ -15,16 +15,16 @@ use Rattle.std.specs.Prelude.{nat_le}
 use Rattle.std.specs.List.{IsDistinct, AllByRecursion, list_any}
 use Rattle.arena.specs.Arena.{Arena, Has, Once, IsSound, get}
 use Rattle.arena.specs.Arena.{IsKey, is_full, next_key, inserted, vacated, with_value}
-use Rattle.entries.specs.Slot.{IsFree, is_occupied, value_of, generation_of}
+use Rattle.arena_slot.specs.Slot.{IsFree, is_occupied, value_of, generation_of}
 use Rattle.arena.specs.Entry.{chain, arena_of, IsLinked}
-use Rattle.entries.specs.Entry.{slot_of, held_by, next_of, occupied_by}
+use Rattle.arena_slot.specs.Entry.{slot_of, held_by, next_of, occupied_by}
 use Rattle.arena.specs.declared.Key.{Key}
-use Rattle.entries.specs.declared.Slot.{Slot}
-use Rattle.entries.specs.declared.Slot.TheVariants as slot
-use Rattle.entries.specs.declared.Entry.{Entry}
-use Rattle.entries.specs.declared.Entry.TheVariants.{Free, Occupied, Retired}
+use Rattle.arena_slot.specs.declared.Slot.{Slot}
+use Rattle.arena_slot.specs.declared.Slot.TheVariants as slot
+use Rattle.arena_slot.specs.declared.Entry.{Entry}
+use Rattle.arena_slot.specs.declared.Entry.TheVariants.{Free, Occupied, Retired}
 use Rattle.ids.specs.declared.limits.TheConstants.{GREATEST_GENERATION}
-use Rattle.entries.specs.declared.TheConstants.{FIRST_GENERATION}
+use Rattle.arena_slot.specs.declared.TheConstants.{FIRST_GENERATION}
 use Rattle.arena.proofs.Sound.{IsTaken, free_within, IsSound-push, IsSound-fill, IsSound-vacate}
 use Rattle.arena.proofs.Sound.{IsSound-set}
 

@@ -10,17 +10,17 @@ use Rattle.std.proofs.lemmas.List.Sums.{count_by-le-length}
 use Rattle.std.proofs.Math.Seq.{map-set_same, drop-nil, drop-cons}
 use Rattle.std.proofs.lemmas.List.{get_or_past, get_or_read, get_or-set_same, map_push, length-map}
 use Rattle.arena.specs.Arena.{Has, Once, IsSound, plain}
-use Rattle.entries.specs.Slot.{IsFree, IsBorn, is_occupied}
+use Rattle.arena_slot.specs.Slot.{IsFree, IsBorn, is_occupied}
 use Rattle.arena.specs.Entry.{chain, arena_of, IsLinked}
-use Rattle.entries.specs.Entry.{slot_of, next_of}
+use Rattle.arena_slot.specs.Entry.{slot_of, next_of}
 use Rattle.arena.specs.Made.{entry_at, AreCounted, IsLinking}
-use Rattle.entries.specs.Entry.{unlinked_of, is_unlinked, linked_to}
+use Rattle.arena_slot.specs.Entry.{unlinked_of, is_unlinked, linked_to}
 use Rattle.arena.specs.Row.{Row, row}
-use Rattle.entries.specs.declared.Slot.{Slot}
-use Rattle.entries.specs.declared.Slot.TheVariants as slot
-use Rattle.entries.specs.declared.Entry.{Entry}
-use Rattle.entries.specs.declared.Entry.TheVariants.{Free, Occupied, Retired}
-use Rattle.entries.specs.declared.TheConstants.{UNLINKED}
+use Rattle.arena_slot.specs.declared.Slot.{Slot}
+use Rattle.arena_slot.specs.declared.Slot.TheVariants as slot
+use Rattle.arena_slot.specs.declared.Entry.{Entry}
+use Rattle.arena_slot.specs.declared.Entry.TheVariants.{Free, Occupied, Retired}
+use Rattle.arena_slot.specs.declared.TheConstants.{UNLINKED}
 use Rattle.arena.proofs.Sound.{at_set, each_push}
 use Rattle.arena.proofs.Chains.{chain-set, length-free}
 

@@ -5,10 +5,10 @@ use Rattle.std.proofs.lemmas.Bool.{cases_eq}
 use Rattle.std.proofs.Math.ListN.{length-append}
 use Rattle.std.proofs.lemmas.List.{get_or-set_same, get_or-set_other, length-set}
 use Rattle.arena.specs.Arena.{Has, plain, IsSound}
-use Rattle.entries.specs.Slot.{IsFree, IsBorn}
-use Rattle.entries.specs.declared.Slot.{Slot}
-use Rattle.entries.specs.declared.Slot.TheVariants.{Free, Occupied, Retired}
-use Rattle.entries.specs.declared.TheConstants.{FIRST_GENERATION}
+use Rattle.arena_slot.specs.Slot.{IsFree, IsBorn}
+use Rattle.arena_slot.specs.declared.Slot.{Slot}
+use Rattle.arena_slot.specs.declared.Slot.TheVariants.{Free, Occupied, Retired}
+use Rattle.arena_slot.specs.declared.TheConstants.{FIRST_GENERATION}
 
 -- a look-up after a write
 pub at_set : {X : Type 0} (xs : List X) (k i : ℕ) (x d : X) → k < length xs

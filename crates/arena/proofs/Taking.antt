@@ -7,14 +7,14 @@ use Rattle.std.proofs.lemmas.List.{get_or_read, length-map}
 use Rattle.std.specs.Borrow.{Bor}
 use Rattle.std.specs.Option.{is_some, option_copied}
 use Rattle.arena.specs.Arena.{Arena, get, without, removed, vacated}
-use Rattle.entries.specs.Slot.{value_of}
+use Rattle.arena_slot.specs.Slot.{value_of}
 use Rattle.arena.specs.Entry.{arena_of, IsLinked}
-use Rattle.entries.specs.Entry.{slot_of}
+use Rattle.arena_slot.specs.Entry.{slot_of}
 use Rattle.arena.proofs.Chains.{found, count-set}
 use Rattle.arena.specs.declared.Key.{Key}
-use Rattle.entries.specs.declared.Slot.TheVariants as slot
-use Rattle.entries.specs.declared.Entry.{Entry}
-use Rattle.entries.specs.declared.Entry.TheVariants.{Occupied, Retired}
+use Rattle.arena_slot.specs.declared.Slot.TheVariants as slot
+use Rattle.arena_slot.specs.declared.Entry.{Entry}
+use Rattle.arena_slot.specs.declared.Entry.TheVariants.{Occupied, Retired}
 
 module _ {T : Type 0} where
   some_of : (r : Option (Bor T)) (o : Option T) → option_copied r ≡ o → is_some r ≡ true → IsSome o

@@ -2,15 +2,15 @@
 use Rattle.std.specs.Prelude.{◌≡◌, ◌⊎◌, ℕ, ◌+◌, ◌^◌, ◌<◌, ◌≤◌, List, [], ◌∷◌, ◌++◌, length}
 use Rattle.std.specs.Prelude.{Bool, true, false, ◌==◌, ◌&&◌, nat_le, if◌then◌else◌, ⊤}
 use Rattle.std.specs.Prelude.{Option, Some, None, count_by, slice_index_or, slice_set}
-use Rattle.entries.specs.Slot.{IsFree, IsBorn, is_occupied, value_of, generation_in, slot_generation}
-use Rattle.entries.specs.Slot.{generation_of}
-use Rattle.entries.specs.declared.Slot.{Slot}
-use Rattle.entries.specs.declared.Slot.TheVariants.{Free, Occupied, Retired}
+use Rattle.arena_slot.specs.Slot.{IsFree, IsBorn, is_occupied, value_of, generation_in, slot_generation}
+use Rattle.arena_slot.specs.Slot.{generation_of}
+use Rattle.arena_slot.specs.declared.Slot.{Slot}
+use Rattle.arena_slot.specs.declared.Slot.TheVariants.{Free, Occupied, Retired}
 use Rattle.arena.specs.declared.Key.{Key}
 use Rattle.arena.specs.declared.ArenaError.{ArenaError}
 use Rattle.arena.specs.declared.ArenaError.TheVariants.{Full, Memory, Shape}
 use Rattle.ids.specs.declared.limits.TheConstants.{GREATEST_GENERATION}
-use Rattle.entries.specs.declared.TheConstants.{FIRST_GENERATION}
+use Rattle.arena_slot.specs.declared.TheConstants.{FIRST_GENERATION}
 
 -- the slots that have been used, the free ones in order of use, and how many slots there may be
 pub record Arena (T : Type 0) : Type 0 where

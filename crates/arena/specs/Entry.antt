@@ -1,9 +1,9 @@
 -- How an `Arena` is laid out in memory. No public clause cites this module.
 use Rattle.std.specs.Prelude.{◌≡◌, ℕ, zero, suc, List, [], ◌∷◌, map, slice_index_or}
 use Rattle.arena.specs.Arena.{Arena, IsSound, occupied_count, plain}
-use Rattle.entries.specs.Entry.{slot_of, next_of}
-use Rattle.entries.specs.declared.Entry.{Entry}
-use Rattle.entries.specs.declared.Entry.TheVariants.{Retired}
+use Rattle.arena_slot.specs.Entry.{slot_of, next_of}
+use Rattle.arena_slot.specs.declared.Entry.{Entry}
+use Rattle.arena_slot.specs.declared.Entry.TheVariants.{Retired}
 
 module _ {T : Type 0} where
   -- this many slots, beginning with slot k, each followed by the one that it names

@@ -2,14 +2,14 @@
 use Rattle.std.specs.Prelude.{◌≡◌, ℕ, ◌^◌, ◌<◌, ◌≤◌, Bool, false, List, length, map, count_by}
 use Rattle.std.specs.Prelude.{slice_index_or, IsTrue, ◌↔◌}
 use Rattle.arena.specs.Arena.{Has, Once}
-use Rattle.entries.specs.Slot.{IsFree, IsBorn, is_occupied}
+use Rattle.arena_slot.specs.Slot.{IsFree, IsBorn, is_occupied}
 use Rattle.arena.specs.Row.{Row}
 use Rattle.arena.specs.Entry.{chain}
-use Rattle.entries.specs.Entry.{slot_of, unlinked_of, is_unlinked}
-use Rattle.entries.specs.declared.Slot.TheVariants as slot
-use Rattle.entries.specs.declared.Entry.{Entry}
-use Rattle.entries.specs.declared.Entry.TheVariants.{Retired}
-use Rattle.entries.specs.declared.TheConstants.{UNLINKED}
+use Rattle.arena_slot.specs.Entry.{slot_of, unlinked_of, is_unlinked}
+use Rattle.arena_slot.specs.declared.Slot.TheVariants as slot
+use Rattle.arena_slot.specs.declared.Entry.{Entry}
+use Rattle.arena_slot.specs.declared.Entry.TheVariants.{Retired}
+use Rattle.arena_slot.specs.declared.TheConstants.{UNLINKED}
 
 module _ {T : Type 0} where
   -- the entries of slots, none of which is linked, with their counts and whether all are born

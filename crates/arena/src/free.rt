@@ -2,13 +2,13 @@
 //! rather than searched.
 ghost use Rattle.std.specs.Prelude.{◌≡◌, ℕ};
 ghost use Rattle.arena.specs.Arena.{Has};
-ghost use Rattle.entries.specs.Slot.{IsFree};
+ghost use Rattle.arena_slot.specs.Slot.{IsFree};
 ghost use Rattle.arena.specs.Entry.{chain};
-ghost use Rattle.entries.specs.Entry.{slot_of};
+ghost use Rattle.arena_slot.specs.Entry.{slot_of};
 ghost use Rattle.arena.specs.Made.{entry_at};
 
 use crate::store::Store;
-use entries::Entry;
+use arena_slot::Entry;
 use std::marker::Model;
 
 /// An iterator over the free slots of an [`Arena`](crate::Arena), in order of next use.
@@ -22,9 +22,9 @@ pub struct FreeSlots<'a, T> {
 impl<'a, T> Model for FreeSlots<'a, T> {
     ghost use Rattle.std.specs.Prelude.{ℕ, List};
     ghost use Rattle.arena.specs.Arena.{Has};
-    ghost use Rattle.entries.specs.Slot.{IsFree};
+    ghost use Rattle.arena_slot.specs.Slot.{IsFree};
     ghost use Rattle.arena.specs.Entry.{chain};
-    ghost use Rattle.entries.specs.Entry.{slot_of};
+    ghost use Rattle.arena_slot.specs.Entry.{slot_of};
     ghost use Rattle.arena.specs.Made.{entry_at};
 
     ghost Value = { List ℕ };

@@ -15,7 +15,7 @@
 //! block             Block, Title: raw memory, the six functions that follow a pointer
 //! ```
 //!
-//! What one slot holds, and how it lies in memory, is in the crate `entries`.
+//! What one slot holds, and how it lies in memory, is in the crate `arena_slot`.
 //!
 //! Items are stored in chunks of 1,024, each in a block that never moves. If all chunks are full, a
 //! push allocates another one. The block with the pointers to the chunks doubles when it is full,
@@ -40,7 +40,7 @@ ghost use Rattle.std.specs.Option.{option_copied_mut};
 ghost use Rattle.std.specs.Borrow.{sem};
 ghost use Rattle.arena.specs.Arena.{IsSound, IsErrorOf, IsKey, get, key_at, generation_at, next_key};
 ghost use Rattle.arena.specs.Arena.{inserted, removed, occupied_count, is_full, slot_at, plain};
-ghost use Rattle.entries.specs.Slot.{slot_read};
+ghost use Rattle.arena_slot.specs.Slot.{slot_read};
 ghost use Rattle.arena.specs.declared.ArenaError.TheVariants.{Shape};
 
 mod block;
@@ -53,8 +53,8 @@ mod store;
 pub use crate::free::FreeSlots;
 pub use crate::made::Slots;
 use crate::store::Store;
-use entries::Entry;
-pub use entries::{FIRST_GENERATION, Slot};
+use arena_slot::Entry;
+pub use arena_slot::{FIRST_GENERATION, Slot};
 use ids::{GREATEST_GENERATION, Generation};
 use std::alloc::Global;
 use std::marker::Model;

@@ -4,17 +4,17 @@ ghost use Rattle.std.specs.Prelude.{◌≡◌, ℕ, ◌+◌, ◌^◌, ◌<◌, �
 ghost use Rattle.std.specs.Prelude.{slice_set, slice_index_or, true, IsTrue, ◌↔◌};
 ghost use Rattle.std.specs.Prelude.{IfOk, IfErr, OnOk, OnErr};
 ghost use Rattle.arena.specs.Arena.{IsSound, plain};
-ghost use Rattle.entries.specs.Slot.{IsBorn, is_occupied, slot_read};
-ghost use Rattle.entries.specs.Entry.{slot_of};
+ghost use Rattle.arena_slot.specs.Slot.{IsBorn, is_occupied, slot_read};
+ghost use Rattle.arena_slot.specs.Entry.{slot_of};
 ghost use Rattle.arena.specs.Made.{AreCounted, IsLinking, entry_at};
-ghost use Rattle.entries.specs.Entry.{unlinked_of, is_unlinked, linked_to};
+ghost use Rattle.arena_slot.specs.Entry.{unlinked_of, is_unlinked, linked_to};
 ghost use Rattle.arena.specs.Row.{row};
-ghost use Rattle.entries.specs.declared.Slot.TheVariants as slot;
+ghost use Rattle.arena_slot.specs.declared.Slot.TheVariants as slot;
 ghost use Rattle.arena.specs.declared.ArenaError.TheVariants.{Shape};
 
 use crate::ArenaError;
 use crate::store::Store;
-use entries::{Entry, FIRST_GENERATION, Slot};
+use arena_slot::{Entry, FIRST_GENERATION, Slot};
 use std::alloc::{AllocError, Global};
 use std::marker::Model;
 
@@ -43,12 +43,12 @@ impl<T: Drop> Drop for Slots<T> {
 
 impl<T> Model for Slots<T> {
     ghost use Rattle.arena.specs.Row.{Row, row};
-    ghost use Rattle.entries.specs.declared.Slot.{Slot};
+    ghost use Rattle.arena_slot.specs.declared.Slot.{Slot};
 
     ghost Value = { Row (Slot T) };
 
     ghost use Rattle.std.specs.Prelude.{map};
-    ghost use Rattle.entries.specs.Entry.{slot_of};
+    ghost use Rattle.arena_slot.specs.Entry.{slot_of};
     ghost use Rattle.arena.specs.Made.{AreCounted};
 
     ghost view = { λ s. row (map slot_of s.entries.items) s.entries.capacity };

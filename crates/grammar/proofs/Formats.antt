@@ -20,7 +20,7 @@ use Rattle.frames.specs.Formats.{generation}
 use Rattle.frames.proofs.Formats.{any, generation_grows, reference_grows, optional_grows}
 use Rattle.frames.proofs.Formats.{body_grows, colour_sound, token_sound}
 use Rattle.frames.specs.Lengths.{reference_long, optional_long}
-use Rattle.entries.specs.declared.Slot.TheVariants as slot
+use Rattle.arena_slot.specs.declared.Slot.TheVariants as slot
 use Rattle.model.specs.State.{Object}
 use Rattle.grammar.specs.Links.{StoredSlot}
 use Rattle.grammar.specs.Grammar.{version_format, Start, is_start, start_format, most_nodes}

@@ -9,7 +9,7 @@ use Rattle.std.proofs.lemmas.Bool.{eq-eqb, ne_eqb, lt-leb}
 use Rattle.std.proofs.lemmas.List.{take_all, get_or-map, length-map}
 use Rattle.std.proofs.lemmas.Slice.Zip.{length-zip, get_or-zip}
 use Rattle.std.proofs.lemmas.Option.{slice_get-get_or}
-use Rattle.entries.specs.declared.Slot.TheVariants as slot
+use Rattle.arena_slot.specs.declared.Slot.TheVariants as slot
 use Rattle.heap.specs.Heap.{slot_of}
 use Rattle.msg.specs.declared.body.Message.{Message}
 use Rattle.model.specs.State.{Slot, Retired}

@@ -20,7 +20,7 @@ use Rattle.model.specs.State.{Object, Ring}
 use Rattle.model.specs.declared.event.Letter.{Letter}
 use Rattle.grammar.specs.declared.parts.Head.{Head}
 use Rattle.grammar.specs.declared.parts.PhasesParts.{PhasesParts}
-use Rattle.entries.specs.declared.Slot.TheVariants as slot
+use Rattle.arena_slot.specs.declared.Slot.TheVariants as slot
 use Rattle.grammar.specs.Links.{StoredLink, StoredSlot}
 
 -- what an image says about a node

@@ -1,6 +1,6 @@
 -- What an image says about a slot, and about the links between its node and another one.
 use Rattle.std.specs.Prelude.{ℕ, List}
-use Rattle.entries.specs.declared.Slot as stored
+use Rattle.arena_slot.specs.declared.Slot as stored
 use Rattle.msg.specs.declared.body.Message.{Message}
 use Rattle.model.specs.State.{Object}
 

@@ -1,7 +1,7 @@
 -- What an image says about a node's slots, links and phases.
 use Rattle.std.specs.Prelude.{ℕ, List, map}
 use Rattle.std.specs.List.{zip}
-use Rattle.entries.specs.declared.Slot.TheVariants as slot
+use Rattle.arena_slot.specs.declared.Slot.TheVariants as slot
 use Rattle.model.specs.State.{Slot, Free, Occupied, Retired, Phases}
 use Rattle.model.specs.View.{Link}
 use Rattle.grammar.specs.declared.parts.PhasesParts.{PhasesParts}

@@ -1,6 +1,6 @@
 //! A node as the parts that its image says. The parts may contradict each other; whether they form
 //! a node is checked when the node is made of them.
-use control::Ring;
+use cycles::Ring;
 use heap::HeapParts;
 use ids::Ref;
 use msg::Message;

@@ -20,7 +20,7 @@ use crate::lists::{Readable, counted, many};
 use crate::parts::{Head, PhasesParts, StoredLink, StoredNode};
 use crate::tags::{ABSENT, FIRST, FREE, LOGGED, OCCUPIED, PRESENT, RETIRED, SECOND, START};
 use codec::Reader;
-use control::Ring;
+use cycles::Ring;
 use frames::Version;
 use frames::reading::{
     read_body, read_colour, read_generation, read_optional, read_reference, read_token,

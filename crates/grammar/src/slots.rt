@@ -1,8 +1,8 @@
 //! The slots and the letters of a heap as bytes. They are written in the order of their numbers, so
 //! a heap has one spelling.
 ghost use Rattle.std.specs.Prelude.{◌≡◌, ◌<◌, ◌≤◌, ◌+◌, [], ◌∷◌, ◌++◌, length, map, slice_index_or};
-ghost use Rattle.entries.specs.Slot.{slot_read};
-ghost use Rattle.entries.specs.declared.Slot.TheVariants.{Free, Occupied};
+ghost use Rattle.arena_slot.specs.Slot.{slot_read};
+ghost use Rattle.arena_slot.specs.declared.Slot.TheVariants.{Free, Occupied};
 ghost use Rattle.codec.specs.Formats.{number4, number8, counted};
 ghost use Rattle.codec.specs.Writing.{Puts};
 ghost use Rattle.frames.specs.declared.version.Version.TheVariants.{Second};

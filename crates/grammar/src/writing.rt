@@ -18,7 +18,7 @@ use crate::parts::Head;
 use crate::slots::{put_free_list, put_letters, put_slot_list};
 use crate::tags::{ABSENT, PRESENT, SECOND, START};
 use codec::{Piece, Writer};
-use control::{Phases, Ring};
+use cycles::{Phases, Ring};
 use frames::writing::{add_colour, add_token};
 use heap::Heap;
 use ids::Ref;

@@ -9,9 +9,9 @@ use Rattle.std.proofs.Math.ListN.{get_or-map}
 use Rattle.ids.specs.declared.limits.TheConstants.{GREATEST_PLACES}
 use Rattle.ids.specs.declared.names.Ref.{Ref}
 use Rattle.arena.specs.Arena.{Arena, plain, next_key, inserted, is_full}
-use Rattle.entries.specs.Slot.{generation_of}
-use Rattle.entries.specs.declared.Slot.{Slot}
-use Rattle.entries.specs.declared.Slot.TheVariants.{Free, Occupied, Retired}
+use Rattle.arena_slot.specs.Slot.{generation_of}
+use Rattle.arena_slot.specs.declared.Slot.{Slot}
+use Rattle.arena_slot.specs.declared.Slot.TheVariants.{Free, Occupied, Retired}
 use Rattle.model.specs.Checks.{AllPass}
 use Rattle.model.specs.State.{Object, Heap}
 use Rattle.model.specs.State as state

@@ -5,13 +5,13 @@ use Rattle.std.proofs.lemmas.List.{map-set, length-set, length-map, get_or_past}
 use Rattle.std.proofs.Math.ListN.{get_or-map}
 use Rattle.std.proofs.Math.Nat.{min-eq_left, min-eq_right}
 use Rattle.arena.specs.Arena.{Arena, key_of, freed, retired, without, removed}
-use Rattle.entries.specs.Slot.{value_of}
+use Rattle.arena_slot.specs.Slot.{value_of}
 use Rattle.arena.specs.Arena as arena
-use Rattle.entries.specs.Slot as entries
+use Rattle.arena_slot.specs.Slot as entries
 use Rattle.ids.specs.declared.limits.TheConstants.{GREATEST_GENERATION}
 use Rattle.arena.specs.declared.Key.{Key}
-use Rattle.entries.specs.declared.Slot.{Slot}
-use Rattle.entries.specs.declared.Slot.TheVariants.{Free, Occupied, Retired}
+use Rattle.arena_slot.specs.declared.Slot.{Slot}
+use Rattle.arena_slot.specs.declared.Slot.TheVariants.{Free, Occupied, Retired}
 use Rattle.model.specs.State.{Object, Heap, slot_at}
 use Rattle.model.specs.State as state
 use Rattle.model.specs.Collecting as collecting

@@ -5,9 +5,9 @@ use Rattle.std.proofs.Math.ListN.{get_or-map}
 use Rattle.ids.specs.Limits.{Shaped}
 use Rattle.ids.specs.declared.limits.TheConstants.{GREATEST_SLOTS}
 use Rattle.arena.specs.Arena.{Arena, plain, IsSound}
-use Rattle.entries.specs.Slot as entries
-use Rattle.entries.specs.declared.Slot as stored
-use Rattle.entries.specs.declared.Slot.TheVariants.{Free, Occupied, Retired}
+use Rattle.arena_slot.specs.Slot as entries
+use Rattle.arena_slot.specs.declared.Slot as stored
+use Rattle.arena_slot.specs.declared.Slot.TheVariants.{Free, Occupied, Retired}
 use Rattle.model.specs.State.{Object, Slot, Heap, slot_at}
 use Rattle.model.specs.State as state
 use Rattle.heap.specs.Heap.{IsFree, IsBorn, IsSlotted, IsHeapFor, slot_of}

@@ -9,10 +9,10 @@ use Rattle.ids.specs.declared.names.Ref.{Ref}
 use Rattle.ids.specs.declared.refusal.Refusal.{Refusal}
 use Rattle.ids.specs.declared.refusal.Refusal.TheVariants.{NoField}
 use Rattle.arena.specs.Arena.{get, with_value}
-use Rattle.entries.specs.Slot.{value_of}
+use Rattle.arena_slot.specs.Slot.{value_of}
 use Rattle.arena.specs.declared.Key.{Key}
-use Rattle.entries.specs.declared.Slot.{Slot}
-use Rattle.entries.specs.declared.Slot.TheVariants.{Free, Occupied, Retired}
+use Rattle.arena_slot.specs.declared.Slot.{Slot}
+use Rattle.arena_slot.specs.declared.Slot.TheVariants.{Free, Occupied, Retired}
 use Rattle.model.specs.Checks.{guarded}
 use Rattle.model.specs.State.{Object, Heap, slot_at}
 use Rattle.model.specs.State as state

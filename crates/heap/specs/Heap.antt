@@ -2,8 +2,8 @@
 use Rattle.std.specs.Prelude.{◌≡◌, ℕ, ◌+◌, ◌≤◌, Bool, true, false, length, ⊤}
 pub use Rattle.arena.specs.Arena.{Has, Once}
 use Rattle.ids.specs.declared.names.Ref.{Ref}
-use Rattle.entries.specs.declared.Slot as stored
-use Rattle.entries.specs.declared.Slot.TheVariants as variant
+use Rattle.arena_slot.specs.declared.Slot as stored
+use Rattle.arena_slot.specs.declared.Slot.TheVariants as variant
 use Rattle.ids.specs.Limits.{Shaped}
 use Rattle.model.specs.State.{Object, Slot, Free, Occupied, Retired, Heap, slot_at}
 use Rattle.model.specs.Collecting.{Sweeping, generation_in, sweep_some}

@@ -5,7 +5,7 @@ use Rattle.std.specs.List.{AllByRecursion}
 use Rattle.ids.specs.Limits.{Shaped, IsShape}
 use Rattle.ids.specs.declared.limits.TheConstants.{GREATEST_NUMBER}
 use Rattle.msg.specs.declared.body.Message.{Message}
-use Rattle.control.specs.Phases.{IsPhases}
+use Rattle.cycles.specs.Phases.{IsPhases}
 use Rattle.heap.specs.Heap.{IsSlotted}
 use Rattle.model.specs.State.{got_from}
 use Rattle.model.specs.Steps.{mentioned}

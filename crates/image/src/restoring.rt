@@ -15,7 +15,7 @@ ghost use Rattle.grammar.specs.Logs.{begins_logged};
 ghost use Rattle.grammar.specs.Parts.{stored_of};
 ghost use Rattle.image.specs.Logged.{IsAnyImageOf, IsLoggedOf};
 
-use control::Phases;
+use cycles::Phases;
 use grammar::{Head, StoredLink, StoredNode, begins_logged, whole, whole_logged};
 use ids::{GREATEST_IMAGE, Refusal, Shape};
 use link::LinkParts;

@@ -8,8 +8,8 @@ use Rattle.ids.specs.declared.limits.TheConstants.{GREATEST_NUMBER}
 use Rattle.model.specs.View.{Link, no_link, used, all_kept, kept_to}
 use Rattle.model.proofs.Lookups.{map-set_same}
 use Rattle.link.specs.declared.links.Ends.{Ends}
-use Rattle.ends.specs.Receivers.{taken_next}
-use Rattle.ends.specs.Senders.{IsLink}
+use Rattle.link_ends.specs.Receivers.{taken_next}
+use Rattle.link_ends.specs.Senders.{IsLink}
 use Rattle.link.specs.Links.{LinksView, IsLinks, new_links, link_at, got_at, ack_at, taken_next_from, kept_links, kept_peer}
 use Rattle.link.specs.Ends.{sender_of, taken_of, saved_of, view_of, new_ends, kept_ends, kept_ends_to}
 use Rattle.link.proofs.EveryLink.{links-set, links-taken, links-kept_peer}

@@ -8,7 +8,7 @@ use Rattle.ids.specs.declared.limits.TheConstants.{GREATEST_NUMBER}
 use Rattle.msg.specs.declared.body.Message.{Message}
 use Rattle.model.specs.View.{Link, no_link, used, append_to, retracted, all_kept, kept_to}
 use Rattle.model.proofs.Lookups.{at_set, at_set_if, get_or-replicate_any}
-use Rattle.ends.specs.Senders.{IsLink}
+use Rattle.link_ends.specs.Senders.{IsLink}
 use Rattle.link.specs.Links.{LinksView, IsLinks, new_links, got_at, ack_at, appended_to, retracted_to, taken_next_from, kept_links, kept_peer}
 use Rattle.link.proofs.OneLink.{link-none, link-kept, link-kept_to, retracted-appended}
 

@@ -5,7 +5,7 @@ use Rattle.std.specs.List.{All}
 use Rattle.std.proofs.lemmas.List.{length-map}
 use Rattle.ids.specs.declared.limits.TheConstants.{GREATEST_NUMBER}
 use Rattle.model.specs.View.{Link, no_link}
-use Rattle.ends.specs.Senders.{IsLink}
+use Rattle.link_ends.specs.Senders.{IsLink}
 use Rattle.link.specs.Links.{IsLinks}
 use Rattle.link.specs.Ends.{sender_of, taken_of, saved_of, view_of}
 use Rattle.link.specs.Parts.{link_given, taken_given, links_given, ends_given, IsNumbered}

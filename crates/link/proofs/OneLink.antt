@@ -7,9 +7,9 @@ use Rattle.std.proofs.lemmas.List.{take_at}
 use Rattle.std.proofs.Math.Nat.{le-max_left, max-le, min-le_left, min-le_right}
 use Rattle.msg.specs.declared.body.Message.{Message}
 use Rattle.model.specs.View.{Link, no_link, used, appended, retracted, trimmed, all_kept, kept_to}
-use Rattle.ends.specs.declared.receiver.Offer.TheVariants.{Next}
-use Rattle.ends.specs.Receivers.{offered}
-use Rattle.ends.specs.Senders.{IsLink}
+use Rattle.link_ends.specs.declared.receiver.Offer.TheVariants.{Next}
+use Rattle.link_ends.specs.Receivers.{offered}
+use Rattle.link_ends.specs.Senders.{IsLink}
 
 -- messages that were dropped still count as appended
 pub used-trimmed : (l : Link) (number : ℕ) → used (trimmed l number) ≡ used l

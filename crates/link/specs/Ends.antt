@@ -2,7 +2,7 @@
 use Rattle.std.specs.Prelude.{ℕ, List, map}
 use Rattle.link.specs.declared.links.Ends.{Ends}
 use Rattle.model.specs.View.{Link, no_link, all_kept, kept_to}
-use Rattle.ends.specs.Receivers.{new_received, all_saved, saved_to}
+use Rattle.link_ends.specs.Receivers.{new_received, all_saved, saved_to}
 use Rattle.link.specs.Links.{LinksView}
 
 abbrev pub sender_of : Ends → Link

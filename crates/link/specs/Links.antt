@@ -4,7 +4,7 @@ use Rattle.ids.specs.declared.limits.TheConstants.{GREATEST_NUMBER}
 use Rattle.msg.specs.declared.body.Message.{Message}
 use Rattle.model.specs.Steps.{fits}
 use Rattle.model.specs.View.{Link, no_link, used, append_to, retracted, trimmed, all_kept, kept_to}
-use Rattle.ends.specs.Senders.{IsLink}
+use Rattle.link_ends.specs.Senders.{IsLink}
 
 -- For each node: what is kept of the messages to it, the number of the last message received from
 -- it, and the number up to which its messages are acknowledged.

@@ -2,8 +2,8 @@
 use Rattle.std.specs.Prelude.{ℕ, ◌+◌, ◌≤◌, List, length, map}
 use Rattle.ids.specs.declared.limits.TheConstants.{GREATEST_NUMBER}
 use Rattle.model.specs.View.{Link}
-use Rattle.ends.specs.Receivers.{received}
-use Rattle.ends.specs.Senders.{sent}
+use Rattle.link_ends.specs.Receivers.{received}
+use Rattle.link_ends.specs.Senders.{sent}
 use Rattle.link.specs.Links.{LinksView}
 use Rattle.link.specs.declared.links.Ends.{Ends}
 use Rattle.link.specs.declared.parts.LinkParts.{LinkParts}

@@ -1,5 +1,5 @@
 //! The ends that a node holds of the links between it and each node of its space: [`Links`], with a
-//! [`Sender`](ends::Sender) and a [`Receiver`](ends::Receiver) for each. Those of a saved node are
+//! [`Sender`](link_ends::Sender) and a [`Receiver`](link_ends::Receiver) for each. Those of a saved node are
 //! made from [`LinkParts`]. [`EarlyFrames`] keeps early messages.
 #![tactic(auto)]
 

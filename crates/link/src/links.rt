@@ -5,14 +5,14 @@ ghost use Rattle.ids.specs.declared.limits.TheConstants.{GREATEST_NUMBER};
 ghost use Rattle.ids.specs.declared.refusal.Refusal.TheVariants.{AckBeyond, LinkSpent, Memory};
 ghost use Rattle.model.specs.Steps.{fits};
 ghost use Rattle.model.specs.View.{used, append_to, message_of, released_at};
-ghost use Rattle.ends.specs.Receivers.{offered};
+ghost use Rattle.link_ends.specs.Receivers.{offered};
 ghost use Rattle.msg.specs.declared.body.Message.{Message};
 ghost use Rattle.link.specs.Links.{LinksView, IsLinks, new_links, link_at, got_at, ack_at, fits_to, appended_to, for_other, fits_others, announced_below, announced, retracted_to, trimmed_to, taken_next_from, kept_links, kept_peer};
 ghost use Rattle.link.specs.Ends.{new_ends, kept_ends, kept_ends_to};
 ghost use Rattle.link.specs.Parts.{IsNumbered, ends_given};
 
 use crate::parts::LinkParts;
-use ends::{Offer, Receiver, Sender};
+use link_ends::{Offer, Receiver, Sender};
 use ids::{GREATEST_NUMBER, Refusal};
 use msg::Message;
 use std::alloc::Global;

@@ -15,7 +15,7 @@ use Rattle.model.proofs.References.{all-append}
 use Rattle.model.proofs.Asking.{marks-others, marks-timely, timely-appended, timely-later, unasked-others}
 use Rattle.model.proofs.Shading.{unasked-all}
 use Rattle.link.specs.Links.{LinksView, IsLinks, for_others}
-use Rattle.barrier.specs.Asked.{all_appended}
+use Rattle.remote_marks.specs.Asked.{all_appended}
 use Rattle.node.specs.Invariant.{AreLinked, number_sum}
 
 -- messages that a node in this cycle may append: they are for other nodes of the shape

@@ -9,8 +9,8 @@ use Rattle.model.specs.State.{Ring}
 use Rattle.model.specs.View.{Link, NodeView, no_link, used, all_kept, trimmed}
 use Rattle.link.specs.Links.{LinksView, IsLinks}
 use Rattle.link.proofs.OneLink.{used-trimmed}
-use Rattle.control.specs.Balances.{IsBounded}
-use Rattle.control.proofs.Bounds.{bounded_more}
+use Rattle.cycles.specs.Balances.{IsBounded}
+use Rattle.cycles.proofs.Bounds.{bounded_more}
 use Rattle.node.specs.Invariant.{IsBalanced, IsNode, links_of, number_sum}
 
 -- the bound of a sum from the bound of its terms

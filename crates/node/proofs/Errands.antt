@@ -19,11 +19,11 @@ use Rattle.model.proofs.Joining.{join-open}
 use Rattle.model.proofs.Shading.{seen-none}
 use Rattle.model.proofs.References.{any-list, holds-with_letter, holds-without_last_grey}
 use Rattle.model.proofs.Stocks.{stocked-letter, stocked-scanned}
-use Rattle.control.specs.Phases.{IsPhases, in_cycle}
-use Rattle.control.specs.Balances.{IsBounded}
-use Rattle.control.proofs.Bounds.{bounded_more}
+use Rattle.cycles.specs.Phases.{IsPhases, in_cycle}
+use Rattle.cycles.specs.Balances.{IsBounded}
+use Rattle.cycles.proofs.Bounds.{bounded_more}
 use Rattle.link.specs.Links.{LinksView, IsLinks, for_others}
-use Rattle.barrier.specs.Asked.{AreSent, all_appended}
+use Rattle.remote_marks.specs.Asked.{AreSent, all_appended}
 use Rattle.node.specs.Cycles.{begins}
 use Rattle.node.specs.Errands.{HasEnds, IsFit, IsRun, MayJoin, errand_here, extra_ring, extra_sends, extra_work, is_nothing, listed, unlisted, with_extra}
 use Rattle.node.specs.Invariant.{IsNode, links_of, number_sum}

@@ -9,7 +9,7 @@ use Rattle.std.proofs.Math.ListN.{get_or-map}
 use Rattle.ids.specs.Limits.{Shaped, IsShape}
 use Rattle.msg.specs.declared.body.Body.{Body}
 use Rattle.msg.specs.declared.body.Message.{Message}
-use Rattle.control.specs.Phases.{IsPhases}
+use Rattle.cycles.specs.Phases.{IsPhases}
 use Rattle.model.specs.Counting.{balance_of, counted_down, counted_up, stamped}
 use Rattle.model.specs.State.{Heap, Phases, Ring, new_phases}
 use Rattle.model.specs.Steps.{is_addressed}
@@ -22,9 +22,9 @@ use Rattle.model.proofs.Balances.{down-token, up-token}
 use Rattle.model.proofs.References.{holds-new_heap}
 use Rattle.model.proofs.Stocks.{stocked-new}
 use Rattle.link.specs.Links.{LinksView, IsLinks, announced, appended_to, for_others, taken_next_from, trimmed_to, kept_links, kept_peer, new_links}
-use Rattle.barrier.specs.Asked.{all_appended}
-use Rattle.control.specs.Balances.{IsBounded}
-use Rattle.control.proofs.Bounds.{bounded_down, bounded_more, bounded_new, bounded_up}
+use Rattle.remote_marks.specs.Asked.{all_appended}
+use Rattle.cycles.specs.Balances.{IsBounded}
+use Rattle.cycles.proofs.Bounds.{bounded_down, bounded_more, bounded_new, bounded_up}
 use Rattle.node.specs.Invariant.{AreLinked, IsBalanced, IsNode, links_of, number_sum}
 use Rattle.node.specs.Taking.{IsSender}
 use Rattle.node.proofs.Appended.{MaySend, linked-appended, numbers-appended, one-may, others-may}

@@ -5,9 +5,9 @@ use Rattle.msg.specs.declared.body.Token.{Token}
 use Rattle.model.specs.Collecting.{is_concluded, new_token, without_token}
 use Rattle.model.specs.Counting.{to_others}
 use Rattle.model.specs.State.{Ring, LocalState}
-use Rattle.control.specs.Phases.{with_ended}
-use Rattle.control.specs.declared.verdict.Verdict.TheVariants.{Ended, Probe}
-use Rattle.control.specs.Verdicts.{verdict_of}
+use Rattle.cycles.specs.Phases.{with_ended}
+use Rattle.cycles.specs.declared.verdict.Verdict.TheVariants.{Ended, Probe}
+use Rattle.cycles.specs.Verdicts.{verdict_of}
 use Rattle.link.proofs.Announcing.{to_others-is}
 
 pub concluded : (r : Ring) → verdict_of r ≡ Ended → is_concluded r ≡ true

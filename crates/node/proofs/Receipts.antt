@@ -22,8 +22,8 @@ use Rattle.model.specs.Steps.{is_addressed, is_marking, is_memory_free, is_withi
 use Rattle.model.specs.View.{NodeView, Performed, view_act}
 use Rattle.model.specs.References.{IsWithin}
 use Rattle.model.proofs.Joining.{join-calm, join-phases, join-token}
-use Rattle.control.specs.Phases.{IsPhases}
-use Rattle.ends.specs.Receivers.{offered}
+use Rattle.cycles.specs.Phases.{IsPhases}
+use Rattle.link_ends.specs.Receivers.{offered}
 use Rattle.node.specs.Taking.{IsTakable}
 
 reference-within : (shape : Shaped) (r : Ref) → is_within shape r ≡ true → reference_fits r ≡ true

@@ -10,7 +10,7 @@ use Rattle.msg.specs.declared.body.Body.TheVariants as body
 use Rattle.msg.specs.declared.body.Message.{Message}
 use Rattle.msg.specs.declared.body.Token.{Token}
 use Rattle.model.specs.declared.event.Answer.TheVariants as answer
-use Rattle.control.specs.Phases.{with_ended, with_report}
+use Rattle.cycles.specs.Phases.{with_ended, with_report}
 use Rattle.model.specs.Counting.{append}
 use Rattle.model.specs.Effects.{Effect, Work, answers, at_rest, then}
 use Rattle.model.specs.Heaps.{object_at, place_of, with_place}

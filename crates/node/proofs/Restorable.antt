@@ -25,7 +25,7 @@ use Rattle.model.proofs.Lookups.{all-map}
 use Rattle.model.proofs.Stocks.{calm-empty}
 use Rattle.heap.specs.Heap.{IsBorn, IsHeapFor}
 use Rattle.link.specs.Links.{IsLinks, link_at}
-use Rattle.ends.specs.Senders.{IsLink}
+use Rattle.link_ends.specs.Senders.{IsLink}
 use Rattle.node.specs.Invariant.{IsBalanced, IsNode, links_of}
 use Rattle.node.specs.Parts.{is_named, is_any_named, is_foreign, is_letter, is_slot, is_placed, is_message, is_marked, is_report, are_messages, AreHeard, AreParts}
 use Rattle.node.proofs.Listed.{listed-is, each-is, all-at, all-each, all-both, distinct-apart, apart-distinct, distinct-before, before-distinct}

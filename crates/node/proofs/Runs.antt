@@ -14,7 +14,7 @@ use Rattle.model.proofs.Appending.{append_to-append, fits-append}
 use Rattle.model.proofs.Leaving.{Stands, stands-through, stands-walks}
 use Rattle.model.proofs.Shading.{see_to-none}
 use Rattle.model.proofs.Walk.{joined-walks}
-use Rattle.barrier.specs.Asked.{IsRefused}
+use Rattle.remote_marks.specs.Asked.{IsRefused}
 use Rattle.node.specs.Errands.{IsRun, Runs, errand, errand_here}
 use Rattle.node.specs.Invariant.{links_of}
 use Rattle.node.specs.declared.node.errands.Extra.{Extra}

@@ -16,11 +16,11 @@ use Rattle.model.proofs.References.{holds-make_all_grey, holds-roots}
 use Rattle.model.proofs.Stocks.{held-before, open-apart, stocked-greyed, stocked-later}
 use Rattle.model.proofs.Asking.{asked-more, asked-none}
 use Rattle.model.proofs.Shading.{see_to-open, see_to-closed}
-use Rattle.control.specs.Phases.{IsPhases, in_cycle}
-use Rattle.control.specs.Balances.{IsBounded}
-use Rattle.control.proofs.Bounds.{bounded_entered, bounded_marks}
+use Rattle.cycles.specs.Phases.{IsPhases, in_cycle}
+use Rattle.cycles.specs.Balances.{IsBounded}
+use Rattle.cycles.proofs.Bounds.{bounded_entered, bounded_marks}
 use Rattle.link.specs.Links.{IsLinks}
-use Rattle.barrier.specs.Asked.{all_appended}
+use Rattle.remote_marks.specs.Asked.{all_appended}
 use Rattle.node.specs.Errands.{MayJoin}
 use Rattle.node.specs.Invariant.{IsNode, links_of, number_sum}
 use Rattle.node.proofs.Appended.{MaySend, linked-appended, linked-later, marks-may, none-may, numbers-appended}

@@ -8,8 +8,8 @@ use Rattle.model.specs.View.{used}
 use Rattle.model.proofs.Appending.{fits-append}
 use Rattle.link.specs.Links.{LinksView, appended_to, fits_others, fits_to, for_others}
 use Rattle.link.proofs.EveryLink.{retracted_to-appended_to}
-use Rattle.barrier.specs.Asked.{AreSent, all_appended}
-use Rattle.barrier.proofs.Sent.{fits-then, sent-then, sent-width}
+use Rattle.remote_marks.specs.Asked.{AreSent, all_appended}
+use Rattle.remote_marks.proofs.Sent.{fits-then, sent-then, sent-width}
 use Rattle.node.specs.Cycles.{begins}
 
 -- if the first ones don't all get numbers, neither do all

@@ -8,7 +8,7 @@ use Rattle.model.specs.References.{IsWithin}
 use Rattle.model.specs.View.{NodeView}
 use Rattle.model.proofs.References.{holds-sweep_some}
 use Rattle.model.proofs.Stocks.{stocked-swept}
-use Rattle.control.specs.Phases.{IsPhases}
+use Rattle.cycles.specs.Phases.{IsPhases}
 use Rattle.heap.specs.Heap.{swept}
 use Rattle.node.specs.Invariant.{IsNode}
 use Rattle.node.proofs.Nodes.{moved, node-moved, with_swept}

@@ -17,7 +17,7 @@ use Rattle.model.specs.Shading.{joined, see_to, without_last_grey}
 use Rattle.model.specs.Steps.{fits}
 use Rattle.model.specs.View.{NodeView, append_to, used}
 use Rattle.model.specs.WellFormed.{IsOther}
-use Rattle.barrier.specs.Asked.{IsRefused}
+use Rattle.remote_marks.specs.Asked.{IsRefused}
 use Rattle.node.specs.Cycles.{begins}
 use Rattle.node.specs.Invariant.{links_of}
 use Rattle.node.specs.declared.node.errands.Extra.{Extra}

@@ -8,8 +8,8 @@ use Rattle.model.specs.State.{Slot, Phases, Ring}
 use Rattle.model.specs.View.{Link, NodeView, used, no_link}
 use Rattle.model.specs.References.{HoldsOnly, IsWithin, IsSendable, no_message}
 use Rattle.model.specs.WellFormed.{IsStocked, AreAsked, IsHeld, AreReports, AreTimely}
-use Rattle.control.specs.Phases.{IsPhases}
-use Rattle.control.specs.Balances.{IsBounded}
+use Rattle.cycles.specs.Phases.{IsPhases}
+use Rattle.cycles.specs.Balances.{IsBounded}
 
 -- the number of messages appended and of messages received, together
 abbrev pub number_sum : List Link → List ℕ → ℕ

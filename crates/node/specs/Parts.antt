@@ -15,7 +15,7 @@ use Rattle.model.specs.State.{Object, Slot, Free, Occupied, Retired, LocalState}
 use Rattle.model.specs.Shading.{is_calm, is_in}
 use Rattle.model.specs.Steps.{is_within, mentioned}
 use Rattle.model.specs.View.{Link, NodeView, used}
-use Rattle.control.specs.Phases.{IsPhases}
+use Rattle.cycles.specs.Phases.{IsPhases}
 use Rattle.heap.specs.Parts.{heap_given}
 use Rattle.link.specs.Links.{LinksView, link_at, got_at}
 use Rattle.link.specs.Parts.{links_given}

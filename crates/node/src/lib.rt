@@ -74,7 +74,7 @@
 //! together, the number that all nodes have sent less the number received is the number in flight.
 //! Each counts in the same balance at both ends, whichever end joins first. No sum wraps (`Tally`).
 //!
-//! 5. The token knows enough (`Tokens`, `laws/proofs/Safra.antt`); the head of crate `control` says
+//! 5. The token knows enough (`Tokens`, `laws/proofs/Safra.antt`); the head of crate `cycles` says
 //! what. A calm node, which has joined and has no grey object, starts to work again only on a
 //! counted message, which makes it black and lowers its balance. A reference that is vouched for
 //! can wake it too. But then its object was covered and not marked, so a Mark is in flight.

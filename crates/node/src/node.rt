@@ -17,8 +17,8 @@ mod receiving;
 mod steps;
 mod taking;
 
-use barrier::RefSet;
-use control::{Phases, Ring};
+use remote_marks::RefSet;
+use cycles::{Phases, Ring};
 use heap::Heap;
 use ids::{NodeId, Ref, Refusal, Shape};
 use link::Links;

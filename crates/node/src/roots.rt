@@ -5,9 +5,9 @@ ghost use Rattle.std.specs.List.{AllByRecursion};
 ghost use Rattle.ids.specs.declared.limits.TheConstants.{GREATEST_NODES, GREATEST_SENT};
 ghost use Rattle.model.specs.Shading.{filled, roots, unasked, marks_for};
 ghost use Rattle.link.specs.Links.{IsLinks};
-ghost use Rattle.barrier.specs.Asked.{IsAsked, IsRefused};
+ghost use Rattle.remote_marks.specs.Asked.{IsAsked, IsRefused};
 
-use barrier::{RefSet, append_marks, include};
+use remote_marks::{RefSet, append_marks, include};
 use heap::Heap;
 use ids::{Ref, Refusal};
 use link::Links;
@@ -16,7 +16,7 @@ use std::alloc::Global;
 /// Asks for what the node's program holds, as a node does when it joins this cycle. The references
 /// in registers and letters that are other nodes' make a new set, each once, and a Mark of each
 /// comes last on the link to its node, in the same order. The heap stays as it is. If a later step
-/// fails, [`unask`](barrier::unask) of the new set with `before` 0 retracts all the Marks.
+/// fails, [`unask`](remote_marks::unask) of the new set with `before` 0 retracts all the Marks.
 ///
 /// It fails with [`Refusal::Memory`] if an allocation fails, and with [`Refusal::LinkSpent`] if a
 /// Mark gets no number, which may show only after memory was needed for others. The links are then

@@ -25,7 +25,7 @@ ghost use Rattle.world.specs.Spaces.{
 };
 
 use crate::site::Site;
-use control::Phases;
+use cycles::Phases;
 use frames::decode;
 use ids::{NodeId, Refusal, Shape};
 use model::{Answer, Event, Outcome, Step};

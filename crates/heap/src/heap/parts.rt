@@ -2,7 +2,7 @@
 //! them, so each saved heap can be made again.
 ghost use Rattle.std.specs.Prelude.{◌≡◌, length, slice_get, OnOk, IfOk, IfErr};
 ghost use Rattle.ids.specs.declared.refusal.Refusal.TheVariants.{BadImage};
-ghost use Rattle.entries.specs.Slot.{slot_read};
+ghost use Rattle.arena_slot.specs.Slot.{slot_read};
 ghost use Rattle.model.specs.State.{slot_at};
 ghost use Rattle.heap.specs.Heap.{Holds, IsHeapFor, slot_of};
 ghost use Rattle.heap.specs.Parts.{heap_given};

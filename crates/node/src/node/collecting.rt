@@ -13,7 +13,7 @@ ghost use Rattle.node.specs.Cycles.{reports};
 
 use super::Core;
 use super::errands::Extra;
-use control::Verdict;
+use cycles::Verdict;
 use heap::Heap;
 use ids::{GREATEST_PLACES, Ref, Refusal};
 use model::Answer;

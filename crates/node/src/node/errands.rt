@@ -20,8 +20,8 @@ ghost use Rattle.model.specs.Shading.{filled, make_all_grey, marks_for, unasked}
 ghost use Rattle.model.specs.Steps.{fits};
 ghost use Rattle.model.specs.View.{append_to, used};
 ghost use Rattle.link.specs.Links.{IsLinks};
-ghost use Rattle.control.specs.Balances.{IsBounded};
-ghost use Rattle.barrier.specs.Asked.{AreSent, IsRefused, all_appended};
+ghost use Rattle.cycles.specs.Balances.{IsBounded};
+ghost use Rattle.remote_marks.specs.Asked.{AreSent, IsRefused, all_appended};
 ghost use Rattle.node.specs.Cycles.{begins};
 ghost use Rattle.node.specs.Errands.{
   HasEnds,
@@ -39,8 +39,8 @@ ghost use Rattle.node.specs.Errands.{
 ghost use Rattle.node.specs.Sending.{told, with_sent};
 
 use super::Core;
-use barrier::{RefSet, see, unsee};
-use control::{NEW_TOKEN, Ring, balance_of};
+use remote_marks::{RefSet, see, unsee};
+use cycles::{NEW_TOKEN, Ring, balance_of};
 use heap::Heap;
 use ids::{Ref, Refusal};
 use link::Links;

@@ -21,13 +21,13 @@ ghost use Rattle.model.specs.Shading.{filled, join, make_all_grey, marks_for, ro
 ghost use Rattle.model.specs.Steps.{fits};
 ghost use Rattle.model.specs.View.{used};
 ghost use Rattle.link.specs.Links.{IsLinks};
-ghost use Rattle.barrier.specs.Asked.{AreSent, IsAsked, IsRefused, all_appended};
+ghost use Rattle.remote_marks.specs.Asked.{AreSent, IsAsked, IsRefused, all_appended};
 ghost use Rattle.node.specs.Errands.{HasEnds, IsFit, MayJoin, Runs, errand_here, extra_sends};
 
 use super::Core;
 use super::errands::{Extra, count, letters_in, mark, send_out};
 use crate::roots::ask_for_roots;
-use barrier::{RefSet, unask};
+use remote_marks::{RefSet, unask};
 use heap::Heap;
 use ids::{Ref, Refusal};
 use link::Links;

@@ -10,8 +10,8 @@ mod links;
 mod lists;
 
 use super::Core;
-use barrier::RefSet;
-use control::{Phases, Ring};
+use remote_marks::RefSet;
+use cycles::{Phases, Ring};
 use heap::{Heap, HeapParts};
 use home::is_at_home;
 use ids::{Ref, Refusal, Shape};

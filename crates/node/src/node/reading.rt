@@ -9,7 +9,7 @@ ghost use Rattle.model.specs.View.{link_to, message_of};
 ghost use Rattle.node.specs.Invariant.{links_of};
 
 use super::Core;
-use control::{Phases, Ring};
+use cycles::{Phases, Ring};
 use heap::Heap;
 use ids::Ref;
 use link::Links;

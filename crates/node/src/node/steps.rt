@@ -3,7 +3,7 @@
 ghost use Rattle.std.specs.Prelude.{◌≡◌, ◌≢◌, ◌==◌, ◌+◌, ◌-◌, ◌<◌, ◌≤◌, ◌^◌, false, [], Some, None, is_some, length, nat_lt, IsTrue, IfOk, OnOk};
 ghost use Rattle.ids.specs.declared.limits.TheConstants.{GREATEST_CYCLE};
 ghost use Rattle.model.specs.Checks.{guarded};
-ghost use Rattle.control.specs.Phases.{MayBegin, advanced, all_swept, with_ended, with_report};
+ghost use Rattle.cycles.specs.Phases.{MayBegin, advanced, all_swept, with_ended, with_report};
 ghost use Rattle.model.specs.Collecting.{begin_tests, unswept};
 ghost use Rattle.model.specs.Heaps.{load_tests, object_at, place_loaded, place_of, with_place, with_register};
 ghost use Rattle.model.specs.References.{IfAny, IsWithin};
@@ -14,7 +14,7 @@ ghost use Rattle.node.specs.Cycles.{slots_swept};
 ghost use Rattle.node.specs.Taking.{IsSender};
 
 use super::Core;
-use control::{Ring, balance_of};
+use cycles::{Ring, balance_of};
 use ids::{Ref, Refusal};
 use msg::{Body, Token};
 

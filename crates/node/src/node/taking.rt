@@ -20,7 +20,7 @@ ghost use Rattle.model.specs.View.{Performed, Performs, view_act};
 ghost use Rattle.model.specs.declared.event.Event.TheVariants as event;
 
 use super::Core;
-use ends::Offer;
+use link_ends::Offer;
 use ids::{Ref, Refusal};
 use model::Answer;
 use msg::{Ack, Body, Data};

@@ -1,9 +1,9 @@
 use Rattle.std.proofs.Common.{◌≡◌, ◌∙◌, refl, length, map, ap, arith}
 use Rattle.std.proofs.lemmas.List.{length-map}
 use Rattle.std.proofs.lemmas.Result.{err_from_is_err_and}
-use Rattle.entries.specs.Entry.{slot_of}
+use Rattle.arena_slot.specs.Entry.{slot_of}
 use Rattle.arena.specs.Row.{Row}
-use Rattle.entries.specs.declared.Entry.{Entry}
+use Rattle.arena_slot.specs.declared.Entry.{Entry}
 use Rattle.arena.proofs.Linking.{Made, starts, misses, makes, some_unlinked, none_unlinked}
 use Rattle.arena.proofs.Arena.from_slots.Given.{Over}
 use Rattle.arena.proofs.Arena.from_slots.Goals as goal

@@ -1,6 +1,6 @@
 use Rattle.std.proofs.Common.{◌-◌, ◌<◌, ◌^◌, get_or, length, refl, sym, ap, ◌∙◌, arith}
 use Rattle.std.proofs.lemmas.List.{length-map}
-use Rattle.entries.specs.Entry.{slot_of}
+use Rattle.arena_slot.specs.Entry.{slot_of}
 use Rattle.arena.proofs.Linking.{links_one, refuses, drop-back}
 use Rattle.arena.proofs.made.link.Goals as goal
 

@@ -1,5 +1,5 @@
 use Rattle.std.proofs.Common.{◌≡◌, ◌≤◌, ◌+◌, drop, length, map, count_by}
-use Rattle.entries.specs.Entry.{slot_of, is_unlinked}
+use Rattle.arena_slot.specs.Entry.{slot_of, is_unlinked}
 use Rattle.arena.specs.Made.{IsLinking}
 use Rattle.arena.proofs.made.link.Given as goal
 

@@ -1,5 +1,5 @@
 use Rattle.std.proofs.Common.{◌≡◌, refl, subst, arith}
-use Rattle.entries.specs.declared.Slot.TheVariants.{Occupied}
+use Rattle.arena_slot.specs.declared.Slot.TheVariants.{Occupied}
 use Rattle.codec.specs.Formats.{number8}
 use Rattle.codec.specs.Writing.{Puts}
 use Rattle.codec.proofs.Writing.{both, so}

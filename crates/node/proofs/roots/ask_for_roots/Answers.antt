@@ -5,7 +5,7 @@ use Rattle.std.proofs.lemmas.List.{take_all}
 use Rattle.ids.specs.declared.names.Ref.{Ref}
 use Rattle.model.specs.Shading.{filled, roots, unasked}
 use Rattle.model.proofs.Shading.{unasked-all}
-use Rattle.barrier.proofs.InTurn.{included, all-asked, few-asked}
+use Rattle.remote_marks.proofs.InTurn.{included, all-asked, few-asked}
 use Rattle.node.proofs.roots.ask_for_roots.Goals as goal
 
 pub loop-number-preserved : goal.loop-number-preserved

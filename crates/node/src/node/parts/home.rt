@@ -4,7 +4,7 @@ ghost use Rattle.std.specs.Prelude.{◌≡◌, ◌↔◌, map, is_some, true, fa
 ghost use Rattle.std.specs.List.{list_all};
 ghost use Rattle.ids.specs.Limits.{IsShape};
 ghost use Rattle.model.specs.Shading.{is_calm};
-ghost use Rattle.entries.specs.Slot.{slot_read};
+ghost use Rattle.arena_slot.specs.Slot.{slot_read};
 ghost use Rattle.heap.specs.Heap.{slot_of};
 ghost use Rattle.node.specs.Parts.{
   local_given,

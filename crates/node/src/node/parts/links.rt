@@ -2,7 +2,7 @@
 //! balance is no larger than that number, whatever its sign.
 ghost use Rattle.std.specs.Prelude.{◌≡◌, ◌↔◌, map, IsTrue};
 ghost use Rattle.std.specs.List.{list_all};
-ghost use Rattle.control.specs.Balances.{IsBounded};
+ghost use Rattle.cycles.specs.Balances.{IsBounded};
 ghost use Rattle.model.specs.Steps.{mentioned};
 ghost use Rattle.node.specs.Invariant.{number_sum};
 ghost use Rattle.node.specs.Parts.{is_named, is_placed, is_message, are_messages, AreAtEnds};
@@ -11,7 +11,7 @@ ghost use Rattle.link.specs.Links.{link_at, got_at};
 ghost use Rattle.link.specs.Parts.{link_given, links_given};
 
 use super::home::{is_any_named, is_named};
-use control::Ring;
+use cycles::Ring;
 use ids::{GREATEST_PLACES, Shape};
 use link::{LinkParts, Links};
 use msg::{Body, Message};

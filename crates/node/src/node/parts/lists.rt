@@ -6,7 +6,7 @@ ghost use Rattle.heap.specs.Heap.{slot_of};
 ghost use Rattle.node.specs.Parts.{is_foreign, is_marked_in, AreAsked, AreGreyIn};
 
 use super::home::is_named;
-use barrier::RefSet;
+use remote_marks::RefSet;
 use heap::{Object, Slot, Slots};
 use ids::{Ref, Refusal, Shape};
 use std::alloc::{AllocError, Global};

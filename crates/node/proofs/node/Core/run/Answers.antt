@@ -8,9 +8,9 @@ use Rattle.model.specs.Shading.{filled, make_all_grey, marks_for, unasked}
 use Rattle.model.specs.State.{Heap}
 use Rattle.model.specs.References.{IsWithin}
 use Rattle.model.specs.View.{NodeView}
-use Rattle.control.specs.Balances.{IsBounded}
+use Rattle.cycles.specs.Balances.{IsBounded}
 use Rattle.link.specs.Links.{IsLinks}
-use Rattle.barrier.specs.Asked.{IsRefused, all_appended}
+use Rattle.remote_marks.specs.Asked.{IsRefused, all_appended}
 use Rattle.node.specs.Errands.{errand, extra_ring, extra_sends, listed, with_extra}
 use Rattle.node.specs.Inside.{view_of}
 use Rattle.node.specs.Invariant.{IsNode, links_of}

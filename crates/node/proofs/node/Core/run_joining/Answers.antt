@@ -13,11 +13,11 @@ use Rattle.model.specs.References.{IsWithin}
 use Rattle.model.specs.View.{NodeView, used}
 use Rattle.model.proofs.Appending.{length-append_to}
 use Rattle.model.proofs.References.{holds-roots}
-use Rattle.control.specs.Phases.{IsPhases}
-use Rattle.control.specs.Balances.{IsBounded}
-use Rattle.control.proofs.Bounds.{bounded_entered}
+use Rattle.cycles.specs.Phases.{IsPhases}
+use Rattle.cycles.specs.Balances.{IsBounded}
+use Rattle.cycles.proofs.Bounds.{bounded_entered}
 use Rattle.link.specs.Links.{IsLinks}
-use Rattle.barrier.specs.Asked.{AreSent, IsRefused, all_appended}
+use Rattle.remote_marks.specs.Asked.{AreSent, IsRefused, all_appended}
 use Rattle.node.specs.Errands.{IsRun, MayJoin, errand_here, extra_ring, extra_sends, listed, with_extra}
 use Rattle.node.specs.Inside.{view_of}
 use Rattle.node.specs.Invariant.{IsNode, links_of}

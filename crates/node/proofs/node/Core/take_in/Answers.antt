@@ -3,8 +3,8 @@ use Rattle.model.specs.State.{got_from}
 use Rattle.model.specs.Steps.{is_addressed}
 use Rattle.model.specs.View.{NodeView, Performed}
 use Rattle.model.proofs.Shown.{view-taken_in}
-use Rattle.ends.specs.declared.receiver.Offer.{Offer}
-use Rattle.ends.specs.Receivers.{offered}
+use Rattle.link_ends.specs.declared.receiver.Offer.{Offer}
+use Rattle.link_ends.specs.Receivers.{offered}
 use Rattle.node.specs.Inside.{view_of}
 use Rattle.link.proofs.OneLink.{offered-next}
 use Rattle.node.proofs.Receipts.{busy, not-addressed, not-ordered, not-takable, takable}

@@ -1,6 +1,6 @@
 use Rattle.std.proofs.Common.{ℕ, subst}
-use Rattle.barrier.specs.Asked.{AreSent}
-use Rattle.barrier.proofs.Sent.{sent-then}
+use Rattle.remote_marks.specs.Asked.{AreSent}
+use Rattle.remote_marks.proofs.Sent.{sent-then}
 use Rattle.node.specs.Errands.{extra_sends}
 use Rattle.node.proofs.node.errands.send_out.Goals as goal
 

@@ -1,6 +1,6 @@
 use Rattle.std.proofs.Common.{[], ◌∙◌, refl}
 use Rattle.model.specs.Shading.{filled, roots, unasked}
-use Rattle.barrier.specs.Asked.{IsAsked}
+use Rattle.remote_marks.specs.Asked.{IsAsked}
 use Rattle.node.proofs.node.joining.send_joining.Goals as goal
 
 pub returns-in-Err-clause-unchanged : goal.returns-in-Err-clause-unchanged

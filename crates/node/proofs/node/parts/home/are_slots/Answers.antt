@@ -2,8 +2,8 @@ use Rattle.std.proofs.Common.{◌≡◌, ℕ, ◌<◌, Bool, List, map, length, 
 use Rattle.std.proofs.Math.ListN.{get_or-map}
 use Rattle.std.proofs.lemmas.List.{length-map}
 use Rattle.std.proofs.lemmas.List.Folds.{list_all_more}
-use Rattle.entries.specs.declared.Slot as stored
-use Rattle.entries.specs.declared.Slot.TheVariants as slot
+use Rattle.arena_slot.specs.declared.Slot as stored
+use Rattle.arena_slot.specs.declared.Slot.TheVariants as slot
 use Rattle.heap.specs.Heap.{slot_of}
 use Rattle.model.specs.State.{Object, Slot, Retired}
 use Rattle.node.specs.Parts.{is_slot}
