@@ -4,7 +4,7 @@ use Rattle.std.proofs.lemmas.Option.{slice_get_within}
 use Rattle.ids.specs.declared.saves.Saves.{Saves}
 use Rattle.ids.specs.declared.saves.Saves.TheVariants.{Events, Images}
 use Rattle.disk.specs.Areas.{Areas}
-use Rattle.replays.specs.declared.place.Place.{Place}
+use Rattle.node_store.specs.declared.place.Place.{Place}
 use Rattle.cell.specs.Looking.{logs_at}
 use Rattle.cell.specs.Opened.{AreBeside, IsChosen}
 use Rattle.wire.proofs.Places.{mapped-from, mapped-there, pushed-at, some_at}

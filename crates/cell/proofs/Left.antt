@@ -18,7 +18,7 @@ use Rattle.model.proofs.Runs.{run-append}
 use Rattle.laws.proofs.Cuts.{run-keeps-sent}
 use Rattle.laws.proofs.KeepsSent.{new-keeps-sent}
 use Rattle.disk.specs.Areas.{Areas}
-use Rattle.replays.proofs.Stores.{keeps_some}
+use Rattle.node_store.proofs.Stores.{keeps_some}
 use Rattle.wire.specs.Readers.{IsSavedAs}
 use Rattle.cell.specs.Disks.{OpensTo}
 use Rattle.cell.specs.Laws.{restarted, IsLeft, LeftIsOpened}

@@ -6,7 +6,7 @@ use Rattle.ids.specs.Limits.{Shaped}
 use Rattle.ids.specs.declared.refusal.Refusal.{Refusal}
 use Rattle.disk.specs.Areas.{Areas}
 use Rattle.disk.specs.Crashes.{Unmoved}
-use Rattle.replays.specs.declared.place.Place.{Place}
+use Rattle.node_store.specs.declared.place.Place.{Place}
 use Rattle.node.specs.Keeping.{WholeNode}
 use Rattle.cell.specs.Ages.{IsWhy}
 use Rattle.cell.specs.Looking.{AreLookedAt, AreOn, AreUnmoved, IsLookedAt, IsOfReading}

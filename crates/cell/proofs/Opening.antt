@@ -7,8 +7,8 @@ use Rattle.disk.specs.Areas.{Areas}
 use Rattle.disk.specs.Crashes.{LeavesOnly, Only}
 use Rattle.disk.specs.Record.{leaves}
 use Rattle.image.specs.Nodes.{HasImage}
-use Rattle.replays.specs.Plain.{IsPlain, KeepsEither, StaysPlain}
-use Rattle.replays.proofs.Stores.{keeps_alone, keeps_kept, keeps_one, read_kept}
+use Rattle.node_store.specs.Plain.{IsPlain, KeepsEither, StaysPlain}
+use Rattle.node_store.proofs.Stores.{keeps_alone, keeps_kept, keeps_one, read_kept}
 use Rattle.disk.specs.declared.state.State.{State}
 use Rattle.node.specs.Keeping.{WholeNode, alone}
 use Rattle.cell.specs.Disks.{HoldsSaved, OpensTo, OpensToEither, OpensToNode, is_same_node}

@@ -6,8 +6,8 @@ use denote.Param.Send.{IsSend, IsSync, recorded_send, recorded_sync, struct_send
 use Rattle.std.proofs.Crossing.{crosses, Arc-send}
 use Rattle.ids.proofs.names.Cycle.TheSendSync as Cycle
 use Rattle.node.proofs.keeping.Node.TheSendSync as Node
-use Rattle.logs.proofs.log.Log.TheSendSync as Log
-use Rattle.replays.proofs.store.Store.TheSendSync as Store
+use Rattle.node_log.proofs.log.Log.TheSendSync as Log
+use Rattle.node_store.proofs.store.Store.TheSendSync as Store
 use Rattle.cell.proofs.trace.Trace.TheSendSync as Trace
 use Rattle.wire.proofs.seats.NodeSeat.TheSendSync as Seat
 use Rattle.wire.proofs.seats.Wire.TheSendSync as Wire

@@ -11,7 +11,7 @@ use Rattle.wire.specs.Readers.{known, seat_node, IsSame}
 use Rattle.wire.specs.declared.seats.NodeSeat.{NodeSeat}
 use Rattle.cell.specs.Desks.{HasDropped, AreTaken, IsSavedNode, IsUnsaved, StandsAt}
 use Rattle.cell.specs.Disks.{HoldsSaved, OpensToEither}
-use Rattle.replays.specs.Plain.{StaysPlain}
+use Rattle.node_store.specs.Plain.{StaysPlain}
 use Rattle.cell.specs.Events.{IsMarked}
 
 pub record CellView (D : Type 0) : Type 0 where

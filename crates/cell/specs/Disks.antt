@@ -5,7 +5,7 @@ use base.Stored.{Gv, gnil, gnum, gcons}
 use Rattle.model.specs.View.{NodeView, kept_view}
 use Rattle.node.specs.Keeping.{WholeNode, alone}
 use Rattle.disk.specs.Areas.{Areas}
-use Rattle.replays.specs.Plain.{Keeps}
+use Rattle.node_store.specs.Plain.{Keeps}
 
 -- The disk opens to this node, which keeps no early message: to an image, and to the events behind
 -- it if a log follows it.

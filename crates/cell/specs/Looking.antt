@@ -6,8 +6,8 @@ use Rattle.ids.specs.declared.saves.Saves.{Saves}
 use Rattle.ids.specs.declared.saves.Saves.TheVariants.{Events, Images}
 use Rattle.disk.specs.Areas.{Areas}
 use Rattle.disk.specs.Crashes.{Unmoved}
-use Rattle.replays.specs.Stores.{LiesAt, is_logged_at}
-use Rattle.replays.specs.declared.place.Place.{Place}
+use Rattle.node_store.specs.Stores.{LiesAt, is_logged_at}
+use Rattle.node_store.specs.declared.place.Place.{Place}
 use Rattle.node.specs.Keeping.{WholeNode, new_whole}
 use Rattle.cell.specs.Disks.{OpensToNode}
 use Rattle.cell.specs.Opened.{IsNodeOf, IsReadFrom}

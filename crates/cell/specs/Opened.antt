@@ -16,7 +16,7 @@ use Rattle.disk.specs.Areas.{Areas}
 use Rattle.disk.specs.Crashes.{HasFailed}
 use Rattle.node.specs.Keeping.{WholeNode, new_whole}
 use Rattle.image.specs.Wholes.{whole_image}
-use Rattle.replays.specs.Plain.{IsPlain}
+use Rattle.node_store.specs.Plain.{IsPlain}
 use Rattle.cell.specs.Desks.{IsAtSeat}
 use Rattle.cell.specs.Disks.{OpensTo, OpensToNode}
 use Rattle.cell.specs.declared.fault.Unopened.{Unopened}

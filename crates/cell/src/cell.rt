@@ -7,7 +7,7 @@ ghost use Rattle.image.specs.Nodes.{HasImage};
 ghost use Rattle.wire.specs.Readers.{known};
 ghost use Rattle.cell.specs.Desks.{HasDropped};
 ghost use Rattle.cell.specs.Disks.{HoldsSaved, OpensToEither};
-ghost use Rattle.replays.specs.Stores.{disk_of, is_ready_in, logs_in};
+ghost use Rattle.node_store.specs.Stores.{disk_of, is_ready_in, logs_in};
 
 mod acting;
 mod learning;
@@ -18,7 +18,7 @@ use crate::Trace;
 use crate::desk::Desk;
 use disk::Disk;
 use node::Core;
-use replays::Store;
+use node_store::Store;
 use std::alloc::Global;
 use std::marker::Model;
 use std::snapshot::Snapshot;
@@ -70,7 +70,7 @@ impl<D: Disk + Drop> Drop for Cell<D> {
 
 impl<D: Disk> Model for Cell<D> {
     ghost use Rattle.cell.specs.Cells.{CellView};
-    ghost use Rattle.replays.specs.Stores.{disk_of, is_ready_in, logs_in};
+    ghost use Rattle.node_store.specs.Stores.{disk_of, is_ready_in, logs_in};
 
     ghost Value = { CellView D };
 

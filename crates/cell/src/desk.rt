@@ -10,11 +10,11 @@ ghost use Rattle.cell.specs.Desks.{
   IsUnsaved,
   StandsAt,
 };
-ghost use Rattle.replays.specs.Noted.{IsLogged};
+ghost use Rattle.node_store.specs.Noted.{IsLogged};
 
 use ids::{Cycle, GREATEST_NODES};
 use node::{Core, Node};
-use replays::Log;
+use node_store::Log;
 use std::marker::Model;
 use std::snapshot::Snapshot;
 use wire::NodeSeat;

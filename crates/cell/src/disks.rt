@@ -14,7 +14,7 @@ use crate::desk::Desk;
 use crate::entering::{enter_found, enter_save};
 use ids::{Cycle, GREATEST_NODES};
 use node::Node;
-use replays::Log;
+use node_store::Log;
 use std::alloc::Global;
 use std::snapshot::Snapshot;
 use wire::{NodeSeat, Wire};

@@ -28,13 +28,13 @@ ghost use Rattle.cell.specs.Opened.{AreBeside, AreFound, IsCause, IsChosen, IsNo
 ghost use Rattle.cell.specs.Opened.{IsWhyNot};
 ghost use Rattle.cell.specs.declared.fault.Unopened.TheVariants as fault;
 ghost use Rattle.node.specs.Keeping.{new_whole};
-ghost use Rattle.replays.specs.Stores.{disk_of, is_ready_in, logs_in};
+ghost use Rattle.node_store.specs.Stores.{disk_of, is_ready_in, logs_in};
 
 use crate::fault::Unopened;
 use disk::Disk;
 use ids::{NodeId, Refusal, Saves, Shape};
 use node::Node;
-use replays::{Place, Store};
+use node_store::{Place, Store};
 use std::alloc::Global;
 use std::mem;
 use storage::is_blank;
@@ -93,7 +93,7 @@ fn read_node<D: Disk>(
     ensures why { IfErr result
         (IsWhyNot D.seen D.moment D.faults shape own.number disk.old) }
 {
-    let (place, node) = match replays::read_node(alloc, disk, saves) {
+    let (place, node) = match node_store::read_node(alloc, disk, saves) {
         Ok(found) => found,
         Err(refusal) => return Err(failed(own.number, refusal)),
     };

@@ -24,7 +24,7 @@ ghost use Rattle.cell.specs.Opened.{
   IsReadFrom,
 };
 ghost use Rattle.cell.specs.declared.fault.Unopened.TheVariants as fault;
-ghost use Rattle.replays.specs.Stores.{disk_of, is_ready_in, logs_in};
+ghost use Rattle.node_store.specs.Stores.{disk_of, is_ready_in, logs_in};
 
 use crate::cell::Cell;
 use crate::fault::Unopened;
@@ -32,7 +32,7 @@ use crate::finding::find;
 use disk::Disk;
 use ids::{Refusal, Saves, Shape};
 use node::Node;
-use replays::Store;
+use node_store::Store;
 use std::alloc::Global;
 use wire::{NodeSeat, Watch, Wire};
 

@@ -15,7 +15,7 @@ use crate::desk::Desk;
 use ids::Refusal;
 use model::{Answer, Event, Step};
 use msg::Ack;
-use replays::act;
+use node_store::act;
 use wire::Wire;
 
 impl Desk {

@@ -12,14 +12,14 @@ use Rattle.storage.specs.Logs.{LeadAll}
 use Rattle.storage.specs.Shelf.{record_of, recorded, told}
 use Rattle.storage.proofs.Records.{recorded_cut, recorded_front, recorded_is, recorded_short, recorded_tells, record_length}
 use Rattle.storage.proofs.Values.{lead_more}
-use Rattle.grammar.specs.Logs.{begins_logged}
+use Rattle.image_parts.specs.Logs.{begins_logged}
 use Rattle.model.specs.View.{kept_view}
 use Rattle.node.specs.Invariant.{IsNode}
 use Rattle.node.specs.Keeping.{WholeNode}
 use Rattle.image.specs.Wholes.{saved_whole}
-use Rattle.replays.specs.Laws.{one_led, one_whole}
-use Rattle.replays.specs.Values.{LeadsWhole}
-use Rattle.logs.specs.declared.log.TheConstants.{GREATEST_LOG}
+use Rattle.node_store.specs.Laws.{one_led, one_whole}
+use Rattle.node_store.specs.Values.{LeadsWhole}
+use Rattle.node_log.specs.declared.log.TheConstants.{GREATEST_LOG}
 use Rattle.handles.specs.Batches.{AreBatches, GaveBatch, IsStored, LogLeads, batch_of, short}
 use Rattle.handles.specs.Images.{counts_of}
 use Rattle.handles.specs.declared.lone.images.Counts.{Counts}

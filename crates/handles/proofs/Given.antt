@@ -16,8 +16,8 @@ use Rattle.disk.specs.Memory.{blank, held_by}
 use Rattle.storage.specs.Shelf.{record_of, recorded}
 use Rattle.disk.specs.declared.memory.MemoryDisk.{MemoryDisk}
 use Rattle.storage.proofs.Records.{recorded_holds}
-use Rattle.replays.specs.Plain.{IsPlain}
-use Rattle.replays.proofs.Stores.{bare_read, keeps_read, keeps_some, plain_read}
+use Rattle.node_store.specs.Plain.{IsPlain}
+use Rattle.node_store.proofs.Stores.{bare_read, keeps_read, keeps_some, plain_read}
 use Rattle.cell.specs.Cells.{CellView}
 use Rattle.cell.specs.Ages as ages
 use Rattle.wire.specs.OneAge.{AreApart}

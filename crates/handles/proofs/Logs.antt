@@ -19,16 +19,16 @@ use Rattle.std.proofs.Common.{Result, Err, OnOk, replicate, drop, take}
 use Rattle.std.specs.Prelude.{nat_le, ◌||◌, ◌&&◌, ◌-◌}
 use Rattle.std.proofs.lemmas.Bool.{false≢true, true≢false}
 use Rattle.std.proofs.lemmas.List.{take_all}
-use Rattle.replays.proofs.Stores.{image_plain}
+use Rattle.node_store.proofs.Stores.{image_plain}
 use Rattle.image.specs.Logged.{IsEither}
 use Rattle.image.specs.Wholes.{IsWholeOf}
 use Rattle.handles.specs.Lone.{is_counted}
 use Rattle.model.specs.View.{NodeView, all_kept, kept_of, kept_view, let_go, link_to, no_link, used, view_act}
 use Rattle.node.specs.Invariant.{IsNode}
 use Rattle.node.specs.Keeping.{WholeNode}
-use Rattle.replays.specs.Logs.{IsDone, Logged, is_quiet}
-use Rattle.logs.specs.Noted.{Noted}
-use Rattle.replays.proofs.Ends.{logged_more, logged_none}
+use Rattle.node_store.specs.Logs.{IsDone, Logged, is_quiet}
+use Rattle.node_log.specs.Noted.{Noted}
+use Rattle.node_store.proofs.Ends.{logged_more, logged_none}
 use Rattle.handles.specs.declared.lone.images.Counts.{Counts}
 use Rattle.image.specs.Logged.{IsAnyWholeOf}
 use Rattle.image.specs.Wholes.{saved_whole}

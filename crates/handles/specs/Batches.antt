@@ -4,13 +4,13 @@ use Rattle.std.specs.Global.{Vec}
 use Rattle.ids.specs.declared.refusal.Refusal.TheVariants.{BadImage, Memory}
 use Rattle.storage.specs.Logs.{LeadAll}
 use Rattle.storage.specs.Shelf.{record_of, recorded}
-use Rattle.grammar.specs.Logs.{begins_logged}
+use Rattle.image_parts.specs.Logs.{begins_logged}
 use Rattle.model.specs.View.{kept_view}
 use Rattle.node.specs.Keeping.{WholeNode}
 use Rattle.image.specs.Logged.{IsAnyWholeOf}
 use Rattle.image.specs.Wholes.{saved_whole}
-use Rattle.replays.specs.Values.{LeadsWhole}
-use Rattle.logs.specs.declared.log.TheConstants.{GREATEST_LOG}
+use Rattle.node_store.specs.Values.{LeadsWhole}
+use Rattle.node_log.specs.declared.log.TheConstants.{GREATEST_LOG}
 use Rattle.values.specs.Bytes.{Wrote}
 use Rattle.values.specs.declared.fault.Fault.{Fault}
 use Rattle.values.specs.declared.fault.Fault.TheVariants as fault

@@ -2,7 +2,7 @@
 use Rattle.std.specs.Prelude.{◌≡◌, ℕ, ◌≤◌, Bool, true, false, cond, List, [], Option, Some, None, slice_index_or}
 use Rattle.std.specs.Global.{Vec}
 use Rattle.model.specs.View.{NodeView, kept_view, link_to}
-use Rattle.replays.specs.Logs.{Logged}
+use Rattle.node_store.specs.Logs.{Logged}
 use Rattle.handles.specs.declared.lone.images.Counts.{Counts}
 use Rattle.handles.specs.declared.lone.LoneNode.{LoneNode}
 

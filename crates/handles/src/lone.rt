@@ -1,7 +1,7 @@
 //! A node whose caller moves its frames and stores its images.
 ghost use Rattle.std.specs.Prelude.{◌≡◌, ◌||◌, ◌&&◌, false, None, Ok};
 ghost use Rattle.msg.specs.Frames.{plain};
-ghost use Rattle.replays.specs.Logs.{is_turn};
+ghost use Rattle.node_store.specs.Logs.{is_turn};
 ghost use Rattle.handles.specs.Lone.{Acknowledged, Given, Made, Read, TookIn, is_congested, is_counted};
 ghost use Rattle.handles.specs.Lone.{lone, receiver_of, unacknowledged};
 
@@ -19,7 +19,7 @@ pub(crate) use images::Counts;
 use model::{Answer, Event};
 use msg::{Ack, Data, Frame};
 use node::Node;
-use replays::{Log, is_turn};
+use node_store::{Log, is_turn};
 use std::alloc::Global;
 use values::Fault;
 

@@ -6,7 +6,7 @@ ghost use Rattle.handles.specs.declared.lone.LoneNode.{LoneNode};
 ghost use Rattle.handles.specs.contracts.lone.LoneNode.{the_row as LoneRow};
 ghost use Rattle.model.specs.declared.event.Event.TheVariants as events;
 ghost use Rattle.node.specs.Summaries.{summary_of};
-ghost use Rattle.replays.specs.Logs.{is_turn};
+ghost use Rattle.node_store.specs.Logs.{is_turn};
 ghost use Rattle.values.specs.Faults.{Filled, Freed, Through, empty, read};
 ghost use Rattle.values.specs.Bytes.{WroteIf};
 ghost use Rattle.handles.specs.Frames.{HandlePacks, ack_bytes, frame_bytes};

@@ -17,13 +17,13 @@ use Rattle.model.specs.References.{IsPlaced, no_message}
 use Rattle.model.specs.View.{Link, NodeView, no_link, link_to, used}
 use Rattle.model.specs.WellFormed.{AreReports}
 use Rattle.node.specs.Invariant.{AreLinked, IsStanding, links_of}
-use Rattle.grammar.specs.Grammar.{Stored, Fits, message_format, link_format}
-use Rattle.grammar.specs.Grammar.{stored_format, lists_format, others_format}
-use Rattle.grammar.specs.Links.{StoredLink}
+use Rattle.image_parts.specs.Grammar.{Stored, Fits, message_format, link_format}
+use Rattle.image_parts.specs.Grammar.{stored_format, lists_format, others_format}
+use Rattle.image_parts.specs.Links.{StoredLink}
 use Rattle.image.specs.Nodes.{link_of, received_of, node_of, Spells}
 use Rattle.image.specs.Conditions.{IsSaved}
 use Rattle.image.proofs.Elements.{at_any, all_insert}
-use Rattle.grammar.proofs.Readings.{own_below, links_count, reports_count}
+use Rattle.image_parts.proofs.Readings.{own_below, links_count, reports_count}
 
 pub standing_saved : (n : NodeView) → IsStanding n → IsSaved n
 standing_saved n stands =

@@ -13,11 +13,11 @@ use Rattle.frames.specs.declared.version.Version.{Version}
 use Rattle.frames.specs.declared.version.Version.TheVariants.{Second}
 use Rattle.model.specs.View.{NodeView, kept_view}
 use Rattle.codec.specs.Reading.{IsBytes}
-use Rattle.grammar.specs.Grammar.{Stored, IsImage, spelling, image_format, start_format}
-use Rattle.grammar.specs.Grammar.{stored_format, version_format}
-use Rattle.grammar.specs.Logs.{begins_logged, logged_at, logged_spelling}
-use Rattle.grammar.proofs.Logs.{begun, logged_second, logged_so}
-use Rattle.grammar.proofs.Readings.{again, read}
+use Rattle.image_parts.specs.Grammar.{Stored, IsImage, spelling, image_format, start_format}
+use Rattle.image_parts.specs.Grammar.{stored_format, version_format}
+use Rattle.image_parts.specs.Logs.{begins_logged, logged_at, logged_spelling}
+use Rattle.image_parts.proofs.Logs.{begun, logged_second, logged_so}
+use Rattle.image_parts.proofs.Readings.{again, read}
 use Rattle.image.specs.Images.{image_of, stored_by}
 use Rattle.image.specs.Logged.{IsLoggedOf, logged_image}
 use Rattle.node.specs.Invariant.{IsStanding}

@@ -10,11 +10,11 @@ use Rattle.ids.specs.declared.refusal.Refusal.TheVariants.{Memory, BadImage}
 use Rattle.frames.specs.declared.version.Version.{Version}
 use Rattle.model.specs.View.{NodeView}
 use Rattle.node.specs.Invariant.{IsStanding}
-use Rattle.grammar.specs.Grammar.{Stored, Fits, IsImage}
+use Rattle.image_parts.specs.Grammar.{Stored, Fits, IsImage}
 use Rattle.image.specs.Conditions.{IsSaved}
 use Rattle.image.specs.Nodes.{node_of, IsImageOf}
 use Rattle.image.proofs.Conditions.{standing_saved, saved_standing}
-use Rattle.grammar.proofs.Readings.{read, again}
+use Rattle.image_parts.proofs.Readings.{read, again}
 
 -- one more element in each of two lists that say the same
 pub same_more : {A B C : Type 0} (f : A → C) (g : B → C) (xs : List A) (ys : List B) (x : A) (y : B)

@@ -3,10 +3,10 @@ use Rattle.std.proofs.Common.{◌≡◌, [], ◌∷◌, ◌++◌, replicate, ref
 use Rattle.model.specs.View.{NodeView, new_view}
 use Rattle.codec.specs.Formats.{number2, number4, number8, signed8}
 use Rattle.frames.specs.Formats.{colour, token, optional}
-use Rattle.grammar.specs.Grammar.{spelling, version_format, start_format, nodes_format, head_format}
-use Rattle.grammar.specs.Grammar.{phases_format, held_format, ring_format, link_format, front_format}
-use Rattle.grammar.specs.Grammar.{told_format, slots_format, others_format, lists_format}
-use Rattle.grammar.specs.Grammar.{stored_format, image_format}
+use Rattle.image_parts.specs.Grammar.{spelling, version_format, start_format, nodes_format, head_format}
+use Rattle.image_parts.specs.Grammar.{phases_format, held_format, ring_format, link_format, front_format}
+use Rattle.image_parts.specs.Grammar.{told_format, slots_format, others_format, lists_format}
+use Rattle.image_parts.specs.Grammar.{stored_format, image_format}
 use Rattle.image.specs.Images.{image_of, stored_by}
 use Rattle.image.specs.Nodes.{node_of}
 

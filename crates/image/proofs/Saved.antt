@@ -35,17 +35,17 @@ use Rattle.node.specs.Invariant.{AllSendable, IsNode, IsStanding}
 use Rattle.frames.proofs.Written.{any_colour, any_token, any_reference, any_optional, any_body}
 use Rattle.codec.proofs.Growing.{each}
 use Rattle.codec.specs.Formats.{number2, number4, number8, signed8}
-use Rattle.grammar.specs.Grammar.{Fits, near, near_optional, letter_format, slot_format}
-use Rattle.grammar.specs.Grammar.{object_format, places_format, width_format, message_format}
-use Rattle.grammar.specs.Grammar.{link_format, held_format, nodes_format, head_format}
-use Rattle.grammar.specs.Grammar.{phases_format, ring_format, front_format, told_format, slots_format}
-use Rattle.grammar.specs.Grammar.{others_format, lists_format, stored_format, front_of, told_of}
-use Rattle.grammar.specs.Grammar.{slots_of, others_of}
-use Rattle.grammar.specs.Stored.{stored_slot, stored_link, stored_links}
+use Rattle.image_parts.specs.Grammar.{Fits, near, near_optional, letter_format, slot_format}
+use Rattle.image_parts.specs.Grammar.{object_format, places_format, width_format, message_format}
+use Rattle.image_parts.specs.Grammar.{link_format, held_format, nodes_format, head_format}
+use Rattle.image_parts.specs.Grammar.{phases_format, ring_format, front_format, told_format, slots_format}
+use Rattle.image_parts.specs.Grammar.{others_format, lists_format, stored_format, front_of, told_of}
+use Rattle.image_parts.specs.Grammar.{slots_of, others_of}
+use Rattle.image_parts.specs.Stored.{stored_slot, stored_link, stored_links}
 use Rattle.image.specs.Images.{stored_by, image_of}
 use Rattle.image.specs.Nodes.{link_of, received_of, node_of, IsImageOf}
 use Rattle.image.proofs.Conditions.{standing_saved}
-use Rattle.grammar.proofs.Kept.{count_stored, stored_there}
+use Rattle.image_parts.proofs.Kept.{count_stored, stored_there}
 use Rattle.image.proofs.Elements.{every, all_from, all_remove, put_back}
 
 -- ---- within the limits

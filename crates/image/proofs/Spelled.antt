@@ -9,13 +9,13 @@ use Rattle.frames.specs.declared.version.Version.{Version}
 use Rattle.frames.specs.declared.version.Version.TheVariants.{First, Second}
 use Rattle.model.specs.View.{Link, NodeView, no_link, all_kept, kept_view}
 use Rattle.heap.specs.Heap.{slot_of}
-use Rattle.grammar.specs.Grammar.{Stored, Fits, spelling}
-use Rattle.grammar.specs.Links.{StoredLink, StoredSlot}
-use Rattle.grammar.specs.Stored.{stored_slot, stored_links}
-use Rattle.grammar.proofs.Formats.{stored_grows}
-use Rattle.grammar.proofs.Kept.{stored_back}
-use Rattle.grammar.proofs.Readings.{own_below, reports_count, links_count}
-use Rattle.grammar.proofs.Readings.{no_spelling_begins_another}
+use Rattle.image_parts.specs.Grammar.{Stored, Fits, spelling}
+use Rattle.image_parts.specs.Links.{StoredLink, StoredSlot}
+use Rattle.image_parts.specs.Stored.{stored_slot, stored_links}
+use Rattle.image_parts.proofs.Formats.{stored_grows}
+use Rattle.image_parts.proofs.Kept.{stored_back}
+use Rattle.image_parts.proofs.Readings.{own_below, reports_count, links_count}
+use Rattle.image_parts.proofs.Readings.{no_spelling_begins_another}
 use Rattle.image.specs.Nodes.{link_of, received_of, node_of, Spells, HasImage, IsImageOf}
 use Rattle.image.specs.Images.{stored_by, image_of}
 use Rattle.image.proofs.Elements.{map-insert}

@@ -3,8 +3,8 @@ use Rattle.std.specs.Prelude.{ℕ, ◌==◌, if◌then◌else◌, List, [], map,
 use Rattle.std.specs.List.{remove}
 use Rattle.frames.specs.declared.version.Version.TheVariants.{Second}
 use Rattle.model.specs.View.{NodeView}
-use Rattle.grammar.specs.Stored.{stored_slot, stored_links, phases_by}
-use Rattle.grammar.specs.Grammar.{Stored, spelling}
+use Rattle.image_parts.specs.Stored.{stored_slot, stored_links, phases_by}
+use Rattle.image_parts.specs.Grammar.{Stored, spelling}
 
 -- what the image of a node says; what counts as saved and what is acknowledged isn't in it
 abbrev pub stored_by : NodeView → Stored

@@ -2,7 +2,7 @@
 use Rattle.std.specs.Prelude.{◌≡◌, ℕ, List, ◌∷◌, Bool, true, false}
 use Rattle.model.specs.View.{NodeView}
 use Rattle.node.specs.Keeping.{WholeNode, alone}
-use Rattle.grammar.specs.Logs.{begins_logged, logged_spelling}
+use Rattle.image_parts.specs.Logs.{begins_logged, logged_spelling}
 use Rattle.image.specs.Images.{stored_by}
 use Rattle.image.specs.Nodes.{IsImageOf}
 

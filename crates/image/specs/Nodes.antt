@@ -4,9 +4,9 @@ use Rattle.std.specs.List.{insert}
 use Rattle.heap.specs.Heap.{slot_of}
 use Rattle.model.specs.View.{Link, NodeView, no_link}
 use Rattle.frames.specs.declared.version.Version.{Version}
-use Rattle.grammar.specs.declared.parts.Head.{Head}
-use Rattle.grammar.specs.Links.{StoredLink}
-use Rattle.grammar.specs.Grammar.{Stored, IsImage}
+use Rattle.image_parts.specs.declared.parts.Head.{Head}
+use Rattle.image_parts.specs.Links.{StoredLink}
+use Rattle.image_parts.specs.Grammar.{Stored, IsImage}
 use Rattle.image.specs.Conditions.{IsSaved}
 
 -- all messages count as saved

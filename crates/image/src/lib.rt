@@ -1,7 +1,7 @@
 //! A saved node as bytes, its image.
 //!
 //! [`to_bytes`] writes an image, and [`from_bytes`] makes a node of it. docs/FORMATS.md has the
-//! table of its parts ("Images"); the crate `grammar` defines how they are spelled.
+//! table of its parts ("Images"); the crate `image_parts` defines how they are spelled.
 #![tactic(auto)]
 
 mod law;

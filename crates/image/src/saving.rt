@@ -11,7 +11,7 @@ ghost use Rattle.image.specs.Nodes.{IsImageOf};
 
 use crate::writing::put_node;
 use codec::Writer;
-use grammar::LOGGED;
+use image_parts::LOGGED;
 use ids::{GREATEST_IMAGE, Refusal};
 use node::Node;
 use std::alloc::Global;

@@ -3,15 +3,15 @@ ghost use Rattle.std.specs.Prelude.{◌≡◌};
 ghost use Rattle.codec.specs.Formats.{number8};
 ghost use Rattle.codec.specs.Writing.{Puts, PutsAll};
 ghost use Rattle.frames.specs.declared.version.Version.TheVariants.{Second};
-ghost use Rattle.grammar.specs.Grammar.{stored_format, image_format};
+ghost use Rattle.image_parts.specs.Grammar.{stored_format, image_format};
 ghost use Rattle.image.specs.Images.{stored_by};
 
 use codec::Writer;
-use grammar::{Head, put_front, put_others, put_registers, put_reports, put_slots, put_start};
+use image_parts::{Head, put_front, put_others, put_registers, put_reports, put_slots, put_start};
 use node::Core;
 
 // Appends the reports of the other nodes at node 0, in ascending order; at other nodes nothing.
-#[tactic(auto, using(grammar::proofs::Joins::unwritten))]
+#[tactic(auto, using(image_parts::proofs::Joins::unwritten))]
 fn put_others_reports(out: &mut Writer, node: &Core)
     ensures { PutsAll number8 out.old out.new (stored_by node.now).reports }
 {
@@ -22,7 +22,7 @@ fn put_others_reports(out: &mut Writer, node: &Core)
     put_reports(out, &reports[1..]);
 }
 
-#[tactic(auto, unfolding(grammar::specs::Grammar::stored_format, grammar::specs::Grammar::lists_format, grammar::specs::Grammar::told_format), using(grammar::proofs::Joins::both))]
+#[tactic(auto, unfolding(image_parts::specs::Grammar::stored_format, image_parts::specs::Grammar::lists_format, image_parts::specs::Grammar::told_format), using(image_parts::proofs::Joins::both))]
 fn put_stored(out: &mut Writer, node: &Core)
     ensures { Puts (stored_format Second) out.old out.new (stored_by node.now) }
 {
@@ -44,7 +44,7 @@ fn put_stored(out: &mut Writer, node: &Core)
 }
 
 /// Appends the image of the node.
-#[tactic(auto, unfolding(grammar::specs::Grammar::image_format), using(grammar::proofs::Joins::both))]
+#[tactic(auto, unfolding(image_parts::specs::Grammar::image_format), using(image_parts::proofs::Joins::both))]
 pub(crate) fn put_node(out: &mut Writer, node: &Core)
     ensures { Puts image_format out.old out.new (Second, stored_by node.now) }
 {

@@ -2,7 +2,7 @@
 use crate::case::Case;
 use disk::{Disk, MemoryDisk};
 use ids::{Refusal, Saves};
-use replays::read_node;
+use node_store::read_node;
 use std::alloc::{AllocError, Global};
 use storage::is_blank;
 

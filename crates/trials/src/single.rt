@@ -32,7 +32,7 @@ impl<R: Wait> Subject for Single<'_, R> {
 // Calls each law once. A law does nothing when it is called.
 fn call_laws() {
     frames::grammar();
-    grammar::spellings();
+    image_parts::spellings();
     image::nodes_spelled();
     image::nodes_saved();
     world::laws();

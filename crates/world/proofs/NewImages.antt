@@ -10,13 +10,13 @@ use Rattle.ids.specs.declared.refusal.Refusal.TheVariants.{Memory, ImageTooLarge
 use Rattle.frames.specs.declared.version.Version.TheVariants.{Second}
 use Rattle.frames.specs.Formats.{reference, optional, colour}
 use Rattle.model.specs.View.{no_link, new_view}
-use Rattle.grammar.specs.Links.{StoredLink}
-use Rattle.grammar.specs.Grammar.{Stored, spelling, version_format, start_format, image_format}
-use Rattle.grammar.specs.Grammar.{stored_format, lists_format, told_format, slots_format}
-use Rattle.grammar.specs.Grammar.{others_format, slot_format, letter_format, link_format}
-use Rattle.grammar.specs.Grammar.{front_format, front_of, nodes_format, head_format, phases_format}
-use Rattle.grammar.specs.Grammar.{ring_format, held_format}
-use Rattle.grammar.specs.Stored.{stored_link, stored_links}
+use Rattle.image_parts.specs.Links.{StoredLink}
+use Rattle.image_parts.specs.Grammar.{Stored, spelling, version_format, start_format, image_format}
+use Rattle.image_parts.specs.Grammar.{stored_format, lists_format, told_format, slots_format}
+use Rattle.image_parts.specs.Grammar.{others_format, slot_format, letter_format, link_format}
+use Rattle.image_parts.specs.Grammar.{front_format, front_of, nodes_format, head_format, phases_format}
+use Rattle.image_parts.specs.Grammar.{ring_format, held_format}
+use Rattle.image_parts.specs.Stored.{stored_link, stored_links}
 use Rattle.image.specs.Images.{image_of, stored_by}
 use Rattle.world.proofs.Refusals.{memory-alone}
 

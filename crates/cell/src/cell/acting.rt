@@ -37,7 +37,7 @@ ghost use Rattle.cell.specs.Cells.{new_cell, GoesOn, IsKept};
 ghost use Rattle.cell.specs.Desks.{IsAtSeat, IsUnsaved};
 ghost use Rattle.cell.specs.Disks.{OpensToNode};
 ghost use Rattle.cell.specs.Events.{outcome_of, Given};
-ghost use Rattle.replays.specs.Stores.{disk_of, is_ready_in, logs_in};
+ghost use Rattle.node_store.specs.Stores.{disk_of, is_ready_in, logs_in};
 
 use super::Cell;
 use crate::desk::Desk;
@@ -47,7 +47,7 @@ use disk::Disk;
 use ids::Refusal;
 use model::{Answer, Event};
 use node::Node;
-use replays::Store;
+use node_store::Store;
 use std::alloc::Global;
 use std::snapshot::Snapshot;
 use wire::{NodeSeat, Raised, Wire};

@@ -7,7 +7,7 @@ ghost use Rattle.handles.specs.Batches.{Batched, batch_of, size_of};
 
 use super::LoneNode;
 use super::images::counts_of;
-use replays::GREATEST_LOG;
+use node_store::GREATEST_LOG;
 use std::alloc::Global;
 use storage::HEAD;
 use values::Fault;

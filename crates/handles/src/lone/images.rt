@@ -10,7 +10,7 @@ ghost use Rattle.handles.specs.Images.{Imaged, Kept, SizedAs, counts_of, image_i
 use super::LoneNode;
 use ids::Refusal;
 use node::{Core, Node};
-use replays::{Images, LoggedImages};
+use node_store::{Images, LoggedImages};
 use std::alloc::Global;
 use storage::{HEAD, Persist};
 use values::{Fault, put};

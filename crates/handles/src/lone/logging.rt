@@ -1,14 +1,14 @@
 //! The log of a node's events since its last image or batch.
 ghost use Rattle.std.specs.Prelude.{◌≡◌, false, nat_le};
 ghost use Rattle.model.specs.View.{link_to};
-ghost use Rattle.logs.specs.Noted.{Noted};
+ghost use Rattle.node_log.specs.Noted.{Noted};
 ghost use Rattle.handles.specs.Logs.{logging};
 ghost use Rattle.handles.specs.Lone.{Acknowledged, Given};
 
 use super::{LoneNode, is_counted};
 use model::{Answer, Event};
 use msg::Ack;
-use replays::meant;
+use node_store::meant;
 use values::Fault;
 
 impl LoneNode {

@@ -3,13 +3,13 @@ ghost use Rattle.std.specs.Prelude.{◌≡◌, ◌≢◌, ◌≤◌, ◌+◌, Li
 ghost use Rattle.std.specs.Option.{option_map};
 ghost use Rattle.storage.specs.Shelf.{recorded};
 ghost use Rattle.node.specs.Keeping.{WholeNode};
-ghost use Rattle.replays.specs.Values.{IsAlone};
+ghost use Rattle.node_store.specs.Values.{IsAlone};
 ghost use Rattle.handles.specs.Batches.{IsStored, LogLeads, Reopened};
 
 use super::LoneNode;
 use ids::{GREATEST_IMAGE, Refusal};
 use node::Node;
-use replays::{Log, LoggedImages};
+use node_store::{Log, LoggedImages};
 use std::alloc::Global;
 use storage::{HEAD, Persist, Replay};
 use values::Fault;

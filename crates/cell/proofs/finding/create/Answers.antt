@@ -1,4 +1,4 @@
-use Rattle.replays.specs.Stores.{disk_of, logs_in}
+use Rattle.node_store.specs.Stores.{disk_of, logs_in}
 use Rattle.cell.proofs.Beside.{new-logs}
 use Rattle.cell.proofs.Causes.{creating-cause}
 use Rattle.cell.proofs.NewCells.{opens-new}

@@ -1,7 +1,7 @@
 use Rattle.std.proofs.Common.{◌≡◌, ℕ, ◌<◌, ◌+◌, ◌∙◌, true, refl, ap, arith, drop, get_or, length, length-append, subst, sym, Some, None, slice_get}
 use Rattle.std.proofs.lemmas.List.{drop-drop}
 use Rattle.std.proofs.lemmas.Option.{slice_get-get_or, slice_get_read}
-use Rattle.replays.specs.Stores.{disk_of, is_ready_in, logs_in}
+use Rattle.node_store.specs.Stores.{disk_of, is_ready_in, logs_in}
 use Rattle.cell.specs.Looking.{logs_at}
 use Rattle.cell.specs.Disks.{OpensToNode}
 use Rattle.cell.proofs.Beside.{beside-next}

@@ -1,5 +1,5 @@
 use Rattle.std.proofs.Common.{◌≡◌, ◌+◌, vec_len, true, length, drop}
-use Rattle.replays.specs.Stores.{disk_of, is_ready_in, logs_in}
+use Rattle.node_store.specs.Stores.{disk_of, is_ready_in, logs_in}
 use Rattle.cell.specs.Disks.{OpensToNode}
 use Rattle.cell.specs.Looking.{logs_at}
 use Rattle.cell.specs.Opened.{AreBeside}

@@ -4,8 +4,8 @@ use Rattle.std.proofs.lemmas.List.{length-map}
 use Rattle.std.proofs.lemmas.Option.{slice_get_within}
 use Rattle.std.proofs.lemmas.Result.{err_from_is_err_and}
 use Rattle.node.specs.Keeping.{WholeNode}
-use Rattle.replays.specs.Stores.{logs_in}
-use Rattle.replays.proofs.Stores.{keeps_kept}
+use Rattle.node_store.specs.Stores.{logs_in}
+use Rattle.node_store.proofs.Stores.{keeps_kept}
 use Rattle.wire.specs.OneAge.{AreOfOneAge}
 use Rattle.wire.specs.Readers.{IsMade}
 use Rattle.cell.specs.Opened.{AreBeside, IsChosen, IsNodeOf, IsReadFrom, cores, world_of}

@@ -2,7 +2,7 @@ use Rattle.std.proofs.Common.{◌≡◌, ◌<◌, ◌∙◌, All, [], ap, length
 use Rattle.std.proofs.lemmas.List.{length-map}
 use Rattle.std.proofs.lemmas.Result.{err_from_is_err_and}
 use Rattle.std.proofs.lemmas.List.Elements.{All-append, All-cons, All-nil}
-use Rattle.replays.specs.Stores.{disk_of, logs_in}
+use Rattle.node_store.specs.Stores.{disk_of, logs_in}
 use Rattle.cell.specs.Cells.{IsNew}
 use Rattle.cell.proofs.Ready.{first-ready, handed-on, later-ready, made-new, shifted, shifted-by}
 use Rattle.cell.proofs.joining.seat_all.Goals as goal

@@ -1,8 +1,8 @@
 use Rattle.std.proofs.Common.{arith}
 use Rattle.std.proofs.lemmas.Result.{err_from_is_err_and}
-use Rattle.grammar.specs.Parts.{stored_of}
+use Rattle.image_parts.specs.Parts.{stored_of}
 use Rattle.image.proofs.Made.{is_image, is_none, too_long, unread}
-use Rattle.grammar.proofs.Readings.{spelled_so}
+use Rattle.image_parts.proofs.Readings.{spelled_so}
 use Rattle.image.proofs.restoring.core_from_bytes.Goals as goal
 
 pub returns-then-bytes-clause-refused : goal.returns-then-bytes-clause-refused

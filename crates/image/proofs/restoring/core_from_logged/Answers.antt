@@ -1,7 +1,7 @@
 use Rattle.std.proofs.Common.{arith}
 use Rattle.std.proofs.lemmas.Result.{err_from_is_err_and}
 use Rattle.frames.specs.declared.version.Version.TheVariants.{Second}
-use Rattle.grammar.specs.Parts.{stored_of}
+use Rattle.image_parts.specs.Parts.{stored_of}
 use Rattle.image.proofs.Logged.{image_second, logged_image_is, logged_none, long_logged}
 use Rattle.image.proofs.Logged.{unread_logged}
 use Rattle.image.proofs.restoring.core_from_logged.Goals as goal

@@ -1,6 +1,6 @@
 use Rattle.std.proofs.Common.{refl, sym, true≢false, arith}
-use Rattle.grammar.specs.Parts.{stored_of}
-use Rattle.grammar.proofs.Readings.{own_below, links_count}
+use Rattle.image_parts.specs.Parts.{stored_of}
+use Rattle.image_parts.proofs.Readings.{own_below, links_count}
 use Rattle.image.specs.Nodes.{node_of}
 use Rattle.image.proofs.Made.{said_refused}
 use Rattle.image.proofs.restoring.restored.Goals as goal

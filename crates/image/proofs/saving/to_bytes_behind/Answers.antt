@@ -2,7 +2,7 @@ use Rattle.std.proofs.Common.{◌≡◌, ◌+◌, [], ◌++◌, ◌∙◌, arith
 use Rattle.std.proofs.lemmas.Result.{IfErr-weaker, on_ok_weaker}
 use Rattle.ids.specs.declared.limits.TheConstants.{GREATEST_IMAGE}
 use Rattle.codec.specs.Writing.{IsOpen, Says}
-use Rattle.grammar.specs.Grammar.{spelling, image_format}
+use Rattle.image_parts.specs.Grammar.{spelling, image_format}
 use Rattle.image.specs.Images.{image_of}
 use Rattle.image.proofs.Saved.{is_saved}
 use Rattle.image.proofs.saving.to_bytes_behind.Goals as goal

@@ -1,6 +1,6 @@
 use Rattle.std.proofs.Common.{◌≡◌, true, false, ap, sym, ◌∙◌, Bool}
 use Rattle.wire.specs.Readers.{known}
-use Rattle.replays.specs.Stores.{disk_of, is_ready_in, logs_in}
+use Rattle.node_store.specs.Stores.{disk_of, is_ready_in, logs_in}
 use Rattle.cell.proofs.Dropping.{dropped-as, given-dropped, given-took, own-none}
 use Rattle.cell.proofs.Opening.{stays-open}
 use Rattle.model.specs.Steps.{is_shading}

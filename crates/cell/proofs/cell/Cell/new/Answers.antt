@@ -2,8 +2,8 @@ use Rattle.std.proofs.Common.{◌≡◌, ◌∙◌, ap, sym}
 use Rattle.wire.specs.Readers.{known}
 use Rattle.cell.proofs.Dropping.{dropped-same}
 use Rattle.cell.proofs.Opening.{core-found, imaged-found, open-holds, stays-open}
-use Rattle.replays.specs.Stores.{disk_of}
-use Rattle.replays.proofs.Stores.{keeps_alone, keeps_kept}
+use Rattle.node_store.specs.Stores.{disk_of}
+use Rattle.node_store.proofs.Stores.{keeps_alone, keeps_kept}
 use Rattle.cell.proofs.cell.Cell.new.Goals as goal
 
 pub new-requires-2-clause-kept : goal.new-requires-2-clause-kept

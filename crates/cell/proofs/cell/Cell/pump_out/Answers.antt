@@ -1,6 +1,6 @@
 use Rattle.std.proofs.Common.{◌≡◌, ◌∙◌, Bool, ap, slice_index_or, subst, sym, true}
 use Rattle.std.proofs.lemmas.Result.{err_from_is_err_and}
-use Rattle.replays.specs.Stores.{disk_of, is_ready_in, logs_in}
+use Rattle.node_store.specs.Stores.{disk_of, is_ready_in, logs_in}
 use Rattle.cell.specs.Cells.{CellView}
 use Rattle.wire.specs.Readers.{known, outbox}
 use Rattle.cell.specs.Pumping.{is_out}

@@ -12,8 +12,8 @@ use Rattle.wire.specs.Entering.{Entered}
 use Rattle.cell.specs.Desks.{new_desk, HasDropped}
 use Rattle.cell.proofs.Dropping.{dropped-found, took-same}
 use Rattle.cell.proofs.Opening.{core-found, imaged-found, never-bad, open-holds, saved-found, stays-open, which-found}
-use Rattle.replays.specs.Stores.{disk_of, logs_in}
-use Rattle.replays.proofs.Stores.{keeps_alone, keeps_kept}
+use Rattle.node_store.specs.Stores.{disk_of, logs_in}
+use Rattle.node_store.proofs.Stores.{keeps_alone, keeps_kept}
 use Rattle.cell.proofs.Views.{cell_at}
 use Rattle.cell.proofs.cell.Cell.reopen.Goals as goal
 

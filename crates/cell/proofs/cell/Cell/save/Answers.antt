@@ -3,7 +3,7 @@ use Rattle.std.proofs.lemmas.Bool.{cases_Bool, false≢true}
 use Rattle.ids.specs.declared.refusal.Refusal.{Refusal}
 use Rattle.ids.specs.declared.refusal.Refusal.TheVariants as refusal
 use Rattle.model.specs.View.{kept_view}
-use Rattle.replays.specs.Stores.{disk_of, is_ready_in, logs_in}
+use Rattle.node_store.specs.Stores.{disk_of, is_ready_in, logs_in}
 use Rattle.disk.specs.Areas.{Areas}
 use Rattle.node.specs.Keeping.{alone}
 use Rattle.cell.specs.Disks.{HoldsSaved, OpensTo, OpensToEither}

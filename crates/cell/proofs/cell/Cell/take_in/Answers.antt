@@ -1,5 +1,5 @@
 use Rattle.std.proofs.Common.{◌≡◌, ◌<◌, ℕ, Bool, true, [], ◌∷◌, ◌++◌, sym, ap, ◌∙◌, subst}
-use Rattle.replays.specs.Stores.{disk_of, is_ready_in, logs_in}
+use Rattle.node_store.specs.Stores.{disk_of, is_ready_in, logs_in}
 use Rattle.cell.proofs.Dropping.{TookMore, at-last, dropped-as, handled-dropped, handled-took, took-again, took-same}
 use Rattle.cell.proofs.Opening.{stays-open}
 use Rattle.circular_buffer.specs.Buffer.{keep_last}

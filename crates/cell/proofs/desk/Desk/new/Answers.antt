@@ -9,8 +9,8 @@ use Rattle.cell.specs.Desks.{AreTaken, IsSavedNode, StandsAt}
 use Rattle.cell.specs.Events.{both_states}
 use Rattle.cell.proofs.Found.{found-read}
 use Rattle.cell.proofs.Waiting.{taken-none}
-use Rattle.replays.specs.Noted.{IsLogged}
-use Rattle.replays.proofs.Ends.{begun_log}
+use Rattle.node_store.specs.Noted.{IsLogged}
+use Rattle.node_store.proofs.Ends.{begun_log}
 use Rattle.cell.proofs.desk.Desk.new.Goals as goal
 
 pub invariant_of-result : goal.invariant_of-result

@@ -10,8 +10,8 @@ use Rattle.cell.specs.Disks.{is_same_node}
 use Rattle.cell.specs.Events.{found_pair, found_step, reopened_by}
 use Rattle.cell.proofs.Waiting.{taken-none}
 use Rattle.cell.proofs.Found.{found-happens, is-found}
-use Rattle.replays.specs.Noted.{IsLogged}
-use Rattle.replays.proofs.Ends.{begun_log}
+use Rattle.node_store.specs.Noted.{IsLogged}
+use Rattle.node_store.proofs.Ends.{begun_log}
 use Rattle.cell.proofs.desk.Desk.reopen.Goals as goal
 
 pub enter_found-requires : goal.enter_found-requires

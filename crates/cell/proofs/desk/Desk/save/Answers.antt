@@ -8,9 +8,9 @@ use Rattle.node.specs.Keeping.{WholeNode}
 use Rattle.cell.specs.Desks.{AreTaken, IsSavedNode, StandsAt}
 use Rattle.cell.specs.Events.{both_states}
 use Rattle.cell.proofs.Found.{found-read, shows-kept}
-use Rattle.replays.proofs.Stores.{kept_twice}
-use Rattle.replays.specs.Noted.{IsLogged}
-use Rattle.replays.proofs.Ends.{begun_log}
+use Rattle.node_store.proofs.Stores.{kept_twice}
+use Rattle.node_store.specs.Noted.{IsLogged}
+use Rattle.node_store.proofs.Ends.{begun_log}
 use Rattle.cell.proofs.desk.Desk.save.Goals as goal
 
 pub invariant_of-self-inside : goal.invariant_of-self-inside

@@ -3,7 +3,7 @@ use Rattle.std.proofs.lemmas.Bool.{true≢false}
 use Rattle.std.proofs.lemmas.Result.{err_from_is_err_and}
 use Rattle.model.specs.View.{view_act}
 use Rattle.node.specs.Keeping.{met}
-use Rattle.replays.proofs.Quiet.{quiet-same}
+use Rattle.node_store.proofs.Quiet.{quiet-same}
 use Rattle.handles.specs.Logs.{Led}
 use Rattle.handles.specs.Lone.{is_counted}
 use Rattle.handles.proofs.Logs.{after_counted, after_uncounted, counted_now, if_kept, led_noted, uncounted_quiet}

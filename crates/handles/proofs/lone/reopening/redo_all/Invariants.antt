@@ -1,5 +1,5 @@
 use Rattle.std.proofs.Common.{length}
-use Rattle.replays.specs.Values.{IsAlone}
+use Rattle.node_store.specs.Values.{IsAlone}
 use Rattle.handles.proofs.Batches.{IsLeft}
 use Rattle.handles.proofs.lone.reopening.redo_all.Given as goal
 

@@ -1,8 +1,8 @@
 use Rattle.std.proofs.Common.{◌≡◌, ◌∙◌, [], ap, false, length, refl, subst, sym, true}
 use Rattle.std.proofs.lemmas.Result.{err_from_is_err_and}
 use Rattle.std.proofs.lemmas.Bool.{false≢true}
-use Rattle.grammar.specs.Logs.{begins_logged}
-use Rattle.replays.specs.Laws.{one_whole}
+use Rattle.image_parts.specs.Logs.{begins_logged}
+use Rattle.node_store.specs.Laws.{one_whole}
 use Rattle.handles.specs.Batches.{LogLeads}
 use Rattle.handles.proofs.Batches.{nil_of}
 use Rattle.handles.proofs.lone.reopening.stored.Goals as goal

@@ -1,7 +1,7 @@
 use Rattle.std.proofs.Common.{ap, refl, ◌∙◌}
 use Rattle.disk.specs.Memory.{held_by}
 use Rattle.disk.specs.Record.{reads_left}
-use Rattle.replays.proofs.Stores.{read_kept}
+use Rattle.node_store.proofs.Stores.{read_kept}
 use Rattle.handles.proofs.seated.SeatedCell.reopen.Goals as goal
 
 pub returns : goal.returns

@@ -1,7 +1,7 @@
 use Rattle.std.proofs.Common.{ap, sym, ◌∙◌}
 use Rattle.wire.specs.Views.{learns}
 use Rattle.wire.specs.Readers.{known}
-use Rattle.replays.specs.Stores.{disk_of, is_ready_in, logs_in}
+use Rattle.node_store.specs.Stores.{disk_of, is_ready_in, logs_in}
 use Rattle.cell.proofs.Dropping.{dropped-as, took-same}
 use Rattle.cell.proofs.Opening.{stays-left}
 use Rattle.cell.proofs.Views.{cell_at}

@@ -1,0 +1,29 @@
+-- What events say is within the limits of their spellings.
+use Rattle.codec.specs.Formats.{Fits}
+use Rattle.codec.specs.Formats.{number2, number4, number8}
+use Rattle.frames.specs.declared.version.Version.TheVariants.{Second}
+use Rattle.frames.specs.Formats.{sent, known, head}
+use Rattle.frames.proofs.Written.{any_body}
+use Rattle.model.specs.declared.event.Event.{Event}
+use Rattle.model.specs.declared.event.Event.TheVariants as event
+use Rattle.event_bytes.specs.Entries.{entry}
+use Rattle.event_bytes.specs.Events.{entry_of}
+
+-- what an event says is within the limits
+pub entry_within : (e : Event) → entry.IsWithin (entry_of e)
+unfolding entry sent known head number2 number4 number8
+entry_within (event.Data d) = (((tt, (tt, tt)), (tt, any_body Second d.body)), d.fits)
+entry_within (event.Ack a) = ((tt, (tt, tt)), a.fits)
+entry_within (event.Alloc register places) = (tt, tt)
+entry_within (event.Copy register source) = (tt, tt)
+entry_within (event.Load register object place) = (tt, (tt, tt))
+entry_within (event.Store object place register) = (tt, (tt, tt))
+entry_within (event.Clear object place) = (tt, tt)
+entry_within (event.SetWord object value) = (tt, tt)
+entry_within (event.Give to label register) = (tt, (tt, tt))
+entry_within (event.Put object place register) = (tt, (tt, tt))
+entry_within (event.Get object place label) = (tt, (tt, tt))
+entry_within e = tt
+
+pub event_fits : (e : Event) → entry.IsWide (entry_of e) → Fits entry (entry_of e)
+event_fits e wide = record { wide = wide; within = entry_within e }

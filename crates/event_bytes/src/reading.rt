@@ -1,0 +1,200 @@
+//! Reads events from bytes. Each call reads an event from the front of what is left. If the bytes
+//! there don't spell one, the reader fails, or the call returns no event.
+ghost use Rattle.std.specs.Prelude.{◌≡◌, Some};
+ghost use Rattle.std.specs.Option.{option_map};
+ghost use Rattle.codec.specs.Readers.{Reads, Takes};
+ghost use Rattle.codec.specs.Reading.{IsSound};
+ghost use Rattle.frames.specs.Formats.{head};
+ghost use Rattle.event_bytes.specs.Entries.{alloc_at, copy_at, load_at, store_at, clear_at};
+ghost use Rattle.event_bytes.specs.Entries.{set_word_at, give_at, put_at, get_at, received_at};
+ghost use Rattle.event_bytes.specs.Entries.{acknowledged_at, entry};
+ghost use Rattle.event_bytes.specs.Events.{acknowledged_of, entry_of, received_of};
+
+use crate::tags::{
+    ACCEPT, ACK, ALLOC, BEGIN, CLEAR, COPY, DATA, DROP, GET, GIVE, LOAD, NEXT, PASS, PUT, SCAN,
+    SET_WORD, STORE, SWEEP, WORD,
+};
+use codec::Reader;
+use frames::Version;
+use frames::reading::read_body;
+use model::Event;
+use msg::{Ack, Data};
+
+/// No spelling of an event is a prefix of another one, and what is read has that spelling. The
+/// function does nothing; its contract states the law.
+#[tactic(auto, using(crate::proofs::Sound::entry_sound))]
+pub fn spellings()
+    ensures { IsSound entry }
+{}
+
+#[tactic(auto, unfolding(crate::specs::Entries::alloc_at), using(crate::proofs::Joins::both_read, crate::proofs::Joins::made_of))]
+fn read_alloc(reader: &mut Reader) -> Event
+    ensures { Takes alloc_at reader.old reader.new (Some (entry_of result)) }
+{
+    let register = reader.u16();
+    let places = reader.u8();
+    Event::Alloc { register, places }
+}
+
+#[tactic(auto, unfolding(crate::specs::Entries::copy_at), using(crate::proofs::Joins::both_read, crate::proofs::Joins::made_of))]
+fn read_copy(reader: &mut Reader) -> Event
+    ensures { Takes copy_at reader.old reader.new (Some (entry_of result)) }
+{
+    let register = reader.u16();
+    let source = reader.u16();
+    Event::Copy { register, source }
+}
+
+#[tactic(auto, unfolding(crate::specs::Entries::load_at), using(crate::proofs::Joins::both_read, crate::proofs::Joins::made_of))]
+fn read_load(reader: &mut Reader) -> Event
+    ensures { Takes load_at reader.old reader.new (Some (entry_of result)) }
+{
+    let register = reader.u16();
+    let object = reader.u16();
+    let place = reader.u8();
+    Event::Load {
+        register,
+        object,
+        place,
+    }
+}
+
+#[tactic(auto, unfolding(crate::specs::Entries::store_at), using(crate::proofs::Joins::both_read, crate::proofs::Joins::made_of))]
+fn read_store(reader: &mut Reader) -> Event
+    ensures { Takes store_at reader.old reader.new (Some (entry_of result)) }
+{
+    let object = reader.u16();
+    let place = reader.u8();
+    let register = reader.u16();
+    Event::Store {
+        object,
+        place,
+        register,
+    }
+}
+
+#[tactic(auto, unfolding(crate::specs::Entries::clear_at), using(crate::proofs::Joins::both_read, crate::proofs::Joins::made_of))]
+fn read_clear(reader: &mut Reader) -> Event
+    ensures { Takes clear_at reader.old reader.new (Some (entry_of result)) }
+{
+    let object = reader.u16();
+    let place = reader.u8();
+    Event::Clear { object, place }
+}
+
+#[tactic(auto, unfolding(crate::specs::Entries::set_word_at), using(crate::proofs::Joins::both_read, crate::proofs::Joins::made_of))]
+fn read_set_word(reader: &mut Reader) -> Event
+    ensures { Takes set_word_at reader.old reader.new (Some (entry_of result)) }
+{
+    let object = reader.u16();
+    let word = reader.u64();
+    Event::SetWord { object, word }
+}
+
+#[tactic(auto, unfolding(crate::specs::Entries::give_at), using(crate::proofs::Joins::both_read, crate::proofs::Joins::made_of))]
+fn read_give(reader: &mut Reader) -> Event
+    ensures { Takes give_at reader.old reader.new (Some (entry_of result)) }
+{
+    let to = reader.u8();
+    let label = reader.u32();
+    let register = reader.u16();
+    Event::Give {
+        to,
+        label,
+        register,
+    }
+}
+
+#[tactic(auto, unfolding(crate::specs::Entries::put_at), using(crate::proofs::Joins::both_read, crate::proofs::Joins::made_of))]
+fn read_put(reader: &mut Reader) -> Event
+    ensures { Takes put_at reader.old reader.new (Some (entry_of result)) }
+{
+    let object = reader.u16();
+    let place = reader.u8();
+    let register = reader.u16();
+    Event::Put {
+        object,
+        place,
+        register,
+    }
+}
+
+#[tactic(auto, unfolding(crate::specs::Entries::get_at), using(crate::proofs::Joins::both_read, crate::proofs::Joins::made_of))]
+fn read_get(reader: &mut Reader) -> Event
+    ensures { Takes get_at reader.old reader.new (Some (entry_of result)) }
+{
+    let object = reader.u16();
+    let place = reader.u8();
+    let label = reader.u32();
+    Event::Get {
+        object,
+        place,
+        label,
+    }
+}
+
+#[tactic(auto, unfolding(frames::specs::Formats::head), using(crate::proofs::Joins::both_read))]
+fn read_head(reader: &mut Reader) -> (u8, (u8, u64))
+    ensures { Reads head reader.old reader.new result }
+{
+    let from = reader.u8();
+    let to = reader.u8();
+    let number = reader.u64();
+    (from, (to, number))
+}
+
+#[tactic(auto, unfolding(crate::specs::Entries::received_at, frames::specs::Formats::sent), using(crate::proofs::Joins::both_read, crate::proofs::Joins::tested))]
+fn read_data(reader: &mut Reader) -> Option<Data>
+    ensures { Takes received_at reader.old reader.new (option_map received_of result) }
+{
+    let (from, (to, number)) = read_head(reader);
+    let stamp = reader.u64();
+    let body = read_body(reader, Version::Second);
+    Data::new(from, to, number, stamp, body)
+}
+
+#[tactic(auto, unfolding(crate::specs::Entries::acknowledged_at, frames::specs::Formats::known), using(crate::proofs::Joins::tested))]
+fn read_ack(reader: &mut Reader) -> Option<Ack>
+    ensures { Takes acknowledged_at reader.old reader.new (option_map acknowledged_of result) }
+{
+    let (from, (to, number)) = read_head(reader);
+    Ack::new(from, to, number)
+}
+
+/// Reads an event from the front of what is left. If no event is there, the reader has failed, or
+/// the call returns `None`.
+#[tactic(auto, unfolding(crate::specs::Entries::entry), using(crate::proofs::Joins::tags))]
+pub fn read_event(reader: &mut Reader) -> Option<Event>
+    ensures { Takes entry.read reader.old reader.new (option_map entry_of result) }
+{
+    match reader.u8() {
+        ALLOC => Some(read_alloc(reader)),
+        COPY => Some(read_copy(reader)),
+        DROP => Some(Event::Drop {
+            register: reader.u16(),
+        }),
+        LOAD => Some(read_load(reader)),
+        STORE => Some(read_store(reader)),
+        CLEAR => Some(read_clear(reader)),
+        WORD => Some(Event::Word {
+            object: reader.u16(),
+        }),
+        SET_WORD => Some(read_set_word(reader)),
+        GIVE => Some(read_give(reader)),
+        ACCEPT => Some(Event::Accept {
+            register: reader.u16(),
+        }),
+        PUT => Some(read_put(reader)),
+        GET => Some(read_get(reader)),
+        BEGIN => Some(Event::Begin),
+        SCAN => Some(Event::Scan),
+        PASS => Some(Event::Pass),
+        SWEEP => Some(Event::Sweep {
+            count: reader.u32(),
+        }),
+        NEXT => Some(Event::Next { from: reader.u8() }),
+        DATA => read_data(reader).map(Event::Data),
+        ACK => read_ack(reader).map(Event::Ack),
+        _ => None,
+    }
+}

@@ -1,9 +1,0 @@
-use Rattle.codec.proofs.Writing.{uncounted}
-use Rattle.frames.specs.declared.version.Version.TheVariants.{Second}
-use Rattle.grammar.proofs.Formats.{message_long}
-use Rattle.grammar.proofs.links.put_messages.Goals as goal
-
-pub returns-else-count : goal.returns-else-count
-returns-else-count c =
-    uncounted _ _ _ (c.count.ensures.over c.if-count.false) c.message_count-count.ensures.value
-    (message_long Second)

@@ -1,8 +1,0 @@
-use Rattle.std.proofs.Common.{sym, ◌∙◌}
-use Rattle.grammar.proofs.Registers.{empty_written}
-use Rattle.grammar.proofs.lists.put_few.Goals as goal
-
-pub returns-then-all_empty : goal.returns-then-all_empty
-returns-then-all_empty c =
-    empty_written 8 c.args.registers.now _ _ c.if-registers-eq-AT_ONCE.true
-    (sym c.all_empty.ensures ∙ c.if-all_empty.true) c.array.ensures

@@ -1,0 +1,264 @@
+-- What an image says, and its one spelling.
+use Rattle.std.specs.Prelude.{ℕ, ◌-◌, ◌≤◌, ◌≡◌, ◌==◌, ◌&&◌, if◌then◌else◌, List, [], ◌∷◌, length}
+use Rattle.std.specs.Prelude.{Bool, Option, nat_lt, nat_le}
+use Rattle.ids.specs.Limits.{reference_fits}
+use Rattle.ids.specs.declared.names.Ref.{Ref}
+use Rattle.ids.specs.declared.limits.TheConstants.{FIRST_VERSION_NODES, GREATEST_NODES}
+use Rattle.ids.specs.declared.limits.TheConstants.{GREATEST_IMAGE, GREATEST_PLACES}
+use Rattle.codec.specs.Formats as codec
+use Rattle.codec.specs.Formats.{Format, Reader, Behind, byte, number2, number4, number8, signed8}
+use Rattle.codec.specs.Formats.{nothing, mapped, joined, ◌&◌, kept, tag, tagged, made_at, option}
+use Rattle.codec.specs.Formats.{many, counted}
+use Rattle.msg.specs.declared.body.Body.{Body}
+use Rattle.msg.specs.declared.body.Message.{Message}
+use Rattle.msg.specs.declared.body.Token.{Token}
+use Rattle.frames.specs.declared.version.Version.{Version}
+use Rattle.frames.specs.declared.version.Version.TheVariants.{First, Second}
+use Rattle.frames.specs.Formats.{generation, reference, optional, colour, token, body_format}
+use Rattle.msg.specs.Limits.{optional_fits, body_fits}
+use Rattle.model.specs.State.{Object, Ring}
+use Rattle.model.specs.declared.event.Letter.{Letter}
+use Rattle.image_parts.specs.declared.parts.Head.{Head}
+use Rattle.image_parts.specs.declared.parts.PhasesParts.{PhasesParts}
+use Rattle.arena_slot.specs.declared.Slot.TheVariants as slot
+use Rattle.image_parts.specs.Links.{StoredLink, StoredSlot}
+
+-- what an image says about a node
+pub record Stored : Type 0 where
+  pub head : Head
+  pub phases : PhasesParts
+  pub ring : Ring
+  -- at node 0 those of the other nodes, in ascending order; at other nodes empty
+  pub reports : List ℕ
+  pub registers : List (Option Ref)
+  pub slots : List StoredSlot
+  -- the free slots, the next to be used first
+  pub free : List ℕ
+  -- the grey slots; the last one is scanned first
+  pub grey : List ℕ
+  pub asked : List Ref
+  -- oldest first
+  pub letters : List Letter
+  -- to the other nodes, in ascending order
+  pub links : List StoredLink
+
+-- ---- what comes before the lists
+
+abbrev pub version_tag : Version → Behind
+version_tag First = tag 1 nothing tt
+version_tag Second = tag 2 nothing tt
+
+unfoldable pub version_format : Format Version
+version_format =
+    tagged version_tag
+    ((1, made_at nothing (λ _. First)) ∷ (2, made_at nothing (λ _. Second)) ∷ [])
+
+-- the bytes `MR`, and the version
+abbrev pub Start : Type 0
+Start = ℕ × (ℕ × Version)
+
+abbrev pub is_start : Start → Bool
+is_start x = x.0 == 0x4D && x.1.0 == 0x52
+
+unfoldable pub start_format : Format Version
+start_format =
+    mapped (kept (byte & byte & version_format) is_start) (λ x. x.1.1) (λ v. (0x4D, (0x52, v)))
+
+-- how many nodes a space has at most
+abbrev pub most_nodes : Version → ℕ
+most_nodes First = FIRST_VERSION_NODES
+most_nodes Second = GREATEST_NODES
+
+abbrev pub nodes_fit : Version → ℕ × ℕ → Bool
+nodes_fit v p = nat_lt p.1 p.0 && nat_le p.0 (most_nodes v)
+
+-- the number of nodes, and the own number, which is smaller
+unfoldable pub nodes_format : Version → Format (ℕ × ℕ)
+nodes_format v = kept (byte & byte) (nodes_fit v)
+
+-- the sizes of the space, with the node's own number
+unfoldable pub head_format : Version → Format Head
+head_format v =
+    mapped (nodes_format v & number2 & number4)
+    (λ x. record { nodes = x.0.0; own = x.0.1; registers = x.1.0; slots = x.1.1 })
+    (λ h. ((h.nodes, h.own), (h.registers, h.slots)))
+
+unfoldable pub phases_format : Format PhasesParts
+phases_format =
+    mapped (number8 & number8 & number8 & number4)
+    (λ x. record { cycle = x.0; ended = x.1.0; swept = x.1.1.0; cursor = x.1.1.1 })
+    (λ p. (p.cycle, (p.ended, (p.swept, p.cursor))))
+
+-- 0, or 1 and a token
+unfoldable pub held_format : Format (Option Token)
+held_format = option token
+
+unfoldable pub ring_format : Format Ring
+ring_format =
+    mapped (colour & signed8 & signed8 & held_format)
+    (λ x. record { colour = x.0; earlier = x.1.0; recent = x.1.1.0; token = x.1.1.1 })
+    (λ r. (r.colour, (r.earlier, (r.recent, r.token))))
+
+-- ---- what the lists contain, all within the limits
+
+abbrev pub near : Version → Format Ref
+near v = kept (reference v) reference_fits
+
+abbrev pub near_optional : Version → Format (Option Ref)
+near_optional v = kept (optional v) optional_fits
+
+abbrev pub near_body : Version → Format Body
+near_body v = kept (body_format v) body_fits
+
+-- how many places there are
+unfoldable pub width_format : Format ℕ
+width_format = kept byte (λ n. nat_le n GREATEST_PLACES)
+
+unfoldable pub places_format : Version → Format (List (Option Ref))
+places_format v = counted width_format (near_optional v)
+
+unfoldable pub object_format : Version → Format Object
+object_format v =
+    mapped (number8 & number8 & places_format v)
+    (λ x. record { word = x.1.0; places = x.1.1; mark = x.0 }) (λ o. (o.mark, (o.word, o.places)))
+
+abbrev pub occupied : Version → Format (ℕ × Object)
+occupied v = generation v & object_format v
+
+unfoldable pub occupied_at : Version → Reader StoredSlot
+occupied_at v bytes = made_at (occupied v) (λ x. slot.Occupied x.0 x.1) bytes
+
+-- a tag and what the slot holds
+abbrev pub slot_tag : Version → StoredSlot → Behind
+slot_tag v (slot.Free next) = tag 0 (generation v) next
+slot_tag v (slot.Occupied own object) = tag 1 (occupied v) (own, object)
+slot_tag v slot.Retired = tag 2 nothing tt
+
+abbrev pub slots_at : Version → List (ℕ × Reader StoredSlot)
+slots_at v =
+    (0, made_at (generation v) slot.Free)
+    ∷ (1, occupied_at v)
+    ∷ (2, made_at nothing (λ _. slot.Retired))
+    ∷ []
+
+unfoldable pub slot_format : Version → Format StoredSlot
+slot_format v = tagged (slot_tag v) (slots_at v)
+
+unfoldable pub letter_format : Version → Format Letter
+letter_format v =
+    mapped (byte & number4 & near_optional v)
+    (λ x. record { from = x.0; label = x.1.0; reference = x.1.1 })
+    (λ l. (l.from, (l.label, l.reference)))
+
+unfoldable pub message_format : Version → Format Message
+message_format v =
+    mapped (number8 & near_body v) (λ x. record { stamp = x.0; body = x.1 })
+    (λ m. (m.stamp, m.body))
+
+unfoldable pub link_format : Version → Format StoredLink
+link_format v =
+    mapped (number8 & counted number4 (message_format v) & number8)
+    (λ x. record { base = x.0; unacknowledged = x.1.0; received = x.1.1 })
+    (λ l. (l.base, (l.unacknowledged, l.received)))
+
+-- ---- the whole
+
+-- how many reports are spelled
+abbrev pub reports_told : Head → ℕ
+reports_told h = if h.own == 0 then h.nodes - 1 else 0
+
+-- how many links are spelled
+abbrev pub links_told : Head → ℕ
+links_told h = h.nodes - 1
+
+abbrev pub Front : Type 0
+Front = Head × (PhasesParts × Ring)
+
+unfoldable pub front_format : Version → Format Front
+front_format v = head_format v & phases_format & ring_format
+
+-- the lists whose lengths are known from the head
+abbrev pub Told : Type 0
+Told = List ℕ × List (Option Ref)
+
+unfoldable pub told_format : Version → Head → Format Told
+told_format v h = many number8 (reports_told h) & many (near_optional v) h.registers
+
+-- the slots, and those of them that are free or grey
+abbrev pub Slots : Type 0
+Slots = List StoredSlot × (List ℕ × List ℕ)
+
+unfoldable pub slots_format : Version → Format Slots
+slots_format v =
+    counted number4 (slot_format v) & counted number4 number4 & counted number4 number4
+
+-- the references that were asked for, the letters, and the links
+abbrev pub Others : Type 0
+Others = List Ref × (List Letter × List StoredLink)
+
+unfoldable pub others_format : Version → Head → Format Others
+others_format v h =
+    counted number4 (near v) & counted number4 (letter_format v)
+    & many (link_format v) (links_told h)
+
+-- the references that were asked for, and the letters
+abbrev pub waiting_format : Version → Format (List Ref × List Letter)
+waiting_format v = counted number4 (near v) & counted number4 (letter_format v)
+
+-- what follows the front
+abbrev pub Lists : Type 0
+Lists = Told × (Slots × Others)
+
+unfoldable pub lists_format : Version → Front → Format Lists
+lists_format v f = told_format v f.0 & slots_format v & others_format v f.0
+
+abbrev pub stored : Front × Lists → Stored
+stored x =
+    record {
+      head = x.0.0;
+      phases = x.0.1.0;
+      ring = x.0.1.1;
+      reports = x.1.0.0;
+      registers = x.1.0.1;
+      slots = x.1.1.0.0;
+      free = x.1.1.0.1.0;
+      grey = x.1.1.0.1.1;
+      asked = x.1.1.1.0;
+      letters = x.1.1.1.1.0;
+      links = x.1.1.1.1.1;
+    }
+
+abbrev pub front_of : Stored → Front
+front_of s = (s.head, (s.phases, s.ring))
+
+abbrev pub told_of : Stored → Told
+told_of s = (s.reports, s.registers)
+
+abbrev pub slots_of : Stored → Slots
+slots_of s = (s.slots, (s.free, s.grey))
+
+abbrev pub others_of : Stored → Others
+others_of s = (s.asked, (s.letters, s.links))
+
+unfoldable pub stored_format : Version → Format Stored
+stored_format v =
+    mapped (joined (front_format v) (lists_format v)) stored
+    (λ s. (front_of s, (told_of s, (slots_of s, others_of s))))
+
+-- the version, and after it what belongs to that version
+unfoldable pub image_format : Format (Version × Stored)
+image_format = joined start_format stored_format
+
+-- the whole image
+unfoldable pub spelling : Version → Stored → List ℕ
+spelling v s = image_format.spell (v, s)
+
+-- what has a spelling
+abbrev pub Fits : Version → Stored → Type 0
+Fits v s = codec.Fits (stored_format v) s
+
+-- the bytes are the image of this version that says this
+pub record IsImage (bytes : List ℕ) (v : Version) (s : Stored) : Type 0 where
+  pub fits : Fits v s
+  pub spelled : bytes ≡ spelling v s
+  pub within : length bytes ≤ GREATEST_IMAGE

@@ -1,0 +1,493 @@
+//! Parses bytes into the parts of a node. Each value is checked against the limits of its kind;
+//! whether the parts fit together is checked later.
+ghost use Rattle.std.specs.Prelude.{◌≡◌, ◌≤◌, ◌==◌, ◌&&◌, drop, length, Some, IfOk, IfErr};
+ghost use Rattle.ids.specs.declared.refusal.Refusal.TheVariants.{BadImage, Memory};
+ghost use Rattle.ids.specs.declared.limits.TheConstants.{GREATEST_PLACES};
+ghost use Rattle.codec.specs.Formats.{many, whole_at};
+ghost use Rattle.codec.specs.Reading.{Gives};
+ghost use Rattle.codec.specs.Readers.{Reads, Takes};
+ghost use Rattle.image_parts.specs.Grammar.{reports_told, version_format, start_format, most_nodes};
+ghost use Rattle.image_parts.specs.Grammar.{nodes_fit, nodes_format};
+ghost use Rattle.image_parts.specs.Grammar.{head_format, phases_format, held_format, ring_format, near};
+ghost use Rattle.image_parts.specs.Grammar.{near_optional, width_format, places_format, object_format};
+ghost use Rattle.image_parts.specs.Grammar.{occupied_at, slot_format, letter_format, message_format};
+ghost use Rattle.image_parts.specs.Grammar.{link_format, front_format, told_format, slots_format};
+ghost use Rattle.image_parts.specs.Grammar.{others_format, stored_format, image_format};
+ghost use Rattle.image_parts.specs.Logs.{begins_logged, logged_at};
+ghost use Rattle.image_parts.specs.Parts.{stored_of};
+
+use crate::lists::{Readable, counted, many};
+use crate::parts::{Head, PhasesParts, StoredLink, StoredNode};
+use crate::tags::{ABSENT, FIRST, FREE, LOGGED, OCCUPIED, PRESENT, RETIRED, SECOND, START};
+use codec::Reader;
+use cycles::Ring;
+use frames::Version;
+use frames::reading::{
+    read_body, read_colour, read_generation, read_optional, read_reference, read_token,
+};
+use heap::{HeapParts, Object, Slot, Slots};
+use ids::{FIRST_VERSION_NODES, GREATEST_NODES, GREATEST_PLACES, Ref, Refusal};
+use model::Letter;
+use msg::{Message, Token, body_fits, optional_fits};
+use std::alloc::Global;
+use std::collections::VecDeque;
+
+// ---- what comes before the lists
+
+#[tactic(auto, unfolding(crate::specs::Grammar::version_format), using(crate::proofs::Joins::tags))]
+fn read_version(reader: &mut Reader) -> Version
+    ensures { Reads version_format reader.old reader.new result }
+{
+    match reader.u8() {
+        FIRST => Version::First,
+        SECOND => Version::Second,
+        _ => {
+            reader.fail();
+            Version::First
+        }
+    }
+}
+
+fn is_start(first: u8, second: u8) -> bool
+    ensures { result ≡ (first == 0x4D && second == 0x52) }
+{
+    first == START[0] && second == START[1]
+}
+
+#[tactic(auto, unfolding(crate::specs::Grammar::start_format), using(crate::proofs::Joins::both_read, crate::proofs::Joins::passed, crate::proofs::Joins::made))]
+fn read_start(reader: &mut Reader) -> Version
+    ensures { Reads start_format reader.old reader.new result }
+{
+    let first = reader.u8();
+    let second = reader.u8();
+    let version = read_version(reader);
+    reader.check(is_start(first, second));
+    version
+}
+
+// How many nodes a space has at most.
+fn most_nodes(version: Version) -> u8
+    ensures { result ≡ most_nodes version }
+{
+    match version {
+        Version::First => FIRST_VERSION_NODES,
+        Version::Second => GREATEST_NODES,
+    }
+}
+
+fn nodes_fit(version: Version, nodes: u8, own: u8) -> bool
+    ensures { result ≡ nodes_fit version (nodes, own) }
+{
+    own < nodes && nodes <= most_nodes(version)
+}
+
+#[tactic(auto, unfolding(crate::specs::Grammar::nodes_format), using(crate::proofs::Joins::both_read, crate::proofs::Joins::passed))]
+fn read_nodes(version: Version, reader: &mut Reader) -> (u8, u8)
+    ensures { Reads (nodes_format version) reader.old reader.new result }
+{
+    let nodes = reader.u8();
+    let own = reader.u8();
+    reader.check(nodes_fit(version, nodes, own));
+    (nodes, own)
+}
+
+#[tactic(auto, unfolding(crate::specs::Grammar::head_format), using(crate::proofs::Joins::both_read, crate::proofs::Joins::made))]
+fn read_head(version: Version, reader: &mut Reader) -> Head
+    ensures { Reads (head_format version) reader.old reader.new result }
+{
+    let (nodes, own) = read_nodes(version, reader);
+    let registers = reader.u16();
+    let slots = reader.u32();
+    Head {
+        nodes,
+        own,
+        registers,
+        slots,
+    }
+}
+
+#[tactic(auto, unfolding(crate::specs::Grammar::phases_format), using(crate::proofs::Joins::both_read, crate::proofs::Joins::made))]
+fn read_phases(reader: &mut Reader) -> PhasesParts
+    ensures { Reads phases_format reader.old reader.new result }
+{
+    let cycle = reader.u64();
+    let ended = reader.u64();
+    let swept = reader.u64();
+    let cursor = reader.u32();
+    PhasesParts {
+        cycle,
+        ended,
+        swept,
+        cursor,
+    }
+}
+
+#[tactic(auto, unfolding(crate::specs::Grammar::held_format), using(crate::proofs::Joins::tags))]
+fn read_held(reader: &mut Reader) -> Option<Token>
+    ensures { Reads held_format reader.old reader.new result }
+{
+    match reader.u8() {
+        ABSENT => None,
+        PRESENT => Some(read_token(reader)),
+        _ => {
+            reader.fail();
+            None
+        }
+    }
+}
+
+#[tactic(auto, unfolding(crate::specs::Grammar::ring_format), using(crate::proofs::Joins::both_read, crate::proofs::Joins::made))]
+fn read_ring(reader: &mut Reader) -> Ring
+    ensures { Reads ring_format reader.old reader.new result }
+{
+    let colour = read_colour(reader);
+    let earlier = reader.i64();
+    let recent = reader.i64();
+    let token = read_held(reader);
+    Ring::from_parts(colour, earlier, recent, token)
+}
+
+// ---- what the lists contain
+
+#[tactic(auto, using(crate::proofs::Joins::passed))]
+#[inline(always)]
+fn read_near_optional(version: Version, reader: &mut Reader) -> Option<Ref>
+    ensures { Reads (near_optional version) reader.old reader.new result }
+{
+    let reference = read_optional(reader, version);
+    reader.check(optional_fits(reference));
+    reference
+}
+
+#[tactic(auto, unfolding(crate::specs::Grammar::width_format), using(crate::proofs::Joins::tests))]
+#[inline(always)]
+fn read_width(reader: &mut Reader) -> u8
+    ensures value { Reads width_format reader.old reader.new result }
+    ensures within { result ≤ GREATEST_PLACES }
+{
+    let width = reader.u8();
+    if width <= GREATEST_PLACES {
+        return width;
+    }
+    reader.fail();
+    0
+}
+
+#[tactic(auto, unfolding(crate::specs::Grammar::places_format), using(crate::proofs::Joins::counted_read))]
+#[inline(always)]
+fn read_places(
+    alloc: Global,
+    version: Version,
+    reader: &mut Reader,
+) -> Result<Vec<Option<Ref>>, Refusal>
+    ensures value { IfOk result
+        (λ v. Reads (places_format version) reader.old reader.new v.items) }
+    ensures count { IfOk result (λ v. length v.items ≤ GREATEST_PLACES) }
+    ensures refused { IfErr result (λ e. e ≡ Memory) }
+{
+    let width = read_width(reader);
+    many(alloc, version, width as usize, reader)
+}
+
+#[tactic(auto, unfolding(crate::specs::Grammar::object_format), using(crate::proofs::Joins::both_read, crate::proofs::Joins::made))]
+#[inline(always)]
+fn read_object(alloc: Global, version: Version, reader: &mut Reader) -> Result<Object, Refusal>
+    ensures value { IfOk result (Reads (object_format version) reader.old reader.new) }
+    ensures refused { IfErr result (λ e. e ≡ Memory) }
+{
+    let mark = reader.u64();
+    let word = reader.u64();
+    let places = read_places(alloc, version, reader)?;
+    match Object::from_parts(word, mark, places) {
+        Some(object) => Ok(object),
+        None => unreachable!(),
+    }
+}
+
+#[tactic(auto, unfolding(crate::specs::Grammar::occupied_at), using(crate::proofs::Joins::both_read, crate::proofs::Joins::made_of))]
+#[inline(always)]
+fn read_occupied(
+    alloc: Global,
+    version: Version,
+    reader: &mut Reader,
+) -> Result<Slot<Object>, Refusal>
+    ensures value { IfOk result
+        (λ s. Takes (occupied_at version) reader.old reader.new (Some s)) }
+    ensures refused { IfErr result (λ e. e ≡ Memory) }
+{
+    let generation = read_generation(reader, version);
+    let object = read_object(alloc, version, reader)?;
+    Ok(Slot::Occupied(generation, object))
+}
+
+#[tactic(auto, unfolding(crate::specs::Grammar::slot_format), using(crate::proofs::Joins::tags))]
+#[inline(always)]
+fn read_slot(alloc: Global, version: Version, reader: &mut Reader) -> Result<Slot<Object>, Refusal>
+    ensures value { IfOk result (Reads (slot_format version) reader.old reader.new) }
+    ensures refused { IfErr result (λ e. e ≡ Memory) }
+{
+    match reader.u8() {
+        FREE => Ok(Slot::Free(read_generation(reader, version))),
+        OCCUPIED => read_occupied(alloc, version, reader),
+        RETIRED => Ok(Slot::Retired),
+        _ => {
+            reader.fail();
+            Ok(Slot::Retired)
+        }
+    }
+}
+
+impl Readable for Ref {
+    ghost format = { near };
+
+    #[tactic(auto, using(crate::proofs::Joins::passed))]
+    fn read(_alloc: Global, version: Version, reader: &mut Reader) -> Result<Ref, Refusal> {
+        let reference = read_reference(reader, version);
+        reader.check(reference.fits());
+        Ok(reference)
+    }
+}
+
+impl Readable for Option<Ref> {
+    ghost format = { near_optional };
+
+    fn read(_alloc: Global, version: Version, reader: &mut Reader) -> Result<Option<Ref>, Refusal> {
+        Ok(read_near_optional(version, reader))
+    }
+}
+
+impl Readable for Letter {
+    ghost format = { letter_format };
+
+    #[tactic(auto, unfolding(crate::specs::Grammar::letter_format), using(crate::proofs::Joins::both_read, crate::proofs::Joins::made))]
+    fn read(_alloc: Global, version: Version, reader: &mut Reader) -> Result<Letter, Refusal> {
+        let from = reader.u8();
+        let label = reader.u32();
+        let reference = read_near_optional(version, reader);
+        Ok(Letter {
+            from,
+            label,
+            reference,
+        })
+    }
+}
+
+impl Readable for Message {
+    ghost format = { message_format };
+
+    fn read(_alloc: Global, version: Version, reader: &mut Reader) -> Result<Message, Refusal> {
+        let stamp = reader.u64();
+        let body = read_body(reader, version);
+        reader.check(body_fits(body));
+        Ok(Message { stamp, body })
+    }
+}
+
+impl Readable for StoredLink {
+    ghost format = { link_format };
+
+    #[tactic(auto, unfolding(crate::specs::Grammar::link_format), using(crate::proofs::Joins::both_read, crate::proofs::Joins::made))]
+    fn read(alloc: Global, version: Version, reader: &mut Reader) -> Result<StoredLink, Refusal> {
+        let base = reader.u64();
+        let unacknowledged = counted(alloc, version, reader)?;
+        let received = reader.u64();
+        Ok(StoredLink {
+            base,
+            unacknowledged,
+            received,
+        })
+    }
+}
+
+// ---- the whole
+
+fn reports_told(head: Head) -> usize
+    ensures { result ≡ reports_told head }
+{
+    if head.own == 0 {
+        usize::from(head.nodes.saturating_sub(1))
+    } else {
+        0
+    }
+}
+
+#[tactic(auto, unfolding(crate::specs::Grammar::front_format), using(crate::proofs::Joins::both_read))]
+fn read_front(version: Version, reader: &mut Reader) -> (Head, (PhasesParts, Ring))
+    ensures { Reads (front_format version) reader.old reader.new result }
+{
+    let head = read_head(version, reader);
+    let phases = read_phases(reader);
+    let ring = read_ring(reader);
+    (head, (phases, ring))
+}
+
+// What the other nodes reported, and the registers.
+#[tactic(auto, unfolding(crate::specs::Grammar::told_format), using(crate::proofs::Joins::both_read))]
+fn read_told(
+    alloc: Global,
+    version: Version,
+    head: Head,
+    reader: &mut Reader,
+) -> Result<(Vec<u64>, Vec<Option<Ref>>), Refusal>
+    ensures value { IfOk result (λ x. Reads (told_format version head) reader.old reader.new
+        (x.0.items, x.1.items)) }
+    ensures refused { IfErr result (λ e. e ≡ Memory) }
+{
+    let reports = many(alloc, version, reports_told(head), reader)?;
+    let registers = many(alloc, version, usize::from(head.registers), reader)?;
+    Ok((reports, registers))
+}
+
+// This many slots, up to the first one that isn't there. If there are fewer bytes than slots, the
+// reader fails and nothing is allocated.
+#[tactic(auto, using(crate::proofs::Joins::lists))]
+fn read_each_slot(
+    alloc: Global,
+    version: Version,
+    count: u32,
+    reader: &mut Reader,
+) -> Result<Slots<Object>, Refusal>
+    ensures value { IfOk result
+        (λ s. Reads (many (slot_format version) count) reader.old reader.new s.items) }
+    ensures refused { IfErr result (λ e. e ≡ Memory) }
+{
+    let mut slots = Slots::new(alloc, count);
+    reader.require(count as usize);
+    // (a local copy, which nothing else refers to, stays in machine registers)
+    let mut ahead = *reader;
+    for _slot in 0..count {
+        if !ahead.is_open() {
+            break;
+        }
+        slots.push(read_slot(alloc, version, &mut ahead)?)?;
+    }
+    *reader = ahead;
+    Ok(slots)
+}
+
+// The slots, and which of them are free and which grey.
+fn read_slots(
+    alloc: Global,
+    version: Version,
+    reader: &mut Reader,
+) -> Result<(Slots<Object>, (Vec<u32>, Vec<u32>)), Refusal>
+    ensures value { IfOk result (λ x. Reads (slots_format version) reader.old reader.new
+        (x.0.items, (x.1.0.items, x.1.1.items))) }
+    ensures refused { IfErr result (λ e. e ≡ Memory) }
+{
+    let count = reader.u32();
+    let slots = read_each_slot(alloc, version, count, reader)?;
+    let free = counted(alloc, version, reader)?;
+    let grey = counted(alloc, version, reader)?;
+    Ok((slots, (free, grey)))
+}
+
+// The references that were asked for, the letters and the links.
+#[tactic(auto, unfolding(crate::specs::Grammar::others_format), using(crate::proofs::Joins::both_read))]
+fn read_others(
+    alloc: Global,
+    version: Version,
+    head: Head,
+    reader: &mut Reader,
+) -> Result<(Vec<Ref>, (Vec<Letter>, Vec<StoredLink>)), Refusal>
+    ensures value { IfOk result (λ x. Reads (others_format version head) reader.old reader.new
+        (x.0.items, (x.1.0.items, x.1.1.items))) }
+    ensures refused { IfErr result (λ e. e ≡ Memory) }
+{
+    let asked = counted(alloc, version, reader)?;
+    let letters = counted(alloc, version, reader)?;
+    let others = usize::from(head.nodes.saturating_sub(1));
+    let links = many(alloc, version, others, reader)?;
+    Ok((asked, (letters, links)))
+}
+
+fn read_stored(alloc: Global, version: Version, reader: &mut Reader) -> Result<StoredNode, Refusal>
+    ensures value { IfOk result
+        (λ x. Reads (stored_format version) reader.old reader.new (stored_of x)) }
+    ensures refused { IfErr result (λ e. e ≡ Memory) }
+{
+    let (head, (phases, ring)) = read_front(version, reader);
+    let (reports, registers) = read_told(alloc, version, head, reader)?;
+    let (slots, (free, grey)) = read_slots(alloc, version, reader)?;
+    let (asked, (letters, links)) = read_others(alloc, version, head, reader)?;
+    let heap = HeapParts {
+        slots,
+        free,
+        registers,
+        letters: VecDeque::from_vec(letters),
+        grey,
+    };
+    Ok(StoredNode {
+        head,
+        phases,
+        ring,
+        reports,
+        heap,
+        asked,
+        links,
+    })
+}
+
+fn read_image(alloc: Global, reader: &mut Reader) -> Result<(Version, StoredNode), Refusal>
+    ensures value { IfOk result
+        (λ x. Reads image_format reader.old reader.new (x.0, stored_of x.1)) }
+    ensures refused { IfErr result (λ e. e ≡ Memory) }
+{
+    let version = read_start(reader);
+    let parts = read_stored(alloc, version, reader)?;
+    Ok((version, parts))
+}
+
+/// The version of the bytes, and the parts that all of the bytes together say. The parts may
+/// contradict each other, and then no node has them. Fails with `BadImage` if the bytes spell no
+/// parts, and with `Memory` if an allocation fails. Memory and time are proportional to the number
+/// of bytes.
+pub fn whole(alloc: Global, bytes: &[u8]) -> Result<(Version, StoredNode), Refusal>
+    ensures { Gives (λ x. (x.0, stored_of x.1)) result (whole_at image_format.read bytes.now) }
+{
+    let mut reader = Reader::new(bytes);
+    let image = read_image(alloc, &mut reader)?;
+    if reader.finish() {
+        Ok(image)
+    } else {
+        Err(Refusal::BadImage)
+    }
+}
+
+/// Whether the bytes begin as the image of a node does behind which a log of events follows.
+pub fn begins_logged(bytes: &[u8]) -> bool
+    ensures { result ≡ begins_logged bytes.now }
+{
+    match bytes {
+        [first, second, version, ..] => {
+            *first == START[0] && (*second == START[1] && *version == LOGGED)
+        }
+        _ => false,
+    }
+}
+
+/// The parts that all of the bytes together say, if they begin as [`begins_logged`] tests. It fails
+/// as [`whole`] does.
+pub fn whole_logged(alloc: Global, bytes: &[u8]) -> Result<StoredNode, Refusal>
+    ensures { Gives stored_of result (logged_at bytes.now) }
+{
+    if !begins_logged(bytes) {
+        return Err(Refusal::BadImage);
+    }
+    let mut reader = Reader::new(behind_start(bytes));
+    let parts = read_stored(alloc, Version::Second, &mut reader)?;
+    if !reader.finish() {
+        return Err(Refusal::BadImage);
+    }
+    Ok(parts)
+}
+
+// What follows the start of an image.
+fn behind_start(bytes: &[u8]) -> &[u8]
+    ensures { result.now ≡ drop 3 bytes.now }
+{
+    if bytes.len() < 3 {
+        return &[];
+    }
+    &bytes[3..]
+}

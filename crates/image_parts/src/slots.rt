@@ -1,0 +1,126 @@
+//! The slots and the letters of a heap as bytes. They are written in the order of their numbers, so
+//! a heap has one spelling.
+ghost use Rattle.std.specs.Prelude.{◌≡◌, ◌<◌, ◌≤◌, ◌+◌, [], ◌∷◌, ◌++◌, length, map, slice_index_or};
+ghost use Rattle.arena_slot.specs.Slot.{slot_read};
+ghost use Rattle.arena_slot.specs.declared.Slot.TheVariants.{Free, Occupied};
+ghost use Rattle.codec.specs.Formats.{number4, number8, counted};
+ghost use Rattle.codec.specs.Writing.{Puts};
+ghost use Rattle.frames.specs.declared.version.Version.TheVariants.{Second};
+ghost use Rattle.image_parts.specs.Grammar.{slot_format, letter_format};
+ghost use Rattle.image_parts.specs.Stored.{stored_slot};
+
+use crate::lists::put_all;
+use crate::tags::{FREE, OCCUPIED, RETIRED};
+use byteorder::{BigEndian, ByteOrder};
+use codec::{Piece, Writer};
+use frames::writing::add_optional;
+use heap::{Heap, Object, Slot};
+use ids::Generation;
+use model::Letter;
+
+// ---- slots
+
+// What comes before an object's places.
+#[tactic(auto, unfolding(crate::specs::Numbers::number8))]
+fn occupied_head(generation: Generation, mark: u64, word: u64, places: u8) -> [u8; 26]
+    ensures { result ≡ 1 ∷ (number8.spell generation
+        ++ (number8.spell mark ++ (number8.spell word ++ places ∷ []))) }
+{
+    let mut part = [0; 26];
+    part[0] = OCCUPIED;
+    BigEndian::write_u64(&mut part[1..], generation);
+    BigEndian::write_u64(&mut part[9..], mark);
+    BigEndian::write_u64(&mut part[17..], word);
+    part[25] = places;
+    part
+}
+
+fn put_occupied(out: &mut Writer, generation: Generation, object: &Object)
+    ensures { Puts (slot_format Second) out.old out.new (Occupied generation object.now) }
+{
+    let places = object.contents();
+    let (mark, word) = (object.marked_by(), object.word());
+    out.array(occupied_head(generation, mark, word, places.len() as u8));
+    put_all(out, places);
+}
+
+#[tactic(auto, unfolding(crate::specs::Grammar::slot_format), using(crate::proofs::Joins::gained, crate::proofs::Joins::piece_written))]
+fn put_free(out: &mut Writer, generation: Generation)
+    ensures { Puts (slot_format Second) out.old out.new (Free generation) }
+{
+    let mut piece = Piece::new();
+    piece.u8(FREE);
+    piece.u64(generation);
+    out.piece(piece);
+}
+
+#[tactic(auto, unfolding(crate::specs::Grammar::slot_format))]
+fn put_slot(out: &mut Writer, slot: Slot<&Object>)
+    ensures { Puts (slot_format Second) out.old out.new (slot_read slot.entry) }
+{
+    match slot {
+        Slot::Free(generation) => put_free(out, generation),
+        Slot::Occupied(generation, object) => put_occupied(out, generation, object),
+        Slot::Retired => out.u8(RETIRED),
+    }
+}
+
+/// Appends how many slots there are, in four bytes, and the slots.
+#[tactic(auto, using(crate::proofs::Joins::unwritten))]
+pub(crate) fn put_slot_list(out: &mut Writer, heap: &Heap)
+    ensures { Puts (counted number4 (slot_format Second)) out.old out.new
+        (map stored_slot heap.now.heap.slots) }
+{
+    out.u32(heap.slots());
+    for slot in 0..heap.slots() {
+        put_slot(out, heap.slot(slot));
+    }
+}
+
+// ---- free slots
+
+/// Appends how many slots are free, in four bytes, and the number of each in four bytes.
+#[tactic(auto, using(crate::proofs::Joins::both, crate::proofs::Joins::unwritten))]
+pub(crate) fn put_free_list(out: &mut Writer, heap: &Heap)
+    ensures { Puts (counted number4 number4) out.old out.new heap.now.heap.free }
+{
+    out.u32(heap.vacant());
+    for slot in heap.free_slots() {
+        out.u32(slot);
+    }
+}
+
+// ---- letters
+
+fn letter_at(heap: &Heap, number: usize) -> Letter
+    requires { number < length heap.now.heap.letters }
+    ensures { result ≡ slice_index_or heap.now.heap.letters number result }
+{
+    match heap.letter(number) {
+        Some(letter) => letter,
+        None => unreachable!(),
+    }
+}
+
+#[tactic(auto, unfolding(crate::specs::Grammar::letter_format), using(crate::proofs::Joins::gained, crate::proofs::Joins::piece_written))]
+fn put_letter(out: &mut Writer, letter: Letter)
+    ensures { Puts (letter_format Second) out.old out.new letter }
+{
+    let mut piece = Piece::new();
+    piece.u8(letter.from);
+    piece.u32(letter.label);
+    add_optional(&mut piece, letter.reference);
+    out.append(piece.as_slice());
+}
+
+/// Appends how many letters wait, in four bytes, and the letters.
+#[tactic(auto, using(crate::proofs::Joins::both, crate::proofs::Joins::unwritten, crate::proofs::Joins::written_more))]
+pub(crate) fn put_letters(out: &mut Writer, heap: &Heap)
+    ensures { Puts (counted number4 (letter_format Second)) out.old out.new heap.now.heap.letters }
+{
+    if out.count(heap.letters()) {
+        for number in 0..heap.letters() {
+            put_letter(out, letter_at(heap, number));
+        }
+    }
+}

@@ -1,0 +1,131 @@
+//! The events of a node since its last save, as bytes. A log that would become too long, or for
+//! which there is no memory, is lost; the node's next save then writes its image.
+ghost use Rattle.std.specs.Prelude.{◌≡◌, ◌≢◌, ◌≤◌, ◌+◌, ◌++◌, List, ℕ, [], length, None, OnOk, Some, IfErr, true, false};
+ghost use Rattle.std.specs.Option.{option_map};
+ghost use Rattle.std.specs.Prelude.{is_some};
+ghost use Rattle.ids.specs.declared.refusal.Refusal.TheVariants.{Memory};
+ghost use Rattle.event_bytes.specs.Entries.{entry};
+ghost use Rattle.event_bytes.specs.Events.{entry_of};
+ghost use Rattle.node_log.specs.Noted.{Noted};
+
+use codec::Piece;
+use event_bytes::add_event;
+use ids::Refusal;
+use model::Event;
+use std::alloc::Global;
+use std::marker::Model;
+
+/// How long a log may become between two saves, in bytes.
+pub const GREATEST_LOG: usize = 1 << 20;
+
+/// The events of a node since its last save, one after another; or nothing, if they were lost.
+pub struct Log {
+    alloc: Global,
+    bytes: Option<Vec<u8>>,
+}
+
+// Written out, so that the crates above need not prove again how each field is dropped.
+impl Drop for Log {
+    fn drop(self) {
+        let Log { alloc: _, bytes: _ } = self;
+    }
+}
+
+impl Model for Log {
+    ghost use Rattle.std.specs.Prelude.{Option, List, ℕ};
+    ghost use Rattle.std.specs.Option.{option_map};
+
+    ghost Value = { Option (List ℕ) };
+
+    ghost view = { λ l. option_map (λ v. v.items) l.bytes };
+}
+
+impl Log {
+    /// An empty log. Nothing is allocated.
+    pub fn new(alloc: Global) -> Log
+        ensures { result ≡ Some [] }
+    {
+        Log {
+            alloc,
+            bytes: Some(Vec::new(alloc)),
+        }
+    }
+
+    /// Whether the log has the events, so that they aren't lost.
+    #[inline(always)]
+    pub fn is_kept(&self) -> bool
+        ensures { result ≡ is_some self.now }
+    {
+        self.bytes.is_some()
+    }
+
+    /// The bytes of the events, unless they were lost.
+    pub fn bytes(&self) -> Option<&[u8]>
+        ensures { option_map (λ b. b.now) result ≡ self.now }
+    {
+        match &self.bytes {
+            Some(bytes) => Some(bytes.as_slice()),
+            None => None,
+        }
+    }
+
+    /// Adds an event. The log is lost if it would become longer than [`GREATEST_LOG`]. Fails with
+    /// `Memory` if an allocation fails; the log is lost then, and nothing else happens.
+    // (It isn't inlined, so that without a log the event need not be in memory.)
+    #[inline(never)]
+    pub fn note(&mut self, event: &Event) -> Result<(), Refusal>
+        ensures noted { Noted self.old self.new event.now }
+        ensures added { OnOk result ((before : List ℕ) → self.old ≡ Some before
+            → length before + length (entry.spell (entry_of event.now)) ≤ GREATEST_LOG
+            → self.new ≡ Some (before ++ entry.spell (entry_of event.now))) }
+        ensures refused { IfErr result (λ e. e ≡ Memory) }
+    {
+        let Some(bytes) = &mut self.bytes else {
+            return Ok(());
+        };
+        let mut piece = Piece::new();
+        add_event(&mut piece, event);
+        if piece.as_slice().len() > GREATEST_LOG - bytes.len().min(GREATEST_LOG) {
+            self.bytes = None;
+            return Ok(());
+        }
+        if bytes.extend_from_slice(piece.as_slice()).is_err() {
+            self.bytes = None;
+            return Err(Refusal::Memory);
+        }
+        Ok(())
+    }
+
+    /// Loses the log. Call it after a change of the node that isn't one of its events.
+    pub fn lose(&mut self)
+        ensures { self.new ≡ None }
+    {
+        self.bytes = None;
+    }
+
+    /// Begins a new log, after a save; or loses the log, if none is to be kept.
+    pub fn begin(&mut self, is_kept: bool)
+        ensures kept { is_kept ≡ true → self.new ≡ Some [] }
+        ensures lost { is_kept ≡ false → self.new ≡ None }
+    {
+        if is_kept {
+            self.clear();
+        } else {
+            self.lose();
+        }
+    }
+
+    /// Empties the log, also one that was lost. Call it after a save.
+    pub fn clear(&mut self)
+        ensures { self.new ≡ Some [] }
+    {
+        match self.bytes.take() {
+            Some(bytes) => {
+                let mut bytes = bytes;
+                bytes.clear();
+                self.bytes = Some(bytes);
+            }
+            None => self.bytes = Some(Vec::new(self.alloc)),
+        }
+    }
+}

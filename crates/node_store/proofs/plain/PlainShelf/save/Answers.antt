@@ -1,0 +1,85 @@
+use Rattle.std.proofs.Common.{◌≡◌, ◌≢◌, ◌⊎◌, ⊎_elim, sym, subst, ◌∙◌, true, false, ℕ, List, Some, Result, Ok, Err}
+use Rattle.std.specs.Prelude.{IfErr, MatchResult, OnOk}
+use Rattle.ids.specs.declared.refusal.Refusal.{Refusal}
+use Rattle.ids.specs.declared.refusal.Refusal.TheVariants as refusal
+use Rattle.image.specs.Wholes.{IsWholeOf, saved_whole, whole_image}
+use Rattle.node.specs.Keeping.{WholeNode}
+use Rattle.storage.specs.Shelf.{opened}
+use Rattle.storage.proofs.Moments.{weaker}
+use Rattle.node_store.specs.Plain.{StaysPlain}
+use Rattle.node_store.proofs.Stores.{either_kept, either_plain, failed_before, keeps_written, only_written, open_before}
+use Rattle.node_store.proofs.plain.PlainShelf.save.Goals as goal
+
+pub returns-in-Ok-clause-saved : goal.returns-in-Ok-clause-saved
+returns-in-Ok-clause-saved g c =
+    let n = c.args.node.now in
+    keeps_written (saved_whole n) (whole_image n) (g.D.Disk.seen c.save.new.self.disk)
+    c.in-Ok.ensures.saved c.in-Ok.ensures.readable
+
+pub returns-in-Ok-clause-any_moment : goal.returns-in-Ok-clause-any_moment
+returns-in-Ok-clause-any_moment g c old keeps =
+    let n = c.args.node.now in
+    let was = c.args.self.now in
+    let seen = g.D.Disk.seen was.shelf.disk in
+    weaker
+    (c.in-Ok.ensures.any_moment (open_before was.shelf.ready c.in-Ok.ensures.closed.1))
+    (λ x. either_kept old (saved_whole n) (whole_image n) seen x
+    (was.plain seen (g.met.D.Disk.reads_left was.shelf.disk)) keeps c.in-Ok.ensures.readable)
+
+pub returns-in-Err-clause-any_moment : goal.returns-in-Err-clause-any_moment
+returns-in-Err-clause-any_moment g c is old keeps =
+    let n = c.args.node.now in
+    let was = c.args.self.now in
+    let seen = g.D.Disk.seen was.shelf.disk in
+    weaker
+    (c.in-Err.ensures.any_moment (failed_before was.shelf.ready is c.in-Err.ensures.closed.1))
+    (λ x. either_kept old (saved_whole n) (whole_image n) seen x
+    (was.plain seen (g.met.D.Disk.reads_left was.shelf.disk)) keeps (c.in-Err.ensures.readable is))
+
+pub invariant_of-self : goal.invariant_of-self
+invariant_of-self g c = record {
+  plain = by c.save.result c.save.ensures.saved c.save.ensures.ready c.save.ensures.readable
+      c.save.ensures.closed.1 c.save.ensures.unchanged c.save.ensures.others;
+}
+  where
+    image : List ℕ
+    image = whole_image c.args.node.now
+
+    n : WholeNode
+    n = saved_whole c.args.node.now
+
+    Stays : Type 0
+    Stays = StaysPlain (g.D.Disk.may_leave c.save.new.self.disk)
+
+    by : (r : Result (Unit {0}) Refusal)
+        → OnOk r (opened (g.D.Disk.seen c.save.new.self.disk) ≡ Some image)
+        → OnOk r (c.save.new.self.ready ≡ true)
+        → MatchResult r (λ _. IsWholeOf image n) (λ e. e ≡ refusal.Disk → IsWholeOf image n)
+        → (c.args.self.now.shelf.ready ≡ false → r ≡ Err refusal.Closed)
+        → IfErr r (λ e. e ≢ refusal.Disk → (c.save.new.self.disk ≡ c.args.self.now.shelf.disk)
+        × (c.save.new.self.ready ≡ c.args.self.now.shelf.ready))
+        → IfErr r (λ e. (e ≡ refusal.Closed) ⊎ ((e ≡ refusal.ImageTooLarge)
+        ⊎ ((e ≡ refusal.Memory) ⊎ (e ≡ refusal.Disk)))) → Stays
+    by (Ok u) saved ready readable shut same others =
+        only_written g.D.Disk.seen g.D.Disk.may_leave c.save.new.self.disk n image
+        (c.save.new.self.settled ready).0 saved readable
+    by (Err e) saved ready readable shut same others =
+        ⊎_elim (λ is. unchanged (λ d. (let never = sym is ∙ d in absurd cc)))
+        (⊎_elim (λ is. unchanged (λ d. (let never = sym is ∙ d in absurd cc)))
+        (⊎_elim (λ is. unchanged (λ d. (let never = sym is ∙ d in absurd cc))) failed))
+        others
+      where
+        unchanged : (e ≢ refusal.Disk) → Stays
+        unchanged apart =
+            subst (λ d. StaysPlain (g.D.Disk.may_leave d)) (sym (same apart).0)
+            c.args.self.now.plain
+
+        failed : e ≡ refusal.Disk → Stays
+        failed is x may =
+            let old = c.args.self.now.shelf.disk in
+            let moment = c.save.ensures.any_moment
+            (failed_before c.args.self.now.shelf.ready is shut) in
+            either_plain n image (g.D.Disk.seen old) x
+            (c.args.self.now.plain (g.D.Disk.seen old) (g.met.D.Disk.reads_left old)) (readable is)
+            (moment.each x (g.met.D.Disk.counts_now c.save.new.self.disk (g.D.Disk.moment old) x
+            moment.later may))

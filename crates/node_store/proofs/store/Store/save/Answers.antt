@@ -1,0 +1,110 @@
+use Rattle.std.proofs.Common.{◌≡◌, IfSome, List, None, arith, refl, subst, sym, ℕ}
+use Rattle.journal.specs.Tails.{place_for}
+use Rattle.storage.proofs.Quiet.{ok_no_err}
+use Rattle.image.proofs.Logged.{same_length}
+use Rattle.node_store.specs.Noted.{IsLogged}
+use Rattle.node_store.proofs.Ends.{led_by}
+use Rattle.node_store.proofs.Stores.{failed_before, mapped_some, open_before, some_mapped}
+use Rattle.node_store.proofs.store.Store.save.Goals as goal
+
+pub returns-in-Ok : goal.returns-in-Ok
+returns-in-Ok g c =
+    let said = c.in-Ok.ensures in
+    rw c.in-Whole.is (record {
+      saved = λ old keeps logged. said.saved;
+      ready = said.ready;
+      only = (c.save.new.self.shelf.settled said.ready).0;
+      any_moment = λ old keeps logged. said.any_moment old keeps;
+      logs = refl;
+      closed = said.closed;
+      disk = said.disk;
+      too_large = (λ is. absurd (ok_no_err is), λ t. said.too_large.1 (t.0, t.2));
+      unchanged = tt;
+      others = tt;
+    })
+
+pub returns-in-Err : goal.returns-in-Err
+returns-in-Err g c =
+    let said = c.in-Err.ensures in
+    rw c.in-Whole.is (record {
+      saved = tt;
+      ready = tt;
+      only = tt;
+      any_moment = λ is old keeps logged. said.any_moment is old keeps;
+      logs = refl;
+      closed = said.closed;
+      disk = said.disk;
+      too_large = (
+        λ is. (let t = said.too_large.0 is in (t.0, tt, t.1)),
+        λ t. said.too_large.1 (t.0, t.2),
+      );
+      unchanged = said.unchanged;
+      others = said.others;
+    })
+
+pub returns-in-Ok-save : goal.returns-in-Ok-save
+returns-in-Ok-save g c =
+    let Q : List ℕ → Type 0 = λ bytes. place_for c.in-Logged.journal.tail bytes ≡ None in
+    let n = c.args.node.now in
+    let said = c.in-Ok-save.ensures in
+    let same = same_length n.core in
+    rw c.in-Logged.is (record {
+      saved = λ old keeps logged. said.saved old keeps
+          (led_by (λ b. b.now) c.bytes.result old n
+          (subst (λ l. IsLogged l old.core n.core) (sym c.bytes.ensures) logged));
+      ready = said.ready;
+      only = (c.save-in-Logged.new.self.kept said.ready).only;
+      any_moment = λ old keeps logged. said.any_moment
+          (open_before c.in-Logged.journal.ready said.closed.1) old keeps
+          (led_by (λ b. b.now) c.bytes.result old n
+          (subst (λ l. IsLogged l old.core n.core) (sym c.bytes.ensures) logged));
+      logs = refl;
+      closed = said.closed;
+      disk = said.disk;
+      too_large = (
+        λ is. absurd (ok_no_err is),
+        λ t. said.too_large.1 (
+          t.0,
+          some_mapped c.bytes.result (λ b. b.now) Q
+              (subst (λ l. IfSome l Q) (sym c.bytes.ensures) t.1),
+          omega (arith, t.2, same),
+        ),
+      );
+      unchanged = tt;
+      others = tt;
+    })
+
+pub returns-in-Err-save : goal.returns-in-Err-save
+returns-in-Err-save g c =
+    let Q : List ℕ → Type 0 = λ bytes. place_for c.in-Logged.journal.tail bytes ≡ None in
+    let n = c.args.node.now in
+    let said = c.in-Err-save.ensures in
+    let same = same_length n.core in
+    rw c.in-Logged.is (record {
+      saved = tt;
+      ready = tt;
+      only = tt;
+      any_moment = λ is old keeps logged. said.any_moment
+          (failed_before c.in-Logged.journal.ready is said.closed.1) old keeps
+          (led_by (λ b. b.now) c.bytes.result old n
+          (subst (λ l. IsLogged l old.core n.core) (sym c.bytes.ensures) logged));
+      logs = refl;
+      closed = said.closed;
+      disk = said.disk;
+      too_large = (
+        λ is. (let t = said.too_large.0 is in (
+          t.0,
+          subst (λ l. IfSome l Q) c.bytes.ensures
+              (mapped_some c.bytes.result (λ b. b.now) Q t.1),
+          omega (arith, t.2, same),
+        )),
+        λ t. said.too_large.1 (
+          t.0,
+          some_mapped c.bytes.result (λ b. b.now) Q
+              (subst (λ l. IfSome l Q) (sym c.bytes.ensures) t.1),
+          omega (arith, t.2, same),
+        ),
+      );
+      unchanged = said.unchanged;
+      others = said.others;
+    })

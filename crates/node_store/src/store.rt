@@ -1,0 +1,323 @@
+//! A store keeps a node on a shelf, each time as its image, or in a journal, as its events since
+//! the last save. Which of the two it is was chosen when the node was found or created.
+ghost use Rattle.std.specs.Prelude.{◌≡◌, ◌≢◌, ◌⊎◌, ◌↔◌, ◌<◌, ◌≤◌, [], length, true, false};
+ghost use Rattle.std.specs.Prelude.{IfErr, IfOk, IsErr, IsErrOf, IsTrue, MatchResult, OnOk};
+ghost use Rattle.ids.specs.declared.limits.TheConstants.{GREATEST_IMAGE};
+ghost use Rattle.ids.specs.declared.refusal.Refusal.TheVariants as refusal;
+ghost use Rattle.ids.specs.declared.saves.Saves.TheVariants as way;
+ghost use Rattle.disk.specs.Areas.{Areas};
+ghost use Rattle.disk.specs.Crashes.{Grew, HasCause, LeavesOnly, Only, Unmoved};
+ghost use Rattle.disk.specs.Memory.{filled_by_crash, held_by, IsFaultless, left_by};
+ghost use Rattle.disk.specs.Plan.{fails_from, fails_once};
+ghost use Rattle.storage.specs.Shelf.{SelectsLength};
+ghost use Rattle.node.specs.Keeping.{WholeNode};
+ghost use Rattle.image.specs.Wholes.{saved_whole, whole_image};
+ghost use Rattle.node_store.specs.Noted.{IsLogged};
+ghost use Rattle.node_store.specs.Plain.{IsPlain, Keeps, KeepsEither, StaysPlain};
+ghost use Rattle.node_store.specs.Stores.{disk_of, is_logged_at, is_ready_in, LiesAt, logs_in};
+ghost use Rattle.node_store.specs.Stores.{WritesAll};
+
+use crate::place::Place;
+use crate::plain::{PlainShelf, read_plain};
+use crate::redoing::LoggedImages;
+use disk::{Disk, MemoryDisk};
+use ids::{Refusal, Saves};
+use journal::{Journal, Tail, read_logged};
+use node_log::Log;
+use node::Node;
+use std::alloc::Global;
+
+/// A node's store. Its disk opens to the node as it was saved last, even after a crash.
+///
+/// A failure of the disk closes the store, and so does a failed [`reopen`](Store::reopen). Saves
+/// then fail with `Closed` until a `reopen` succeeds.
+pub enum Store<D: Disk> {
+    /// On a shelf: each save writes the image of the node. No log follows it.
+    Whole(PlainShelf<D>),
+    /// In a journal: a save adds the events since the last one, or writes the image.
+    Logged(Journal<D, LoggedImages>),
+}
+
+// Written out, so that the crates above need not prove again how each field is dropped.
+impl<D: Disk + Drop> Drop for Store<D> {
+    fn drop(self) {
+        match self {
+            Store::Whole(_) => {}
+            Store::Logged(_) => {}
+        }
+    }
+}
+
+// Syncs a disk on which something was created, and returns the node that it holds and its place in
+// a journal. It writes nothing.
+fn read_in_journal<D: Disk>(alloc: Global, disk: &mut D) -> Result<(Place, Node), Refusal>
+    ensures value { IfOk result (λ r. Keeps r.1 (D.seen disk.old)) }
+    ensures lies { IfOk result (λ r. LiesAt D.seen D.may_leave disk.new r.0) }
+    ensures logged { IfOk result (λ r. is_logged_at r.0 ≡ true) }
+    ensures bad { IsErrOf result refusal.BadImage
+        → (n : WholeNode) → Keeps n (D.seen disk.old) → ⊥ }
+    ensures memory { IsErrOf result refusal.Memory → SelectsLength (D.seen disk.old) }
+    ensures quiet { Unmoved D.seen D.may_leave D.moment D.left_since disk.old disk.new }
+    ensures cause { HasCause (D.faults disk.old) (D.faults disk.new)
+        (IsErrOf result refusal.Disk) }
+    ensures others { IfErr result (λ e. (e ≡ refusal.Memory)
+        ⊎ ((e ≡ refusal.BadImage) ⊎ (e ≡ refusal.Disk))) }
+{
+    let (tail, node) = read_logged::<D, LoggedImages>(alloc, disk)?;
+    Ok((Place::Logged(tail), node))
+}
+
+/// Syncs a disk on which something was created, and returns the node that it holds, with its place.
+/// It writes nothing. [`Store::resume`] continues from there without reading again.
+///
+/// If events are to be saved, or if the disk has a log, the place is in a journal. A disk without a
+/// log gets one at its first save there.
+///
+/// Fails with `Disk` if the device failed, with `BadImage` if the disk holds no node, and with
+/// `Memory`. After `Ok` a crash leaves that node.
+pub fn read_node<D: Disk>(
+    alloc: Global,
+    disk: &mut D,
+    saves: Saves,
+) -> Result<(Place, Node), Refusal>
+    ensures value { IfOk result (λ r. Keeps r.1 (D.seen disk.old)) }
+    ensures lies { IfOk result (λ r. LiesAt D.seen D.may_leave disk.new r.0) }
+    ensures events { saves ≡ way.Events → IfOk result (λ r. is_logged_at r.0 ≡ true) }
+    ensures images { saves ≡ way.Images → IsPlain (D.seen disk.old)
+        → IfOk result (λ r. is_logged_at r.0 ≡ false) }
+    ensures bad { IsErrOf result refusal.BadImage
+        → (n : WholeNode) → Keeps n (D.seen disk.old) → ⊥ }
+    ensures memory { IsErrOf result refusal.Memory → SelectsLength (D.seen disk.old) }
+    ensures quiet { Unmoved D.seen D.may_leave D.moment D.left_since disk.old disk.new }
+    ensures cause { HasCause (D.faults disk.old) (D.faults disk.new)
+        (IsErrOf result refusal.Disk) }
+    ensures others { IfErr result (λ e. (e ≡ refusal.Memory)
+        ⊎ ((e ≡ refusal.BadImage) ⊎ (e ≡ refusal.Disk))) }
+{
+    match saves {
+        Saves::Events => read_in_journal(alloc, disk),
+        Saves::Images => match read_plain(alloc, disk) {
+            Ok((selected, node)) => Ok((Place::Whole(selected), node)),
+            Err(Refusal::BadImage) => read_in_journal(alloc, disk),
+            Err(refusal) => Err(refusal),
+        },
+    }
+}
+
+impl<D: Disk> Store<D> {
+    /// Whether the store is open. If it is, a crash leaves what a read gives.
+    pub fn is_ready(&self) -> bool
+        ensures ready { result ≡ is_ready_in self.now }
+        ensures only { IsTrue result
+            → Only (D.seen (disk_of self.now)) (D.may_leave (disk_of self.now)) }
+    {
+        match self {
+            Store::Whole(plain) => plain.is_ready(),
+            Store::Logged(journal) => journal.is_ready(),
+        }
+    }
+
+    /// Whether a save may add events to a log. If not, no log follows the image on the disk, even
+    /// after a crash.
+    pub fn logs(&self) -> bool
+        ensures value { result ≡ logs_in self.now }
+        ensures plain { result ≡ false → StaysPlain (D.may_leave (disk_of self.now)) }
+    {
+        match self {
+            Store::Whole(plain) => {
+                // Called for its contract.
+                let _ready = plain.is_ready();
+                false
+            }
+            Store::Logged(_) => true,
+        }
+    }
+
+    /// The disk, as the store leaves it.
+    pub fn into_disk(self) -> D
+        ensures { result ≡ disk_of self }
+    {
+        match self {
+            Store::Whole(plain) => plain.into_disk(),
+            Store::Logged(journal) => journal.into_disk(),
+        }
+    }
+
+    /// Saves the first node on a disk on which nothing was ever created; see
+    /// [`is_blank`](storage::is_blank).
+    ///
+    /// Fails with `ImageTooLarge` exactly if the node's image is longer than an image may be, with
+    /// `Memory`, and with `Disk` if the device failed; and returns the disk, which is unchanged
+    /// except after `Disk`.
+    pub fn create(
+        alloc: Global,
+        disk: D,
+        node: &Node,
+        saves: Saves,
+    ) -> Result<Store<D>, (D, Refusal)>
+        requires { (c : Areas) → D.may_leave disk c → c.select ≡ [] }
+        ensures created { IfOk result (λ s. Keeps (saved_whole node.now) (D.seen (disk_of s))) }
+        ensures ready { IfOk result (λ s. is_ready_in s ≡ true) }
+        ensures events { saves ≡ way.Events → IfOk result (λ s. logs_in s ≡ true) }
+        ensures images { saves ≡ way.Images → IfOk result (λ s. logs_in s ≡ false) }
+        ensures disk { IfErr result (λ e.
+            e.1 ≡ refusal.Disk → Grew (D.faults disk) (D.faults e.0)) }
+        ensures later { IfErr result (λ e. D.moment disk ≤ D.moment e.0) }
+        ensures too_large { MatchResult result
+            (λ _. length (whole_image node.now) ≤ GREATEST_IMAGE)
+            (λ e. e.1 ≡ refusal.ImageTooLarge ↔ GREATEST_IMAGE < length (whole_image node.now)) }
+        ensures unchanged { IfErr result (λ e. e.1 ≢ refusal.Disk → e.0 ≡ disk) }
+        ensures others { IfErr result (λ e. (e.1 ≡ refusal.Memory)
+            ⊎ ((e.1 ≡ refusal.ImageTooLarge) ⊎ (e.1 ≡ refusal.Disk))) }
+    {
+        match saves {
+            Saves::Images => match PlainShelf::create(alloc, disk, node) {
+                Ok(plain) => Ok(Store::Whole(plain)),
+                Err(refused) => Err(refused),
+            },
+            Saves::Events => match Journal::create(alloc, disk, node) {
+                Ok(journal) => Ok(Store::Logged(journal)),
+                Err(refused) => Err(refused),
+            },
+        }
+    }
+
+    /// An open store on a disk that [`read_node`] read, and on which nothing was written since.
+    pub fn resume(alloc: Global, disk: D, place: Place) -> Store<D>
+        requires { LiesAt D.seen D.may_leave disk place }
+        ensures disk { disk_of result ≡ disk }
+        ensures ready { is_ready_in result ≡ true }
+        ensures logs { logs_in result ≡ is_logged_at place }
+    {
+        match place {
+            Place::Whole(selected) => Store::Whole(PlainShelf::resume(alloc, disk, selected)),
+            Place::Logged(tail) => Store::Logged(Journal::resume(alloc, disk, tail)),
+        }
+    }
+
+    /// Opens the store again from its own disk: syncs it and returns the node that it holds. After
+    /// `Ok` the store is open, and a crash leaves that node.
+    ///
+    /// Fails as [`read_node`] does; the store is then closed. Its disk holds what it held, even
+    /// after a crash.
+    pub fn reopen(&mut self) -> Result<Node, Refusal>
+        ensures opened { IfOk result (λ n. Keeps n (D.seen (disk_of self.old))) }
+        ensures ready { OnOk result (is_ready_in self.new ≡ true) }
+        ensures only { OnOk result
+            (Only (D.seen (disk_of self.new)) (D.may_leave (disk_of self.new))) }
+        ensures shut { IsErr result → is_ready_in self.new ≡ false }
+        ensures logs { logs_in self.new ≡ logs_in self.old }
+        ensures bad { IsErrOf result refusal.BadImage
+            → (n : WholeNode) → Keeps n (D.seen (disk_of self.old)) → ⊥ }
+        ensures memory { IsErrOf result refusal.Memory → SelectsLength (D.seen (disk_of self.old)) }
+        ensures quiet { Unmoved D.seen D.may_leave D.moment D.left_since
+            (disk_of self.old) (disk_of self.new) }
+        ensures disk { IsErrOf result refusal.Disk →
+            Grew (D.faults (disk_of self.old)) (D.faults (disk_of self.new)) }
+        ensures others { IfErr result (λ e. (e ≡ refusal.Memory)
+            ⊎ ((e ≡ refusal.BadImage) ⊎ (e ≡ refusal.Disk))) }
+    {
+        match self {
+            Store::Whole(plain) => match plain.reopen() {
+                Ok(node) => Ok(node),
+                Err(refusal) => Err(refusal),
+            },
+            Store::Logged(journal) => match journal.reopen() {
+                Ok(node) => Ok(node),
+                Err(refusal) => Err(refusal),
+            },
+        }
+    }
+
+    /// Saves a node. The log must lead from the node that the disk holds to this one, unless it is
+    /// lost. A journal then gets the log, unless it would become too long; otherwise the image of
+    /// the node is written. A crash at any moment since the call began leaves the old node, or this
+    /// one as it is once saved; after `Ok` it leaves this one.
+    ///
+    /// Fails with `Closed` exactly if the store is closed, with `ImageTooLarge` if the image is to
+    /// be written and is longer than an image may be, with `Memory`, and with `Disk` if the device
+    /// failed. `Disk` closes the store; the others change nothing.
+    pub fn save(&mut self, node: &Node, log: &Log) -> Result<(), Refusal>
+        ensures saved { OnOk result ((old : WholeNode) → Keeps old (D.seen (disk_of self.old))
+            → IsLogged log.now old.core node.now.core
+            → Keeps (saved_whole node.now) (D.seen (disk_of self.new))) }
+        ensures ready { OnOk result (is_ready_in self.new ≡ true) }
+        ensures only { OnOk result
+            (Only (D.seen (disk_of self.new)) (D.may_leave (disk_of self.new))) }
+        ensures any_moment { MatchResult result
+            (λ _. (old : WholeNode) → Keeps old (D.seen (disk_of self.old))
+            → IsLogged log.now old.core node.now.core
+            → LeavesOnly D.moment D.left_since (disk_of self.old) (disk_of self.new)
+            (KeepsEither old (saved_whole node.now)))
+            (λ e. e ≡ refusal.Disk → (old : WholeNode) → Keeps old (D.seen (disk_of self.old))
+            → IsLogged log.now old.core node.now.core
+            → LeavesOnly D.moment D.left_since (disk_of self.old) (disk_of self.new)
+            (KeepsEither old (saved_whole node.now))) }
+        ensures logs { logs_in self.new ≡ logs_in self.old }
+        ensures closed { IsErrOf result refusal.Closed ↔ (is_ready_in self.old ≡ false) }
+        ensures disk { IsErrOf result refusal.Disk →
+            Grew (D.faults (disk_of self.old)) (D.faults (disk_of self.new))
+            × (is_ready_in self.new ≡ false) }
+        ensures too_large { IsErrOf result refusal.ImageTooLarge ↔ IsTrue (is_ready_in self.old)
+            × WritesAll self.old log.now × (GREATEST_IMAGE < length (whole_image node.now)) }
+        ensures unchanged { IfErr result (λ e. e ≢ refusal.Disk →
+            (disk_of self.new ≡ disk_of self.old) × (is_ready_in self.new ≡ is_ready_in self.old)) }
+        ensures others { IfErr result (λ e. (e ≡ refusal.Closed) ⊎ ((e ≡ refusal.ImageTooLarge)
+            ⊎ ((e ≡ refusal.Memory) ⊎ (e ≡ refusal.Disk)))) }
+    {
+        match self {
+            Store::Whole(plain) => match plain.save(node) {
+                Ok(()) => Ok(()),
+                Err(refusal) => Err(refusal),
+            },
+            Store::Logged(journal) => match journal.save(node, log.bytes()) {
+                Ok(()) => Ok(()),
+                Err(refusal) => Err(refusal),
+            },
+        }
+    }
+}
+
+impl Store<MemoryDisk> {
+    /// From now on, the `k`-th call of the disk and all later ones fail; see
+    /// [`MemoryDisk::fail_from`].
+    pub fn fail_from(&mut self, k: u64)
+        ensures plan { (disk_of self.new).plan ≡ fails_from k }
+        ensures account { (disk_of self.new).account ≡ (disk_of self.old).account }
+        ensures ready { is_ready_in self.new ≡ is_ready_in self.old }
+        ensures logs { logs_in self.new ≡ logs_in self.old }
+    {
+        match self {
+            Store::Whole(plain) => plain.shelf.fail_from(k),
+            Store::Logged(journal) => journal.fail_from(k),
+        }
+    }
+
+    /// The `k`-th call of the disk from now on fails, and no later one; see
+    /// [`MemoryDisk::fail_once`].
+    pub fn fail_once(&mut self, k: u64)
+        ensures plan { (disk_of self.new).plan ≡ fails_once k }
+        ensures account { (disk_of self.new).account ≡ (disk_of self.old).account }
+        ensures ready { is_ready_in self.new ≡ is_ready_in self.old }
+        ensures logs { logs_in self.new ≡ logs_in self.old }
+    {
+        match self {
+            Store::Whole(plain) => plain.shelf.fail_once(k),
+            Store::Logged(journal) => journal.fail_once(k),
+        }
+    }
+
+    /// The disk that a crash now leaves; see [`MemoryDisk::after_crash`].
+    pub fn after_crash(&self, fill: u8) -> Result<MemoryDisk, Refusal>
+        ensures filled { IfOk result (λ d. held_by d ≡ filled_by_crash fill (disk_of self.now)) }
+        ensures left { IfOk result (λ d. left_by (disk_of self.now) (held_by d)) }
+        ensures durable { IfOk result (λ d. Only (held_by d) (left_by d)) }
+        ensures faultless { IfOk result IsFaultless }
+        ensures memory { IfErr result (λ e. e ≡ refusal.Memory) }
+    {
+        match self {
+            Store::Whole(plain) => plain.shelf.after_crash(fill),
+            Store::Logged(journal) => journal.after_crash(fill),
+        }
+    }
+}
