@@ -37,7 +37,7 @@ use node::Node;
 use node_store::{Place, Store};
 use std::alloc::Global;
 use std::mem;
-use storage::is_blank;
+use disk_shelf::is_blank;
 use wire::first_apart;
 
 // Whether a node has this number and this shape.

@@ -8,10 +8,10 @@ use Rattle.std.proofs.lemmas.Bool.{cond_both, leb-true, true≢false}
 use Rattle.std.proofs.lemmas.Bool.Decides.{leb_tells}
 use Rattle.std.proofs.lemmas.List.{append-nil, drop_all, drop-append-le, take-append-le, length-take-le}
 use Rattle.ids.specs.declared.limits.TheConstants.{GREATEST_IMAGE}
-use Rattle.storage.specs.Logs.{LeadAll}
-use Rattle.storage.specs.Shelf.{record_of, recorded, told}
-use Rattle.storage.proofs.Records.{recorded_cut, recorded_front, recorded_is, recorded_short, recorded_tells, record_length}
-use Rattle.storage.proofs.Values.{lead_more}
+use Rattle.disk_shelf.specs.Logs.{LeadAll}
+use Rattle.disk_shelf.specs.Shelf.{record_of, recorded, told}
+use Rattle.disk_shelf.proofs.Records.{recorded_cut, recorded_front, recorded_is, recorded_short, recorded_tells, record_length}
+use Rattle.disk_shelf.proofs.Values.{lead_more}
 use Rattle.image_parts.specs.Logs.{begins_logged}
 use Rattle.model.specs.View.{kept_view}
 use Rattle.node.specs.Invariant.{IsNode}

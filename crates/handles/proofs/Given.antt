@@ -13,9 +13,9 @@ use Rattle.image.specs.Nodes.{IsImageOf}
 use Rattle.image.specs.Wholes.{IsWholeOf}
 use Rattle.disk.specs.Areas.{Areas}
 use Rattle.disk.specs.Memory.{blank, held_by}
-use Rattle.storage.specs.Shelf.{record_of, recorded}
+use Rattle.disk_shelf.specs.Shelf.{record_of, recorded}
 use Rattle.disk.specs.declared.memory.MemoryDisk.{MemoryDisk}
-use Rattle.storage.proofs.Records.{recorded_holds}
+use Rattle.disk_shelf.proofs.Records.{recorded_holds}
 use Rattle.node_store.specs.Plain.{IsPlain}
 use Rattle.node_store.proofs.Stores.{bare_read, keeps_read, keeps_some, plain_read}
 use Rattle.cell.specs.Cells.{CellView}

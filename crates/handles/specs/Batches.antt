@@ -2,8 +2,8 @@
 use Rattle.std.specs.Prelude.{◌≡◌, ℕ, ◌+◌, ◌%◌, ◌^◌, nat_le, cond, Bool, true, false, List, [], ◌∷◌, ◌++◌, length, drop, Option, Some, None, Result, Ok, Err}
 use Rattle.std.specs.Global.{Vec}
 use Rattle.ids.specs.declared.refusal.Refusal.TheVariants.{BadImage, Memory}
-use Rattle.storage.specs.Logs.{LeadAll}
-use Rattle.storage.specs.Shelf.{record_of, recorded}
+use Rattle.disk_shelf.specs.Logs.{LeadAll}
+use Rattle.disk_shelf.specs.Shelf.{record_of, recorded}
 use Rattle.image_parts.specs.Logs.{begins_logged}
 use Rattle.model.specs.View.{kept_view}
 use Rattle.node.specs.Keeping.{WholeNode}

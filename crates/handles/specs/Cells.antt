@@ -14,7 +14,7 @@ use Rattle.image.specs.Images.{image_of}
 use Rattle.image.specs.Wholes.{IsWholeOf}
 use Rattle.disk.specs.Crashes.{Grew}
 use Rattle.disk.specs.Memory.{held_by, left_by}
-use Rattle.storage.specs.Shelf.{IsReadAs, opened as image_in}
+use Rattle.disk_shelf.specs.Shelf.{IsReadAs, opened as image_in}
 use Rattle.node_store.specs.Plain.{StaysPlain}
 use Rattle.wire.specs.Readers.{known, outbox, seat_node, IsSame}
 use Rattle.wire.specs.Views.{raises}

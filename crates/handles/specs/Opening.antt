@@ -13,7 +13,7 @@ use Rattle.image.specs.Nodes.{IsImageOf}
 use Rattle.image.specs.Wholes.{IsWholeOf, whole_image}
 use Rattle.disk.specs.Areas.{Areas}
 use Rattle.disk.specs.Memory.{blank}
-use Rattle.storage.specs.Shelf.{record_of}
+use Rattle.disk_shelf.specs.Shelf.{record_of}
 use Rattle.disk.specs.declared.memory.MemoryDisk.{MemoryDisk}
 use Rattle.wire.specs.Readers.{IsMade}
 use Rattle.wire.specs.declared.seats.Watch.{Watch}

@@ -17,7 +17,7 @@ use disk::MemoryDisk;
 use ids::{GREATEST_IMAGE, Refusal, Saves, Shape};
 use std::alloc::Global;
 use std::sync::Arc;
-use storage::disk_of_image;
+use disk_shelf::disk_of_image;
 use values::Fault;
 use wire::{Watch, Wire};
 

@@ -20,12 +20,12 @@ use Rattle.image.specs.Wholes.{IsWholeOf}
 use Rattle.image.proofs.Spelled.{kept_is}
 use Rattle.disk.specs.Areas.{Areas, part}
 use Rattle.disk.specs.Crashes.{Only}
-use Rattle.storage.specs.Logs.{HasLog, LeadAll, OpensIf}
-use Rattle.storage.specs.Shelf.{IsReadAs, half, image_at, opened, OldOrNew, record_of, recorded, side}
-use Rattle.storage.proofs.Logs.{selected_if}
-use Rattle.storage.proofs.Records.{record_length}
-use Rattle.storage.proofs.Values.{fresh_led}
-use Rattle.journal.proofs.Values.{restores_image, restores_one}
+use Rattle.disk_shelf.specs.Logs.{HasLog, LeadAll, OpensIf}
+use Rattle.disk_shelf.specs.Shelf.{IsReadAs, half, image_at, opened, OldOrNew, record_of, recorded, side}
+use Rattle.disk_shelf.proofs.Logs.{selected_if}
+use Rattle.disk_shelf.proofs.Records.{record_length}
+use Rattle.disk_shelf.proofs.Values.{fresh_led}
+use Rattle.disk_journal.proofs.Values.{restores_image, restores_one}
 use Rattle.node.specs.Keeping.{WholeNode, alone}
 use Rattle.node_store.specs.Laws.{led_alone, one_led, one_whole, read_alone}
 use Rattle.node_store.specs.Plain.{IsPlain, Keeps, KeepsEither, StaysPlain}

@@ -1,8 +1,8 @@
 -- What a disk holds of a node.
 use Rattle.std.specs.Prelude.{◌≡◌, ◌⊎◌, ℕ, false, List, Some}
 use Rattle.disk.specs.Areas.{Areas}
-use Rattle.storage.specs.Logs.{Restores}
-use Rattle.storage.specs.Shelf.{opened}
+use Rattle.disk_shelf.specs.Logs.{Restores}
+use Rattle.disk_shelf.specs.Shelf.{opened}
 use Rattle.image_parts.specs.Logs.{begins_logged}
 use Rattle.image.specs.Logged.{IsAnyWholeOf}
 use Rattle.node.specs.Keeping.{WholeNode}

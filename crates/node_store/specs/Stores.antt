@@ -1,9 +1,9 @@
 -- The stores in which nodes are saved, and the places of nodes on disks.
 use Rattle.std.specs.Prelude.{◌≡◌, ℕ, Bool, true, false, List, Option, None, IfSome}
 use Rattle.disk.specs.Areas.{Areas}
-use Rattle.storage.specs.Logs.{IsKept}
-use Rattle.storage.specs.Shelf.{IsSettled}
-use Rattle.journal.specs.Tails.{place_for}
+use Rattle.disk_shelf.specs.Logs.{IsKept}
+use Rattle.disk_shelf.specs.Shelf.{IsSettled}
+use Rattle.disk_journal.specs.Tails.{place_for}
 use Rattle.disk.specs.declared.device.Disk as disk
 use Rattle.image_parts.specs.Logs.{begins_logged}
 use Rattle.node_store.specs.Plain.{StaysPlain}

@@ -1,5 +1,5 @@
 //! A node's events since its last save, as a log that can be performed again. With a
-//! [`Journal`](journal::Journal) a save then writes what happened, and not the whole node.
+//! [`Journal`](disk_journal::Journal) a save then writes what happened, and not the whole node.
 //!
 //! [`Log`] collects the events, and [`act`] performs one and notes it. A [`Store`] keeps a node: it
 //! is a shelf, which holds the image alone, or a journal. [`Store::save`] adds the events to the

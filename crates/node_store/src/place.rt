@@ -1,6 +1,6 @@
 //! The place of a node on its disk.
-use journal::Tail;
-use storage::Selected;
+use disk_journal::Tail;
+use disk_shelf::Selected;
 
 /// The place of a node on its disk, as [`read_node`](crate::read_node) found it.
 #[derive(Clone, Copy)]

@@ -6,7 +6,7 @@ ghost use Rattle.ids.specs.declared.limits.TheConstants.{GREATEST_IMAGE};
 ghost use Rattle.ids.specs.declared.refusal.Refusal.TheVariants as refusal;
 ghost use Rattle.disk.specs.Areas.{Areas};
 ghost use Rattle.disk.specs.Crashes.{Grew, HasCause, LeavesOnly, Only, Unmoved};
-ghost use Rattle.storage.specs.Shelf.{IsSettled, SelectsLength};
+ghost use Rattle.disk_shelf.specs.Shelf.{IsSettled, SelectsLength};
 ghost use Rattle.node.specs.Keeping.{WholeNode};
 ghost use Rattle.image.specs.Wholes.{saved_whole, whole_image};
 ghost use Rattle.node_store.specs.Plain.{IsPlain, Keeps, KeepsEither, StaysPlain};
@@ -16,7 +16,7 @@ use disk::Disk;
 use ids::Refusal;
 use node::Node;
 use std::alloc::Global;
-use storage::{Selected, Shelf, read_value};
+use disk_shelf::{Selected, Shelf, read_value};
 
 /// A shelf of a node. No log follows the image that its disk opens to, even after a crash.
 pub struct PlainShelf<D: Disk> {

@@ -14,7 +14,7 @@ use image::{from_any_bytes, to_logged_behind};
 use model::Event;
 use node::Node;
 use std::alloc::Global;
-use storage::{HEAD, Persist, Replay};
+use disk_shelf::{HEAD, Persist, Replay};
 
 /// How a journal keeps nodes: each as its image and the batches of its events. A node is read from
 /// an image of any version, whether a log follows it or not.

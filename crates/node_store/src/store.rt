@@ -9,7 +9,7 @@ ghost use Rattle.disk.specs.Areas.{Areas};
 ghost use Rattle.disk.specs.Crashes.{Grew, HasCause, LeavesOnly, Only, Unmoved};
 ghost use Rattle.disk.specs.Memory.{filled_by_crash, held_by, IsFaultless, left_by};
 ghost use Rattle.disk.specs.Plan.{fails_from, fails_once};
-ghost use Rattle.storage.specs.Shelf.{SelectsLength};
+ghost use Rattle.disk_shelf.specs.Shelf.{SelectsLength};
 ghost use Rattle.node.specs.Keeping.{WholeNode};
 ghost use Rattle.image.specs.Wholes.{saved_whole, whole_image};
 ghost use Rattle.node_store.specs.Noted.{IsLogged};
@@ -22,7 +22,7 @@ use crate::plain::{PlainShelf, read_plain};
 use crate::redoing::LoggedImages;
 use disk::{Disk, MemoryDisk};
 use ids::{Refusal, Saves};
-use journal::{Journal, Tail, read_logged};
+use disk_journal::{Journal, Tail, read_logged};
 use node_log::Log;
 use node::Node;
 use std::alloc::Global;
@@ -144,7 +144,7 @@ impl<D: Disk> Store<D> {
     }
 
     /// Saves the first node on a disk on which nothing was ever created; see
-    /// [`is_blank`](storage::is_blank).
+    /// [`is_blank`](disk_shelf::is_blank).
     ///
     /// Fails with `ImageTooLarge` exactly if the node's image is longer than an image may be, with
     /// `Memory`, and with `Disk` if the device failed; and returns the disk, which is unchanged

@@ -4,7 +4,7 @@ use disk::{Disk, MemoryDisk};
 use ids::{Refusal, Saves};
 use node_store::read_node;
 use std::alloc::{AllocError, Global};
-use storage::is_blank;
+use disk_shelf::is_blank;
 
 /// For each byte with which a crash may fill what wasn't synced, what the disk then opens to: each
 /// outcome with the number of bytes for which it comes, in the order of the first.

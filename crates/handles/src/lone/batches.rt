@@ -1,7 +1,7 @@
 //! Batches of a node's events, which its caller stores behind an image.
 ghost use Rattle.std.specs.Prelude.{◌≡◌};
 ghost use Rattle.std.specs.Option.{option_map};
-ghost use Rattle.storage.specs.Shelf.{record_of};
+ghost use Rattle.disk_shelf.specs.Shelf.{record_of};
 ghost use Rattle.values.specs.Bytes.{Wrote};
 ghost use Rattle.handles.specs.Batches.{Batched, batch_of, size_of};
 
@@ -9,7 +9,7 @@ use super::LoneNode;
 use super::images::counts_of;
 use node_store::GREATEST_LOG;
 use std::alloc::Global;
-use storage::HEAD;
+use disk_shelf::HEAD;
 use values::Fault;
 
 impl LoneNode {
@@ -67,7 +67,7 @@ impl LoneNode {
 
 // Copies a batch to the front of the buffer: its length, and its events. Fails with `ShortBuffer`
 // if they don't fit, and the buffer stays as it was. Either way `needed` is the number of bytes.
-#[tactic(auto, unfolding(storage::specs::Shelf::record_of))]
+#[tactic(auto, unfolding(disk_shelf::specs::Shelf::record_of))]
 fn put_batch(events: &[u8], buffer: &mut [u8], needed: &mut usize) -> Result<(), Fault>
     ensures { Wrote (record_of events.now) result buffer.old buffer.new needed.new }
 {

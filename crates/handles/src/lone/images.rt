@@ -2,7 +2,7 @@
 ghost use Rattle.std.specs.Prelude.{◌≡◌, ◌≢◌, ◌<◌, ◌≤◌, ◌++◌, length, replicate, IfErr, IfOk, OnOk};
 ghost use Rattle.ids.specs.declared.limits.TheConstants.{GREATEST_IMAGE};
 ghost use Rattle.ids.specs.declared.refusal.Refusal.TheVariants.{ImageTooLarge, Memory};
-ghost use Rattle.storage.specs.declared.persist.TheConstants.{HEAD};
+ghost use Rattle.disk_shelf.specs.declared.persist.TheConstants.{HEAD};
 ghost use Rattle.image.specs.Logged.{IsAnyWholeOf};
 ghost use Rattle.image.specs.Wholes.{saved_whole};
 ghost use Rattle.handles.specs.Images.{Imaged, Kept, SizedAs, counts_of, image_in, keeps, released};
@@ -12,7 +12,7 @@ use ids::Refusal;
 use node::{Core, Node};
 use node_store::{Images, LoggedImages};
 use std::alloc::Global;
-use storage::{HEAD, Persist};
+use disk_shelf::{HEAD, Persist};
 use values::{Fault, put};
 
 /// What an image holds of the links between its node and one node.

@@ -1,7 +1,7 @@
 //! Makes a node of its image and the batches that its caller stored behind it.
 ghost use Rattle.std.specs.Prelude.{◌≡◌, ◌≢◌, ◌≤◌, ◌+◌, List, ℕ, drop, length, IfErr, IfOk, IfSome, OnOk};
 ghost use Rattle.std.specs.Option.{option_map};
-ghost use Rattle.storage.specs.Shelf.{recorded};
+ghost use Rattle.disk_shelf.specs.Shelf.{recorded};
 ghost use Rattle.node.specs.Keeping.{WholeNode};
 ghost use Rattle.node_store.specs.Values.{IsAlone};
 ghost use Rattle.handles.specs.Batches.{IsStored, LogLeads, Reopened};
@@ -11,7 +11,7 @@ use ids::{GREATEST_IMAGE, Refusal};
 use node::Node;
 use node_store::{Log, LoggedImages};
 use std::alloc::Global;
-use storage::{HEAD, Persist, Replay};
+use disk_shelf::{HEAD, Persist, Replay};
 use values::Fault;
 
 /// An image and batches are those of at most one node. The function does nothing; its contract

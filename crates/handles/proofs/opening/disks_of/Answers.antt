@@ -3,7 +3,7 @@ use Rattle.std.proofs.lemmas.List.{map-append, take_all, take_more}
 use Rattle.std.proofs.lemmas.Option.{slice_get_within}
 use Rattle.std.proofs.lemmas.Result.{err_from_is_err_and}
 use Rattle.disk.specs.Memory.{held_by}
-use Rattle.storage.proofs.Quiet.{handed_err, memory_no_bad, ok_no_err}
+use Rattle.disk_shelf.proofs.Quiet.{handed_err, memory_no_bad, ok_no_err}
 use Rattle.wire.proofs.NewWires.{there}
 use Rattle.handles.specs.Opening.{Image, IsShort, areas_in}
 use Rattle.handles.proofs.Lists.{each-more}

@@ -2,8 +2,8 @@ use Rattle.std.proofs.Common.{◌≡◌, ◌≢◌, ◌∙◌, Err, IfOk, ap, fa
 use Rattle.std.proofs.lemmas.Result.{IfOk-weaker}
 use Rattle.ids.specs.declared.refusal.Refusal.TheVariants.{BadImage}
 use Rattle.disk.proofs.Causes.{later_cause, no_cause}
-use Rattle.storage.specs.Shelf.{SelectsLength}
-use Rattle.storage.proofs.Quiet.{bad_no_disk, both_unmoved, handed_cause, handed_err, ok_no_err}
+use Rattle.disk_shelf.specs.Shelf.{SelectsLength}
+use Rattle.disk_shelf.proofs.Quiet.{bad_no_disk, both_unmoved, handed_cause, handed_err, ok_no_err}
 use Rattle.node_store.specs.Plain.{Keeps}
 use Rattle.node_store.specs.Stores.{is_logged_at}
 use Rattle.node_store.proofs.Stores.{images_no_events, same_refusal}

@@ -1,6 +1,6 @@
 use Rattle.std.proofs.Common.{◌≡◌, ◌∙◌, ◌+◌, ◌-◌, ℕ, Some, ap, arith, drop, sym, take}
-use Rattle.storage.specs.Shelf.{told}
-use Rattle.storage.proofs.Records.{recorded_cut, recorded_is, recorded_long, recorded_short, told_read}
+use Rattle.disk_shelf.specs.Shelf.{told}
+use Rattle.disk_shelf.proofs.Records.{recorded_cut, recorded_is, recorded_long, recorded_short, told_read}
 use Rattle.handles.proofs.lone.reopening.first_batch.Goals as goal
 
 pub returns-then-bytes-lt-HEAD-clause-found : goal.returns-then-bytes-lt-HEAD-clause-found

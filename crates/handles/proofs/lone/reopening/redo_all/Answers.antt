@@ -1,7 +1,7 @@
 use Rattle.std.proofs.Common.{◌≡◌, ◌∙◌, List, Some, None, ap, arith, refl, subst, sym, ℕ}
 use Rattle.std.proofs.lemmas.Result.{err_from_is_err_and}
 use Rattle.std.specs.Option.{option_map}
-use Rattle.storage.specs.Shelf.{recorded}
+use Rattle.disk_shelf.specs.Shelf.{recorded}
 use Rattle.handles.proofs.Batches.{IsLeft, left_bad, left_next, left_nowhere}
 use Rattle.handles.proofs.lone.reopening.redo_all.Goals as goal
 

@@ -4,8 +4,8 @@ use Rattle.ids.specs.declared.refusal.Refusal.{Refusal}
 use Rattle.ids.specs.declared.refusal.Refusal.TheVariants as refusal
 use Rattle.image.specs.Wholes.{IsWholeOf, saved_whole, whole_image}
 use Rattle.node.specs.Keeping.{WholeNode}
-use Rattle.storage.specs.Shelf.{opened}
-use Rattle.storage.proofs.Moments.{weaker}
+use Rattle.disk_shelf.specs.Shelf.{opened}
+use Rattle.disk_shelf.proofs.Moments.{weaker}
 use Rattle.node_store.specs.Plain.{StaysPlain}
 use Rattle.node_store.proofs.Stores.{either_kept, either_plain, failed_before, keeps_written, only_written, open_before}
 use Rattle.node_store.proofs.plain.PlainShelf.save.Goals as goal

@@ -1,5 +1,5 @@
 use Rattle.std.proofs.Common.{refl}
-use Rattle.storage.proofs.Quiet.{ok_no_err}
+use Rattle.disk_shelf.proofs.Quiet.{ok_no_err}
 use Rattle.node_store.proofs.Stores.{same_refusal}
 use Rattle.node_store.proofs.store.Store.reopen.Goals as goal
 

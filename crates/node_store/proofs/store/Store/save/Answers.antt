@@ -1,6 +1,6 @@
 use Rattle.std.proofs.Common.{◌≡◌, IfSome, List, None, arith, refl, subst, sym, ℕ}
-use Rattle.journal.specs.Tails.{place_for}
-use Rattle.storage.proofs.Quiet.{ok_no_err}
+use Rattle.disk_journal.specs.Tails.{place_for}
+use Rattle.disk_shelf.proofs.Quiet.{ok_no_err}
 use Rattle.image.proofs.Logged.{same_length}
 use Rattle.node_store.specs.Noted.{IsLogged}
 use Rattle.node_store.proofs.Ends.{led_by}

@@ -1,0 +1,25 @@
+use Rattle.std.proofs.Common.{◌∙◌, ap, subst, sym}
+use Rattle.disk.specs.Areas.{part}
+use Rattle.disk_shelf.specs.Logs.{IsBehind}
+use Rattle.disk.specs.Record.{areas_of, leaves}
+use Rattle.disk_shelf.specs.Shelf.{half, side}
+use Rattle.disk.specs.declared.account.Account.{Account}
+use Rattle.disk.specs.declared.state.State.{State}
+use Rattle.disk_journal.proofs.journal.Journal+MemoryDisk+P.fail_from.Goals as goal
+
+pub invariant_of-self : goal.invariant_of-self
+invariant_of-self g c =
+    let tail = c.args.self.now.tail in
+    let same = ap (λ (a : Account). a.state) c.fail_from.ensures.account in
+    record {
+      kept = λ is.
+          let k = c.args.self.now.kept is in
+          record {
+            only = λ x left.
+                k.only x (subst (λ s. leaves s x) same left)
+                ∙ sym (ap (λ (s : State). areas_of s.held) same);
+            selected = ap (λ (s : State). side (areas_of s.held).select) same ∙ k.selected;
+            behind = subst (λ (s : State). IsBehind g.P.Replay.logs tail.end
+                (part (half tail.in_b) (areas_of s.held))) (sym same) k.behind;
+          };
+    }

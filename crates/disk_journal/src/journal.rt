@@ -1,0 +1,447 @@
+//! A crash-consistent store of one value, kept as an image and a log of what happened since. A
+//! batch of the log costs its own bytes and two syncs, however large the image of the value is. A
+//! crash leaves the value that was there or the new one.
+ghost use Rattle.std.specs.Prelude.{◌≡◌, ◌≢◌, ◌⊎◌, ◌↔◌, ◌<◌, ◌≤◌, ◌++◌, ◌-◌, List, ℕ, Bool, [], ◌∷◌};
+ghost use Rattle.std.specs.Prelude.{length, take, drop, IfErr, IfOk, IfSome, IsErr, IsErrOf, IsTrue};
+ghost use Rattle.std.specs.Prelude.{MatchResult, None, OnErr, OnOk, Some, true, false};
+ghost use Rattle.ids.specs.declared.limits.TheConstants.{GREATEST_IMAGE};
+ghost use Rattle.disk.specs.Areas.{Areas};
+ghost use Rattle.disk.specs.Crashes.{Grew, HasCause, LeavesOnly, Only, Unmoved};
+ghost use Rattle.disk_shelf.specs.Logs.{IsKept, OldOrNewLog, Opens, Restores};
+ghost use Rattle.disk_shelf.specs.Shelf.{SelectsLength, record_of};
+ghost use Rattle.disk_journal.specs.Journal.{RestoresEither, RestoresNone};
+ghost use Rattle.disk_journal.specs.Tails.{place_for};
+
+use disk::{Disk, MemoryDisk};
+use ids::{GREATEST_IMAGE, Refusal};
+use std::alloc::Global;
+use std::marker::PhantomData;
+use disk_shelf::log::{begin, extend, replay_log, shut, turn};
+use disk_shelf::{HEAD, Persist, Replay, recall_image, record, spelled};
+
+/// A disk opens to at most one image with its batches. The function does nothing; its contract
+/// states the law.
+pub fn opens_once()
+    ensures { (i j : List ℕ) (bs cs : List (List ℕ)) (d : Areas) → Opens i bs d → Opens j cs d
+        → (i ≡ j) × (bs ≡ cs) }
+{}
+
+/// A disk opens to at most one value. The function does nothing; its contract states the law.
+pub fn restores_once<P: Replay>()
+    ensures { (v w : P.Value) (d : Areas) → Restores P.logs P.reads P.leads v d
+        → Restores P.logs P.reads P.leads w d → v ≡ w }
+{}
+
+/// How long a log may always become, in bytes. A log may also become as long as the image before
+/// it.
+pub const LEAST_LOG: usize = 1 << 20;
+
+/// The place of a value on its disk, as [`read_logged`] found it: its area, and the end of the log
+/// behind its image.
+#[derive(Clone, Copy)]
+pub struct Tail {
+    in_b: bool,
+    // How many bytes are before the log.
+    start: usize,
+    // The offset of the last gate, if a log follows the image.
+    end: Option<usize>,
+}
+
+impl Tail {
+    // The offset of the last gate, if the batch goes behind it. If not, the value is saved whole.
+    fn place_for(&self, batch: &[u8]) -> Option<usize>
+        ensures value { result ≡ place_for self.now batch.now }
+        ensures here { IfSome result (λ end. self.now.end ≡ Some end) }
+        ensures fits { IfSome result (λ _. length batch.now ≤ GREATEST_IMAGE) }
+    {
+        let end = self.end?;
+        let most = self.start.max(LEAST_LOG);
+        let left = most.saturating_sub(end.saturating_sub(self.start));
+        let fits = batch.len() as u64 <= GREATEST_IMAGE && batch.len() + HEAD + 1 <= left;
+        fits.then_some(end)
+    }
+}
+
+/// A disk that holds a value: its image in the area that the selector selects, and behind the image
+/// a log of batches, which lead from what the image is read as to the value.
+///
+/// A [`save`](Journal::save) adds a batch to the log, or else writes the image of the value, with
+/// an empty log, into the other area. A failure of the disk closes the journal, and so does a
+/// failed [`reopen`](Journal::reopen). Saves then fail with `Closed` until a `reopen` succeeds,
+/// which shows whether the disk has the old value or the new one.
+pub struct Journal<D: Disk, P: Replay> {
+    alloc: Global,
+    disk: D,
+    // The place of the value, while the journal is open.
+    tail: Tail,
+    ready: bool,
+    kind: PhantomData<P>,
+    ghost kept: { IsTrue ready → IsKept D.seen D.may_leave P.logs disk tail.in_b tail.end },
+}
+
+// Written out, so that the crates above need not prove again how each field is dropped.
+impl<D: Disk + Drop, P: Replay> Drop for Journal<D, P> {
+    fn drop(self) {
+        let Journal {
+            alloc: _,
+            disk: _,
+            tail: _,
+            ready: _,
+            kind: _,
+        } = self;
+    }
+}
+
+/// What is written for a value: the length of its image, the image, and the gate behind it. Fails
+/// as [`Persist::to_bytes`] does.
+fn spelled_shut<P: Persist>(alloc: Global, value: &P::Value) -> Result<Vec<u8>, Refusal>
+    ensures bytes { IfOk result (λ v. v.items ≡ record_of (P.image value.now) ++ 0 ∷ []) }
+    ensures readable { OnOk result (P.reads (P.image value.now) (P.saved value.now)) }
+    ensures within { OnOk result (length (P.image value.now) ≤ GREATEST_IMAGE) }
+    ensures too_large { IfErr result (λ e.
+        e ≡ Refusal.ImageTooLarge ↔ GREATEST_IMAGE < length (P.image value.now)) }
+    ensures others { IfErr result (λ e. (e ≡ Refusal.Memory) ⊎ (e ≡ Refusal.ImageTooLarge)) }
+{
+    let bytes = spelled::<P>(alloc, value)?;
+    Ok(shut(bytes)?)
+}
+
+/// The image in what is written for it, with the gate behind it.
+fn image_before_gate(bytes: &[u8]) -> &[u8]
+    requires { 9 ≤ length bytes.now }
+
+    ensures { result.now ≡ take (length bytes.now - 9) (drop 8 bytes.now) }
+{
+    &bytes[HEAD..bytes.len() - 1]
+}
+
+/// Syncs a disk on which something was created, and returns the value that it holds, with its
+/// place. It writes nothing. [`Journal::resume`] continues from there without reading again.
+///
+/// Fails as [`Journal::open`] does. After `Ok` a crash leaves that value.
+pub fn read_logged<D: Disk, P: Replay>(
+    alloc: Global,
+    disk: &mut D,
+) -> Result<(Tail, P::Value), Refusal>
+where
+    P::Value: Drop,
+    ensures value { IfOk result (λ r. Restores P.logs P.reads P.leads r.1 (D.seen disk.old)) }
+    ensures kept { IfOk result (λ r.
+        IsKept D.seen D.may_leave P.logs disk.new r.0.in_b r.0.end) }
+    ensures bad { IfErr result (λ e. e ≡ Refusal.BadImage → (value : P.Value)
+        → Restores P.logs P.reads P.leads value (D.seen disk.old) → ⊥) }
+    ensures memory { IfErr result (λ e. e ≡ Refusal.Memory → SelectsLength (D.seen disk.old)) }
+    ensures quiet { Unmoved D.seen D.may_leave D.moment D.left_since disk.old disk.new }
+    ensures cause { HasCause (D.faults disk.old) (D.faults disk.new) (IsErrOf result Refusal.Disk) }
+    ensures others { IfErr result (λ e. (e ≡ Refusal.Memory)
+        ⊎ ((e ≡ Refusal.BadImage) ⊎ (e ≡ Refusal.Disk))) }
+{
+    let (in_b, image) = recall_image(alloc, disk)?;
+    let mut value = P::from_bytes(alloc, &image)?;
+    let end = replay_log::<D, P>(alloc, disk, in_b, &image, &mut value)?;
+    let start = HEAD + image.len();
+    Ok((Tail { in_b, start, end }, value))
+}
+
+impl<D: Disk, P: Replay> Journal<D, P> {
+    /// Whether the journal is open.
+    pub fn is_ready(&self) -> bool
+        ensures { result ≡ self.now.ready }
+    {
+        self.ready
+    }
+
+    /// The disk, as the journal leaves it.
+    pub fn into_disk(self) -> D
+        ensures { result ≡ self.disk }
+    {
+        let Journal {
+            alloc: _,
+            disk,
+            tail: _,
+            ready: _,
+            kind: _,
+        } = self;
+        disk
+    }
+
+    /// Saves the first value on a disk on which nothing was ever created; see
+    /// [`is_blank`](disk_shelf::is_blank). The log is empty.
+    ///
+    /// A crash during the call leaves an empty selector or the value; after `Ok` it leaves the
+    /// value. Fails as [`Persist::to_bytes`] does, with `Memory` or with `Disk`, and returns the
+    /// disk. The disk is unchanged except after `Disk`.
+    pub fn create(
+        alloc: Global,
+        mut disk: D,
+        value: &P::Value,
+    ) -> Result<Journal<D, P>, (D, Refusal)>
+        requires { (c : Areas) → D.may_leave disk c → c.select ≡ [] }
+
+        ensures created { IfOk result (λ j.
+            Restores P.logs P.reads P.leads (P.saved value.now) (D.seen j.disk)) }
+        ensures ready { IfOk result (λ j. j.ready ≡ true) }
+        ensures any_moment { MatchResult result
+            (λ j. LeavesOnly D.moment D.left_since disk j.disk
+            (RestoresNone P.logs P.reads P.leads (P.saved value.now)))
+            (λ e. LeavesOnly D.moment D.left_since disk e.0
+            (RestoresNone P.logs P.reads P.leads (P.saved value.now))) }
+        ensures disk { IfErr result (λ e.
+            e.1 ≡ Refusal.Disk → Grew (D.faults disk) (D.faults e.0)) }
+        ensures too_large { MatchResult result
+            (λ _. length (P.image value.now) ≤ GREATEST_IMAGE)
+            (λ e. e.1 ≡ Refusal.ImageTooLarge ↔ GREATEST_IMAGE < length (P.image value.now)) }
+        ensures unchanged { IfErr result (λ e. e.1 ≢ Refusal.Disk → e.0 ≡ disk) }
+        ensures others { IfErr result (λ e. (e.1 ≡ Refusal.Memory)
+            ⊎ ((e.1 ≡ Refusal.ImageTooLarge) ⊎ (e.1 ≡ Refusal.Disk))) }
+    {
+        let bytes = match spelled_shut::<P>(alloc, value) {
+            Ok(bytes) => bytes,
+            Err(refusal) => return Err((disk, refusal)),
+        };
+        match begin(&mut disk, image_before_gate(&bytes), &bytes) {
+            Ok(()) => {}
+            Err(_) => return Err((disk, Refusal::Disk)),
+        }
+        let start = bytes.len() - 1;
+        Ok(Journal {
+            alloc,
+            disk,
+            tail: Tail {
+                in_b: false,
+                start,
+                end: Some(start),
+            },
+            ready: true,
+            kind: PhantomData,
+        })
+    }
+
+    /// Syncs a disk, and returns the value that it holds with an open journal. It writes nothing.
+    /// After `Ok` a crash leaves that value.
+    ///
+    /// Fails with `Disk` if the device failed, and with `BadImage` if the disk holds no value.
+    /// Fails with `Memory` if the disk records a plausible length but there is no memory for what
+    /// it holds. The disk is then dropped.
+    pub fn open(alloc: Global, mut disk: D) -> Result<(Journal<D, P>, P::Value), Refusal>
+    where
+        D: Drop,
+        P::Value: Drop,
+        ensures opened { IfOk result (λ r.
+            Restores P.logs P.reads P.leads r.1 (D.seen disk)) }
+        ensures same { IfOk result (λ r. D.seen r.0.disk ≡ D.seen disk) }
+        ensures ready { IfOk result (λ r. r.0.ready ≡ true) }
+        ensures bad { IfErr result (λ e. e ≡ Refusal.BadImage → (value : P.Value)
+            → Restores P.logs P.reads P.leads value (D.seen disk) → ⊥) }
+        ensures memory { IfErr result (λ e. e ≡ Refusal.Memory → SelectsLength (D.seen disk)) }
+        ensures quiet { IfOk result (λ r.
+            Unmoved D.seen D.may_leave D.moment D.left_since disk r.0.disk) }
+        ensures fine { IfOk result (λ r. D.faults r.0.disk ≡ D.faults disk) }
+
+        // The disk at the time when it was dropped.
+        ensures given_up { IfErr result (λ e. (d : D)
+            × Unmoved D.seen D.may_leave D.moment D.left_since disk d
+            × HasCause (D.faults disk) (D.faults d) (e ≡ Refusal.Disk)) }
+        ensures others { IfErr result (λ e. (e ≡ Refusal.Memory)
+            ⊎ ((e ≡ Refusal.BadImage) ⊎ (e ≡ Refusal.Disk))) }
+    {
+        let (tail, value) = read_logged::<D, P>(alloc, &mut disk)?;
+        let journal = Journal {
+            alloc,
+            disk,
+            tail,
+            ready: true,
+            kind: PhantomData,
+        };
+        Ok((journal, value))
+    }
+
+    /// An open journal on a disk that [`read_logged`] read, and on which nothing was written since.
+    pub fn resume(alloc: Global, disk: D, tail: Tail) -> Journal<D, P>
+        requires { IsKept D.seen D.may_leave P.logs disk tail.in_b tail.end }
+        ensures disk { result.disk ≡ disk }
+        ensures ready { result.ready ≡ true }
+    {
+        Journal {
+            alloc,
+            disk,
+            tail,
+            ready: true,
+            kind: PhantomData,
+        }
+    }
+
+    /// Opens the journal again from its own disk: syncs it and returns the value that it holds.
+    /// After `Ok` the journal is open, and a crash leaves that value.
+    ///
+    /// Fails as [`open`](Journal::open) does; the journal is then closed. Its disk holds what it
+    /// held, even after a crash.
+    pub fn reopen(&mut self) -> Result<P::Value, Refusal>
+    where
+        P::Value: Drop,
+        ensures opened { IfOk result (λ v.
+            Restores P.logs P.reads P.leads v (D.seen self.old.disk)) }
+        ensures ready { OnOk result (self.new.ready ≡ true) }
+        ensures shut { IsErr result → self.new.ready ≡ false }
+        ensures bad { IfErr result (λ e. e ≡ Refusal.BadImage → (value : P.Value)
+            → Restores P.logs P.reads P.leads value (D.seen self.old.disk) → ⊥) }
+        ensures memory { IfErr result (λ e.
+            e ≡ Refusal.Memory → SelectsLength (D.seen self.old.disk)) }
+        ensures quiet { Unmoved D.seen D.may_leave D.moment D.left_since
+            self.old.disk self.new.disk }
+        ensures disk { IsErrOf result Refusal.Disk →
+            Grew (D.faults self.old.disk) (D.faults self.new.disk) }
+        ensures others { IfErr result (λ e. (e ≡ Refusal.Memory)
+            ⊎ ((e ≡ Refusal.BadImage) ⊎ (e ≡ Refusal.Disk))) }
+    {
+        self.ready = false;
+        let (tail, value) = read_logged::<D, P>(self.alloc, &mut self.disk)?;
+        self.tail = tail;
+        self.ready = true;
+        Ok(value)
+    }
+
+    // Adds a batch behind the log whose last gate is at this offset.
+    fn append(&mut self, end: usize, batch: &[u8]) -> Result<(), Refusal>
+        requires ready { IsTrue self.old.ready }
+        requires end { self.old.tail.end ≡ Some end }
+        requires fits { length batch.now ≤ GREATEST_IMAGE }
+
+        ensures added { OnOk result ((image : List ℕ) (batches : List (List ℕ))
+            → Opens image batches (D.seen self.old.disk)
+            → Opens image (batches ++ batch.now ∷ []) (D.seen self.new.disk)) }
+        ensures ready { OnOk result (self.new.ready ≡ true) }
+        ensures any_moment { (image : List ℕ) (batches : List (List ℕ))
+            → Opens image batches (D.seen self.old.disk)
+            → LeavesOnly D.moment D.left_since self.old.disk self.new.disk
+            (OldOrNewLog image batches image (batches ++ batch.now ∷ [])) }
+        ensures disk { IsErrOf result Refusal.Disk →
+            Grew (D.faults self.old.disk) (D.faults self.new.disk) × (self.new.ready ≡ false) }
+        ensures unchanged { IfErr result (λ e. e ≢ Refusal.Disk →
+            (self.new.disk ≡ self.old.disk) × (self.new.ready ≡ self.old.ready)) }
+        ensures others { IfErr result (λ e. (e ≡ Refusal.Memory) ⊎ (e ≡ Refusal.Disk)) }
+    {
+        let Some(next) = end.checked_add(batch.len() + HEAD + 1) else {
+            return Err(Refusal::Memory);
+        };
+        let bytes = shut(record(self.alloc, batch)?)?;
+        self.ready = false;
+        extend(&mut self.disk, self.tail.in_b, end, batch, &bytes)?;
+        self.tail.end = Some(next);
+        self.ready = true;
+        Ok(())
+    }
+
+    // Saves a value whole, with an empty log. Fails as `Persist::to_bytes` does.
+    fn renew(&mut self, value: &P::Value) -> Result<(), Refusal>
+        requires ready { IsTrue self.old.ready }
+
+        ensures saved { OnOk result
+            (Restores P.logs P.reads P.leads (P.saved value.now) (D.seen self.new.disk)) }
+        ensures ready { OnOk result (self.new.ready ≡ true) }
+        ensures any_moment { (old : P.Value)
+            → Restores P.logs P.reads P.leads old (D.seen self.old.disk)
+            → LeavesOnly D.moment D.left_since self.old.disk self.new.disk
+            (RestoresEither P.logs P.reads P.leads old (P.saved value.now)) }
+        ensures disk { IsErrOf result Refusal.Disk →
+            Grew (D.faults self.old.disk) (D.faults self.new.disk) × (self.new.ready ≡ false) }
+        ensures too_large { IsErrOf result Refusal.ImageTooLarge ↔
+            (GREATEST_IMAGE < length (P.image value.now)) }
+        ensures unchanged { IfErr result (λ e. e ≢ Refusal.Disk →
+            (self.new.disk ≡ self.old.disk) × (self.new.ready ≡ self.old.ready)) }
+        ensures others { IfErr result (λ e. (e ≡ Refusal.ImageTooLarge)
+            ⊎ ((e ≡ Refusal.Memory) ⊎ (e ≡ Refusal.Disk))) }
+    {
+        let bytes = spelled_shut::<P>(self.alloc, value)?;
+        self.ready = false;
+        let in_b = self.tail.in_b;
+        turn(&mut self.disk, in_b, image_before_gate(&bytes), &bytes)?;
+        let start = bytes.len() - 1;
+        self.tail = Tail {
+            in_b: !in_b,
+            start,
+            end: Some(start),
+        };
+        self.ready = true;
+        Ok(())
+    }
+
+    /// Saves a value. If a batch is given, it must lead from the value that the disk holds to this
+    /// one as it is once saved. The batch is added to the log, unless no log follows the image, or
+    /// the log would become longer than the image and than [`LEAST_LOG`]. Otherwise the whole image
+    /// is written. A crash at any moment since the call began leaves the old value or the new one;
+    /// after `Ok` it leaves the new one.
+    ///
+    /// Fails with `Closed` exactly if the journal is closed; with `ImageTooLarge` if the image is
+    /// written and is longer than an image may be; with `Memory`; and with `Disk` if the device
+    /// failed. `Disk` closes the journal; the others change nothing.
+    pub fn save(&mut self, value: &P::Value, batch: Option<&[u8]>) -> Result<(), Refusal>
+        ensures saved { OnOk result ((old : P.Value)
+            → Restores P.logs P.reads P.leads old (D.seen self.old.disk)
+            → IfSome batch.entry (λ b. P.leads b.now old (P.saved value.now))
+            → Restores P.logs P.reads P.leads (P.saved value.now) (D.seen self.new.disk)) }
+        ensures ready { OnOk result (self.new.ready ≡ true) }
+        ensures any_moment { IsTrue self.old.ready → (old : P.Value)
+            → Restores P.logs P.reads P.leads old (D.seen self.old.disk)
+            → IfSome batch.entry (λ b. P.leads b.now old (P.saved value.now))
+            → LeavesOnly D.moment D.left_since self.old.disk self.new.disk
+            (RestoresEither P.logs P.reads P.leads old (P.saved value.now)) }
+        ensures closed { IsErrOf result Refusal.Closed ↔ (self.old.ready ≡ false) }
+        ensures disk { IsErrOf result Refusal.Disk →
+            Grew (D.faults self.old.disk) (D.faults self.new.disk) × (self.new.ready ≡ false) }
+        ensures too_large { IsErrOf result Refusal.ImageTooLarge ↔ IsTrue self.old.ready
+            × (IfSome batch.entry (λ b. place_for self.old.tail b.now ≡ None))
+            × (GREATEST_IMAGE < length (P.image value.now)) }
+        ensures unchanged { IfErr result (λ e. e ≢ Refusal.Disk →
+            (self.new.disk ≡ self.old.disk) × (self.new.ready ≡ self.old.ready)) }
+        ensures others { IfErr result (λ e. (e ≡ Refusal.Closed) ⊎ ((e ≡ Refusal.ImageTooLarge)
+            ⊎ ((e ≡ Refusal.Memory) ⊎ (e ≡ Refusal.Disk)))) }
+    {
+        if !self.ready {
+            return Err(Refusal::Closed);
+        }
+        let Some(batch) = batch else {
+            return self.renew(value);
+        };
+        let Some(end) = self.tail.place_for(batch) else {
+            return self.renew(value);
+        };
+        self.append(end, batch)
+    }
+}
+
+impl<P: Replay> Journal<MemoryDisk, P> {
+    ghost use Rattle.disk.specs.Memory.{held_by, left_by, filled_by_crash, IsFaultless};
+    ghost use Rattle.disk.specs.Plan.{fails_from, fails_once};
+
+    /// From now on, the `k`-th call of the disk and all later ones fail; see
+    /// [`MemoryDisk::fail_from`].
+    pub fn fail_from(&mut self, k: u64)
+        ensures plan { self.new.disk.plan ≡ fails_from k }
+        ensures account { self.new.disk.account ≡ self.old.disk.account }
+        ensures ready { self.new.ready ≡ self.old.ready }
+    {
+        self.disk.fail_from(k);
+    }
+
+    /// The `k`-th call of the disk from now on fails, and no later one; see
+    /// [`MemoryDisk::fail_once`].
+    pub fn fail_once(&mut self, k: u64)
+        ensures plan { self.new.disk.plan ≡ fails_once k }
+        ensures account { self.new.disk.account ≡ self.old.disk.account }
+        ensures ready { self.new.ready ≡ self.old.ready }
+    {
+        self.disk.fail_once(k);
+    }
+
+    /// The disk that a crash now leaves; see [`MemoryDisk::after_crash`].
+    pub fn after_crash(&self, fill: u8) -> Result<MemoryDisk, Refusal>
+        ensures filled { IfOk result (λ d. held_by d ≡ filled_by_crash fill self.now.disk) }
+        ensures left { IfOk result (λ d. left_by self.now.disk (held_by d)) }
+        ensures durable { IfOk result (λ d. Only (held_by d) (left_by d)) }
+        ensures faultless { IfOk result IsFaultless }
+        ensures memory { IfErr result (λ e. e ≡ Refusal.Memory) }
+    {
+        self.disk.after_crash(fill)
+    }
+}

@@ -1,0 +1,90 @@
+use Rattle.std.proofs.Common.{◌+◌, ◌≤◌, inl, length, subst, sym}
+use Rattle.std.proofs.Math.Logic.{∥∥₁_elim}
+use Rattle.std.proofs.Props.{props}
+use Rattle.std.proofs.lemmas.Bool.{false≢true}
+use Rattle.std.proofs.lemmas.Result.{on_ok_weaker}
+use Rattle.disk.specs.Areas.{part}
+use Rattle.disk_shelf.proofs.Logs.{Adding, batch_added, end_found, end_moved, first_torn, second_torn}
+use Rattle.disk_shelf.proofs.Logs.{logged_by}
+use Rattle.disk_shelf.proofs.Moments.{joined, weaker}
+use Rattle.disk.proofs.Causes.{err_cause, later_cause}
+use Rattle.disk_shelf.proofs.log.extend.Goals as goal
+
+pub put-requires-clause-within : goal.put-requires-clause-within
+put-requires-clause-within g c =
+    let d = g.D.Disk.seen c.args.disk.now in
+    subst (λ a. c.args.end + 1 ≤ length (part a d)) (sym c.half-area.ensures)
+    (∥∥₁_elim c.requires.logged.2 (hlevel props) end_found)
+
+pub returns-in_err-put-clause-any_moment : goal.returns-in_err-put-clause-any_moment
+returns-in_err-put-clause-any_moment g c image batches opens =
+    let s = g.D.Disk.seen c.args.disk.now in
+    let adding : Adding c.args.in_b c.half-area.result c.args.end c.args.batch.now
+    c.args.bytes.now s = record {
+      here = c.half-area.ensures;
+      selected = c.requires.logged.1;
+      found = c.requires.logged.2;
+      spelled = c.requires.spelled;
+      fits = c.requires.fits;
+    } in
+    weaker c.put.ensures.any_moment
+    (λ x torn. inl (first_torn adding image batches opens x torn))
+
+pub returns-clause-any_moment : goal.returns-clause-any_moment
+returns-clause-any_moment g c image batches opens =
+    let s = g.D.Disk.seen c.args.disk.now in
+    let t = g.D.Disk.seen c.put.new.disk in
+    let area = c.half-area.result in
+    let adding : Adding c.args.in_b area c.args.end c.args.batch.now c.args.bytes.now s = record {
+      here = c.half-area.ensures;
+      selected = c.requires.logged.1;
+      found = c.requires.logged.2;
+      spelled = c.requires.spelled;
+      fits = c.requires.fits;
+    } in
+    joined
+    (weaker c.put.ensures.any_moment
+    (λ x torn. inl (first_torn adding image batches opens x torn)))
+    (weaker c.put-2.ensures.any_moment
+    (λ x torn. second_torn adding t c.in_ok-put.ensures.written image batches opens x torn))
+
+pub returns-clause-added : goal.returns-clause-added
+returns-clause-added g c =
+    let s = g.D.Disk.seen c.args.disk.now in
+    let adding : Adding c.args.in_b c.half-area.result c.args.end c.args.batch.now
+    c.args.bytes.now s = record {
+      here = c.half-area.ensures;
+      selected = c.requires.logged.1;
+      found = c.requires.logged.2;
+      spelled = c.requires.spelled;
+      fits = c.requires.fits;
+    } in
+    on_ok_weaker c.put-2.result (λ set image batches opens.
+    batch_added adding
+    (g.D.Disk.seen c.put.new.disk) c.in_ok-put.ensures.written image batches opens
+    (g.D.Disk.seen c.put-2.new.disk) set) c.put-2.ensures.written
+
+pub returns-clause-logged : goal.returns-clause-logged
+returns-clause-logged g c =
+    let s = g.D.Disk.seen c.args.disk.now in
+    let adding : Adding c.args.in_b c.half-area.result c.args.end c.args.batch.now
+    c.args.bytes.now s = record {
+      here = c.half-area.ensures;
+      selected = c.requires.logged.1;
+      found = c.requires.logged.2;
+      spelled = c.requires.spelled;
+      fits = c.requires.fits;
+    } in
+    logged_by g.D.Disk.seen g.D.Disk.may_leave c.args.in_b _ c.put-2.new.disk c.put-2.result
+    c.put-2.ensures.durable
+    (on_ok_weaker c.put-2.result (λ set. end_moved adding
+    (g.D.Disk.seen c.put.new.disk) c.in_ok-put.ensures.written
+    (g.D.Disk.seen c.put-2.new.disk) set) c.put-2.ensures.written)
+
+pub returns-in_err-put-clause-cause : goal.returns-in_err-put-clause-cause
+returns-in_err-put-clause-cause g c =
+    err_cause c.in_err-put.ensures.cause c.from_residual.ensures.0
+
+pub returns-clause-cause : goal.returns-clause-cause
+returns-clause-cause g c =
+    later_cause (c.in_ok-put.ensures.cause.fine false≢true) c.put-2.ensures.cause

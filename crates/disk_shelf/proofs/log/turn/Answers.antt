@@ -1,0 +1,75 @@
+use Rattle.std.proofs.Common.{inl, length, not}
+use Rattle.std.proofs.lemmas.Bool.{false≢true}
+use Rattle.std.proofs.lemmas.Result.{on_ok_weaker}
+use Rattle.disk.specs.Areas.{Torn}
+use Rattle.disk_shelf.proofs.Logs.{logged_by}
+use Rattle.disk_shelf.proofs.Turns.{Turning, aside_kept, turn_torn, turned}
+use Rattle.disk_shelf.proofs.Moments.{joined, weaker}
+use Rattle.disk.proofs.Causes.{err_cause, later_cause}
+use Rattle.disk_shelf.proofs.log.turn.Goals as goal
+
+pub returns-in_err-put-clause-any_moment : goal.returns-in_err-put-clause-any_moment
+returns-in_err-put-clause-any_moment g c logged old batches opens =
+    let s = g.D.Disk.seen c.args.disk.now in
+    let step = Torn 0 (length c.args.bytes.now) in
+    let turning : Turning c.args.in_b c.half.result c.args.image.now c.args.bytes.now s = record {
+      other = c.half.ensures;
+      selected = c.requires.selected;
+      spelled = c.requires.spelled;
+      fits = c.requires.fits;
+    } in
+    weaker c.put.ensures.any_moment
+    (λ x torn. inl (aside_kept turning step logged old batches opens x torn))
+
+pub returns-clause-any_moment : goal.returns-clause-any_moment
+returns-clause-any_moment g c logged old batches opens =
+    let s = g.D.Disk.seen c.args.disk.now in
+    let t = g.D.Disk.seen c.put.new.disk in
+    let step = Torn 0 (length c.args.bytes.now) in
+    let turning : Turning c.args.in_b c.half.result c.args.image.now c.args.bytes.now s = record {
+      other = c.half.ensures;
+      selected = c.requires.selected;
+      spelled = c.requires.spelled;
+      fits = c.requires.fits;
+    } in
+    joined
+    (weaker c.put.ensures.any_moment
+    (λ x torn. inl (aside_kept turning step logged old batches opens x torn)))
+    (weaker c.put-2.ensures.any_moment
+    (λ x torn. turn_torn turning t c.in_ok-put.ensures.written opens x torn))
+
+pub returns-clause-turned : goal.returns-clause-turned
+returns-clause-turned g c =
+    let s = g.D.Disk.seen c.args.disk.now in
+    let turning : Turning c.args.in_b c.half.result c.args.image.now c.args.bytes.now s = record {
+      other = c.half.ensures;
+      selected = c.requires.selected;
+      spelled = c.requires.spelled;
+      fits = c.requires.fits;
+    } in
+    on_ok_weaker c.put-2.result (λ set. (turned turning (g.D.Disk.seen c.put.new.disk)
+    c.in_ok-put.ensures.written c.mark-choice.result c.mark-choice.ensures
+    (g.D.Disk.seen c.put-2.new.disk) set).0) c.put-2.ensures.written
+
+pub returns-clause-logged : goal.returns-clause-logged
+returns-clause-logged g c =
+    let s = g.D.Disk.seen c.args.disk.now in
+    let turning : Turning c.args.in_b c.half.result c.args.image.now c.args.bytes.now s = record {
+      other = c.half.ensures;
+      selected = c.requires.selected;
+      spelled = c.requires.spelled;
+      fits = c.requires.fits;
+    } in
+    logged_by g.D.Disk.seen g.D.Disk.may_leave (not c.args.in_b) _ c.put-2.new.disk c.put-2.result
+    c.put-2.ensures.durable
+    (on_ok_weaker c.put-2.result (λ set. (turned turning (g.D.Disk.seen c.put.new.disk)
+    c.in_ok-put.ensures.written c.mark-choice.result c.mark-choice.ensures
+    (g.D.Disk.seen c.put-2.new.disk) set).1) c.put-2.ensures.written)
+
+pub returns-in_err-put-clause-cause : goal.returns-in_err-put-clause-cause
+returns-in_err-put-clause-cause g c =
+    err_cause c.in_err-put.ensures.cause c.from_residual.ensures.0
+
+pub returns-clause-cause : goal.returns-clause-cause
+returns-clause-cause g c =
+    later_cause (c.in_ok-put.ensures.cause.fine false≢true) c.put-2.ensures.cause

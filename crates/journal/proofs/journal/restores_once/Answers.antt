@@ -1,6 +1,0 @@
-use Rattle.journal.proofs.Values.{restores_one}
-use Rattle.journal.proofs.journal.restores_once.Goals as goal
-
-pub returns : goal.returns
-returns g c =
-    restores_one g.met.P.Replay.one_value g.met.P.Replay.one_end
