@@ -3,15 +3,15 @@
 use Rattle.std.specs.Prelude.{◌≡◌, ℕ, ℤ, Bool, Option, Some, None, Result, Err}
 use Rattle.model.specs.declared.event.Answer.{Answer}
 use Rattle.model.specs.declared.event.Event.{Event}
-use Rattle.values.specs.Faults.{Through, status, status_of, written}
-use Rattle.values.specs.Fields.{answer_fields, bit}
-use Rattle.handles.specs.Lone.{NodeActs}
-use Rattle.values.specs.declared.fault.Fault.{Fault}
-use Rattle.values.specs.declared.fault.Fault.TheVariants as fault
-use Rattle.values.specs.declared.fields.CAnswer.{CAnswer}
-use Rattle.handles.specs.declared.lone.LoneNode.{LoneNode}
-use Rattle.handles.specs.Cells.{CellActs}
-use Rattle.handles.specs.declared.seated.SeatedCell.{SeatedCell}
+use Rattle.c_values.specs.Faults.{Through, status, status_of, written}
+use Rattle.c_values.specs.Fields.{answer_fields, bit}
+use Rattle.c_handles.specs.Lone.{NodeActs}
+use Rattle.c_values.specs.declared.fault.Fault.{Fault}
+use Rattle.c_values.specs.declared.fault.Fault.TheVariants as fault
+use Rattle.c_values.specs.declared.fields.CAnswer.{CAnswer}
+use Rattle.c_handles.specs.declared.lone.LoneNode.{LoneNode}
+use Rattle.c_handles.specs.Cells.{CellActs}
+use Rattle.c_handles.specs.declared.seated.SeatedCell.{SeatedCell}
 
 -- The call did this with some result, which was written to the answer.
 pub record Answered {X : Type 0} (Does : Option X → Option X → Result Answer Fault → Type 0)

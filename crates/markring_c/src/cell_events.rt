@@ -2,10 +2,10 @@
 ghost use Rattle.model.specs.declared.event.Event.TheVariants as event;
 ghost use Rattle.markring_c.specs.Calls.{CellCalled};
 
-use handles::CellHandle;
+use c_handles::CellHandle;
 use model::Event;
 use std::alloc::Global;
-use values::{CAnswer, answered};
+use c_values::{CAnswer, answered};
 
 /// Makes a new object with this many empty places, and puts its reference into the register.
 #[unsafe(no_mangle)]

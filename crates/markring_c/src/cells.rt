@@ -1,16 +1,16 @@
 //! Cells, except for the events of their nodes one by one.
 ghost use Rattle.std.specs.Prelude.{◌≡◌, Ok};
 ghost use Rattle.node.specs.Summaries.{summary_of};
-ghost use Rattle.values.specs.Faults.{Freed, Through, read, status, written};
-ghost use Rattle.values.specs.Fields.{bit, event_of, reference_fields, state_fields};
-ghost use Rattle.handles.specs.Reads.{link_of, register_of};
-ghost use Rattle.handles.specs.Cells.{HandleImaged, Raised, Received, Reopened, Saved, Sent};
-ghost use Rattle.handles.specs.Cells.{SizedSame};
+ghost use Rattle.c_values.specs.Faults.{Freed, Through, read, status, written};
+ghost use Rattle.c_values.specs.Fields.{bit, event_of, reference_fields, state_fields};
+ghost use Rattle.c_handles.specs.Reads.{link_of, register_of};
+ghost use Rattle.c_handles.specs.Cells.{HandleImaged, Raised, Received, Reopened, Saved, Sent};
+ghost use Rattle.c_handles.specs.Cells.{SizedSame};
 ghost use Rattle.markring_c.specs.Calls.{Answered, CellActed, Finished, Flagged, Numbered};
 
-use handles::CellHandle;
+use c_handles::CellHandle;
 use std::alloc::Global;
-use values::{CAnswer, CEvent, CLink, CRef, CState, Fault, OK, answered, flagged, status, written};
+use c_values::{CAnswer, CEvent, CLink, CRef, CState, Fault, OK, answered, flagged, status, written};
 
 /// Frees the cell.
 #[unsafe(no_mangle)]

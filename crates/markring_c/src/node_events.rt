@@ -2,10 +2,10 @@
 ghost use Rattle.model.specs.declared.event.Event.TheVariants as event;
 ghost use Rattle.markring_c.specs.Calls.{NodeCalled};
 
-use handles::NodeHandle;
+use c_handles::NodeHandle;
 use model::Event;
 use std::alloc::Global;
-use values::{CAnswer, answered};
+use c_values::{CAnswer, answered};
 
 // Gives the node an event. `Next` of a node that keeps a log isn't inlined, so that the events and
 // answers of other calls need not go through memory.

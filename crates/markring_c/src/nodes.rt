@@ -1,21 +1,21 @@
 //! Nodes, except for their events one by one.
 ghost use Rattle.std.specs.Prelude.{◌≡◌, ◌==◌, not, Ok};
 ghost use Rattle.node.specs.Summaries.{summary_of};
-ghost use Rattle.values.specs.Faults.{read, status, written};
-ghost use Rattle.values.specs.Fields.{bit, event_of, reference_fields, state_fields};
-ghost use Rattle.handles.specs.Lone.{Made, Read, TookIn};
-ghost use Rattle.values.specs.Bytes.{WroteIf};
-ghost use Rattle.values.specs.Faults.{Filled, Freed, Through};
-ghost use Rattle.handles.specs.Frames.{HandlePacks, ack_bytes, frame_bytes};
-ghost use Rattle.handles.specs.Batches.{HandleBatched, Reopened, batch_of, size_of};
-ghost use Rattle.handles.specs.Images.{HandleImaged, Kept, Logs, Released, SizedSame};
-ghost use Rattle.handles.specs.Reads.{link_of, register_of, waiting_number};
+ghost use Rattle.c_values.specs.Faults.{read, status, written};
+ghost use Rattle.c_values.specs.Fields.{bit, event_of, reference_fields, state_fields};
+ghost use Rattle.c_handles.specs.Lone.{Made, Read, TookIn};
+ghost use Rattle.c_values.specs.Bytes.{WroteIf};
+ghost use Rattle.c_values.specs.Faults.{Filled, Freed, Through};
+ghost use Rattle.c_handles.specs.Frames.{HandlePacks, ack_bytes, frame_bytes};
+ghost use Rattle.c_handles.specs.Batches.{HandleBatched, Reopened, batch_of, size_of};
+ghost use Rattle.c_handles.specs.Images.{HandleImaged, Kept, Logs, Released, SizedSame};
+ghost use Rattle.c_handles.specs.Reads.{link_of, register_of, waiting_number};
 ghost use Rattle.markring_c.specs.Calls.{Answered, Finished, Finishes, NodeActed, Numbered};
 
 use crate::node_events::act;
-use handles::NodeHandle;
+use c_handles::NodeHandle;
 use std::alloc::Global;
-use values::{CAnswer, CEvent, CLink, CRef, CState, Fault, OK, answered, flagged, status, written};
+use c_values::{CAnswer, CEvent, CLink, CRef, CState, Fault, OK, answered, flagged, status, written};
 
 /// Makes a new node.
 #[unsafe(no_mangle)]

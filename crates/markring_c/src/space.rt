@@ -1,12 +1,12 @@
 //! Spaces and watches.
-ghost use Rattle.values.specs.Faults.{Filled, Freed, Through};
-ghost use Rattle.handles.specs.Spaces.{Given, Made, Moved, Opens, TakesCell, TakesWatch};
-ghost use Rattle.handles.specs.Watches.{Looks};
+ghost use Rattle.c_values.specs.Faults.{Filled, Freed, Through};
+ghost use Rattle.c_handles.specs.Spaces.{Given, Made, Moved, Opens, TakesCell, TakesWatch};
+ghost use Rattle.c_handles.specs.Watches.{Looks};
 ghost use Rattle.markring_c.specs.Calls.{Finished, Finishes, Numbered, OpenedOr};
 
-use handles::{CellHandle, SpaceHandle, WatchHandle};
+use c_handles::{CellHandle, SpaceHandle, WatchHandle};
 use std::alloc::Global;
-use values::{Fault, OK, status, written};
+use c_values::{Fault, OK, status, written};
 
 /// Makes a space that isn't open yet.
 #[unsafe(no_mangle)]

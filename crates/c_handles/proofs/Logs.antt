@@ -1,0 +1,292 @@
+-- What becomes of a log.
+use Rattle.std.proofs.Common.{◌≡◌, ℕ, zero, suc, ◌+◌, ◌%◌, ◌^◌, ◌≤◌, Bool, true, false, cond, List, [], ◌∷◌, ◌++◌, length, get_or, Option, Some, None, Ok, refl, ap, sym, ◌∙◌, subst, arith}
+use Rattle.std.specs.Global.{Vec}
+use Rattle.std.proofs.Common.{length-append}
+use Rattle.std.proofs.Math.ListN.{get_or-map}
+use Rattle.model.specs.declared.event.Event.{Event}
+use Rattle.model.specs.declared.event.Answer.{Answer}
+use Rattle.model.specs.declared.event.Answer.TheVariants as answer
+use Rattle.model.specs.declared.event.Event.TheVariants as event
+use Rattle.ids.specs.declared.refusal.Refusal.{Refusal}
+use Rattle.ids.specs.declared.refusal.Refusal.TheVariants.{AckBeyond, LinkSpent, WrongNode}
+use Rattle.msg.specs.declared.frame.Ack.{Ack}
+use Rattle.model.specs.Checks.{guarded}
+use Rattle.model.specs.Effects.{Effect, unchanged}
+use Rattle.model.specs.Steps.{is_addressed}
+use Rattle.model.proofs.Checks.{guarded-ok}
+use Rattle.model.proofs.Shown.{view-ok}
+use Rattle.std.proofs.Common.{Result, Err, OnOk, replicate, drop, take}
+use Rattle.std.specs.Prelude.{nat_le, ◌||◌, ◌&&◌, ◌-◌}
+use Rattle.std.proofs.lemmas.Bool.{false≢true, true≢false}
+use Rattle.std.proofs.lemmas.List.{take_all}
+use Rattle.node_store.proofs.Stores.{image_plain}
+use Rattle.image.specs.Logged.{IsEither}
+use Rattle.image.specs.Wholes.{IsWholeOf}
+use Rattle.c_handles.specs.Lone.{is_counted}
+use Rattle.model.specs.View.{NodeView, all_kept, kept_of, kept_view, let_go, link_to, no_link, used, view_act}
+use Rattle.node.specs.Invariant.{IsNode}
+use Rattle.node.specs.Keeping.{WholeNode}
+use Rattle.node_store.specs.Logs.{IsDone, Logged, is_quiet}
+use Rattle.node_log.specs.Noted.{Noted}
+use Rattle.node_store.proofs.Ends.{logged_more, logged_none}
+use Rattle.c_handles.specs.declared.lone.images.Counts.{Counts}
+use Rattle.image.specs.Logged.{IsAnyWholeOf}
+use Rattle.image.specs.Wholes.{saved_whole}
+use Rattle.c_handles.specs.Images.{Took, after_kept, counted, counts_below, counts_of, image_in, keeps, keeps_below}
+use Rattle.c_handles.specs.Logs.{AreSaved, IsBehind, KeepsLog, Led, LedIf, LogsFrom, begun, no_counts}
+use Rattle.c_handles.specs.declared.lone.LoneNode.{LoneNode}
+use Rattle.c_handles.proofs.Behind.{also, behind_all, behind_kept}
+
+-- a log that isn't kept says nothing
+pub if_kept : {first n m : NodeView} {counts others : Option (Vec Counts)} (logs : Bool)
+    (old new : Option (List ℕ)) → (LedIf old first n counts → LedIf new first m others)
+    → LedIf (cond logs old None) first n counts → LedIf (cond logs new None) first m others
+if_kept true old new f = f
+if_kept false old new f = λ led bytes is. absurd cc
+
+pub if_none : {first m : NodeView} {others : Option (Vec Counts)} (logs : Bool)
+    (log : Option (List ℕ)) → logs ≡ false → LedIf (cond logs log None) first m others
+if_none true log off = absurd (true≢false off)
+if_none false log off = λ bytes is. absurd cc
+
+-- ---- an event
+
+-- what isn't both of two is not the first if it is the second
+pub other_than : (a b : Bool) → (a && b) ≡ false → b ≡ true → a ≡ false
+other_than true b both second = absurd (true≢false (sym second ∙ both))
+other_than false b both second = refl
+
+saved_still : (counts : Option (Vec Counts)) (n m : NodeView)
+    → ((i : ℕ) → (link_to m i).kept ≡ (link_to n i).kept) → AreSaved counts n → AreSaved counts m
+saved_still None n m same saved = tt
+saved_still (Some counts) n m same saved = λ peer. omega (arith, same peer, saved peer)
+
+-- an event is done and noted
+pub led_noted : (first n new : NodeView) (counts : Option (Vec Counts)) (e : Event) (a : Answer)
+    (log log' : Option (List ℕ)) → view_act n e ≡ Ok (new, a) → is_quiet a ≡ false
+    → Noted log log' e → LedIf log first n counts → LedIf log' first new counts
+led_noted first n new counts e a log log' acts now noted led bytes is =
+    let more = noted.more bytes is in
+    let was = led more.1.0 more.1.1 in
+    let next = also n new was.last e a was.behind acts in
+    let done : IsDone was.last e next.after =
+    record { answer = a; acts = next.acts; now = now } in
+    record {
+      last = next.after;
+      logged = subst (λ l. Logged l first next.after) (sym more.1.2)
+          (logged_more e more.0 done was.logged);
+      behind = next.behind;
+      saved = saved_still counts was.last next.after next.kept was.saved;
+    }
+
+-- what counts as a change is what isn't quiet
+pub counted_now : (a : Answer) → is_counted a ≡ true → is_quiet a ≡ false
+counted_now (answer.Word word) is = absurd (false≢true is)
+counted_now answer.Repeat is = absurd (false≢true is)
+counted_now answer.Early is = absurd (false≢true is)
+counted_now a is = refl
+
+pub uncounted_quiet : (a : Answer) → is_counted a ≡ false → is_quiet a ≡ true
+uncounted_quiet (answer.Word word) is = refl
+uncounted_quiet answer.Repeat is = refl
+uncounted_quiet answer.Early is = refl
+uncounted_quiet a is = absurd (true≢false is)
+
+or-true : (b : Bool) → (b || true) ≡ true
+or-true true = refl
+or-true false = refl
+
+or-false : (b : Bool) → (b || false) ≡ b
+or-false true = refl
+or-false false = refl
+
+-- a node after an event
+abbrev after : LoneNode → WholeNode → Option (List ℕ) → Bool → Bool → LoneNode
+after n node log changed unsaved =
+    record n { node = node; is_changed = changed; is_unsaved = unsaved; log = log }
+
+pub after_counted : (n : LoneNode) (node : WholeNode) (log : Option (List ℕ)) (b : Bool)
+    → b ≡ true → record n { node = node; is_changed = true; is_unsaved = true; log = log }
+    ≡ record n {
+      node = node;
+      is_changed = n.is_changed || b;
+      is_unsaved = n.is_unsaved || b;
+      log = log;
+    }
+after_counted n node log b is =
+    sym (ap (λ (c : Bool). after n node log (n.is_changed || c) (n.is_unsaved || c)) is
+    ∙ ap (λ (c : Bool). after n node log c (n.is_unsaved || true)) (or-true n.is_changed)
+    ∙ ap (λ (c : Bool). after n node log true c) (or-true n.is_unsaved))
+
+pub after_uncounted : (n : LoneNode) (node : WholeNode) (b : Bool)
+    → b ≡ false → record n { node = node }
+    ≡ record n {
+      node = node;
+      is_changed = n.is_changed || b;
+      is_unsaved = n.is_unsaved || b;
+    }
+after_uncounted n node b is =
+    sym (ap (λ (c : Bool). after n node n.log (n.is_changed || c) (n.is_unsaved || c)) is
+    ∙ ap (λ (c : Bool). after n node n.log c (n.is_unsaved || false)) (or-false n.is_changed)
+    ∙ ap (λ (c : Bool). after n node n.log n.is_changed c) (or-false n.is_unsaved))
+
+-- an acknowledgement that is answered isn't quiet
+pub ack_now : (n new : NodeView) (a : Ack) (x : Answer) → view_act n (event.Ack a) ≡ Ok (new, x)
+    → is_quiet x ≡ false
+unfolding view_act
+ack_now n new a x h =
+    let ts : List (Bool × Refusal) =
+    (is_addressed n.local a.from a.to, WrongNode)
+    ∷ (nat_le a.number (link_to n a.from).kept, AckBeyond) ∷ (true, LinkSpent) ∷ [] in
+    let found =
+    view-ok n new (let_go n.links (Some a)) (guarded ts (unchanged n.local answer.Done)) x h in
+    let same : unchanged n.local answer.Done ≡ found.0 =
+    guarded-ok ts (unchanged n.local answer.Done) found.0 found.1 in
+    ap is_quiet (found.3 ∙ ap (λ (z : Effect). z.answer) (sym same))
+
+-- ---- more counts as saved
+
+keeps_behind : (counts : List Counts) (k : ℕ) (n : WholeNode) (last : NodeView)
+    → ((peer : ℕ) → (get_or counts peer no_counts).sent ≤ (link_to last peer).kept)
+    → IsBehind n.core last → IsBehind (keeps_below counts k n).core last
+keeps_behind counts zero n last saved behind = behind
+keeps_behind counts (suc peer) n last saved behind =
+    behind_kept (keeps_below counts peer n).core last peer (get_or counts peer no_counts).sent
+    (get_or counts peer no_counts).received (saved peer)
+    (keeps_behind counts peer n last saved behind)
+
+pub kept_logs : (n : LoneNode) (counts : Option (Vec Counts)) (same : Bool) → n.counts ≡ counts
+    → KeepsLog n (after_kept counts same n)
+unfolding keeps
+kept_logs n None same is = λ first led. led
+kept_logs n (Some counts) false is = λ first led. led
+kept_logs n (Some counts) true is = λ first led bytes log. kept_led (led bytes log)
+  where
+    kept_led : {bytes : List ℕ} {first : NodeView} → Led bytes first n.node.core n.counts
+        → Led bytes first (keeps counts.items n.node).core n.counts
+    kept_led was = record {
+      last = was.last;
+      logged = was.logged;
+      behind = keeps_behind counts.items (length n.node.core.links) n.node was.last
+          (subst (λ c. AreSaved c was.last) is was.saved) was.behind;
+      saved = was.saved;
+    }
+
+-- ---- a log that begins
+
+-- the element that is appended, if that is the one
+at_push_if : {A : Type 0} (P : A → Type 0) (xs : List A) (k : ℕ) (x d : A) → (k ≡ length xs → P x)
+    → P d → P (get_or xs k d) → P (get_or (xs ++ x ∷ []) k d)
+at_push_if P [] zero x d p q h = p refl
+at_push_if P [] (suc k) x d p q h = q
+at_push_if P (a ∷ xs) zero x d p q h = h
+at_push_if P (a ∷ xs) (suc k) x d p q h = at_push_if P xs k x d (λ e. p (ap suc e)) q h
+
+counts-length : (n : NodeView) (k : ℕ) → length (counts_below n k) ≡ k
+counts-length n zero = refl
+counts-length n (suc k) =
+    omega (
+      arith,
+      length-append (counts_below n k) (counted n k ∷ []),
+      counts-length n k,
+    )
+
+sent-at : (n : NodeView) (k peer : ℕ)
+    → (get_or (counts_below n k) peer no_counts).sent ≤ used (link_to n peer)
+sent-at n zero peer = omega arith
+sent-at n (suc k) peer =
+    at_push_if (λ (c : Counts). c.sent ≤ used (link_to n peer)) (counts_below n k) peer
+    (counted n k) no_counts
+    (λ is.
+    let here : peer ≡ k = is ∙ counts-length n k in
+    subst (λ j. used (link_to n k) ≤ used (link_to n j)) (sym here) (omega arith))
+    (omega arith) (sent-at n k peer)
+
+pub counts_saved : (n : NodeView) (counts : List Counts) → counts ≡ counts_of n → (peer : ℕ)
+    → (get_or counts peer no_counts).sent ≤ (link_to (kept_view n) peer).kept
+unfolding counts_of
+counts_saved n counts is peer =
+    subst
+    (λ (l : List Counts). (get_or l peer no_counts).sent ≤ (link_to (kept_view n) peer).kept)
+    (sym is)
+    (omega (
+      arith,
+      sent-at n (length n.links) peer,
+      ap kept_of (get_or-map all_kept n.links peer no_link),
+    ))
+
+some_one : {x y : List ℕ} → ◌≡◌ {A = Option (List ℕ)} (Some x) (Some y) → x ≡ y
+some_one both = cc both
+
+-- a log begins at a node, once an image or a batch of it was taken
+pub begun_led : (n : NodeView) (counts : Vec Counts) → counts.items ≡ counts_of n
+    → ((i : ℕ) → (link_to n i).kept ≤ used (link_to n i))
+    → LedIf (Some []) (kept_view n) n (Some counts)
+begun_led n counts is within bytes log = record {
+  last = kept_view n;
+  logged = subst (λ l. Logged l (kept_view n) (kept_view n)) (some_one log)
+      (logged_none (kept_view n));
+  behind = behind_all n within;
+  saved = counts_saved n counts.items is;
+}
+
+pub begun_if : (logs : Bool) (n : NodeView) (counts : Vec Counts) → counts.items ≡ counts_of n
+    → ((i : ℕ) → (link_to n i).kept ≤ used (link_to n i))
+    → LedIf (cond logs (begun logs) None) (kept_view n) n (Some counts)
+begun_if true n counts is within = begun_led n counts is within
+begun_if false n counts is within = λ bytes log. absurd cc
+
+-- a log begins at a node that was taken back
+pub fresh_led : (n : NodeView) → LedIf (Some []) n n None
+fresh_led n bytes log = record {
+  last = n;
+  logged = subst (λ l. Logged l n n) (some_one log) (logged_none n);
+  behind = record { same = refl; less = λ i. omega arith };
+  saved = tt;
+}
+
+-- ---- images
+
+-- an image that no log follows
+pub any_plain : (bytes : List ℕ) (n : WholeNode) → IsWholeOf bytes n → IsAnyWholeOf bytes n
+any_plain bytes n is = (
+  subst (λ b. IsEither b bytes n.core) (sym (image_plain bytes n.core is.0)) is.0,
+  is.1,
+)
+
+pub on_ok : {A E P Q : Type 0} (r : Result A E) → (P → Q) → OnOk r P → OnOk r Q
+on_ok (Ok a) f p = f p
+on_ok (Err e) f p = tt
+
+-- what follows the zeros
+pub behind_zeros : (bytes image : List ℕ) → bytes ≡ replicate 8 0 ++ image
+    → take (length bytes - 8) (drop 8 bytes) ≡ image
+behind_zeros bytes image is =
+    let rest : drop 8 bytes ≡ image = ap (drop 8) is in
+    let count : length image ≤ length bytes - 8 = omega (arith, ap length is) in
+    ap (take (length bytes - 8)) rest ∙ take_all (length bytes - 8) image count
+
+-- no more counts as saved than was sent
+pub within_sent : (n : NodeView) → IsNode n → (i : ℕ) → (link_to n i).kept ≤ used (link_to n i)
+within_sent n is i = (is.links.links.links i).kept
+
+-- what is kept for the mark of an image
+pub took : (old new : LoneNode) (mark : ℕ) (counts : Vec Counts)
+    → counts.items ≡ counts_of old.node.core → IsNode old.node.core
+    → IsAnyWholeOf (image_in old) (saved_whole old.node) → mark ≡ (old.mark + 1) % 2 ^ 64
+    → new ≡ record old {
+      counts = Some counts;
+      mark = mark;
+      is_changed = false;
+      log = begun old.logs;
+      is_kept = false;
+    } → Took old new mark
+took old new mark counts counted is read next stays = record {
+  counts = counts;
+  counted = counted;
+  stays = stays;
+  next = next;
+  read = read;
+  logs = subst (LogsFrom (kept_view old.node.core)) (sym stays)
+      (begun_if old.logs old.node.core counts counted (within_sent old.node.core is));
+}

@@ -1,0 +1,169 @@
+-- A node whose caller moves its frames and stores its images: what the calls do.
+use Rattle.std.specs.Prelude.{◌≡◌, ◌≢◌, ℕ, ◌<◌, ◌≤◌, Bool, true, false, cond, ◌==◌, ◌||◌, ◌⊎◌, nat_le, length, List, [], Option, Some, None, Result, Ok, Err, IfErr, IfOk, OnErr, IsTrue, slice_get}
+use Rattle.ids.specs.Limits.{Shaped, IsShape}
+use Rattle.ids.specs.declared.names.Ref.{Ref}
+use Rattle.ids.specs.declared.refusal.Refusal.{Refusal}
+use Rattle.ids.specs.declared.refusal.Refusal.TheVariants.{Memory, NoNode, BadFrame, BadImage}
+use Rattle.msg.specs.Frames.{Plain, plain}
+use Rattle.frames.specs.Grammar.{Fits, spelling}
+use Rattle.msg.specs.declared.frame.Ack.{Ack}
+use Rattle.msg.specs.declared.frame.Frame.{Frame}
+use Rattle.msg.specs.declared.frame.Frame.TheVariants as frame
+use Rattle.model.specs.State.{LocalState, NodeState}
+use Rattle.model.specs.Steps.{act, is_memory_free, is_shading}
+use Rattle.model.specs.View.{NodeView, Shows, Follows, Performs, Leaves, link_to, view_act}
+use Rattle.model.specs.declared.event.Answer.{Answer}
+use Rattle.model.specs.declared.event.Answer.TheVariants as answer
+use Rattle.model.specs.declared.event.Event.{Event}
+use Rattle.model.specs.declared.event.Event.TheVariants as event
+use Rattle.node.specs.Keeping.{WholeNode, alone, early_after, met, new_whole}
+use Rattle.image.specs.Nodes.{IsImageOf}
+use Rattle.c_values.specs.declared.fault.Fault.{Fault}
+use Rattle.c_values.specs.declared.fault.Fault.TheVariants as fault
+use Rattle.c_handles.specs.Logs.{KeepsLog}
+use Rattle.c_handles.specs.declared.lone.LoneNode.{LoneNode}
+
+-- ---- Making one
+
+-- no image was taken, nothing is unsaved, and no log is kept
+abbrev pub lone : WholeNode → ℕ → LoneNode
+lone n limit = record {
+  node = n;
+  limit = limit;
+  mark = 0;
+  counts = None;
+  is_changed = false;
+  is_unsaved = false;
+  logs = false;
+  log = Some [];
+  is_kept = false;
+}
+
+-- a new node, or the reason why there isn't one: the first that applies
+abbrev pub Made : Shaped → ℕ → ℕ → Result LoneNode Fault → Type 0
+Made sizes own limit (Ok n) =
+    IsShape sizes × (own < sizes.nodes) × (n ≡ lone (new_whole sizes own) limit)
+Made sizes own limit (Err fault.BadArgument) = IsShape sizes → ⊥
+Made sizes own limit (Err (fault.Refused NoNode)) = IsShape sizes × (sizes.nodes ≤ own)
+Made sizes own limit (Err (fault.Refused Memory)) = IsShape sizes × (own < sizes.nodes)
+Made sizes own limit (Err e) = ⊥
+
+-- the node of an image, or the reason why there isn't one
+abbrev pub Read : List ℕ → ℕ → Result LoneNode Fault → Type 0
+Read bytes limit (Ok n) =
+    IsImageOf bytes n.node.core × (n ≡ lone (alone n.node.core) limit)
+Read bytes limit (Err (fault.Refused Memory)) = Unit {0}
+Read bytes limit (Err (fault.Refused BadImage)) = (n : NodeView) → IsImageOf bytes n → ⊥
+Read bytes limit (Err e) = ⊥
+
+-- ---- Congestion
+
+abbrev pub unacknowledged : NodeView → ℕ → ℕ
+unacknowledged n to = length (link_to n to).unacknowledged
+
+abbrev pub owner_of : Option (Option Ref) → Option ℕ
+owner_of (Some (Some r)) = Some r.node
+owner_of (Some None) = None
+owner_of None = None
+
+-- the node that the program's message would go to
+abbrev pub receiver_of : LocalState → Event → Option ℕ
+receiver_of p (event.Give to label register) = Some to
+receiver_of p (event.Put object place register) = owner_of (slice_get p.heap.registers object)
+receiver_of p (event.Get object place label) = owner_of (slice_get p.heap.registers object)
+receiver_of p e = None
+
+abbrev pub is_full : ℕ → NodeView → Option ℕ → Bool
+is_full limit n None = false
+is_full limit n (Some to) = nat_le limit (unacknowledged n to)
+
+-- the event sends a message of the program's, and as many on that link as the limit allows aren't
+-- acknowledged
+abbrev pub is_congested : LoneNode → Event → Bool
+is_congested n e =
+    cond (n.limit == 0) false (is_full n.limit n.node.core (receiver_of n.node.core.local e))
+
+-- ---- Events
+
+-- the answer is that of an event that changes the node, unless that is an acknowledgement
+abbrev pub is_counted : Answer → Bool
+is_counted (answer.Word word) = false
+is_counted answer.Repeat = false
+is_counted answer.Early = false
+is_counted a = true
+
+-- What an event is to the node. An answer and the node afterwards are what the definitions say,
+-- also of each state that the node shows; a refusal is the first that applies, and changes nothing.
+pub record Acts (old new : WholeNode) (e : Event) (r : Result Answer Refusal) : Type 0 where
+  pub performs : Performs (is_shading (met old.early e)) r new.core
+      (view_act old.core (met old.early e))
+  pub states : (s : NodeState) → Shows old.core s
+      → Follows (met old.early e) r new.core (act s (met old.early e))
+  pub unchanged : OnErr r (new.core ≡ old.core)
+  pub leaves : Leaves old.core new.core (met old.early e)
+  pub memory_free : IsTrue (is_memory_free old.core.local (met old.early e))
+      → IfErr r (λ f. f ≢ Memory)
+  pub early : new.early ≡ early_after old.core.local old.early e r
+  pub turn : met old.early e ≢ e → IfOk r (λ a. a ≡ answer.Received)
+
+abbrev pub counted : Result Answer Refusal → Bool
+counted (Ok a) = is_counted a
+counted (Err e) = false
+
+-- The event was given to the node, which is changed if the event was answered and counts. The log,
+-- if there is one, leads to the node still; or it is lost, but only by an event that counts.
+pub record Gave (old new : LoneNode) (e : Event) (r : Result Answer Refusal) : Type 0 where
+  pub acts : Acts old.node new.node e r
+  pub stays : new ≡ record old {
+    node = new.node;
+    is_changed = old.is_changed || counted r;
+    is_unsaved = old.is_unsaved || counted r;
+    log = new.log;
+  }
+  pub logs : KeepsLog old new
+  pub quiet : counted r ≡ false → new.log ≡ old.log
+
+-- The node was given the event, or the link is congested.
+abbrev pub Given : Bool → LoneNode → LoneNode → Event → Result Answer Fault → Type 0
+Given true old new e r = (new ≡ old) × (r ≡ Err fault.Congested)
+Given false old new e (Ok a) = Gave old new e (Ok a)
+Given false old new e (Err (fault.Refused f)) = Gave old new e (Err f)
+Given false old new e (Err f) = ⊥
+
+-- an event of the node's own
+abbrev pub NodeActs : Event → LoneNode → LoneNode → Result Answer Fault → Type 0
+NodeActs e old new r = Given (is_congested old e) old new e r
+
+-- ---- Frames
+
+-- an acknowledgement was given to the node; it changes no state
+pub record Heard (old new : LoneNode) (a : Ack) (r : Result Answer Refusal) : Type 0 where
+  pub acts : Acts old.node new.node (event.Ack a) r
+  pub stays : new ≡ record old { node = new.node; log = new.log }
+  pub logs : KeepsLog old new
+  pub still : OnErr r (new.log ≡ old.log)
+
+abbrev pub Acknowledged : LoneNode → LoneNode → Ack → Result Answer Fault → Type 0
+Acknowledged old new a (Ok x) = Heard old new a (Ok x)
+Acknowledged old new a (Err (fault.Refused f)) = Heard old new a (Err f)
+Acknowledged old new a (Err f) = ⊥
+
+abbrev pub Handled : Frame → LoneNode → LoneNode → Result Answer Fault → Type 0
+Handled (frame.Data d) old new r = Given false old new (event.Data d) r
+Handled (frame.Ack a) old new r = Acknowledged old new a r
+
+-- the bytes spell this frame, and the node was given it
+pub record TookFrame (bytes : List ℕ) (old new : LoneNode) (r : Result Answer Fault) : Type 0 where
+  pub frame : Frame
+  pub fits : Fits (plain frame)
+  pub spelled : bytes ≡ spelling (plain frame)
+  pub handled : Handled frame old new r
+
+-- the bytes spell no frame
+pub record NoFrame (bytes : List ℕ) (old new : LoneNode) (r : Result Answer Fault) : Type 0 where
+  pub none : (f : Plain) → Fits f → bytes ≡ spelling f → ⊥
+  pub refused : r ≡ Err (fault.Refused BadFrame)
+  pub same : new ≡ old
+
+abbrev pub TookIn : List ℕ → LoneNode → LoneNode → Result Answer Fault → Type 0
+TookIn bytes old new r = TookFrame bytes old new r ⊎ NoFrame bytes old new r

@@ -1,0 +1,237 @@
+//! A node whose caller moves its frames and stores its images.
+ghost use Rattle.std.specs.Prelude.{◌≡◌, ◌||◌, ◌&&◌, false, None, Ok};
+ghost use Rattle.msg.specs.Frames.{plain};
+ghost use Rattle.node_store.specs.Logs.{is_turn};
+ghost use Rattle.c_handles.specs.Lone.{Acknowledged, Given, Made, Read, TookIn, is_congested, is_counted};
+ghost use Rattle.c_handles.specs.Lone.{lone, receiver_of, unacknowledged};
+
+mod batches;
+mod images;
+mod logging;
+pub(crate) mod reading;
+pub(crate) mod reopening;
+mod sending;
+
+use frames::decode;
+use ids::{NodeId, Ref, Refusal, Shape};
+use image::from_bytes;
+pub(crate) use images::Counts;
+use model::{Answer, Event};
+use msg::{Ack, Data, Frame};
+use node::Node;
+use node_store::{Log, is_turn};
+use std::alloc::Global;
+use c_values::Fault;
+
+/// A node whose caller moves its frames and stores its images.
+#[derive(Drop)]
+pub struct LoneNode {
+    pub(crate) node: Node,
+    // How many of the messages to another node may be unacknowledged for the program to send it
+    // another one; 0 if any number.
+    limit: u64,
+    // The mark of the last image or batch, which is the number of both, and what that holds of the
+    // links; none if there was neither.
+    mark: u64,
+    counts: Option<Vec<Counts>>,
+    // Whether an event changed the node since the last image or batch, and since the last one that
+    // was kept; in both cases, since the last release if that came later.
+    is_changed: bool,
+    is_unsaved: bool,
+    // Whether a log is to be kept, and the log of the events since the last image or batch. If none
+    // is to be kept, what it holds means nothing.
+    logs: bool,
+    log: Log,
+    // Whether what the last image or batch holds counts as saved.
+    is_kept: bool,
+}
+
+// Whether an answer is that of an event that changes the node. Reading a word changes nothing, nor
+// does a repeat or an early message.
+fn is_counted(answer: &Answer) -> bool
+    ensures { result ≡ is_counted answer.now }
+{
+    match answer {
+        Answer::Word(_) | Answer::Repeat | Answer::Early => false,
+        Answer::New(_)
+        | Answer::Done
+        | Answer::Value(_)
+        | Answer::Sent(_)
+        | Answer::Letter(_)
+        | Answer::Begun(_)
+        | Answer::Scanned(_)
+        | Answer::Passed(_)
+        | Answer::ProbeAgain
+        | Answer::Ended(_)
+        | Answer::Freed { .. }
+        | Answer::Received => true,
+    }
+}
+
+impl LoneNode {
+    // A node of which no image was taken, with nothing unsaved, that keeps no log.
+    fn of(alloc: Global, node: Node, limit: u64) -> LoneNode
+        ensures { result ≡ lone node limit }
+    {
+        LoneNode {
+            node,
+            limit,
+            mark: 0,
+            counts: None,
+            is_changed: false,
+            is_unsaved: false,
+            logs: false,
+            log: Log::new(alloc),
+            is_kept: false,
+        }
+    }
+
+    /// A new node. Fails with `BadArgument` if these are no sizes of a space, then with `NoNode` if
+    /// the space has no such node, and with `Memory`.
+    pub fn new(
+        alloc: Global,
+        nodes: u8,
+        registers: u16,
+        slots: u32,
+        own: u8,
+        limit: u64,
+    ) -> Result<LoneNode, Fault>
+        ensures { Made (record { nodes = nodes; registers = registers; slots = slots }) own limit
+            result }
+    {
+        let shape = Shape::new(nodes, registers, slots).ok_or(Fault::BadArgument)?;
+        let own = NodeId::new(own).ok_or(Fault::Refused(Refusal::NoNode))?;
+        let node = Node::new(alloc, shape, own)?;
+        Ok(LoneNode::of(alloc, node, limit))
+    }
+
+    /// The node of an image. Fails with `BadImage` if the bytes are no image, or one of a node that
+    /// kept a log, and with `Memory`.
+    pub fn read(alloc: Global, bytes: &[u8], limit: u64) -> Result<LoneNode, Fault>
+        ensures { Read bytes.now limit result }
+    {
+        let node = from_bytes(alloc, bytes)?;
+        Ok(LoneNode::of(alloc, node, limit))
+    }
+
+    // The number of unacknowledged messages to a node.
+    fn unacknowledged(&self, to: u8) -> u64
+        ensures { result ≡ unacknowledged self.now.node.core to }
+    {
+        let links = self.node.core().links();
+        if to < links.width() {
+            links.used(to) - links.base(to)
+        } else {
+            0
+        }
+    }
+
+    // The node that the program's message would go to.
+    fn receiver(&self, event: &Event) -> Option<u8>
+        ensures { result ≡ receiver_of self.now.node.core.local event.now }
+    {
+        match event {
+            Event::Give { to, .. } => Some(*to),
+            Event::Put { object, .. } | Event::Get { object, .. } => {
+                let register = usize::from(*object);
+                let held = self.node.core().heap().registers().get(register)?;
+                let reference: Ref = (*held)?;
+                Some(reference.node)
+            }
+            _ => None,
+        }
+    }
+
+    // Whether as many messages on the link as the limit allows aren't acknowledged.
+    #[inline(always)]
+    fn is_congested(&self, event: &Event) -> bool
+        ensures { result ≡ is_congested self.now event.now }
+    {
+        if self.limit == 0 {
+            return false;
+        }
+        match self.receiver(event) {
+            Some(to) => self.limit <= self.unacknowledged(to),
+            None => false,
+        }
+    }
+
+    /// Gives the node an event of its own. Fails with `Congested` before any other test if the
+    /// event sends a message and as many on that link as the limit allows aren't acknowledged; else
+    /// as the node refuses the event.
+    #[inline(always)]
+    pub fn act(&mut self, event: Event) -> Result<Answer, Fault>
+        ensures { Given (is_congested self.old event) self.old self.new event result }
+    {
+        if self.is_congested(&event) {
+            return Err(Fault::Congested);
+        }
+        self.perform(event)
+    }
+
+    /// The same for calls that are inlined, except for `Next` of a node that keeps a log.
+    #[inline(always)]
+    pub fn act_plain(&mut self, event: Event) -> Result<Answer, Fault>
+        requires { (is_turn event && self.old.logs) ≡ false }
+
+        ensures { Given (is_congested self.old event) self.old self.new event result }
+    {
+        if self.is_congested(&event) {
+            return Err(Fault::Congested);
+        }
+        self.perform_plain(event)
+    }
+
+    // Gives the node an event.
+    #[inline(always)]
+    fn perform(&mut self, event: Event) -> Result<Answer, Fault>
+        ensures { Given false self.old self.new event result }
+    {
+        if is_turn(&event) && self.logs {
+            self.perform_noting(event)
+        } else {
+            self.perform_plain(event)
+        }
+    }
+
+    // Gives the node an event, and notes it if the node keeps a log. An event that isn't `Next` is
+    // noted as it is.
+    #[inline(always)]
+    fn perform_plain(&mut self, event: Event) -> Result<Answer, Fault>
+        requires { (is_turn event && self.old.logs) ≡ false }
+
+        ensures { Given false self.old self.new event result }
+    {
+        let answer = self.node.act(event)?;
+        if is_counted(&answer) {
+            self.is_changed = true;
+            self.is_unsaved = true;
+            if self.logs {
+                self.note(event);
+            }
+        }
+        Ok(answer)
+    }
+
+    // Gives the node an acknowledgement, which changes no state.
+    fn acknowledge(&mut self, ack: Ack) -> Result<Answer, Fault>
+        ensures { Acknowledged self.old self.new ack result }
+    {
+        if self.logs {
+            return self.acknowledge_noting(ack);
+        }
+        let answer = self.node.act(Event::Ack(ack))?;
+        Ok(answer)
+    }
+
+    /// Gives the node the frame that the bytes spell. Fails with `BadFrame` if they spell none,
+    /// else as the node refuses the frame.
+    pub fn take(&mut self, bytes: &[u8]) -> Result<Answer, Fault>
+        ensures { TookIn bytes.now self.old self.new result }
+    {
+        match decode(bytes)? {
+            Frame::Data(data) => self.perform(Event::Data(data)),
+            Frame::Ack(ack) => self.acknowledge(ack),
+        }
+    }
+}

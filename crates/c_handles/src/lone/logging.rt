@@ -1,0 +1,77 @@
+//! The log of a node's events since its last image or batch.
+ghost use Rattle.std.specs.Prelude.{◌≡◌, false, nat_le};
+ghost use Rattle.model.specs.View.{link_to};
+ghost use Rattle.node_log.specs.Noted.{Noted};
+ghost use Rattle.c_handles.specs.Logs.{logging};
+ghost use Rattle.c_handles.specs.Lone.{Acknowledged, Given};
+
+use super::{LoneNode, is_counted};
+use model::{Answer, Event};
+use msg::Ack;
+use node_store::meant;
+use c_values::Fault;
+
+impl LoneNode {
+    /// Keeps the events from the next image on, or no more. If they are kept already, nothing
+    /// changes. Memory is allocated only as events come.
+    pub fn log(&mut self, on: bool)
+        ensures { self.new ≡ logging on self.old }
+    {
+        if on && !self.logs {
+            self.log.lose();
+        }
+        self.logs = on;
+    }
+
+    // Notes an event in the log, as a copy, so that without a log the event need not be in memory.
+    #[inline(always)]
+    pub(super) fn note(&mut self, event: Event)
+        ensures stays { self.new ≡ record self.old { log = self.new.log } }
+        ensures noted { Noted self.old.log self.new.log event }
+    {
+        let noted = event;
+        let _lost = self.log.note(&noted);
+    }
+
+    // Gives the node an event, and notes in the log what it means, which may be another event if it
+    // is `Next`.
+    #[inline(never)]
+    pub(super) fn perform_noting(&mut self, event: Event) -> Result<Answer, Fault>
+        ensures { Given false self.old self.new event result }
+    {
+        let meant = meant(&self.node, event);
+        let answer = self.node.act(event)?;
+        if is_counted(&answer) {
+            let _lost = self.log.note(&meant);
+            self.is_changed = true;
+            self.is_unsaved = true;
+        }
+        Ok(answer)
+    }
+
+    // Gives the node an acknowledgement, and notes it in the log, unless it drops no message.
+    #[inline(never)]
+    pub(super) fn acknowledge_noting(&mut self, ack: Ack) -> Result<Answer, Fault>
+        ensures { Acknowledged self.old self.new ack result }
+    {
+        let is_old = self.is_acknowledged(ack.from, ack.number);
+        let answer = self.node.act(Event::Ack(ack))?;
+        if !is_old {
+            let _lost = self.log.note(&Event::Ack(ack));
+        }
+        Ok(answer)
+    }
+
+    // Whether a node has acknowledged the messages up to this number.
+    fn is_acknowledged(&self, from: u8, number: u64) -> bool
+        ensures { result ≡ nat_le number (link_to self.now.node.core from).base }
+    {
+        let links = self.node.core().links();
+        let base = if from < links.width() {
+            links.base(from)
+        } else {
+            0
+        };
+        number <= base
+    }
+}

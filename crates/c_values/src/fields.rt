@@ -1,0 +1,312 @@
+//! Answers, events and numbers of nodes as structs of plain numbers, which is how C sees them. The
+//! header `include/markring.h` has the same structs.
+ghost use Rattle.std.specs.Prelude.{◌≡◌, IfSome, true};
+ghost use Rattle.model.specs.Steps.{is_own};
+ghost use Rattle.c_values.specs.Fields.{answer_fields, colour_number, event_of, freed_fields};
+ghost use Rattle.c_values.specs.Fields.{letter_fields, no_answer, optional_fields};
+ghost use Rattle.c_values.specs.Fields.{reference_fields, state_fields, token_fields};
+
+use ids::Ref;
+use model::{Answer, Event, Letter, Summary};
+use msg::{Colour, Token};
+
+/// A reference, or zeros for nothing: no reference has generation 0.
+#[repr(C)]
+#[derive(Clone, Copy)]
+pub struct CRef {
+    pub node: u8,
+    pub slot: u32,
+    pub generation: u64,
+}
+
+/// An answer. A field that the answer doesn't use is 0.
+#[repr(C)]
+#[derive(Clone, Copy)]
+pub struct CAnswer {
+    pub kind: u8,
+    pub node: u8,
+    pub colour: u8,
+    pub done: u8,
+    pub label: u32,
+    pub count: u32,
+    pub number: u64,
+    pub sum: i64,
+    pub reference: CRef,
+}
+
+/// An event of a node's own. A field that the event doesn't use may have any value.
+#[repr(C)]
+#[derive(Clone, Copy)]
+pub struct CEvent {
+    pub kind: u8,
+    pub node: u8,
+    pub place: u8,
+    pub register: u16,
+    pub source: u16,
+    pub object: u16,
+    pub label: u32,
+    pub count: u32,
+    pub word: u64,
+}
+
+/// A node in numbers.
+#[repr(C)]
+#[derive(Clone, Copy)]
+pub struct CState {
+    pub nodes: u8,
+    pub own: u8,
+    pub colour: u8,
+    pub has_token: u8,
+    pub registers: u16,
+    pub slots: u32,
+    pub live: u32,
+    pub cycle: u64,
+    pub ended: u64,
+    pub swept: u64,
+    pub earlier: i64,
+    pub recent: i64,
+    pub grey: u64,
+    pub letters: u64,
+}
+
+/// The two links between a node and another one, in numbers of messages.
+#[repr(C)]
+#[derive(Clone, Copy)]
+pub struct CLink {
+    pub appended: u64,
+    pub released: u64,
+    pub acknowledged: u64,
+    pub received: u64,
+    pub received_saved: u64,
+}
+
+const NO_REFERENCE: CRef = CRef {
+    node: 0,
+    slot: 0,
+    generation: 0,
+};
+
+const NO_ANSWER: CAnswer = CAnswer {
+    kind: 0,
+    node: 0,
+    colour: 0,
+    done: 0,
+    label: 0,
+    count: 0,
+    number: 0,
+    sum: 0,
+    reference: NO_REFERENCE,
+};
+
+impl CRef {
+    /// The fields of a reference.
+    pub fn of(reference: Ref) -> CRef
+        ensures { result ≡ reference_fields reference }
+    {
+        let Ref {
+            node,
+            slot,
+            generation,
+        } = reference;
+        CRef {
+            node,
+            slot,
+            generation,
+        }
+    }
+
+    /// The fields of a reference, or zeros.
+    pub fn of_optional(reference: Option<Ref>) -> CRef
+        ensures { result ≡ optional_fields reference }
+    {
+        match reference {
+            Some(reference) => CRef::of(reference),
+            None => NO_REFERENCE,
+        }
+    }
+}
+
+fn colour_number(colour: Colour) -> u8
+    ensures { result ≡ colour_number colour }
+{
+    match colour {
+        Colour::White => 0,
+        Colour::Black => 1,
+    }
+}
+
+// An answer with a number.
+fn numbered(kind: u8, number: u64) -> CAnswer
+    ensures { result ≡ record no_answer { kind = kind; number = number } }
+{
+    CAnswer {
+        kind,
+        number,
+        ..NO_ANSWER
+    }
+}
+
+// An answer with a reference.
+fn referring(kind: u8, reference: CRef) -> CAnswer
+    ensures { result ≡ record no_answer { kind = kind; reference = reference } }
+{
+    CAnswer {
+        kind,
+        reference,
+        ..NO_ANSWER
+    }
+}
+
+fn of_kind(kind: u8) -> CAnswer
+    ensures { result ≡ record no_answer { kind = kind } }
+{
+    CAnswer { kind, ..NO_ANSWER }
+}
+
+fn of_letter(letter: Letter) -> CAnswer
+    ensures { result ≡ letter_fields letter }
+{
+    CAnswer {
+        kind: 5,
+        node: letter.from,
+        label: letter.label,
+        reference: CRef::of_optional(letter.reference),
+        ..NO_ANSWER
+    }
+}
+
+fn of_token(token: Token) -> CAnswer
+    ensures { result ≡ token_fields token }
+{
+    CAnswer {
+        kind: 8,
+        colour: colour_number(token.colour),
+        sum: token.q,
+        ..NO_ANSWER
+    }
+}
+
+fn of_freed(count: u32, done: bool) -> CAnswer
+    ensures { result ≡ freed_fields count done }
+{
+    CAnswer {
+        kind: 11,
+        count,
+        done: u8::from(done),
+        ..NO_ANSWER
+    }
+}
+
+impl CAnswer {
+    /// The fields of an answer.
+    #[inline(always)]
+    pub fn of(answer: Answer) -> CAnswer
+        ensures { result ≡ answer_fields answer }
+    {
+        match answer {
+            Answer::Done => of_kind(0),
+            Answer::New(reference) => referring(1, CRef::of(reference)),
+            Answer::Value(reference) => referring(2, CRef::of_optional(reference)),
+            Answer::Word(word) => numbered(3, word),
+            Answer::Sent(number) => numbered(4, number),
+            Answer::Letter(letter) => of_letter(letter),
+            Answer::Begun(cycle) => numbered(6, cycle),
+            Answer::Scanned(reference) => referring(7, CRef::of(reference)),
+            Answer::Passed(token) => of_token(token),
+            Answer::ProbeAgain => of_kind(9),
+            Answer::Ended(cycle) => numbered(10, cycle),
+            Answer::Freed { count, done } => of_freed(count, done),
+            Answer::Received => of_kind(12),
+            Answer::Repeat => of_kind(13),
+            Answer::Early => of_kind(14),
+        }
+    }
+}
+
+impl CEvent {
+    /// The event that the fields describe. None if it isn't the kind of an event.
+    pub fn event(&self) -> Option<Event>
+        ensures value { result ≡ event_of self.now }
+        ensures own { IfSome result (λ e. is_own e ≡ true) }
+    {
+        let CEvent {
+            kind,
+            node,
+            place,
+            register,
+            source,
+            object,
+            label,
+            count,
+            word,
+        } = *self;
+        let event = match kind {
+            1 => Event::Alloc {
+                register,
+                places: place,
+            },
+            2 => Event::Copy { register, source },
+            3 => Event::Drop { register },
+            4 => Event::Load {
+                register,
+                object,
+                place,
+            },
+            5 => Event::Store {
+                object,
+                place,
+                register,
+            },
+            6 => Event::Clear { object, place },
+            7 => Event::Word { object },
+            8 => Event::SetWord { object, word },
+            9 => Event::Give {
+                to: node,
+                label,
+                register,
+            },
+            10 => Event::Accept { register },
+            11 => Event::Put {
+                object,
+                place,
+                register,
+            },
+            12 => Event::Get {
+                object,
+                place,
+                label,
+            },
+            13 => Event::Begin,
+            14 => Event::Scan,
+            15 => Event::Pass,
+            16 => Event::Sweep { count },
+            17 => Event::Next { from: node },
+            _ => return None,
+        };
+        Some(event)
+    }
+}
+
+impl CState {
+    /// The fields of a node's numbers.
+    pub fn of(state: Summary) -> CState
+        ensures { result ≡ state_fields state }
+    {
+        CState {
+            nodes: state.shape.nodes(),
+            own: state.own,
+            colour: colour_number(state.colour),
+            has_token: u8::from(state.has_token),
+            registers: state.shape.registers(),
+            slots: state.shape.slots(),
+            live: state.live,
+            cycle: state.cycle,
+            ended: state.ended,
+            swept: state.swept,
+            earlier: state.earlier,
+            recent: state.recent,
+            grey: state.grey as u64,
+            letters: state.letters as u64,
+        }
+    }
+}

@@ -1,5 +1,0 @@
-use Rattle.handles.proofs.Batches.{stored_one}
-use Rattle.handles.proofs.lone.reopening.stored_once.Goals as goal
-
-pub returns : goal.returns
-returns c = stored_one
