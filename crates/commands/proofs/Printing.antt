@@ -5,11 +5,11 @@ use Rattle.std.specs.Str.Lines.{lines}
 use Rattle.std.proofs.KnownBytes.{Appends-nil, Appends-trans, Appends-kept}
 use Rattle.std.proofs.lemmas.List.{nil_from_length}
 use Rattle.commands.specs.declared.reading.Unread.{Unread}
-use Rattle.commands.specs.declared.script.Reply.{Reply}
-use Rattle.commands.specs.declared.script.Reply.TheVariants as reply
-use Rattle.commands.specs.declared.script.State.{State}
-use Rattle.commands.specs.declared.script.State.TheVariants as state
-use Rattle.lines.specs.Grammar.{line_of, words_of}
+use Rattle.commands.specs.declared.simulation.Reply.{Reply}
+use Rattle.commands.specs.declared.simulation.Reply.TheVariants as reply
+use Rattle.commands.specs.declared.simulation.State.{State}
+use Rattle.commands.specs.declared.simulation.State.TheVariants as state
+use Rattle.script.specs.Grammar.{line_of, words_of}
 use Rattle.commands.specs.Script.{Held, awaited, ShowsHeld, TakesLine, GoesOn, Replies, PrintsReply, PrintsReplies, PrintsUnread, printed, reply_text, status_after, status_of}
 
 -- a reply after others

@@ -1,22 +1,22 @@
 -- How a script's space follows the definitions.
 use Rattle.std.proofs.Common.{◌≡◌, ℕ, true, List, [], ◌∷◌, ◌++◌, Result, Ok, Err, Option, Some, None, is_some, OnOk, IfOk, refl, ap, inl, subst, sym}
 use Rattle.std.specs.Io.KnownBytes.{Appends}
-use Rattle.lines.specs.declared.line.Line.{Line}
-use Rattle.lines.specs.Operands.{read}
+use Rattle.script.specs.declared.line.Line.{Line}
+use Rattle.script.specs.Operands.{read}
 use Rattle.ids.specs.Limits.{Shaped}
 use Rattle.ids.specs.declared.refusal.Refusal.{Refusal}
 use Rattle.model.specs.World.{FollowsStep, World, new_world, take_step}
 use Rattle.model.specs.declared.step.Step.{Step}
 use Rattle.model.specs.declared.step.Outcome.{Outcome}
 use Rattle.model.specs.declared.step.Outcome.TheVariants as outcome
-use Rattle.commands.specs.declared.script.Reply.TheVariants as reply
-use Rattle.commands.specs.declared.script.State.TheVariants as state
+use Rattle.commands.specs.declared.simulation.Reply.TheVariants as reply
+use Rattle.commands.specs.declared.simulation.State.TheVariants as state
 use Rattle.node.specs.Keeping.{Rings}
 use Rattle.world.specs.Spaces.{KeepsAfter, ShowsSpace, SpaceView, SteppedSpace, step_met}
-use Rattle.lines.specs.Text.{outcome_text, refused_text}
+use Rattle.script.specs.Text.{outcome_text, refused_text}
 use Rattle.commands.specs.declared.freed.Freed.{Freed}
 use Rattle.commands.specs.Freed.{KeepsSums, freed_after, freed_in, freed_with, sweeper}
-use Rattle.commands.specs.declared.script.State.{State}
+use Rattle.commands.specs.declared.simulation.State.{State}
 use Rattle.commands.proofs.Sizes.{refused_too_large}
 use Rattle.commands.specs.Script.{Held, PrintsReply, RefusesStep, StepDone, StepRefused, StepTaken, awaited, denied, there, ShowsHeld, TakesSpace, TakesStep, none_kept}
 

@@ -7,8 +7,8 @@ use Rattle.hex.specs.declared.error.FromHexError.{FromHexError}
 use Rattle.ids.specs.declared.refusal.Refusal.TheVariants.{Memory, BadFrame}
 use Rattle.msg.specs.Frames.{Plain}
 use Rattle.frames.specs.Grammar.{Fits, spelling}
-use Rattle.lines.specs.Frames.{frame_text}
-use Rattle.lines.specs.Text.{refused_text}
+use Rattle.script.specs.Frames.{frame_text}
+use Rattle.script.specs.Text.{refused_text}
 
 -- for bytes
 pub data PrintsSpelled (bytes : List ℕ) (status : ℕ) (old new : Option (List ℕ)) : Type 0 where

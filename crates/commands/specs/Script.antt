@@ -14,19 +14,19 @@ use Rattle.model.specs.declared.step.Step.TheVariants as step
 use Rattle.model.specs.State.{node_at}
 use Rattle.model.specs.View.{NodeView}
 use Rattle.image.specs.Images.{image_of}
-use Rattle.lines.specs.declared.line.Line.{Line}
-use Rattle.lines.specs.declared.line.Line.TheVariants as line
+use Rattle.script.specs.declared.line.Line.{Line}
+use Rattle.script.specs.declared.line.Line.TheVariants as line
 use Rattle.std.specs.declared.io.ErrorKind.TheVariants as kind
 use Rattle.commands.specs.declared.reading.Unread.{Unread}
-use Rattle.commands.specs.declared.script.Reply.{Reply}
-use Rattle.commands.specs.declared.script.Reply.TheVariants as reply
-use Rattle.commands.specs.declared.script.State.{State}
-use Rattle.commands.specs.declared.script.State.TheVariants as state
+use Rattle.commands.specs.declared.simulation.Reply.{Reply}
+use Rattle.commands.specs.declared.simulation.Reply.TheVariants as reply
+use Rattle.commands.specs.declared.simulation.State.{State}
+use Rattle.commands.specs.declared.simulation.State.TheVariants as state
 use Rattle.commands.specs.Freed.{KeepsSums, freed_after}
-use Rattle.lines.specs.Grammar.{line_of, words_of}
+use Rattle.script.specs.Grammar.{line_of, words_of}
 use Rattle.world.specs.Shows.{ShowsNode, summary_at}
 use Rattle.world.specs.Spaces.{KeepsAfter, ShowsSpace, step_met}
-use Rattle.lines.specs.Text.{outcome_text, refused_text, report_text, summary_text}
+use Rattle.script.specs.Text.{outcome_text, refused_text, report_text, summary_text}
 use Rattle.node.specs.Keeping.{Rings, no_rings}
 use Rattle.model.specs.declared.summary.Summary.{Summary}
 

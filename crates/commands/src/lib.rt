@@ -7,13 +7,13 @@ mod decoding;
 mod freed;
 mod output;
 mod reading;
-mod script;
+mod simulation;
 mod splitting;
 mod streams;
 
 pub use decoding::decode;
 pub use output::{Lost, print_refusal, print_unread};
 pub use reading::{Unread, read_file, read_text};
-pub use script::sim;
+pub use simulation::sim;
 pub use splitting::next_line;
 pub use streams::{run_decode, run_script};

@@ -3,15 +3,15 @@
 ghost use Rattle.std.specs.Prelude.{◌≡◌, ◌≤◌, ◌++◌, ◌∷◌, [], IfOk, OnOk, codes};
 ghost use Rattle.std.specs.Io.KnownBytes.{Appends, Keeps};
 ghost use Rattle.commands.specs.Script.{PrintsUnread, reply_text};
-ghost use Rattle.commands.specs.declared.script.Reply.TheVariants as reply;
-ghost use Rattle.lines.specs.Frames.{frame_text};
-ghost use Rattle.lines.specs.Text.{outcome_text, refused_text, report_text};
-ghost use Rattle.lines.specs.Text.{summary_text};
+ghost use Rattle.commands.specs.declared.simulation.Reply.TheVariants as reply;
+ghost use Rattle.script.specs.Frames.{frame_text};
+ghost use Rattle.script.specs.Text.{outcome_text, refused_text, report_text};
+ghost use Rattle.script.specs.Text.{summary_text};
 ghost use Rattle.msg.specs.Frames.{plain};
 
 use crate::reading::Unread;
 use ids::Refusal;
-use lines::{FrameText, Printer, SummaryText, print_report};
+use script::{FrameText, Printer, SummaryText, print_report};
 use model::Outcome;
 use msg::Frame;
 use node::Summary;

@@ -4,11 +4,11 @@ use Rattle.std.specs.Io.KnownBytes.{Appends}
 use Rattle.std.specs.Str.Lines.{lines}
 use Rattle.ids.specs.declared.refusal.Refusal.{Refusal}
 use Rattle.ids.specs.declared.refusal.Refusal.TheVariants as refusal
-use Rattle.lines.specs.Grammar.{words_of}
-use Rattle.lines.specs.RunLines.{run_line_of}
-use Rattle.lines.specs.Text.{outcome_text, refused_text}
-use Rattle.lines.specs.declared.run_line.RunLine.{RunLine}
-use Rattle.lines.specs.declared.run_line.RunLine.TheVariants as said
+use Rattle.script.specs.Grammar.{words_of}
+use Rattle.script.specs.RunLines.{run_line_of}
+use Rattle.script.specs.Text.{outcome_text, refused_text}
+use Rattle.script.specs.declared.run_line.RunLine.{RunLine}
+use Rattle.script.specs.declared.run_line.RunLine.TheVariants as said
 use Rattle.model.specs.declared.event.Answer.{Answer}
 use Rattle.model.specs.declared.event.Answer.TheVariants as answer
 use Rattle.model.specs.declared.step.Outcome.TheVariants as outcome

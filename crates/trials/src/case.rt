@@ -7,7 +7,7 @@ ghost use Rattle.model.specs.Steps.{is_own};
 
 use hex::FromHexError;
 use ids::{Refusal, Saves};
-use lines::Line;
+use script::Line;
 use model::{Event, Step};
 use std::alloc::Global;
 use std::fmt::{Debug, Display};

@@ -1,0 +1,168 @@
+-- No line asks for an event that comes from another node.
+use Rattle.std.proofs.Common.{◌≡◌, ℕ, Bool, true, false, cond, List, [], ◌∷◌, Option, Some, None, IfSome, refl, subst, sym}
+use Rattle.std.specs.Option.{option_and_then, option_map}
+use Rattle.model.specs.declared.event.Event.{Event}
+use Rattle.model.specs.declared.event.Event.TheVariants as event
+use Rattle.model.specs.declared.step.Step.{Step}
+use Rattle.model.specs.declared.step.Step.TheVariants as step
+use Rattle.model.specs.Steps.{is_own}
+use Rattle.model.specs.World.{is_own_step}
+use Rattle.script.specs.declared.line.Line.{Line}
+use Rattle.script.specs.declared.line.Line.TheVariants as line
+use Rattle.script.specs.Operands.{read}
+use Rattle.script.specs.Grammar.{Number, acted, alone, command_of, delivery_of, hand_of, is_own_line, line_of, node_line_of, of_three, of_two, report_of, space_of, stepped, u16_of, u32_of, u64_of, u8_of, with_none, with_one, with_three, with_two}
+
+-- the value, if there is one, passes the test
+record Passes {X : Type 0} (test : X → Bool) (o : Option X) : Type 0 where
+  pub there : IfSome o (λ x. test x ≡ true)
+
+module _ {X : Type 0} {test : X → Bool} where
+  none : Passes test None
+  none = record { there = tt }
+
+  some : {x : X} → test x ≡ true → Passes test (Some x)
+  some passes = record { there = passes }
+
+  either : (b : Bool) {x y : Option X} → Passes test x → Passes test y → Passes test (cond b x y)
+  either true p q = p
+  either false p q = q
+
+  one : (make : ℕ → X) → ((x : ℕ) → test (make x) ≡ true) → (o : Option ℕ)
+      → Passes test (option_map make o)
+  one make all None = none
+  one make all (Some x) = some (all x)
+
+  two : (f g : Number) (make : ℕ → ℕ → X) → ((x y : ℕ) → test (make x y) ≡ true)
+      → (a b : List ℕ) → Passes test (of_two f g make a b)
+  two f g make all a b =
+      elim (f a)
+      as (λ o. Passes test (option_and_then (λ x. option_map (λ y. make x y) (g b)) o)) [
+        | None ↦ none
+        | Some x ↦ one (λ y. make x y) (λ y. all x y) (g b)
+      ]
+
+  three : (f g h : Number) (make : ℕ → ℕ → ℕ → X) → ((x y z : ℕ) → test (make x y z) ≡ true)
+      → (a b c : List ℕ) → Passes test (of_three f g h make a b c)
+  three f g h make all a b c =
+      elim (f a)
+      as (λ o. Passes test (option_and_then (λ x. of_two g h (λ y z. make x y z) b c) o)) [
+        | None ↦ none
+        | Some x ↦ two g h (λ y z. make x y z) (λ y z. all x y z) b c
+      ]
+
+own-none : (verb : List ℕ) → Passes is_own (with_none verb)
+unfolding with_none
+own-none verb =
+    either _ (some {x = event.Begin} refl)
+    (either _ (some {x = event.Scan} refl) (either _ (some {x = event.Pass} refl) none))
+
+own-one : (verb a : List ℕ) → Passes is_own (with_one verb a)
+unfolding with_one
+own-one verb a =
+    either _ (one (λ x. event.Drop x) (λ x. refl) (u16_of a))
+    (either _ (one (λ x. event.Accept x) (λ x. refl) (u16_of a))
+    (either _ (one (λ x. event.Word x) (λ x. refl) (u16_of a))
+    (either _ (one (λ x. event.Sweep x) (λ x. refl) (u32_of a))
+    (either _ (one (λ x. event.Next x) (λ x. refl) (u8_of a)) none))))
+
+own-two : (verb a b : List ℕ) → Passes is_own (with_two verb a b)
+unfolding with_two
+own-two verb a b =
+    either _ (two u16_of u8_of (λ x y. event.Alloc x y) (λ x y. refl) a b)
+    (either _ (two u16_of u16_of (λ x y. event.Copy x y) (λ x y. refl) a b)
+    (either _ (two u16_of u8_of (λ x y. event.Clear x y) (λ x y. refl) a b)
+    (either _ (two u16_of u64_of (λ x y. event.SetWord x y) (λ x y. refl) a b) none)))
+
+own-three : (verb a b c : List ℕ) → Passes is_own (with_three verb a b c)
+unfolding with_three
+own-three verb a b c =
+    either _ (three u8_of u32_of u16_of (λ x y z. event.Give x y z) (λ x y z. refl) a b c)
+    (either _ (three u16_of u16_of u8_of (λ x y z. event.Load x y z) (λ x y z. refl) a b c)
+    (either _ (three u16_of u8_of u16_of (λ x y z. event.Store x y z) (λ x y z. refl) a b c)
+    (either _ (three u16_of u8_of u16_of (λ x y z. event.Put x y z) (λ x y z. refl) a b c)
+    (either _ (three u16_of u8_of u32_of (λ x y z. event.Get x y z) (λ x y z. refl) a b c) none))))
+
+own-acted : (node : ℕ) (e : Option Event) → Passes is_own e → Passes is_own_line (acted node e)
+own-acted node None own = none
+own-acted node (Some e) own = some own.there
+
+own-alone : (node : ℕ) (verb : List ℕ) → Passes is_own_line (alone node verb)
+unfolding alone
+own-alone node verb =
+    either _ (some {x = line.Step (step.Save node)} refl)
+    (either _ (some {x = line.Step (step.Restart node)} refl)
+    (either _ (some {x = line.State node} refl)
+    (own-acted node (with_none verb) (own-none verb))))
+
+own-node : (node : ℕ) (words : List (List ℕ)) → Passes is_own_line (node_line_of node words)
+unfolding node_line_of
+own-node node [] = none
+own-node node (verb ∷ []) = own-alone node verb
+own-node node (verb ∷ a ∷ []) = own-acted node (with_one verb a) (own-one verb a)
+own-node node (verb ∷ a ∷ b ∷ []) = own-acted node (with_two verb a b) (own-two verb a b)
+own-node node (verb ∷ a ∷ b ∷ c ∷ []) =
+    own-acted node (with_three verb a b c) (own-three verb a b c)
+own-node node (verb ∷ a ∷ b ∷ c ∷ d ∷ words) = none
+
+own-space : (words : List (List ℕ)) → Passes is_own_line (space_of words)
+unfolding space_of
+own-space [] = none
+own-space (a ∷ []) = none
+own-space (a ∷ b ∷ []) = none
+own-space (a ∷ b ∷ c ∷ []) =
+    three u8_of u16_of u32_of (λ x y z. line.Space x y z) (λ x y z. refl) a b c
+own-space (a ∷ b ∷ c ∷ d ∷ words) = none
+
+own-stepped : (s : Option Step) → Passes is_own_step s → Passes is_own_line (stepped s)
+own-stepped None own = none
+own-stepped (Some s) own = some own.there
+
+own-delivery : (words : List (List ℕ)) → Passes is_own_step (delivery_of words)
+unfolding delivery_of
+own-delivery [] = none
+own-delivery (a ∷ []) = none
+own-delivery (a ∷ b ∷ []) = none
+own-delivery (a ∷ b ∷ c ∷ []) =
+    three u8_of u8_of u64_of (λ x y z. step.Deliver x y z) (λ x y z. refl) a b c
+own-delivery (a ∷ b ∷ c ∷ d ∷ words) = none
+
+own-hand : (words : List (List ℕ)) → Passes is_own_step (hand_of words)
+unfolding hand_of
+own-hand [] = none
+own-hand (a ∷ []) = none
+own-hand (a ∷ b ∷ []) = two u8_of u8_of (λ x y. step.Hand x y) (λ x y. refl) a b
+own-hand (a ∷ b ∷ c ∷ words) = none
+
+own-report : (words : List (List ℕ)) → Passes is_own_line (report_of words)
+unfolding report_of
+own-report [] = some refl
+own-report (a ∷ words) = none
+
+own-command : (first : List ℕ) (words : List (List ℕ))
+    → Passes is_own_line (command_of first words)
+unfolding command_of
+own-command first words =
+    either _ (own-space words)
+    (either _ (own-stepped (delivery_of words) (own-delivery words))
+    (either _ (own-stepped (hand_of words) (own-hand words))
+    (either _ (own-report words)
+    (elim (u8_of first)
+    as (λ o. Passes is_own_line (option_and_then (λ node. node_line_of node words) o)) [
+      | None ↦ none
+      | Some node ↦ own-node node words
+    ]))))
+
+own-line : (words : List (List ℕ)) → Passes is_own_line (line_of words)
+unfolding line_of
+own-line [] = some refl
+own-line (first ∷ words) = either _ (some {x = line.Blank} refl) (own-command first words)
+
+pub own_line : (words : List (List ℕ)) → IfSome (line_of words) (λ l. is_own_line l ≡ true)
+own_line words = (own-line words).there
+
+-- the same of a line that was built in place
+pub own_read : {X : Type 0} (done : Option X) (l : Line) (words : List (List ℕ))
+    → read done l ≡ line_of words → IfSome done (λ d. is_own_line l ≡ true)
+own_read None l words e = tt
+own_read (Some d) l words e =
+    subst (λ o. IfSome o (λ l. is_own_line l ≡ true)) (sym e) (own_line words)

@@ -1,0 +1,174 @@
+-- The grammar of a script's lines.
+use Rattle.std.specs.Prelude.{ℕ, ◌+◌, ◌-◌, ◌*◌, ◌^◌, Bool, true, ◌&&◌, nat_lt, nat_le, cond, ◌==◌, List, [], ◌∷◌, length, filter, Option, Some, None, codes, option_map, option_and_then}
+use Rattle.std.specs.Char.{is_ascii_digit}
+use Rattle.std.specs.List.{slice_split, list_all, starts_with}
+use Rattle.std.specs.Str.{bytes_eq}
+use Rattle.std.specs.Str.Parse.{digits_value}
+use Rattle.script.specs.declared.line.Line.{Line}
+use Rattle.script.specs.declared.line.Line.TheVariants as line
+use Rattle.script.specs.declared.line.TheConstants.{MOST_DIGITS}
+use Rattle.model.specs.declared.event.Event.{Event}
+use Rattle.model.specs.declared.event.Event.TheVariants as event
+use Rattle.model.specs.declared.step.Step.{Step}
+use Rattle.model.specs.declared.step.Step.TheVariants as step
+use Rattle.model.specs.World.{is_own_step}
+
+-- the words of a line, which spaces separate
+unfoldable pub words_of : List ℕ → List (List ℕ)
+words_of text = filter (λ word. nat_lt 0 (length word)) (slice_split (λ byte. byte == 32) text)
+
+-- at least one digit, at most MOST_DIGITS of them, and nothing else
+unfoldable pub is_number : List ℕ → Bool
+is_number word =
+    nat_lt 0 (length word) && (nat_le (length word) MOST_DIGITS && list_all is_ascii_digit word)
+
+-- the number spelled by the digits of n followed by these, if it is below 2 ^ 64
+abbrev pub value_after : ℕ → List ℕ → Option ℕ
+value_after n [] = Some n
+value_after n (c ∷ cs) =
+    let more = n * 10 + (c - 48) in
+    cond (is_ascii_digit c) (cond (nat_lt more (2 ^ 64)) (value_after more cs) None) None
+
+-- the number that a word spells, if it is below the limit
+abbrev pub number_below : ℕ → List ℕ → Option ℕ
+number_below limit word =
+    let n = digits_value 10 word in
+    cond (is_number word) (cond (nat_lt n limit) (Some n) None) None
+
+-- a number that fits the type of this name
+unfoldable pub u8_of : List ℕ → Option ℕ
+u8_of word = number_below (2 ^ 8) word
+
+unfoldable pub u16_of : List ℕ → Option ℕ
+u16_of word = number_below (2 ^ 16) word
+
+unfoldable pub u32_of : List ℕ → Option ℕ
+u32_of word = number_below (2 ^ 32) word
+
+unfoldable pub u64_of : List ℕ → Option ℕ
+u64_of word = number_below (2 ^ 64) word
+
+-- values built from numbers, each of which is read from a word in its own way
+abbrev pub Number : Type 0
+Number = List ℕ → Option ℕ
+
+abbrev pub of_two : {X : Type 0} → Number → Number → (ℕ → ℕ → X) → List ℕ → List ℕ → Option X
+of_two first second make a b =
+    option_and_then (λ x. option_map (λ y. make x y) (second b)) (first a)
+
+abbrev pub of_three : {X : Type 0} → Number → Number → Number → (ℕ → ℕ → ℕ → X)
+    → List ℕ → List ℕ → List ℕ → Option X
+of_three first second third make a b c =
+    option_and_then (λ x. of_two second third (λ y z. make x y z) b c) (first a)
+
+-- what a verb means with no operand, with one, with two and with three
+unfoldable pub with_none : List ℕ → Option Event
+with_none verb =
+    cond (bytes_eq verb (codes "begin")) (Some event.Begin)
+    (cond (bytes_eq verb (codes "scan")) (Some event.Scan)
+    (cond (bytes_eq verb (codes "pass")) (Some event.Pass) None))
+
+unfoldable pub with_one : List ℕ → List ℕ → Option Event
+with_one verb a =
+    cond (bytes_eq verb (codes "drop"))
+    (option_map (λ register. event.Drop register) (u16_of a))
+    (cond (bytes_eq verb (codes "accept"))
+    (option_map (λ register. event.Accept register) (u16_of a))
+    (cond (bytes_eq verb (codes "word"))
+    (option_map (λ object. event.Word object) (u16_of a))
+    (cond (bytes_eq verb (codes "sweep"))
+    (option_map (λ count. event.Sweep count) (u32_of a))
+    (cond (bytes_eq verb (codes "next"))
+    (option_map (λ from. event.Next from) (u8_of a)) None))))
+
+unfoldable pub with_two : List ℕ → List ℕ → List ℕ → Option Event
+with_two verb a b =
+    cond (bytes_eq verb (codes "alloc"))
+    (of_two u16_of u8_of (λ register places. event.Alloc register places) a b)
+    (cond (bytes_eq verb (codes "copy"))
+    (of_two u16_of u16_of (λ register source. event.Copy register source) a b)
+    (cond (bytes_eq verb (codes "clear"))
+    (of_two u16_of u8_of (λ object place. event.Clear object place) a b)
+    (cond (bytes_eq verb (codes "setword"))
+    (of_two u16_of u64_of (λ object word. event.SetWord object word) a b) None)))
+
+unfoldable pub with_three : List ℕ → List ℕ → List ℕ → List ℕ → Option Event
+with_three verb a b c =
+    cond (bytes_eq verb (codes "give"))
+    (of_three u8_of u32_of u16_of (λ to label register. event.Give to label register) a b c)
+    (cond (bytes_eq verb (codes "load"))
+    (of_three u16_of u16_of u8_of (λ register object place. event.Load register object place) a b c)
+    (cond (bytes_eq verb (codes "store"))
+    (of_three u16_of u8_of u16_of (λ object place register. event.Store object place register)
+    a b c)
+    (cond (bytes_eq verb (codes "put"))
+    (of_three u16_of u8_of u16_of (λ object place register. event.Put object place register) a b c)
+    (cond (bytes_eq verb (codes "get"))
+    (of_three u16_of u8_of u32_of (λ object place label. event.Get object place label) a b c)
+    None))))
+
+abbrev pub acted : ℕ → Option Event → Option Line
+acted node event = option_map (λ e. line.Step (step.Act node e)) event
+
+-- a verb alone after a node's number
+unfoldable pub alone : ℕ → List ℕ → Option Line
+alone node verb =
+    cond (bytes_eq verb (codes "save")) (Some (line.Step (step.Save node)))
+    (cond (bytes_eq verb (codes "restart")) (Some (line.Step (step.Restart node)))
+    (cond (bytes_eq verb (codes "state")) (Some (line.State node))
+    (acted node (with_none verb))))
+
+-- the words after a node's number
+unfoldable pub node_line_of : ℕ → List (List ℕ) → Option Line
+node_line_of node (verb ∷ []) = alone node verb
+node_line_of node (verb ∷ a ∷ []) = acted node (with_one verb a)
+node_line_of node (verb ∷ a ∷ b ∷ []) = acted node (with_two verb a b)
+node_line_of node (verb ∷ a ∷ b ∷ c ∷ []) = acted node (with_three verb a b c)
+node_line_of node words = None
+
+-- the words after `space`
+unfoldable pub space_of : List (List ℕ) → Option Line
+space_of (a ∷ b ∷ c ∷ []) =
+    of_three u8_of u16_of u32_of (λ nodes registers slots. line.Space nodes registers slots) a b c
+space_of words = None
+
+-- the words after `deliver`
+unfoldable pub delivery_of : List (List ℕ) → Option Step
+delivery_of (a ∷ b ∷ c ∷ []) =
+    of_three u8_of u8_of u64_of (λ from to number. step.Deliver from to number) a b c
+delivery_of words = None
+
+-- the words after `ack`
+unfoldable pub hand_of : List (List ℕ) → Option Step
+hand_of (a ∷ b ∷ []) = of_two u8_of u8_of (λ from to. step.Hand from to) a b
+hand_of words = None
+
+-- the words after `report`
+unfoldable pub report_of : List (List ℕ) → Option Line
+report_of [] = Some line.Report
+report_of words = None
+
+abbrev pub stepped : Option Step → Option Line
+stepped step = option_map (λ s. line.Step s) step
+
+unfoldable pub command_of : List ℕ → List (List ℕ) → Option Line
+command_of first words =
+    cond (bytes_eq first (codes "space")) (space_of words)
+    (cond (bytes_eq first (codes "deliver")) (stepped (delivery_of words))
+    (cond (bytes_eq first (codes "ack")) (stepped (hand_of words))
+    (cond (bytes_eq first (codes "report")) (report_of words)
+    (option_and_then (λ node. node_line_of node words) (u8_of first)))))
+
+-- what a line of these words says, or None if they are outside the grammar
+unfoldable pub line_of : List (List ℕ) → Option Line
+line_of [] = Some line.Blank
+line_of (first ∷ words) =
+    cond (starts_with (λ x y. x == y) first (codes "#")) (Some line.Blank) (command_of first words)
+
+-- a line whose event, if it has one, is the node's own, so it comes from no other node
+abbrev pub is_own_line : Line → Bool
+is_own_line (line.Step s) = is_own_step s
+is_own_line line.Blank = true
+is_own_line (line.Space nodes registers slots) = true
+is_own_line (line.State node) = true
+is_own_line line.Report = true

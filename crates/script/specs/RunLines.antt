@@ -1,0 +1,68 @@
+-- The meaning of the lines of a script that runs on node threads.
+use Rattle.std.specs.Prelude.{ℕ, Bool, true, false, cond, List, [], ◌∷◌, Option, Some, None, codes, option_map}
+use Rattle.std.specs.Str.{bytes_eq}
+use Rattle.script.specs.Grammar.{line_of, of_two, u16_of, u8_of}
+use Rattle.script.specs.declared.line.Line.{Line}
+use Rattle.script.specs.declared.line.Line.TheVariants as line
+use Rattle.script.specs.declared.run_line.RunLine.{RunLine}
+use Rattle.script.specs.declared.run_line.RunLine.TheVariants as said
+use Rattle.model.specs.Steps.{is_own}
+use Rattle.model.specs.declared.event.Event.{Event}
+use Rattle.model.specs.declared.event.Event.TheVariants as event
+use Rattle.model.specs.declared.step.Step.{Step}
+use Rattle.model.specs.declared.step.Step.TheVariants as step
+
+-- an event that the workers take care of: one of the collector's, or of a message that waits
+abbrev pub is_for_workers : Event → Bool
+is_for_workers event.Begin = true
+is_for_workers event.Scan = true
+is_for_workers event.Pass = true
+is_for_workers (event.Sweep count) = true
+is_for_workers (event.Next from) = true
+is_for_workers e = false
+
+-- what a step means here
+abbrev pub step_said : Step → Option RunLine
+step_said (step.Restart node) = Some (said.Restart node)
+step_said (step.Act node e) = cond (is_for_workers e) None (Some (said.Act node e))
+step_said s = None
+
+-- what a line of other scripts means here
+abbrev pub shared_of : Line → Option RunLine
+shared_of line.Blank = Some said.Blank
+shared_of (line.Step s) = step_said s
+shared_of l = None
+
+-- the meaning of one, two and three words that aren't a line of other scripts
+unfoldable pub with_word : List ℕ → Option RunLine
+with_word a = cond (bytes_eq a (codes "cycle")) (Some said.Cycle) None
+
+unfoldable pub with_words : List ℕ → List ℕ → Option RunLine
+with_words a b =
+    cond (bytes_eq b (codes "trace")) (option_map (λ node. said.Trace node) (u8_of a)) None
+
+unfoldable pub with_all : List ℕ → List ℕ → List ℕ → Option RunLine
+with_all a b c =
+    cond (bytes_eq a (codes "await"))
+    (of_two u8_of u16_of (λ node register. said.Await node register) b c) None
+
+-- the meaning of words that aren't a line of other scripts
+unfoldable pub of_runs : List (List ℕ) → Option RunLine
+of_runs (a ∷ []) = with_word a
+of_runs (a ∷ b ∷ []) = with_words a b
+of_runs (a ∷ b ∷ c ∷ []) = with_all a b c
+of_runs words = None
+
+-- a line of other scripts means here what it means there, or nothing
+abbrev pub said_of : Option Line → List (List ℕ) → Option RunLine
+said_of (Some l) words = shared_of l
+said_of None words = of_runs words
+
+-- what a line of these words says, or None if they are outside the grammar
+abbrev pub run_line_of : List (List ℕ) → Option RunLine
+run_line_of words = said_of (line_of words) words
+
+-- a line whose event, if it has one, is the node's own, so it comes from no other node
+abbrev pub is_own_said : RunLine → Bool
+is_own_said (said.Act node e) = is_own e
+is_own_said l = true

@@ -1,0 +1,215 @@
+//! One line of a script. Its words are read one after another; anything outside the grammar is
+//! rejected.
+ghost use Rattle.std.specs.Prelude.{◌≡◌, false, IfSome, IsTrue, option_and_then};
+ghost use Rattle.script.specs.Grammar.{command_of, delivery_of, hand_of, is_own_line, line_of, node_line_of, report_of, space_of, stepped, u8_of, u16_of, words_of};
+ghost use Rattle.script.specs.Operands.{read, spelled};
+ghost use Rattle.script.specs.Words.{IsTrimmed, behind, starts_number, word_of};
+
+use crate::asking::{alone, say, with_one, with_three, with_two};
+use crate::front::{behind_word, first_number, first_word, is_word, past_spaces, read_u64};
+use crate::operands::{Operands, to_u8, to_u16, to_u32};
+use model::Step;
+
+/// The most digits that a number has, including leading zeros.
+pub(crate) const MOST_DIGITS: usize = 20;
+
+/// What one line of a script says.
+#[derive(Clone, Copy)]
+pub enum Line {
+    /// Nothing: the line has no word, or is a comment.
+    Blank,
+    /// The sizes of the space, which need not be within the limits.
+    Space {
+        nodes: u8,
+        registers: u16,
+        slots: u32,
+    },
+    /// A step of the space.
+    Step(Step),
+    /// Asks for the node in numbers.
+    State(u8),
+    /// Asks what the sweeps of each cycle freed.
+    Report,
+}
+
+impl Line {
+    /// What the line says, or `None` if it is outside the grammar. Spaces separate its words.
+    pub fn parse(text: &str) -> Option<Line>
+        ensures reads { result ≡ line_of (words_of text.now) }
+        ensures own { IfSome result (λ l. IsTrue (is_own_line l)) }
+    {
+        let mut line = Line::Blank;
+        line.read(text)?;
+        Some(line)
+    }
+
+    /// Sets this to what the line says. `None` if that is outside the grammar; the value is then
+    /// meaningless. A `Line` is large, so it is built in place.
+    #[inline(always)]
+    pub fn read(&mut self, text: &str) -> Option<()>
+        ensures reads { read result self.new ≡ line_of (words_of text.now) }
+        ensures own { IfSome result (λ done. IsTrue (is_own_line self.new)) }
+    {
+        line_in(self, past_spaces(text))
+    }
+}
+
+/// The meaning of the words of a text. (Only the path to a save is inlined, because most lines ask
+/// a node for one.)
+#[inline(always)]
+fn line_in(line: &mut Line, text: &str) -> Option<()>
+    requires { IsTrimmed text.now }
+    ensures { read result line.new ≡ line_of (words_of text.now) }
+{
+    let Some(first) = text.as_bytes().first() else {
+        return say(line, Line::Blank);
+    };
+    if *first == b'#' {
+        return say(line, Line::Blank);
+    }
+    if first.is_ascii_digit() {
+        return node_line(line, text);
+    }
+    command(line, text)
+}
+
+/// The meaning of a line that begins with a node's number.
+#[inline(always)]
+fn node_line(line: &mut Line, text: &str) -> Option<()>
+    requires { IsTrimmed text.now }
+    ensures { read result line.new
+        ≡ option_and_then (λ node. node_line_of node (words_of (behind text.now)))
+        (u8_of (word_of text.now)) }
+{
+    let (number, text) = first_number(text)?;
+    asked_of(line, to_u8(number)?, text)
+}
+
+/// The meaning of the words after a node's number.
+#[inline(always)]
+fn asked_of(line: &mut Line, node: u8, text: &str) -> Option<()>
+    requires { IsTrimmed text.now }
+    ensures { read result line.new ≡ node_line_of node (words_of text.now) }
+{
+    if is_word(text, "save") {
+        return say(line, Line::Step(Step::Save(node)));
+    }
+    any_asked_of(line, node, text)
+}
+
+/// The same for any words.
+#[inline(never)]
+fn any_asked_of(line: &mut Line, node: u8, text: &str) -> Option<()>
+    requires { IsTrimmed text.now }
+    ensures { read result line.new ≡ node_line_of node (words_of text.now) }
+{
+    let (verb, text) = first_word(text);
+    match Operands::read(text) {
+        Some(Operands::Zero) => alone(line, node, verb),
+        Some(Operands::One(a)) => with_one(line, node, verb, a),
+        Some(Operands::Two(a, b)) => with_two(line, node, verb, a, b),
+        Some(Operands::Three(a, b, c)) => with_three(line, node, verb, a, b, c),
+        None => None,
+    }
+}
+
+/// The meaning of a line whose first word isn't a number. (The most frequent words are looked for
+/// at its front, so that they need not be searched for a space.)
+#[inline(never)]
+fn command(line: &mut Line, text: &str) -> Option<()>
+    requires trimmed { IsTrimmed text.now }
+    requires other { starts_number text.now ≡ false }
+    ensures { read result line.new ≡ command_of (word_of text.now) (words_of (behind text.now)) }
+{
+    if let Some(rest) = behind_word(text, "deliver") {
+        return delivery(line, Operands::read(rest)?);
+    }
+    if let Some(rest) = behind_word(text, "ack") {
+        return hand(line, Operands::read(rest)?);
+    }
+    any_command(line, text)
+}
+
+/// The same for any word.
+#[inline(never)]
+fn any_command(line: &mut Line, text: &str) -> Option<()>
+    requires trimmed { IsTrimmed text.now }
+    requires other { starts_number text.now ≡ false }
+    ensures { read result line.new ≡ command_of (word_of text.now) (words_of (behind text.now)) }
+{
+    let (first, text) = first_word(text);
+    let operands = Operands::read(text)?;
+    match first {
+        "space" => space(line, operands),
+        "deliver" => delivery(line, operands),
+        "ack" => hand(line, operands),
+        "report" => report(line, operands),
+        _ => None,
+    }
+}
+
+#[tactic(auto, unfolding(crate::specs::Grammar::space_of))]
+fn space(line: &mut Line, operands: Operands) -> Option<()>
+    ensures { read result line.new ≡ space_of (spelled operands) }
+{
+    let Operands::Three(nodes, registers, slots) = operands else {
+        return None;
+    };
+    let (nodes, registers, slots) = (to_u8(nodes)?, to_u16(registers)?, to_u32(slots)?);
+    say(
+        line,
+        Line::Space {
+            nodes,
+            registers,
+            slots,
+        },
+    )
+}
+
+#[tactic(auto, using(crate::proofs::Spelling::u64_of_decimal), unfolding(crate::specs::Grammar::delivery_of))]
+fn delivery(line: &mut Line, operands: Operands) -> Option<()>
+    ensures { read result line.new ≡ stepped (delivery_of (spelled operands)) }
+{
+    let Operands::Three(from, to, number) = operands else {
+        return None;
+    };
+    let (from, to) = (to_u8(from)?, to_u8(to)?);
+    say(line, Line::Step(Step::Deliver { from, to, number }))
+}
+
+#[tactic(auto, unfolding(crate::specs::Grammar::hand_of))]
+fn hand(line: &mut Line, operands: Operands) -> Option<()>
+    ensures { read result line.new ≡ stepped (hand_of (spelled operands)) }
+{
+    let Operands::Two(from, to) = operands else {
+        return None;
+    };
+    let (from, to) = (to_u8(from)?, to_u8(to)?);
+    say(line, Line::Step(Step::Hand { from, to }))
+}
+
+#[tactic(auto, unfolding(crate::specs::Grammar::report_of))]
+fn report(line: &mut Line, operands: Operands) -> Option<()>
+    ensures { read result line.new ≡ report_of (spelled operands) }
+{
+    let Operands::Zero = operands else {
+        return None;
+    };
+    say(line, Line::Report)
+}
+
+/// The number that the word spells, if it fits.
+#[tactic(auto, unfolding(crate::specs::Grammar::u8_of, crate::specs::Grammar::u64_of))]
+pub fn read_u8(word: &str) -> Option<u8>
+    ensures { result ≡ u8_of word.now }
+{
+    u8::try_from(read_u64(word)?).ok()
+}
+
+/// The number that the word spells, if it fits.
+#[tactic(auto, unfolding(crate::specs::Grammar::u16_of, crate::specs::Grammar::u64_of))]
+pub fn read_u16(word: &str) -> Option<u16>
+    ensures { result ≡ u16_of word.now }
+{
+    u16::try_from(read_u64(word)?).ok()
+}

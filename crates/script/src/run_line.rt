@@ -1,0 +1,142 @@
+//! One line of a script that runs on node threads. The grammar is that of scripts on one thread,
+//! without what the workers do by themselves, and with three more lines.
+ghost use Rattle.std.specs.Prelude.{◌≡◌, ◌∷◌, [], IfNone, IfSome, IsTrue};
+ghost use Rattle.script.specs.Grammar.{is_own_line, line_of, words_of};
+ghost use Rattle.script.specs.RunLines.{is_for_workers, is_own_said, of_runs, run_line_of, shared_of};
+ghost use Rattle.script.specs.RunLines.{with_all, with_word, with_words};
+ghost use Rattle.script.specs.Words.{IsTrimmed};
+
+use crate::front::{first_word, past_spaces};
+use crate::line::{Line, read_u8, read_u16};
+use model::{Event, Step};
+
+/// What one line of such a script says.
+#[derive(Clone, Copy)]
+pub enum RunLine {
+    /// Nothing: the line has no word, or is a comment.
+    Blank,
+    /// An event of a node's own program.
+    Act(u8, Event),
+    /// A restart of a node.
+    Restart(u8),
+    /// A collection cycle, until its end.
+    Cycle,
+    /// Waits for a letter and accepts it into this register of the node.
+    Await { node: u8, register: u16 },
+    /// The trace of a node's last calls.
+    Trace(u8),
+}
+
+impl RunLine {
+    /// What the line says, or `None` if it is outside the grammar. The grammar has `cycle`, `await`
+    /// with a node and a register, a node and `trace`, and the lines of other scripts that ask for
+    /// an event of a program or for a restart.
+    #[tactic(auto, using(crate::proofs::Words::after_spaces))]
+    pub fn parse(text: &str) -> Option<RunLine>
+        ensures reads { result ≡ run_line_of (words_of text.now) }
+        ensures own { IfSome result (λ l. IsTrue (is_own_said l)) }
+    {
+        match Line::parse(text) {
+            Some(line) => shared(line),
+            None => of_runs(past_spaces(text)),
+        }
+    }
+}
+
+// What a line of other scripts means here.
+fn shared(line: Line) -> Option<RunLine>
+    ensures { result ≡ shared_of line }
+{
+    match line {
+        Line::Blank => Some(RunLine::Blank),
+        Line::Step(Step::Restart(node)) => Some(RunLine::Restart(node)),
+        Line::Step(Step::Act(node, event)) => {
+            if is_for_workers(&event) {
+                None
+            } else {
+                Some(RunLine::Act(node, event))
+            }
+        }
+        Line::Step(_) | Line::Space { .. } | Line::State(_) | Line::Report => None,
+    }
+}
+
+// Whether the workers take care of an event: those of the collector, and messages that wait.
+fn is_for_workers(event: &Event) -> bool
+    ensures { result ≡ is_for_workers event.now }
+{
+    match event {
+        Event::Begin | Event::Scan | Event::Pass | Event::Sweep { .. } | Event::Next { .. } => true,
+        _ => false,
+    }
+}
+
+// The word at the front, if there is one, and the text from the next word on.
+#[tactic(auto, using(crate::proofs::Words::words_split, crate::proofs::Words::words_none))]
+fn next_word(text: &str) -> Option<(&str, &str)>
+    requires { IsTrimmed text.now }
+    ensures none { IfNone result (words_of text.now ≡ []) }
+    ensures word { IfSome result (λ r. words_of text.now ≡ r.0.now ∷ words_of r.1.now) }
+    ensures trimmed { IfSome result (λ r. IsTrimmed r.1.now) }
+{
+    if text.is_empty() {
+        return None;
+    }
+    Some(first_word(text))
+}
+
+// The meaning of words that aren't a line of other scripts.
+#[tactic(auto, unfolding(crate::specs::RunLines::of_runs))]
+fn of_runs(text: &str) -> Option<RunLine>
+    requires { IsTrimmed text.now }
+    ensures value { result ≡ of_runs (words_of text.now) }
+    ensures own { IfSome result (λ l. IsTrue (is_own_said l)) }
+{
+    let (first, text) = next_word(text)?;
+    let Some((second, text)) = next_word(text) else {
+        return cycle(first);
+    };
+    let Some((third, text)) = next_word(text) else {
+        return trace(first, second);
+    };
+    if next_word(text).is_some() {
+        return None;
+    }
+    letter(first, second, third)
+}
+
+#[tactic(auto, unfolding(crate::specs::RunLines::with_word))]
+fn cycle(word: &str) -> Option<RunLine>
+    ensures value { result ≡ with_word word.now }
+    ensures own { IfSome result (λ l. IsTrue (is_own_said l)) }
+{
+    match word {
+        "cycle" => Some(RunLine::Cycle),
+        _ => None,
+    }
+}
+
+#[tactic(auto, unfolding(crate::specs::RunLines::with_words))]
+fn trace(node: &str, verb: &str) -> Option<RunLine>
+    ensures value { result ≡ with_words node.now verb.now }
+    ensures own { IfSome result (λ l. IsTrue (is_own_said l)) }
+{
+    match verb {
+        "trace" => Some(RunLine::Trace(read_u8(node)?)),
+        _ => None,
+    }
+}
+
+#[tactic(auto, unfolding(crate::specs::RunLines::with_all))]
+fn letter(verb: &str, node: &str, register: &str) -> Option<RunLine>
+    ensures value { result ≡ with_all verb.now node.now register.now }
+    ensures own { IfSome result (λ l. IsTrue (is_own_said l)) }
+{
+    match verb {
+        "await" => {
+            let (node, register) = (read_u8(node)?, read_u16(register)?);
+            Some(RunLine::Await { node, register })
+        }
+        _ => None,
+    }
+}
