@@ -13,12 +13,12 @@ ghost use Rattle.c_handles.specs.Cells.{Sent, SizedSame};
 
 use crate::held::Held;
 use crate::seated::SeatedCell;
+use c_values::{CLink, Fault};
 use ids::Ref;
 use model::{Answer, Event};
 use node::Summary;
 use std::alloc::Global;
 use std::marker::{Model, Send};
-use c_values::{CLink, Fault};
 
 /// What C holds of a cell. Null is an empty handle. Only C copies its bytes, so it can't be dropped
 /// here.

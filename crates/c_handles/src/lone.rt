@@ -12,6 +12,7 @@ pub(crate) mod reading;
 pub(crate) mod reopening;
 mod sending;
 
+use c_values::Fault;
 use frames::decode;
 use ids::{NodeId, Ref, Refusal, Shape};
 use image::from_bytes;
@@ -21,7 +22,6 @@ use msg::{Ack, Data, Frame};
 use node::Node;
 use node_store::{Log, is_turn};
 use std::alloc::Global;
-use c_values::Fault;
 
 /// A node whose caller moves its frames and stores its images.
 #[derive(Drop)]

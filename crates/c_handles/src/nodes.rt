@@ -18,12 +18,12 @@ ghost use Rattle.c_handles.specs.Reads.{link_of, register_of, waiting_number};
 
 use crate::held::Held;
 use crate::lone::LoneNode;
+use c_values::{CLink, Fault};
 use ids::Ref;
 use model::{Answer, Event};
 use node::Summary;
 use std::alloc::Global;
 use std::marker::{Model, Send};
-use c_values::{CLink, Fault};
 
 /// What C holds of a node. Null is an empty handle. Only C copies its bytes, so it can't be dropped
 /// here.

@@ -12,13 +12,13 @@ ghost use Rattle.c_handles.specs.Opening.{areas_in, cell_in, fault_of, watch_in}
 
 use crate::seated::SeatedCell;
 use crate::watching::SeatedWatch;
+use c_values::Fault;
 use cell::{Cell, Unopened, open};
 use disk::MemoryDisk;
+use disk_shelf::disk_of_image;
 use ids::{GREATEST_IMAGE, Refusal, Saves, Shape};
 use std::alloc::Global;
 use std::sync::Arc;
-use disk_shelf::disk_of_image;
-use c_values::Fault;
 use wire::{Watch, Wire};
 
 /// This many empty places.

@@ -9,6 +9,7 @@ ghost use Rattle.c_handles.specs.Images.{Sized};
 ghost use Rattle.c_handles.specs.Reads.{link_of, register_of};
 
 use crate::lone::reading::{link_of, register_of};
+use c_values::{CLink, Fault, put};
 use cell::Cell;
 use disk::MemoryDisk;
 use ids::Ref;
@@ -18,7 +19,6 @@ use node::{Core, Summary};
 use std::alloc::Global;
 use std::snapshot::Snapshot;
 use std::sync::Arc;
-use c_values::{CLink, Fault, put};
 use wire::{Inbound, Outbound, Wire};
 
 /// A cell with its wire.

@@ -5,10 +5,10 @@ ghost use Rattle.std.specs.Prelude.{◌≡◌, vec_len};
 use crate::opening::{begin, copied, places, seat_all, seat_watches};
 use crate::seated::SeatedCell;
 use crate::watching::SeatedWatch;
+use c_values::Fault;
 use ids::{Refusal, Shape};
 use std::alloc::Global;
 use std::sync::Arc;
-use c_values::Fault;
 
 /// A space, with the images that were given while it isn't open, and with the cells and watches
 /// that weren't taken out yet.

@@ -11,9 +11,9 @@ use crate::cell_handle::CellHandle;
 use crate::held::Held;
 use crate::space::SeatedSpace;
 use crate::watch_handle::WatchHandle;
+use c_values::Fault;
 use std::alloc::Global;
 use std::marker::{Model, Send};
-use c_values::Fault;
 
 /// What C holds of a space. Null is an empty handle. Only C copies its bytes, so it can't be dropped
 /// here.

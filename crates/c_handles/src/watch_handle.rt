@@ -9,9 +9,9 @@ ghost use Rattle.c_handles.specs.Watches.{Looks};
 
 use crate::held::Held;
 use crate::watching::SeatedWatch;
+use c_values::Fault;
 use std::alloc::Global;
 use std::marker::{Model, Send};
-use c_values::Fault;
 
 /// What C holds of a watch. Null is an empty handle. Only C copies its bytes, so it can't be dropped
 /// here.

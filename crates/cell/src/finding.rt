@@ -32,12 +32,12 @@ ghost use Rattle.node_store.specs.Stores.{disk_of, is_ready_in, logs_in};
 
 use crate::fault::Unopened;
 use disk::Disk;
+use disk_shelf::is_blank;
 use ids::{NodeId, Refusal, Saves, Shape};
 use node::Node;
 use node_store::{Place, Store};
 use std::alloc::Global;
 use std::mem;
-use disk_shelf::is_blank;
 use wire::first_apart;
 
 // Whether a node has this number and this shape.

@@ -11,10 +11,10 @@ ghost use Rattle.msg.specs.Frames.{plain};
 
 use crate::reading::Unread;
 use ids::Refusal;
-use script::{FrameText, Printer, SummaryText, print_report};
 use model::Outcome;
 use msg::Frame;
 use node::Summary;
+use script::{FrameText, Printer, SummaryText, print_report};
 use std::io::Write;
 use words::{DONE, REFUSED, UNREADABLE};
 

@@ -29,9 +29,9 @@ use crate::output::{
 use crate::reading::Unread;
 use crate::splitting::first_line;
 use ids::{Refusal, Shape};
-use script::{Line, Printer};
 use model::{Answer, Event, Outcome, Step};
 use node::Summary;
+use script::{Line, Printer};
 use std::alloc::Global;
 use std::io::Write;
 use words::{DONE, UNREADABLE};

@@ -13,11 +13,11 @@ ghost use Rattle.disk_journal.specs.Journal.{RestoresEither, RestoresNone};
 ghost use Rattle.disk_journal.specs.Tails.{place_for};
 
 use disk::{Disk, MemoryDisk};
+use disk_shelf::log::{begin, extend, replay_log, shut, turn};
+use disk_shelf::{HEAD, Persist, Replay, recall_image, record, spelled};
 use ids::{GREATEST_IMAGE, Refusal};
 use std::alloc::Global;
 use std::marker::PhantomData;
-use disk_shelf::log::{begin, extend, replay_log, shut, turn};
-use disk_shelf::{HEAD, Persist, Replay, recall_image, record, spelled};
 
 /// A disk opens to at most one image with its batches. The function does nothing; its contract
 /// states the law.

@@ -16,8 +16,8 @@ ghost use Rattle.image_parts.specs.Parts.{stored_of};
 ghost use Rattle.image.specs.Logged.{IsAnyImageOf, IsLoggedOf};
 
 use cycles::Phases;
-use image_parts::{Head, StoredLink, StoredNode, begins_logged, whole, whole_logged};
 use ids::{GREATEST_IMAGE, Refusal, Shape};
+use image_parts::{Head, StoredLink, StoredNode, begins_logged, whole, whole_logged};
 use link::LinkParts;
 use node::{Core, Node, NodeParts};
 use std::alloc::Global;

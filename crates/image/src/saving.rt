@@ -11,8 +11,8 @@ ghost use Rattle.image.specs.Nodes.{IsImageOf};
 
 use crate::writing::put_node;
 use codec::Writer;
-use image_parts::LOGGED;
 use ids::{GREATEST_IMAGE, Refusal};
+use image_parts::LOGGED;
 use node::Node;
 use std::alloc::Global;
 

@@ -12,8 +12,8 @@ ghost use Rattle.link.specs.Ends.{new_ends, kept_ends, kept_ends_to};
 ghost use Rattle.link.specs.Parts.{IsNumbered, ends_given};
 
 use crate::parts::LinkParts;
-use link_ends::{Offer, Receiver, Sender};
 use ids::{GREATEST_NUMBER, Refusal};
+use link_ends::{Offer, Receiver, Sender};
 use msg::Message;
 use std::alloc::Global;
 use std::marker::Model;

@@ -3,9 +3,9 @@ ghost use Rattle.model.specs.declared.event.Event.TheVariants as event;
 ghost use Rattle.markring_c.specs.Calls.{CellCalled};
 
 use c_handles::CellHandle;
+use c_values::{CAnswer, answered};
 use model::Event;
 use std::alloc::Global;
-use c_values::{CAnswer, answered};
 
 /// Makes a new object with this many empty places, and puts its reference into the register.
 #[unsafe(no_mangle)]

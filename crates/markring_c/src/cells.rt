@@ -9,8 +9,10 @@ ghost use Rattle.c_handles.specs.Cells.{SizedSame};
 ghost use Rattle.markring_c.specs.Calls.{Answered, CellActed, Finished, Flagged, Numbered};
 
 use c_handles::CellHandle;
+use c_values::{
+    CAnswer, CEvent, CLink, CRef, CState, Fault, OK, answered, flagged, status, written,
+};
 use std::alloc::Global;
-use c_values::{CAnswer, CEvent, CLink, CRef, CState, Fault, OK, answered, flagged, status, written};
 
 /// Frees the cell.
 #[unsafe(no_mangle)]

@@ -3,9 +3,9 @@ ghost use Rattle.model.specs.declared.event.Event.TheVariants as event;
 ghost use Rattle.markring_c.specs.Calls.{NodeCalled};
 
 use c_handles::NodeHandle;
+use c_values::{CAnswer, answered};
 use model::Event;
 use std::alloc::Global;
-use c_values::{CAnswer, answered};
 
 // Gives the node an event. `Next` of a node that keeps a log isn't inlined, so that the events and
 // answers of other calls need not go through memory.

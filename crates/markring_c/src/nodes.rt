@@ -14,8 +14,10 @@ ghost use Rattle.markring_c.specs.Calls.{Answered, Finished, Finishes, NodeActed
 
 use crate::node_events::act;
 use c_handles::NodeHandle;
+use c_values::{
+    CAnswer, CEvent, CLink, CRef, CState, Fault, OK, answered, flagged, status, written,
+};
 use std::alloc::Global;
-use c_values::{CAnswer, CEvent, CLink, CRef, CState, Fault, OK, answered, flagged, status, written};
 
 /// Makes a new node.
 #[unsafe(no_mangle)]

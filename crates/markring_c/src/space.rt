@@ -5,8 +5,8 @@ ghost use Rattle.c_handles.specs.Watches.{Looks};
 ghost use Rattle.markring_c.specs.Calls.{Finished, Finishes, Numbered, OpenedOr};
 
 use c_handles::{CellHandle, SpaceHandle, WatchHandle};
-use std::alloc::Global;
 use c_values::{Fault, OK, status, written};
+use std::alloc::Global;
 
 /// Makes a space that isn't open yet.
 #[unsafe(no_mangle)]

@@ -17,13 +17,13 @@ mod receiving;
 mod steps;
 mod taking;
 
-use remote_marks::RefSet;
 use cycles::{Phases, Ring};
 use heap::Heap;
 use ids::{NodeId, Ref, Refusal, Shape};
 use link::Links;
 use model::{Answer, Event, Summary};
 pub use parts::NodeParts;
+use remote_marks::RefSet;
 use std::alloc::Global;
 use std::marker::Model;
 

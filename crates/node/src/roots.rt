@@ -7,10 +7,10 @@ ghost use Rattle.model.specs.Shading.{filled, roots, unasked, marks_for};
 ghost use Rattle.link.specs.Links.{IsLinks};
 ghost use Rattle.remote_marks.specs.Asked.{IsAsked, IsRefused};
 
-use remote_marks::{RefSet, append_marks, include};
 use heap::Heap;
 use ids::{Ref, Refusal};
 use link::Links;
+use remote_marks::{RefSet, append_marks, include};
 use std::alloc::Global;
 
 /// Asks for what the node's program holds, as a node does when it joins this cycle. The references

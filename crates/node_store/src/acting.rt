@@ -10,9 +10,9 @@ ghost use Rattle.node_store.specs.Logs.{is_quiet, is_turn};
 ghost use Rattle.node_store.specs.Noted.{IsLogged};
 
 use ids::Refusal;
-use node_log::Log;
 use model::{Answer, Event};
 use node::Node;
+use node_log::Log;
 
 // Whether an answer is that of an event that changes nothing that is saved: a word was read, or a
 // message was repeated, or kept until its turn.

@@ -1,9 +1,9 @@
 //! How a shelf keeps nodes: each as its image.
+use disk_shelf::{HEAD, Persist};
 use ids::Refusal;
 use image::{from_bytes, to_bytes_behind};
 use node::Node;
 use std::alloc::Global;
-use disk_shelf::{HEAD, Persist};
 
 /// [`Persist`] for nodes: a node is stored as its image. In a node's image everything that it sent
 /// and received counts as saved; early messages aren't in it.

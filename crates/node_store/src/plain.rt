@@ -13,10 +13,10 @@ ghost use Rattle.node_store.specs.Plain.{IsPlain, Keeps, KeepsEither, StaysPlain
 
 use crate::images::Images;
 use disk::Disk;
+use disk_shelf::{Selected, Shelf, read_value};
 use ids::Refusal;
 use node::Node;
 use std::alloc::Global;
-use disk_shelf::{Selected, Shelf, read_value};
 
 /// A shelf of a node. No log follows the image that its disk opens to, even after a crash.
 pub struct PlainShelf<D: Disk> {

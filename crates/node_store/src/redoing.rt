@@ -8,13 +8,13 @@ ghost use Rattle.node_store.specs.Values.{IsAlone, LeadsWhole};
 
 use crate::acting::is_quiet;
 use codec::Reader;
+use disk_shelf::{HEAD, Persist, Replay};
 use event_bytes::read_event;
 use ids::Refusal;
 use image::{from_any_bytes, to_logged_behind};
 use model::Event;
 use node::Node;
 use std::alloc::Global;
-use disk_shelf::{HEAD, Persist, Replay};
 
 /// How a journal keeps nodes: each as its image and the batches of its events. A node is read from
 /// an image of any version, whether a log follows it or not.

@@ -21,10 +21,10 @@ use crate::place::Place;
 use crate::plain::{PlainShelf, read_plain};
 use crate::redoing::LoggedImages;
 use disk::{Disk, MemoryDisk};
-use ids::{Refusal, Saves};
 use disk_journal::{Journal, Tail, read_logged};
-use node_log::Log;
+use ids::{Refusal, Saves};
 use node::Node;
+use node_log::Log;
 use std::alloc::Global;
 
 /// A node's store. Its disk opens to the node as it was saved last, even after a crash.

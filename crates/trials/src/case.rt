@@ -7,8 +7,8 @@ ghost use Rattle.model.specs.Steps.{is_own};
 
 use hex::FromHexError;
 use ids::{Refusal, Saves};
-use script::Line;
 use model::{Event, Step};
+use script::Line;
 use std::alloc::Global;
 use std::fmt::{Debug, Display};
 use std::io::BufRead;

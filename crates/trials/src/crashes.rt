@@ -1,10 +1,10 @@
 //! What a disk opens to, and what crashes may leave of a disk in memory.
 use crate::case::Case;
 use disk::{Disk, MemoryDisk};
+use disk_shelf::is_blank;
 use ids::{Refusal, Saves};
 use node_store::read_node;
 use std::alloc::{AllocError, Global};
-use disk_shelf::is_blank;
 
 /// For each byte with which a crash may fill what wasn't synced, what the disk then opens to: each
 /// outcome with the number of bytes for which it comes, in the order of the first.

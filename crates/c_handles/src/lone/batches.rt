@@ -7,10 +7,10 @@ ghost use Rattle.c_handles.specs.Batches.{Batched, batch_of, size_of};
 
 use super::LoneNode;
 use super::images::counts_of;
+use c_values::Fault;
+use disk_shelf::HEAD;
 use node_store::GREATEST_LOG;
 use std::alloc::Global;
-use disk_shelf::HEAD;
-use c_values::Fault;
 
 impl LoneNode {
     // The events of the next batch. None if there is no log, if it is lost, or if what the last

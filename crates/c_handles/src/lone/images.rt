@@ -8,12 +8,12 @@ ghost use Rattle.image.specs.Wholes.{saved_whole};
 ghost use Rattle.c_handles.specs.Images.{Imaged, Kept, SizedAs, counts_of, image_in, keeps, released};
 
 use super::LoneNode;
+use c_values::{Fault, put};
+use disk_shelf::{HEAD, Persist};
 use ids::Refusal;
 use node::{Core, Node};
 use node_store::{Images, LoggedImages};
 use std::alloc::Global;
-use disk_shelf::{HEAD, Persist};
-use c_values::{Fault, put};
 
 /// What an image holds of the links between its node and one node.
 #[derive(Drop)]

@@ -6,10 +6,10 @@ ghost use Rattle.c_handles.specs.Logs.{logging};
 ghost use Rattle.c_handles.specs.Lone.{Acknowledged, Given};
 
 use super::{LoneNode, is_counted};
+use c_values::Fault;
 use model::{Answer, Event};
 use msg::Ack;
 use node_store::meant;
-use c_values::Fault;
 
 impl LoneNode {
     /// Keeps the events from the next image on, or no more. If they are kept already, nothing

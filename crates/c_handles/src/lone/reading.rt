@@ -4,9 +4,9 @@ ghost use Rattle.c_handles.specs.Reads.{link_of, other_node, register_of, waitin
 ghost use Rattle.node.specs.Summaries.{summary_of};
 
 use super::LoneNode;
+use c_values::{CLink, Fault};
 use ids::{Ref, Refusal};
 use node::{Core, Node, Summary};
-use c_values::{CLink, Fault};
 
 /// Fails with `NoNode` if this isn't another node of the node's space.
 pub(crate) fn other_node(core: &Core, node: u8) -> Result<(), Fault>

@@ -7,12 +7,12 @@ ghost use Rattle.node_store.specs.Values.{IsAlone};
 ghost use Rattle.c_handles.specs.Batches.{IsStored, LogLeads, Reopened};
 
 use super::LoneNode;
+use c_values::Fault;
+use disk_shelf::{HEAD, Persist, Replay};
 use ids::{GREATEST_IMAGE, Refusal};
 use node::Node;
 use node_store::{Log, LoggedImages};
 use std::alloc::Global;
-use disk_shelf::{HEAD, Persist, Replay};
-use c_values::Fault;
 
 /// An image and batches are those of at most one node. The function does nothing; its contract
 /// states the law.

@@ -6,9 +6,9 @@ ghost use Rattle.c_handles.specs.Frames.{Holds, Packs, ack_bytes, frame_bytes, w
 use super::LoneNode;
 use super::reading::other_node;
 use crate::packing::{Packing, spelled};
+use c_values::{Fault, put};
 use ids::WINDOW;
 use node::Node;
-use c_values::{Fault, put};
 
 impl LoneNode {
     /// Writes the frame in this place of the window to another node. Fails with `BadArgument` if

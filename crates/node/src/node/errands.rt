@@ -39,13 +39,13 @@ ghost use Rattle.node.specs.Errands.{
 ghost use Rattle.node.specs.Sending.{told, with_sent};
 
 use super::Core;
-use remote_marks::{RefSet, see, unsee};
 use cycles::{NEW_TOKEN, Ring, balance_of};
 use heap::Heap;
 use ids::{Ref, Refusal};
 use link::Links;
 use model::Letter;
 use msg::{Body, Message};
+use remote_marks::{RefSet, see, unsee};
 
 /// What an errand does besides seeing to references.
 #[derive(Clone, Copy)]

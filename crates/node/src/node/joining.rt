@@ -27,10 +27,10 @@ ghost use Rattle.node.specs.Errands.{HasEnds, IsFit, MayJoin, Runs, errand_here,
 use super::Core;
 use super::errands::{Extra, count, letters_in, mark, send_out};
 use crate::roots::ask_for_roots;
-use remote_marks::{RefSet, unask};
 use heap::Heap;
 use ids::{Ref, Refusal};
 use link::Links;
+use remote_marks::{RefSet, unask};
 use std::alloc::Global;
 
 /// What a node that joins a cycle has asked for, and how many Marks it has sent.

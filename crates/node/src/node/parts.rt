@@ -10,7 +10,6 @@ mod links;
 mod lists;
 
 use super::Core;
-use remote_marks::RefSet;
 use cycles::{Phases, Ring};
 use heap::{Heap, HeapParts};
 use home::is_at_home;
@@ -18,6 +17,7 @@ use ids::{Ref, Refusal, Shape};
 use link::{LinkParts, Links};
 use links::{are_at_ends, is_bounded, number_sum};
 use lists::{are_grey, asked_once};
+use remote_marks::RefSet;
 use std::alloc::Global;
 
 /// The parts of a saved node.

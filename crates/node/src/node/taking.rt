@@ -20,8 +20,8 @@ ghost use Rattle.model.specs.View.{Performed, Performs, view_act};
 ghost use Rattle.model.specs.declared.event.Event.TheVariants as event;
 
 use super::Core;
-use link_ends::Offer;
 use ids::{Ref, Refusal};
+use link_ends::Offer;
 use model::Answer;
 use msg::{Ack, Body, Data};
 

@@ -6,9 +6,9 @@ ghost use Rattle.heap.specs.Heap.{slot_of};
 ghost use Rattle.node.specs.Parts.{is_foreign, is_marked_in, AreAsked, AreGreyIn};
 
 use super::home::is_named;
-use remote_marks::RefSet;
 use heap::{Object, Slot, Slots};
 use ids::{Ref, Refusal, Shape};
+use remote_marks::RefSet;
 use std::alloc::{AllocError, Global};
 
 fn is_foreign(shape: Shape, own: u8, reference: Ref) -> bool
