@@ -4,7 +4,7 @@ ghost use Rattle.std.specs.Prelude.{◌≤◌};
 use crate::decoding::decode;
 use crate::output::print_refusal;
 use crate::reading::{read_file, read_text};
-use crate::script::sim;
+use crate::simulation::sim;
 use ids::Refusal;
 use std::io;
 use std::io::BufWriter;
