@@ -5,7 +5,7 @@ use denote.Struct.Struct.{Struct}
 use denote.Param.Send.{IsSend, IsSync, recorded_send, recorded_sync, struct_send, struct_sync, sendable, view_send}
 use Rattle.std.proofs.Crossing.{crosses, Arc-send}
 use Rattle.ids.proofs.names.Cycle.TheSendSync as Cycle
-use Rattle.node.proofs.keeping.Node.TheSendSync as Node
+use Rattle.node.proofs.node.Node.TheSendSync as Node
 use Rattle.node_log.proofs.log.Log.TheSendSync as Log
 use Rattle.node_store.proofs.store.Store.TheSendSync as Store
 use Rattle.cell.proofs.trace.Trace.TheSendSync as Trace

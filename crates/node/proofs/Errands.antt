@@ -27,8 +27,8 @@ use Rattle.remote_marks.specs.Asked.{AreSent, all_appended}
 use Rattle.node.specs.Cycles.{begins}
 use Rattle.node.specs.Errands.{HasEnds, IsFit, IsRun, MayJoin, errand_here, extra_ring, extra_sends, extra_work, is_nothing, listed, unlisted, with_extra}
 use Rattle.node.specs.Invariant.{IsNode, links_of, number_sum}
-use Rattle.node.specs.declared.node.errands.Extra.{Extra}
-use Rattle.node.specs.declared.node.errands.Extra.TheVariants as extra
+use Rattle.node.specs.declared.node_core.errands.Extra.{Extra}
+use Rattle.node.specs.declared.node_core.errands.Extra.TheVariants as extra
 use Rattle.node.proofs.Appended.{MaySend, both-may, linked-appended, nodes-within, numbers-appended, one-may, others-may}
 use Rattle.node.proofs.Balances.{balance-small, bounded-same}
 use Rattle.node.proofs.Events.{after_step, with_parts}

@@ -25,8 +25,8 @@ use Rattle.model.proofs.Stocks.{open-apart}
 use Rattle.model.proofs.Walk.{joined-walks, taken-walks}
 use Rattle.node.specs.Errands.{IsRun, Runs, errand, errand_here}
 use Rattle.node.specs.Taking.{IsSender, IsTakable, followed}
-use Rattle.node.specs.declared.node.errands.Extra.{Extra}
-use Rattle.node.specs.declared.node.errands.Extra.TheVariants as extra
+use Rattle.node.specs.declared.node_core.errands.Extra.{Extra}
+use Rattle.node.specs.declared.node_core.errands.Extra.TheVariants as extra
 use Rattle.node.proofs.Events.{shaded, shaded-refused}
 use Rattle.node.proofs.Runs.{run-then, runs-refused, stepped}
 use Rattle.node.proofs.Places.{joined-places, seen-places}

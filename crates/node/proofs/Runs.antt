@@ -17,8 +17,8 @@ use Rattle.model.proofs.Walk.{joined-walks}
 use Rattle.remote_marks.specs.Asked.{IsRefused}
 use Rattle.node.specs.Errands.{IsRun, Runs, errand, errand_here}
 use Rattle.node.specs.Invariant.{links_of}
-use Rattle.node.specs.declared.node.errands.Extra.{Extra}
-use Rattle.node.specs.declared.node.errands.Extra.TheVariants as extra
+use Rattle.node.specs.declared.node_core.errands.Extra.{Extra}
+use Rattle.node.specs.declared.node_core.errands.Extra.TheVariants as extra
 use Rattle.node.proofs.Events.{after_step}
 
 pub run-both : (n : NodeView) (w : Work) (f : LocalState → Work) {new : NodeView}

@@ -25,7 +25,7 @@ use Rattle.link.specs.Links.{for_others}
 use Rattle.link.proofs.Announcing.{to_others-is}
 use Rattle.node.specs.Errands.{errand, errand_here, extra_work}
 use Rattle.node.specs.Invariant.{IsNode}
-use Rattle.node.specs.declared.node.errands.Extra.TheVariants as extra
+use Rattle.node.specs.declared.node_core.errands.Extra.TheVariants as extra
 use Rattle.node.proofs.Receiving.{filled-one}
 use Rattle.node.proofs.Runs.{errand-joins, errand-stays, stepped}
 use Rattle.node.proofs.Seeing.{seen-registers}

@@ -20,7 +20,7 @@ use Rattle.heap.specs.Heap.{HeapView}
 use Rattle.link.specs.Links.{LinksView}
 use Rattle.node.specs.Inside.{view_of, IsSound}
 use Rattle.node.specs.Invariant.{IsNode}
-use Rattle.node.specs.declared.node.Core.TheInside.{Inside}
+use Rattle.node.specs.declared.node_core.Core.TheInside.{Inside}
 use Rattle.node.proofs.Events.{okay}
 use Rattle.node.proofs.Nodes.{node-heap}
 

@@ -20,8 +20,8 @@ use Rattle.model.specs.WellFormed.{IsOther}
 use Rattle.remote_marks.specs.Asked.{IsRefused}
 use Rattle.node.specs.Cycles.{begins}
 use Rattle.node.specs.Invariant.{links_of}
-use Rattle.node.specs.declared.node.errands.Extra.{Extra}
-use Rattle.node.specs.declared.node.errands.Extra.TheVariants as extra
+use Rattle.node.specs.declared.node_core.errands.Extra.{Extra}
+use Rattle.node.specs.declared.node_core.errands.Extra.TheVariants as extra
 
 -- ---- the one thing more, by the parts of the node
 

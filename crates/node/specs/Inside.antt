@@ -1,6 +1,6 @@
 -- How a node's fields are seen as its view.
 use Rattle.std.specs.Prelude.{◌≡◌}
-use Rattle.node.specs.declared.node.Core.TheInside.{Inside}
+use Rattle.node.specs.declared.node_core.Core.TheInside.{Inside}
 use Rattle.model.specs.View.{NodeView}
 use Rattle.node.specs.Invariant.{IsNode}
 

@@ -20,7 +20,7 @@ use Rattle.heap.specs.Parts.{heap_given}
 use Rattle.link.specs.Links.{LinksView, link_at, got_at}
 use Rattle.link.specs.Parts.{links_given}
 use Rattle.node.specs.Invariant.{links_of}
-use Rattle.node.specs.declared.node.parts.NodeParts.{NodeParts}
+use Rattle.node.specs.declared.node_core.parts.NodeParts.{NodeParts}
 
 -- all of the node except its links
 abbrev pub local_given : NodeParts → LocalState

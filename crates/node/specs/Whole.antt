@@ -1,5 +1,5 @@
 -- How a node's fields are seen as a node together with what it keeps.
-use Rattle.node.specs.declared.keeping.Node.TheInside.{Inside}
+use Rattle.node.specs.declared.node.Node.TheInside.{Inside}
 use Rattle.node.specs.Keeping.{WholeNode, AreKeptIn}
 
 abbrev pub whole_of : Inside → WholeNode

@@ -1,205 +1,276 @@
-//! The saved part of a node, and the dispatch of its events. Each event has its own small function,
-//! grouped by subject in the files below, with the tests in the order of the rules.
-ghost use Rattle.std.specs.Prelude.{◌≡◌, ◌≢◌, ◌<◌, ◌≤◌, IsTrue, IfOk, IfErr};
+//! A node together with its early messages. These are kept apart from what is saved, and are in no
+//! state. So each clause about the core is about the event that reaches the core.
+ghost use Rattle.std.specs.Prelude.{◌≡◌, ◌≢◌, ℕ, ◌<◌, ◌≤◌, IsTrue, Ok, Some, IfOk, IfErr, OnErr};
+ghost use Rattle.std.specs.Option.{option_map};
 ghost use Rattle.ids.specs.declared.refusal.Refusal.TheVariants.{Memory, NoNode};
-ghost use Rattle.model.specs.Steps.{is_addressed, is_memory_free, is_shading};
-ghost use Rattle.model.specs.View.{is_other, Performed, view_act, new_view, kept_view, kept_with};
+ghost use Rattle.msg.specs.Frames.{plain};
+ghost use Rattle.msg.specs.declared.frame.Data.{Data};
+ghost use Rattle.model.specs.State.{NodeState};
+ghost use Rattle.model.specs.Steps.{act, is_memory_free, is_shading};
+ghost use Rattle.model.specs.View.{Shows, Follows, Performs, Leaves, view_act};
+ghost use Rattle.model.specs.declared.event.Answer.TheVariants as answer;
+ghost use Rattle.model.specs.declared.event.Event.TheVariants as event;
+ghost use Rattle.node.specs.Frames.{acknowledgement, released_frame};
+ghost use Rattle.node.specs.Invariant.{IsNode};
+ghost use Rattle.node.specs.Summaries.{summary_of};
+ghost use Rattle.node.specs.Keeping.{
+  AreKeptIn,
+  Handled,
+  after_data,
+  alone,
+  early_after,
+  emptied_at,
+  kept_whole,
+  kept_whole_with,
+  met,
+  new_whole,
+  placed_at,
+  shifted_at,
+  waiting,
+};
 
-mod asking;
-mod collecting;
-mod errands;
-mod frames;
-mod joining;
-mod objects;
-mod parts;
-mod reading;
-mod receiving;
-mod steps;
-mod taking;
-
-use cycles::{Phases, Ring};
-use heap::Heap;
-use ids::{NodeId, Ref, Refusal, Shape};
-use link::Links;
+use crate::node_core::Core;
+use ids::{NodeId, Refusal, Shape};
+use link::EarlyFrames;
 use model::{Answer, Event, Summary};
-pub use parts::NodeParts;
-use remote_marks::RefSet;
+use msg::{Data, Frame};
 use std::alloc::Global;
 use std::marker::Model;
 
-/// The part of a node that is saved: its heap, and its part in the collection cycles and in the
-/// ring. For each other node it has the messages to there that aren't acknowledged, and how many it
-/// received from there. It keeps no early messages.
-pub struct Core {
-    shape: Shape,
-    own: u8,
-    heap: Heap,
-    // References of other nodes that were asked or vouched for in this cycle, in order.
-    asked: RefSet,
-    phases: Phases,
-    ring: Ring,
-    links: Links,
+/// One node: its core, which is the part that is saved, and for each other node a ring buffer of
+/// [`WINDOW`](ids::WINDOW) places for early messages from there. What the ring buffers hold is in
+/// no state and in no image, and a restart loses it.
+pub struct Node {
+    core: Core,
+    // For each node of the space, including itself, in order of their numbers.
+    early: Vec<EarlyFrames>,
 }
 
 // Written out, so that the crates above don't have to prove again how each field is dropped.
-impl Drop for Core {
+impl Drop for Node {
     fn drop(self) {
-        let Core {
-            shape: _,
-            own: _,
-            heap: _,
-            asked: _,
-            phases: _,
-            ring: _,
-            links: _,
-        } = self;
+        let Node { core: _, early: _ } = self;
     }
 }
 
-impl Model for Core {
-    ghost use Rattle.model.specs.View.{NodeView};
+impl Model for Node {
+    ghost use Rattle.node.specs.Keeping.{WholeNode};
 
-    ghost Value = { NodeView };
+    ghost Value = { WholeNode };
 
-    ghost use Rattle.node.specs.Inside.{view_of, IsSound};
+    ghost use Rattle.node.specs.Whole.{whole_of, IsWhole};
 
-    ghost view = { view_of };
+    ghost view = { whole_of };
 
-    ghost invariant = { IsSound };
+    ghost invariant = { IsWhole };
 }
 
-impl Core {
-    ghost use Rattle.node.specs.Summaries.{summary_of};
-    ghost use Rattle.heap.specs.Heap.{IsSlotted};
-    ghost use Rattle.node.specs.Invariant.{IsNode, IsStanding};
-
+impl Node {
     /// Makes a new node of the shape: nothing allocated, nothing sent, nothing received. It fails
     /// with `NoNode` if the shape has no such node, and with `Memory` if an allocation fails.
-    pub fn new(alloc: Global, shape: Shape, own: NodeId) -> Result<Core, Refusal>
-        ensures made { IfOk result (λ n. n ≡ new_view shape own.number) }
+    pub fn new(alloc: Global, shape: Shape, own: NodeId) -> Result<Node, Refusal>
+        ensures made { IfOk result (λ n. n ≡ new_whole shape own.number) }
         ensures there { IfOk result (λ _. own.number < shape.nodes) }
         ensures refused { IfErr result
             (λ e. e ≢ Memory → (e ≡ NoNode) × (shape.nodes ≤ own.number)) }
         ensures last { IfErr result (λ e. e ≡ Memory → own.number < shape.nodes) }
     {
-        if own.number >= shape.nodes() {
-            return Err(Refusal::NoNode);
-        }
-        Ok(Core {
-            shape,
-            own: own.number,
-            heap: Heap::new(alloc, shape)?,
-            asked: RefSet::new(alloc),
-            phases: Phases::new(alloc, shape.nodes())?,
-            ring: Ring::new(),
-            links: Links::new(alloc, shape.nodes())?,
-        })
+        let core = Core::new(alloc, shape, own)?;
+        Node::of(alloc, core)
     }
 
-    /// Performs one event, which may shade (`is_shading`). A refused event changes nothing.
-    #[inline(always)]
-    pub(crate) fn perform(&mut self, event: Event) -> Result<Answer, Refusal>
-        ensures performed { Performed (is_shading event) result self.old self.new
-            (view_act self.old event) }
-        ensures memory_free { IsTrue (is_memory_free self.old.local event)
-            → IfErr result (λ e. e ≢ Memory) }
+    /// Makes the node of this core, which keeps no message. It fails with `Memory` if the ring
+    /// buffers can't be allocated.
+    pub fn of(alloc: Global, core: Core) -> Result<Node, Refusal>
+        ensures made { IfOk result (λ n. n ≡ alone core) }
+        ensures refused { IfErr result (λ e. e ≡ Memory) }
     {
+        let width = core.state().shape.nodes();
+        let early = EarlyFrames::for_nodes(alloc, width)?;
+        Ok(Node { core, early })
+    }
+
+    /// Performs one event. Refusals come in the order in which docs/RULES.md lists them for each
+    /// event, and `Memory` comes after all of them, if an allocation fails. `Load`, `Begin`, `Scan`
+    /// and a message may also fail with `Memory` in place of `LinkSpent`. A refused event leaves
+    /// the core as it was.
+    ///
+    /// These never fail with `Memory`: `Copy`, `Drop`, `Store`, `Clear`, `Word`, `SetWord`,
+    /// `Accept`, `Ack`, a `Sweep` that leaves slots or is node 0's, a `Next` for which no message
+    /// waits, and a message that isn't the next one. `Word`, a repeated message and an early one
+    /// also leave the core as it was.
+    ///
+    /// An early message is kept, unless its place is taken already. `Next` receives the message
+    /// that waits, as if it arrived now, and fails with `NothingToDo` if none does. If that message
+    /// is refused, it has left its place, unless memory ran out.
+    #[inline(always)]
+    #[tactic(auto, using(crate::proofs::Held::handled))]
+    pub fn act(&mut self, event: Event) -> Result<Answer, Refusal>
+        ensures performs { Performs (is_shading (met self.old.early event)) result self.new.core
+            (view_act self.old.core (met self.old.early event)) }
+        ensures states { (s : NodeState) → Shows self.old.core s
+            → Follows (met self.old.early event) result self.new.core
+            (act s (met self.old.early event)) }
+        ensures unchanged { OnErr result (self.new.core ≡ self.old.core) }
+        ensures leaves { Leaves self.old.core self.new.core (met self.old.early event) }
+        ensures memory_free { IsTrue (is_memory_free self.old.core.local (met self.old.early event))
+            → IfErr result (λ e. e ≢ Memory) }
+        ensures early { self.new.early
+            ≡ early_after self.old.core.local self.old.early event result }
+        ensures turn { met self.old.early event ≢ event
+            → IfOk result (λ a. a ≡ answer.Received) }
+        ensures kept { AreKeptIn self.new }
+    {
+        // (Separate variables for what the two calls write, so that the answers of all other
+        // events need not go through memory.)
         match event {
-            Event::Alloc { register, places } => self.allocate(register, places),
-            Event::Copy { register, source } => self.copy_register(register, source),
-            Event::Drop { register } => self.drop_register(register),
-            Event::Load {
-                register,
-                object,
-                place,
-            } => self.load(register, object, place),
-            Event::Store {
-                object,
-                place,
-                register,
-            } => self.store(object, place, register),
-            Event::Clear { object, place } => self.clear(object, place),
-            Event::Word { object } => self.word(object),
-            Event::SetWord { object, word } => self.set_word(object, word),
-            Event::Give {
-                to,
-                label,
-                register,
-            } => self.give(to, label, register),
-            Event::Accept { register } => self.accept(register),
-            Event::Put {
-                object,
-                place,
-                register,
-            } => self.put(object, place, register),
-            Event::Get {
-                object,
-                place,
-                label,
-            } => self.get(object, place, label),
-            Event::Begin => self.begin(),
-            Event::Scan => self.scan(),
-            Event::Pass => self.pass(),
-            Event::Sweep { count } => self.sweep(count),
-            Event::Next { from } => self.next(from),
-            Event::Data(frame) => self.take_in(frame),
-            Event::Ack(ack) => self.acknowledge(ack),
+            Event::Data(frame) => {
+                let taken = self.take(frame);
+                taken
+            }
+            Event::Next { from } => {
+                let taken = self.next(from);
+                taken
+            }
+            _ => self.handle(event),
         }
+    }
+
+    /// Performs an event to which early messages mean nothing.
+    #[inline(always)]
+    fn handle(&mut self, other: Event) -> Result<Answer, Refusal>
+        requires waits { (from : ℕ) → other ≢ event.Next from }
+        requires comes { (frame : Data) → other ≢ event.Data frame }
+        ensures { Handled self.old self.new other result }
+    {
+        self.core.perform(other)
+    }
+
+    #[inline(always)]
+    fn take(&mut self, frame: Data) -> Result<Answer, Refusal>
+        ensures { Handled self.old self.new (event.Data frame) result }
+    {
+        let taken = self.core.taken_from(frame.from);
+        let answer = self.core.take_in(frame)?;
+        keep(&mut self.early, taken, frame, answer);
+        Ok(answer)
+    }
+
+    #[inline(never)]
+    fn next(&mut self, from: u8) -> Result<Answer, Refusal>
+        ensures { Handled self.old self.new (event.Next from) result }
+    {
+        let Some(frame) = front(&self.early, from) else {
+            return self.core.next(from);
+        };
+        match self.core.take_in(frame) {
+            Ok(answer) => {
+                shift(&mut self.early, from);
+                Ok(answer)
+            }
+            Err(Refusal::Memory) => Err(Refusal::Memory),
+            Err(refusal) => {
+                drop_front(&mut self.early, from);
+                Err(refusal)
+            }
+        }
+    }
+
+    /// The frame from that node that waits for [`Event::Next`], if there is one.
+    pub fn waiting(&self, from: u8) -> Option<Data>
+        ensures value { result ≡ waiting self.now.early from }
+        ensures kept { AreKeptIn self.now }
+    {
+        front(&self.early, from)
     }
 
     /// Marks all messages as held by a saved state, which releases them. Call it after a save.
     pub fn mark_saved(&mut self)
-        ensures { self.new ≡ kept_view self.old }
+        ensures { self.new ≡ kept_whole self.old }
     {
-        self.links.mark_saved();
+        self.core.mark_saved();
     }
 
-    /// Marks as held by a saved state what was sent to the node `peer` up to the number `sent`, and
-    /// what was received from it up to the number `received`. Call it for each peer after the save
-    /// of an earlier state, with that state's numbers ([`Core::links`]). A number above the last
-    /// one counts as that one, and one that counts as saved already changes nothing. Nothing
-    /// changes either if `peer` is no other node of the space. It allocates nothing.
+    /// Marks as held by a saved state what was sent to the node `peer` and received from it, up to
+    /// these numbers; see [`Core::mark_saved_to`].
     pub fn mark_saved_to(&mut self, peer: u8, sent: u64, received: u64)
-        ensures { self.new ≡ kept_with peer sent received self.old }
+        ensures { self.new ≡ kept_whole_with peer sent received self.old }
     {
-        if self.is_other(peer) {
-            self.links.mark_saved_to(peer, sent, received);
-        }
+        self.core.mark_saved_to(peer, sent, received);
     }
 
-    /// The node in numbers. The contract also states what holds of every node and of its slots, and
-    /// that a node can be made from the parts of this one ([`Core::from_parts`]).
+    /// The part of the node that is saved.
+    pub fn core(&self) -> &Core
+        ensures value { result.now ≡ self.now.core }
+        ensures kept { AreKeptIn self.now }
+    {
+        &self.core
+    }
+
+    /// The node in numbers.
     pub fn state(&self) -> Summary
-        ensures value { result ≡ summary_of self.now.local }
-        ensures sound { IsNode self.now }
-        ensures slots { IsSlotted self.now.local.heap self.now.local.shape.slots }
-        ensures saved { IsStanding (kept_view self.now) }
+        ensures value { result ≡ summary_of self.now.core.local }
+        ensures sound { IsNode self.now.core }
     {
-        Summary {
-            shape: self.shape,
-            own: self.own,
-            cycle: self.phases.cycle(),
-            ended: self.phases.ended(),
-            swept: self.phases.swept(),
-            colour: self.ring.colour(),
-            earlier: self.ring.earlier(),
-            recent: self.ring.recent(),
-            grey: self.heap.grey(),
-            live: self.heap.live(),
-            has_token: self.ring.token().is_some(),
-            letters: self.heap.letters(),
+        self.core.state()
+    }
+
+    /// The frame in this place of the window to another node; see [`Core::frame_at`].
+    pub fn frame_at(&self, to: u8, place: u8) -> Option<Frame>
+        ensures { option_map plain result ≡ released_frame self.now.core to place }
+    {
+        self.core.frame_at(to, place)
+    }
+
+    /// The acknowledgement to another node; see [`Core::ack_for`].
+    pub fn ack_for(&self, from: u8) -> Option<Frame>
+        ensures { option_map plain result ≡ acknowledgement self.now.core from }
+    {
+        self.core.ack_for(from)
+    }
+}
+
+fn front(early: &[EarlyFrames], from: u8) -> Option<Data>
+    ensures { result ≡ waiting early.now from }
+{
+    early.get(usize::from(from))?.at(0)
+}
+
+fn shift(early: &mut Vec<EarlyFrames>, from: u8)
+    ensures { early.new.items ≡ shifted_at early.old.items from }
+{
+    if usize::from(from) < early.len() {
+        early[usize::from(from)].shift();
+    }
+}
+
+fn drop_front(early: &mut Vec<EarlyFrames>, from: u8)
+    ensures { early.new.items ≡ emptied_at early.old.items from }
+{
+    if usize::from(from) < early.len() {
+        early[usize::from(from)].drop_front();
+    }
+}
+
+fn put(early: &mut Vec<EarlyFrames>, from: u8, place: usize, frame: Data)
+    ensures { early.new.items ≡ placed_at early.old.items from place frame }
+{
+    if usize::from(from) < early.len() {
+        early[usize::from(from)].put(place, frame);
+    }
+}
+
+/// Updates the early messages after this message got this answer. Before it, `taken` messages of
+/// its sender had been received.
+fn keep(early: &mut Vec<EarlyFrames>, taken: u64, frame: Data, answer: Answer)
+    ensures { early.new.items ≡ after_data taken early.old.items frame (Ok answer) }
+{
+    match answer {
+        Answer::Received => shift(early, frame.from),
+        Answer::Early => {
+            let place = frame.number.saturating_sub(taken).saturating_sub(1);
+            put(early, frame.from, place as usize, frame);
         }
-    }
-
-    fn is_other(&self, node: u8) -> bool
-        ensures { result ≡ is_other self.now.local node }
-    {
-        node < self.shape.nodes() && node != self.own
-    }
-
-    fn is_addressed(&self, from: u8, to: u8) -> bool
-        ensures { result ≡ is_addressed self.now.local from to }
-    {
-        to == self.own && from < self.shape.nodes() && from != self.own
+        _ => {}
     }
 }
