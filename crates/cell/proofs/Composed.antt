@@ -22,7 +22,7 @@ use Rattle.laws.proofs.Live as laws
 use Rattle.laws.proofs.Deliveries as deliveries
 use Rattle.wire.specs.Rule.{receiver}
 use Rattle.wire.specs.Views.{Pair}
-use Rattle.wire.specs.Entering.{is_counted}
+use Rattle.model.specs.Effects.{is_change}
 use Rattle.wire.specs.Sending.{emptied}
 use Rattle.cell.specs.Events.{Handled}
 use Rattle.cell.specs.Laws.{NoneRefusedInTurn, SweepsFreeNoneReachable}
@@ -62,15 +62,15 @@ swept-in w reached choice i count s a r current answered reach own =
     )
 
 sweep-answer : (p : LocalState) (counts : List ℕ) (count : ℕ)
-    → is_counted (made p counts (event.Sweep count)).answer ≡ true
+    → is_change (made p counts (event.Sweep count)).answer ≡ true
 unfolding swept_slots
 sweep-answer p counts count = refl
 
 -- each sweep is an event
 sweep-counts : (s t : NodeState) (count : ℕ) (a : Answer) → act s (event.Sweep count) ≡ Ok (t, a)
-    → is_counted a ≡ true
+    → is_change a ≡ true
 sweep-counts s t count a answered =
-    subst (λ (x : Answer). is_counted x ≡ true)
+    subst (λ (x : Answer). is_change x ≡ true)
     (sym (act-ok s (event.Sweep count) t a answered).answer)
     (sweep-answer s.local (map length s.sent) count)
 

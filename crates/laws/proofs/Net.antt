@@ -129,7 +129,7 @@ ack-addressed shape within steps from to number there =
 pub acknowledgements-go-through : AcknowledgementsGoThrough
 unfolding act
 acknowledgements-go-through shape within steps a there =
-    rw (ack-addressed shape within steps a.from a.to a.number there) refl
+    rw (ack-addressed shape within steps a.by a.of a.number there) refl
 
 -- so the tests of a Hand pass
 hand-passes : (w : World) (from to : ℕ)

@@ -147,8 +147,8 @@ abbrev pub AcknowledgementsGoThrough : Type 0
 AcknowledgementsGoThrough =
     (shape : Shaped) → IsShape shape → (steps : List Step) (a : Ack)
     → IsInNet (run (new_world shape) steps) (plain_ack a)
-    → act (node_at (run (new_world shape) steps).current a.to) (event.Ack a)
-    ≡ Ok (node_at (run (new_world shape) steps).current a.to, answer.Done)
+    → act (node_at (run (new_world shape) steps).current a.of) (event.Ack a)
+    ≡ Ok (node_at (run (new_world shape) steps).current a.of, answer.Done)
 
 -- A Hand hands over the greatest acknowledgement between two nodes, and it succeeds at any time.
 abbrev pub HandsGoThrough : Type 0

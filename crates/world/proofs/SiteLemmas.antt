@@ -36,15 +36,15 @@ base-at n j = get_or-map base_of n.links j no_link
 -- an acknowledgement within a bound that is given for each node
 abbrev pub IsAckWithin : (ℕ → ℕ) → Option Ack → Type 0
 IsAckWithin B None = Unit {0}
-IsAckWithin B (Some a) = a.number ≤ B a.from
+IsAckWithin B (Some a) = a.number ≤ B a.by
 
 -- if what was dropped is within the bounds, so is what is dropped after the acknowledgement
 pub bases-within : (B : ℕ → ℕ) (all : List ℕ) (o : Option Ack) (j : ℕ) → IsAckWithin B o
     → ((k : ℕ) → get_or all k 0 ≤ B k) → get_or (bases_acked all o) j 0 ≤ B j
 bases-within B all None j told low = low j
 bases-within B all (Some a) j told low =
-    at_set_if (λ z. z ≤ B j) all a.from j (max a.number (get_or all a.from 0)) 0
-    (λ e. subst (λ k. max a.number (get_or all a.from 0) ≤ B k) e (omega (arith, told, low a.from)))
+    at_set_if (λ z. z ≤ B j) all a.by j (max a.number (get_or all a.by 0)) 0
+    (λ e. subst (λ k. max a.number (get_or all a.by 0) ≤ B k) e (omega (arith, told, low a.by)))
     (low j)
 
 -- ---- events
@@ -69,8 +69,8 @@ let_go-used : (links : List Link) (o : Option Ack) (j : ℕ)
     → used (get_or links j no_link) ≤ used (get_or (let_go links o) j no_link)
 let_go-used links None j = le_refl _
 let_go-used links (Some a) j =
-    let old : Link = get_or links a.from no_link in
-    set-used links a.from j (trimmed old a.number)
+    let old : Link = get_or links a.by no_link in
+    set-used links a.by j (trimmed old a.number)
     (omega (arith, length-drop (a.number - old.base) old.unacknowledged))
 
 act-used : (n new : NodeView) (e : Event) (r : Result Answer Refusal) (j : ℕ)
@@ -106,10 +106,10 @@ acted-lets_go {r = Err f} o h left p is = tt
 acted-lets_go {r = Ok x} None h left p none = (left.bases none, tt)
 acted-lets_go {n = n} {new = new} {e = e} {r = Ok x} (Some a) h left p is =
     let done = ack-done n new a x (rw (ack-event e a is) at p.performs) in
-    let moved = trimmed-base (link_to n a.from) a.number (h.kept a.from) done.0
-    ∙ ap (max a.number) (sym (base-at n a.from)) in (
-      ap bases done.1 ∙ map-set base_of n.links a.from (trimmed (link_to n a.from) a.number)
-          ∙ ap (set (bases n) a.from) moved,
+    let moved = trimmed-base (link_to n a.by) a.number (h.kept a.by) done.0
+    ∙ ap (max a.number) (sym (base-at n a.by)) in (
+      ap bases done.1 ∙ map-set base_of n.links a.by (trimmed (link_to n a.by) a.number)
+          ∙ ap (set (bases n) a.by) moved,
       done.0,
     )
 

@@ -145,8 +145,8 @@ impl Site {
     /// What the saved node acknowledges to another node of its space. The current node knows it.
     pub fn acknowledgement(&self, from: u8) -> Ack
         requires { IsTrue (is_other self.now.site.current.local from) }
-        ensures from { result.from ≡ self.now.site.current.local.own }
-        ensures to { result.to ≡ from }
+        ensures by { result.by ≡ self.now.site.current.local.own }
+        ensures of { result.of ≡ from }
         ensures number { result.number ≡ slice_index_or self.now.site.saved.acks from 0 }
     {
         match self.current.ack_for(from) {
