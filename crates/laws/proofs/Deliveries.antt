@@ -27,7 +27,7 @@ use Rattle.model.specs.Steps.{mentioned, target_of, may_reach, may_follow, is_ma
 use Rattle.model.specs.World.{World, KeepsSent, new_world, run, numbered, IsInNet}
 use Rattle.model.specs.Cuts.{Cut, cut, taken, IsInFlight, IsLive}
 use Rattle.model.proofs.Joining.{join-phases, join-token}
-use Rattle.laws.specs.Statements.{TargetsAreLive, NoneRefusedInTurn}
+use Rattle.laws.specs.Statements.{OfEveryRun, TargetsAreLive, NoneRefusedInTurn}
 use Rattle.model.proofs.Slots.{occupied-within}
 use Rattle.model.proofs.Lookups.{all-map}
 use Rattle.laws.proofs.StepFacts.{Delivery, IsReleased, tests_of, Receipt, repeated, next, receipt-cases, deliver-answer, receive-passed, receive-early}
@@ -80,7 +80,7 @@ received-target {shape = shape} w m r h inv there about (next turn may found) =
     (inv.closed.messages m.from m.to place m.message flight)) in
     (own, record { object = safe.object; there = safe.there })
 
-pub targets-are-live : TargetsAreLive
+pub targets-are-live : OfEveryRun TargetsAreLive
 targets-are-live shape within steps from to number x target there about answered =
     let w : World = run (new_world shape) steps in
     let m : Delivery = record { from = from; to = to; number = number; message = x } in
@@ -362,14 +362,8 @@ turn-passes shape w m h inv between there turn =
     )
 
 -- a message is refused only if it is beyond the window, or if a number would be too great
-pub refused-beyond : {number stamp : ℕ} {b : Body} {e : Refusal} (shape : Shaped)
-    → IsShape shape → (steps : List Step) (from to : ℕ)
-    → IsInNet (run (new_world shape) steps) (data_frame from to number stamp b)
-    → receive (node_at (run (new_world shape) steps).current to) from to number stamp b ≡ Err e
-    → (e ≡ LinkSpent)
-    ⊎ ((e ≡ OutOfOrder)
-    × (got_from (node_at (run (new_world shape) steps).current to).local from + WINDOW < number))
-refused-beyond {number} {stamp} {b} {e} shape within steps from to there refused =
+pub none-refused-in-turn : OfEveryRun NoneRefusedInTurn
+none-refused-in-turn shape within steps from to number stamp b e there refused =
     let w : World = run (new_world shape) steps in
     let m : Delivery = record
     { from = from; to = to; number = number; message = record { stamp = stamp; body = b } } in
@@ -390,8 +384,3 @@ refused-beyond {number} {stamp} {b} {e} shape within steps from to there refused
       leb-false number _ early,
     ))
     (cases_Bool (leb number (got_from s.local from + WINDOW)))
-
-pub none-refused-in-turn : NoneRefusedInTurn
-none-refused-in-turn shape within steps from to number stamp b e there refused =
-    ⊎_elim inl (λ early. inr (early.0, let past = early.1 in omega (arith, past)))
-    (refused-beyond shape within steps from to there refused)

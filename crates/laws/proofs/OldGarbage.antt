@@ -16,7 +16,7 @@ use Rattle.model.specs.Heaps.{no_letter}
 use Rattle.model.specs.References.{IfAny}
 use Rattle.model.specs.World.{World, new_world, happens, run}
 use Rattle.model.specs.Cuts.{Cut, cut, IsInFlight, IsLive, Reachable, in_register, in_letter, in_message, in_place}
-use Rattle.laws.specs.Statements.{OldGarbageGoes}
+use Rattle.laws.specs.Statements.{OfEveryRun, OldGarbageGoes}
 use Rattle.laws.proofs.StepFacts.{Delivery, act-ok, Receipt, repeated, next, receipt-cases, Happening, nothing, acted, delivered, saved, restarted, happening}
 use Rattle.laws.proofs.Onward.{Compares, Behind, new-behind, behind-changed, behind-saved, behind-restarted}
 use Rattle.laws.proofs.Cuts.{cuts-extend}
@@ -201,7 +201,7 @@ swept-reached {c = c} {d = d} {cycle = cycle} r own good done live past =
     (subst (λ (z : ℕ). FromHere c (own_reference z r.slot r.generation)) own
     (part.marks r.slot r.generation live.object live.there (omega (arith, mark, done))))
 
-pub old-garbage-goes : OldGarbageGoes
+pub old-garbage-goes : OfEveryRun OldGarbageGoes
 old-garbage-goes shape limits earlier later choice cycle r before old done live =
     let w : World = run (new_world shape) earlier in
     let d : Cut = cut (run w later) choice in

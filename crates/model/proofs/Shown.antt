@@ -16,7 +16,7 @@ use Rattle.model.specs.declared.event.Event.TheVariants as event
 use Rattle.model.specs.declared.event.Answer.TheVariants as answer
 use Rattle.msg.specs.declared.frame.Data.{Data}
 use Rattle.model.specs.State.{LocalState, NodeState, got_from}
-use Rattle.model.specs.Checks.{guarded, AllPass, IsOkOrSpent, IsReplaced}
+use Rattle.model.specs.Checks.{guarded, AllPass, IsOkOrSpent, IsReplaced, by_test, by_memory}
 use Rattle.model.specs.Effects.{Effect, unchanged}
 use Rattle.model.specs.Steps.{checked, tests, made, fits, ack_of, is_addressed, is_repeat, is_early, may_take, receipt_tests, receipt, taken_in, act, after, is_shading, append_all}
 use Rattle.model.specs.View.{Link, NodeView, ShowsSent, Shows, link_to, IsTold, Follows, Performs, no_link, used, appended, append_to, ack_tests, trimmed, let_go, view_act, view_after, view_done}
@@ -203,12 +203,11 @@ module _ {n : NodeView} {s : NodeState} (h : Shows n s) (e : Event)
               links = append_to left z.sends;
             }) same ∙ sym found.2) shown,
       )
-  follows_effect new (Err r) p = λ told. (
-    (λ ne.
-        ap (after s)
-        (refused-heard ts f n (ack_of e) x r told (view-err n left (guarded all x) r (p.0 ne)))),
-    (λ full. replaced-heard (is_shading e) (p.1 full)),
-  )
+  follows_effect new (Err r) (by_test other p) = λ told.
+      by_test other (ap (after s)
+      (refused-heard ts f n (ack_of e) x r told (view-err n left (guarded all x) r p)))
+  follows_effect new (Err r) (by_memory full p) = λ told.
+      by_memory full (replaced-heard (is_shading e) p)
 
 -- A node's result for an event, and the node after it, follow the event on every state that the
 -- node shows.

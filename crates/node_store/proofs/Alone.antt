@@ -10,6 +10,7 @@ use Rattle.model.specs.Checks.{IsFirstRefusal}
 use Rattle.model.specs.Effects.{is_change}
 use Rattle.model.specs.View.{NodeView, view_act}
 use Rattle.model.specs.State.{LocalState, got_from}
+use Rattle.model.proofs.Refusals.{refused-as}
 use Rattle.model.proofs.Lookups.{get_or-replicate_any}
 use Rattle.link.specs.Early.{no_early, place_at, shifted}
 use Rattle.ids.specs.Limits.{Shaped}
@@ -50,7 +51,7 @@ ok-same is = cc
 pub not-done : {now m : NodeView} {e t : Event} {r : Refusal} (shading : Bool) → t ≡ e
     → r ≢ Memory → IsFirstRefusal shading r (view_act now t) → IsDone now e m → ⊥
 not-done {now} {m} {e} {t} {r} shading same other refused done =
-    err-no-ok (sym (refused.0 other) ∙ ap (view_act now) same ∙ done.acts)
+    err-no-ok (sym (refused-as refused other) ∙ ap (view_act now) same ∙ done.acts)
 
 pub quiet-not-done : {now new m : NodeView} {e t : Event} {a : Answer} → t ≡ e
     → view_act now t ≡ Ok (new, a) → is_change a ≡ false → IsDone now e m → ⊥

@@ -13,7 +13,8 @@ use Rattle.laws.specs.Sights.{seen, at_first, kept, LooksLike}
 use Rattle.laws.proofs.Transparent.{collector-is-unseen}
 use Rattle.world.specs.Spaces.{SpaceView, ShowsSpace, step_met}
 use Rattle.world.specs.Answered.{Call, AreCalls, space_after, is_taken, steps_of, sights, AnswersAreUnseen}
-use Rattle.world.proofs.Refusals.{refused-as, step-first}
+use Rattle.model.proofs.Refusals.{refused-as}
+use Rattle.world.proofs.Refusals.{step-first}
 
 -- the calls' answers are those of the definitions, and the space that they lead to is shown
 record Answered (w : World) (old : SpaceView) (ks : List Call) (choice : ℕ → Bool) : Type 0
@@ -90,8 +91,7 @@ one-call w old k ks choice follows rest = by k.result refl follows
     by (Err e) is f = ⊎_elim {C = Answered w old (k ∷ ks) choice}
         (λ (taken : is_taken (Err e) ≡ true).
         let refused : take_step w t ≡ Err e =
-        refused-as (is_shading_step t) (take_step w t) e
-        (step-first w e (not-large e taken) t f.0) (not-memory e taken) in
+        refused-as (step-first w e (not-large e taken) t f.0) (not-memory e taken) in
         taken-call w old k ks choice (ap is_taken is ∙ taken) (ap outcome_of refused ∙ sym is)
         (subst (λ (z : World). Answered z k.space ks choice)
         (sym (ap (world_after w) refused)) (rest w f.1)))

@@ -26,7 +26,8 @@ use Rattle.world.specs.Collected.{IsOfCode, BreaksOff, TakesAll, Collects, Stops
 use Rattle.world.specs.Answered.{is_taken}
 use Rattle.world.specs.Moves.{local_at}
 use Rattle.world.proofs.Moves.{local-shown}
-use Rattle.world.proofs.Refusals.{refused-as, step-first}
+use Rattle.model.proofs.Refusals.{refused-as}
+use Rattle.world.proofs.Refusals.{step-first}
 use Rattle.world.proofs.Answers.{not-memory, not-large}
 use Rattle.world.proofs.Plays.{met-same}
 
@@ -93,7 +94,7 @@ of-code w s e new f ok =
     ⊎_elim {C = IsOfCode e}
     (λ (taken : is_taken (Err e) ≡ true).
     let refused : take_step w s ≡ Err e =
-    refused-as (is_shading_step s) (take_step w s) e (step-first w e (not-large e taken) s f.0)
+    refused-as (step-first w e (not-large e taken) s f.0)
     (not-memory e taken) in
     let never : IsOk (outcome_of (Err e)) = subst (λ z. IsOk (outcome_of z)) refused ok in
     absurd cc)
