@@ -1,30 +1,26 @@
 -- A message that is delivered in its turn is addressed to its receiver, may be received, and finds
 -- its target live.
-use Rattle.std.proofs.Common.{◌≡◌, ◌≢◌, ◌⊎◌, Err, ℕ, ◌+◌, ◌%◌, ◌<◌, ◌≤◌, Bool, true, false, not, ◌==◌, ◌&&◌, ltb, ◌||◌, eq-eqb, ne_eqb, lt-ltb, le-leb, leb, leb-true, leb-false, List, [], ◌∷◌, length, Option, None, Some, refl, sym, ap, ◌∙◌, subst, inl, inr, ⊎_elim, arith}
+use Rattle.std.proofs.Common.{◌≡◌, ◌≢◌, ℕ, ◌+◌, ◌%◌, ◌<◌, ◌≤◌, Bool, true, false, not, ◌==◌, ◌&&◌, ltb, ◌||◌, eq-eqb, ne_eqb, lt-ltb, le-leb, leb, leb-true, leb-false, List, [], ◌∷◌, length, Option, None, Some, refl, sym, ap, ◌∙◌, subst, inl, inr, ⊎_elim, arith}
 use Rattle.std.specs.Prelude.{is_none}
 use Rattle.std.specs.List.{AllByRecursion}
 use Rattle.std.proofs.lemmas.Bool.{eqb-false, ltb-false, le-ltb, and_from, or_left, or_right, cases_Bool, cases_lt, cond_both, cond-true, cond-false, not_from_false}
 use Rattle.std.proofs.lemmas.List.{get_or_past}
-use Rattle.ids.specs.Limits.{IsShape, Shaped}
-use Rattle.ids.specs.declared.refusal.Refusal.{Refusal}
-use Rattle.ids.specs.declared.refusal.Refusal.TheVariants.{LinkSpent, OutOfOrder}
+use Rattle.ids.specs.Limits.{Shaped}
 use Rattle.ids.specs.declared.limits.TheConstants.{WINDOW}
 use Rattle.ids.specs.declared.names.Ref.{Ref}
-use Rattle.msg.specs.Frames.{data_frame}
 use Rattle.msg.specs.declared.body.Body.{Body}
 use Rattle.msg.specs.declared.body.Body.TheVariants as body
 use Rattle.msg.specs.declared.body.Token.{Token}
 use Rattle.msg.specs.declared.body.Message.{Message}
 use Rattle.model.specs.declared.event.Answer.TheVariants as answer
-use Rattle.model.specs.declared.step.Step.{Step}
 use Rattle.model.specs.Checks.{AllPass}
 use Rattle.model.specs.State.{Phases, LocalState, NodeState, node_at, sent_to, got_from}
 use Rattle.model.specs.Effects.{Work, at_rest}
 use Rattle.model.specs.Shading.{is_calm, join, joined}
 use Rattle.model.specs.Collecting.{token_sender}
 use Rattle.model.specs.References.{IfAny}
-use Rattle.model.specs.Steps.{mentioned, target_of, may_reach, may_follow, is_marking, may_settle, may_take, is_within, are_within, is_repeat, is_early, receive}
-use Rattle.model.specs.World.{World, KeepsSent, new_world, run, numbered, IsInNet}
+use Rattle.model.specs.Steps.{mentioned, target_of, may_reach, may_follow, is_marking, may_settle, may_take, is_within, are_within, is_repeat, is_early}
+use Rattle.model.specs.World.{World, KeepsSent, new_world, run, numbered}
 use Rattle.model.specs.Cuts.{Cut, cut, taken, IsInFlight, IsLive}
 use Rattle.model.proofs.Joining.{join-phases, join-token}
 use Rattle.laws.specs.Statements.{OfEveryRun, TargetsAreLive, NoneRefusedInTurn}

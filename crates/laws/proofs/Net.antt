@@ -1,7 +1,6 @@
 -- Frames in the net stay there, and the acknowledgements among them are accepted.
 use Rattle.std.proofs.Common.{◌≡◌, ◌≢◌, ℕ, ◌-◌, ◌<◌, ◌≤◌, true, false, ltb, ◌==◌, le-leb, le_refl, le_trans, List, length, map, None, Some, Ok, refl, sym, ◌∙◌, subst, arith, slice_get}
 use Rattle.std.proofs.lemmas.Bool.{and_from, ne_eqb, lt-ltb, cond-true, cond-false, cond_both}
-use Rattle.std.proofs.lemmas.List.FromFn.{length-map-range_with_len}
 use Rattle.ids.specs.Limits.{Shaped, IsShape}
 use Rattle.msg.specs.Frames.{Plain, data_frame, ack_frame}
 use Rattle.msg.specs.declared.body.Message.{Message}
@@ -10,7 +9,7 @@ use Rattle.model.specs.declared.event.Answer.{Answer}
 use Rattle.model.specs.declared.step.Step.{Step}
 use Rattle.model.specs.declared.step.Step.TheVariants as step
 use Rattle.model.specs.declared.step.Outcome.TheVariants as outcome
-use Rattle.model.specs.State.{NodeState, node_at, new_node, got_from, sent_to}
+use Rattle.model.specs.State.{NodeState, node_at, got_from, sent_to}
 use Rattle.model.specs.Steps.{act, is_own, is_addressed}
 use Rattle.model.specs.World.{World, new_world, run, numbered, released, acknowledged, release_count, take_step, IsInNet}
 use Rattle.model.proofs.Leaving.{own-stands, taken-stands}

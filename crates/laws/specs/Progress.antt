@@ -2,7 +2,7 @@
 -- The collector alone, by the moves of `Strategy`, ends the cycle's marking, has each node sweep
 -- the cycle, and frees what was garbage. No step of it is refused, and the number of moves is
 -- bounded, if no link runs out of numbers.
-use Rattle.std.specs.Prelude.{◌≡◌, ℕ, ◌+◌, ◌*◌, ◌<◌, ◌≤◌, Bool, true, List, map}
+use Rattle.std.specs.Prelude.{◌≡◌, ℕ, ◌+◌, ◌<◌, ◌≤◌, Bool, true, List, map}
 use Rattle.std.specs.List.{range_with_len}
 use Rattle.ids.specs.Limits.{Shaped, IsShape}
 use Rattle.ids.specs.declared.names.Ref.{Ref}
@@ -14,7 +14,7 @@ use Rattle.model.specs.World.{World, new_world, run}
 use Rattle.model.specs.Cuts.{Cut, cut, IsLive}
 use Rattle.model.specs.Agreement.{Terminated, OldGarbage}
 use Rattle.laws.specs.Strategy.{now, play, IsPlayed}
-use Rattle.laws.specs.Bounds.{flight, moves, cycle_moves, next_work, both_moves, HasRoom}
+use Rattle.laws.specs.Bounds.{marking_moves, cycle_moves, both_moves, soon_moves, marking_room, cycle_room, both_room, soon_room, HasRoom}
 
 abbrev pub current_cycle : World → ℕ
 current_cycle w = (now w 0).local.phases.cycle
@@ -48,15 +48,15 @@ abbrev pub MarkingCanEnd : Type 0
 MarkingCanEnd =
     OfSpaces
     (λ n w.
-    HasRoom (moves n (now w) + n) (now w)
-    → Comes n (moves n (now w)) w (λ v. HasEnded (current_cycle w) (now v)))
+    HasRoom (marking_room n (now w)) (now w)
+    → Comes n (marking_moves n (now w)) w (λ v. HasEnded (current_cycle w) (now v)))
 
 -- Each node sweeps the cycle.
 abbrev pub CycleCanEnd : Type 0
 CycleCanEnd =
     OfSpaces
     (λ n w.
-    HasRoom (cycle_moves n (now w) + n) (now w)
+    HasRoom (cycle_room n (now w)) (now w)
     → Comes n (cycle_moves n (now w)) w (λ v. IsSwept n (current_cycle w) (now v)))
 
 -- Each node sweeps the next cycle too. Once each is saved after that, none of them has an object
@@ -72,7 +72,7 @@ GarbageCanGo =
     OfSpaces
     (λ n w.
     current_cycle w < GREATEST_CYCLE
-    → HasRoom (both_moves n (now w) + next_work n (now w) + 3 * n) (now w)
+    → HasRoom (both_room n (now w)) (now w)
     → Comes n (both_moves n (now w)) w
     (λ v. IsSwept n (current_cycle w + 1) (now v) × ((r : Ref) → IsGone w (run v (saves n)) r)))
 
@@ -82,5 +82,5 @@ abbrev pub EndIsFoundSoon : Type 0
 EndIsFoundSoon =
     OfSpaces
     (λ n w.
-    Terminated n (current_cycle w) (now w) → HasRoom (6 * n + flight n (now w) + n) (now w)
-    → Comes n (6 * n + flight n (now w)) w (λ v. HasEnded (current_cycle w) (now v)))
+    Terminated n (current_cycle w) (now w) → HasRoom (soon_room n (now w)) (now w)
+    → Comes n (soon_moves n (now w)) w (λ v. HasEnded (current_cycle w) (now v)))
