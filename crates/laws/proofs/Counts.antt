@@ -28,7 +28,7 @@ use Rattle.laws.proofs.Flights.{number_sent, TakesCounted, flows-taken, flight-i
 use Rattle.laws.proofs.Rings.{counted-loud, RingStep, safra-turn}
 use Rattle.laws.proofs.Safra.{Loud}
 use Rattle.laws.proofs.Invariant.{phases_of, cycle_of, Joined, Covered, is_marked, StampFits, fresh_balance, is_fresh, Tally, IsPassive, IsBlack, ringed, Inv}
-use Rattle.laws.proofs.Inner.{Known, kept, Sent, sends_reference, TargetsAt, Inner, known-roots}
+use Rattle.laws.proofs.Inner.{Known, unshaded, Sent, sends_reference, TargetsAt, Inner}
 use Rattle.laws.proofs.Acting.{outer-inner, Keeps, covered-kept, balance-joined, balance-apart, fresh-joined, fresh-apart, latest}
 
 -- ---- messages with references
@@ -108,26 +108,15 @@ send-inner {shape = shape} {c = c} {i = i} {to = to} {b = b} s becomes =
       becomes = becomes;
       same = record { shape = refl; own = refl; phases = refl; token = refl };
       got = refl;
-      tidy = record {
-        free = (s.inv.tidy i).free;
-        room = (s.inv.tidy i).room;
-        marks = (s.inv.tidy i).marks;
-        calm = (s.inv.tidy i).calm;
-      };
-      origin = λ k g y there. kept y there refl (λ j. inl refl) (λ a. inl a);
-      lasting = λ k g y there. record { object = y; there = there; mark = inl refl };
-      roots = known-roots i s.inv;
-      resting = λ rest. s.inv.rested.grey i rest;
-      still = λ r asked. asked;
-      asks = λ _ _ r asked. inl asked;
-      sends = λ k y a. ⊎_elim {C = Sent shape.nodes c i k y}
+      preserves = unshaded s.inv (
+          λ k y a. ⊎_elim {C = Sent shape.nodes c i k y}
           (λ (e : (k, y) ≡ (to, x)).
           let at : k ≡ to = ap (λ (z : ℕ × Message). z.0) e in
           let is : y ≡ x = ap (λ (z : ℕ × Message). z.1) e in
           subst (λ (z : ℕ). Sent shape.nodes c i z y) (sym at)
           (subst (λ (z : Message). Sent shape.nodes c i to z) (sym is)
           (sends_reference refl s.reference s.receiver s.known s.targets)))
-          (λ never. absurd never) a;
+          (λ never. absurd never) a);
       earlier_more = 0;
       recent_more = 1;
       earlier = omega (arith, ints);
@@ -482,19 +471,7 @@ module _ {shape : Shaped} {c d : Cut} {i j : ℕ} {x : Message} (s : Counting sh
             at_set_if (λ z. z ≤ length (sent_to (c from) i)) p.got j from number 0
             (λ e. subst (λ (z : ℕ). number ≤ length (sent_to (c z) i)) e (omega (arith, there)))
             (s.inv.base.within from i);
-        tidy = record {
-          free = (s.inv.tidy i).free;
-          room = (s.inv.tidy i).room;
-          marks = (s.inv.tidy i).marks;
-          calm = (s.inv.tidy i).calm;
-        };
-        origin = λ k g y here. kept y here refl (λ l. inl refl) (λ a. inl a);
-        lasting = λ k g y here. record { object = y; there = here; mark = inl refl };
-        roots = known-roots i s.inv;
-        resting = λ rest. s.inv.rested.grey i rest;
-        still = λ r asked. asked;
-        asks = λ _ _ r asked. inl asked;
-        sends = λ to y never. absurd never;
+        preserves = unshaded s.inv (λ to y never. absurd never);
         tokens = λ from place stamp t flight. ⊎_elim {C = got_from after_count from ≤ place}
             (λ after. after)
             (λ is. absurd (s.no_token t (ap (λ (z : Message). z.body) (sym is))))

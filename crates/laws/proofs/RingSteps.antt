@@ -7,6 +7,7 @@ use Rattle.std.proofs.lemmas.Option.{slice_get_within}
 use Rattle.std.proofs.Math.Path.{fun_ext}
 use Rattle.model.proofs.Lookups.{at_set_if, slice_get-left}
 use Rattle.msg.specs.declared.body.Body.TheVariants as body
+use Rattle.msg.specs.declared.body.Colour.{Colour}
 use Rattle.msg.specs.declared.body.Token.{Token}
 use Rattle.msg.specs.declared.body.Message.{Message}
 use Rattle.model.specs.State.{Phases, LocalState, NodeState, got_from, sent_to}
@@ -47,6 +48,20 @@ pub record Ringless (p q : LocalState) : Type 0 where
   pub phases : q.phases ≡ p.phases
   pub earlier : q.ring.earlier ≡ p.ring.earlier
   pub recent : q.ring.recent ≡ p.ring.recent
+
+-- what was received may change too
+pub ringless-as : {p : LocalState} {got : List ℕ} {colour : Colour} {token : Option Token}
+    → Ringless p
+    (record p { got = got; ring = record p.ring { colour = colour; token = token } })
+ringless-as = record {
+  own = refl;
+  shape = refl;
+  heap = refl;
+  asked = refl;
+  phases = refl;
+  earlier = refl;
+  recent = refl;
+}
 
 module _ {c d : Cut} {i : ℕ} {q : LocalState} {ms : List (ℕ × Message)} (turn : Turn c d i q ms)
     (same : Ringless (c i).local q) where

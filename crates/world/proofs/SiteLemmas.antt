@@ -131,50 +131,38 @@ acted-base {n = n} {new = new} {e = e} {r = Ok x} j h left p =
     )
 
 -- the site after a call of its current node
-module _ (n saved v : NodeView) (rows : List (List (List ℕ))) (e : Event)
-    (r : Result Answer Refusal)
-    (h : IsSite (record { current = n; saved = saved; released = rows })) (left : Leaves n v e)
-    (performs : Performs (is_shading e) r v (view_act n e)) (same : OnErr r (v ≡ n))
-  where
-    performed : Performed (is_shading e) r n v (view_act n e)
-    performed = record { performs = performs; unchanged = same }
+module _ {q : SiteView} {v : NodeView} {e : Event} {r : Result Answer Refusal} (h : IsSite q)
+    (left : Leaves q.current v e)
+    (performed : Performed (is_shading e) r q.current v (view_act q.current e)) where
+  pub site_acted : IsSite (record q { current = v })
+  site_acted =
+      let kept = λ (j : ℕ). link-same kept_of v q.current j left.kept in
+      record {
+        shape = h.shape ∙ sym left.shape;
+        own = h.own ∙ sym left.own;
+        acks = h.acks ∙ sym left.acks;
+        width = h.width ∙ ap (λ (s : Shaped). s.nodes) (sym left.shape);
+        current = record {
+          base = λ j. acted-base j h.current left performed;
+          kept = λ j. omega (arith, h.current.kept j, kept j, act-used q.current v e r j performed);
+          frames = λ j apart.
+              omega (arith, h.current.frames j (λ own. apart (own ∙ sym left.own)), kept j);
+        };
+        saved = h.saved;
+      }
 
-    pub site_acted : IsSite (record { current = v; saved = saved; released = rows })
-    site_acted =
-        let kept = λ (j : ℕ). link-same kept_of v n j left.kept in
-        record {
-          shape = h.shape ∙ sym left.shape;
-          own = h.own ∙ sym left.own;
-          acks = h.acks ∙ sym left.acks;
-          width = h.width ∙ ap (λ (s : Shaped). s.nodes) (sym left.shape);
-          current = record {
-            base = λ j. acted-base j h.current left performed;
-            kept = λ j. omega (arith, h.current.kept j, kept j, act-used n v e r j performed);
-            frames = λ j apart.
-                omega (arith, h.current.frames j (λ own. apart (own ∙ sym left.own)), kept j);
-          };
-          saved = h.saved;
-        }
-
-    pub acts : (IsTrue (is_memory_free n.local e) → IfErr r (λ f. f ≢ Memory))
-        → Acted r (record { current = n; saved = saved; released = rows })
-        (record { current = v; saved = saved; released = rows }) e
-    acts free =
-        let q : NodeView → SiteView = λ m. record {
-          current = m;
-          saved = saved;
-          released = rows;
-        } in
-        record {
-          performs = performs;
-          unchanged = MatchResult-weaker r same (λ x _. tt) (λ f same. ap q same);
-          others = refl;
-          leaves = left;
-          lets_go = MatchResult-weaker r
-              (acted-lets_go (ack_of e) h.current left performed refl) (λ x done. done.0)
-              (λ f _. tt);
-          memory_free = free;
-        }
+  pub acts : (IsTrue (is_memory_free q.current.local e) → IfErr r (λ f. f ≢ Memory))
+      → Acted r q (record q { current = v }) e
+  acts free = record {
+    performs = performed.performs;
+    unchanged = MatchResult-weaker r performed.unchanged (λ x _. tt)
+        (λ f same. ap (λ (m : NodeView). record q { current = m }) same);
+    others = refl;
+    leaves = left;
+    lets_go = MatchResult-weaker r
+        (acted-lets_go (ack_of e) h.current left performed refl) (λ x done. done.0) (λ f _. tt);
+    memory_free = free;
+  }
 
 -- ---- saves
 

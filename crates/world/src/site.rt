@@ -94,7 +94,6 @@ impl Site {
 
     /// Gives the current node an event, and fails with whatever the node refuses. If it fails, the
     /// site is as before, except that an early message may have left its place.
-    #[tactic(auto, using(crate::proofs::SiteLemmas::site_acted))]
     #[inline(always)]
     pub fn act(&mut self, event: Event) -> Result<Answer, Refusal>
         ensures { ActedKeeping result self.old self.new event }

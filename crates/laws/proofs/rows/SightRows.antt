@@ -16,7 +16,7 @@ use Rattle.model.specs.World.{take_step, new_world}
 use Rattle.laws.specs.Objects.{new_space, Sight, told, came, IsRun}
 use Rattle.laws.specs.Sights.{observed_in_cut}
 use Rattle.laws.proofs.rows.Rows.{object, space, alloc, drop_register, give, accept, made, sent, letter, received, done, refused}
-use Rattle.laws.proofs.rows.Words.{begin_cycle, sweep_slots, save, restart, deliver, ok, began, freed_done, Row, ◌gives◌, ◌shows◌, Prints}
+use Rattle.laws.proofs.rows.Words.{begin_cycle, sweep_slots, save, restart, deliver, ok, began, freed_done, Row, ◌gives◌, ◌shows◌, Prints, handed_over}
 use Rattle.laws.proofs.rows.CycleRows.{two_probes}
 
 -- ---- two steps
@@ -49,13 +49,8 @@ saved-made = (refl, refl)
 
 abbrev rows : List Row
 rows =
-    alloc 0 0 1 gives made (object 0 0 1)
-    ∷ give 0 1 7 0 gives sent 1
-    ∷ drop_register 0 0 gives ok
-    ∷ save 0 gives done
-    ∷ deliver 0 1 1 gives received
-    ∷ accept 1 0 gives letter 0 7 (object 0 0 1)
-    ∷ restart 1 gives done
+    handed_over 0 1 1 7 0
+    ++ restart 1 gives done
     ∷ deliver 0 1 1 gives received
     ∷ accept 1 1 gives letter 0 7 (object 0 0 1)
     ∷ give 1 0 8 0 gives sent 1
@@ -79,14 +74,20 @@ steps_in [] = []
 steps_in (s gives r ∷ rs) = s ∷ steps_in rs
 steps_in (i shows n ∷ rs) = steps_in rs
 
--- the sights up to the last saves
-abbrev before_saves : List Sight
-before_saves =
+-- node 0 gives node 1 its object
+abbrev given : List Sight
+given =
     told 0 (event.Alloc 0 1) (Ok (answer.New (object 0 0 1)))
     ∷ told 0 (event.Give 1 7 0) (Ok (answer.Sent 1))
     ∷ told 0 (event.Drop 0) (Ok answer.Done)
     ∷ came 0 1
-    ∷ told 1 (event.Accept 1)
+    ∷ []
+
+-- the sights up to the last saves
+abbrev before_saves : List Sight
+before_saves =
+    given
+    ++ told 1 (event.Accept 1)
     (Ok (answer.Letter (record { from = 0; label = 7; reference = Some (object 0 0 1) })))
     ∷ told 1 (event.Give 0 8 0) (Ok (answer.Sent 1))
     ∷ told 1 (event.Drop 1) (Ok answer.Done)
@@ -95,11 +96,8 @@ before_saves =
 
 -- what the restart undid can't be seen together with what came after it: the one message comes once
 pub not-twice : IsRun 2 (new_space (space 2 4 16)) (
-    told 0 (event.Alloc 0 1) (Ok (answer.New (object 0 0 1)))
-    ∷ told 0 (event.Give 1 7 0) (Ok (answer.Sent 1))
-    ∷ told 0 (event.Drop 0) (Ok answer.Done)
-    ∷ came 0 1
-    ∷ told 1 (event.Accept 0)
+    given
+    ++ told 1 (event.Accept 0)
     (Ok (answer.Letter (record { from = 0; label = 7; reference = Some (object 0 0 1) })))
     ∷ came 0 1
     ∷ []) → ⊥

@@ -1,6 +1,5 @@
 use Rattle.std.proofs.Common.{[], subst}
 use Rattle.model.specs.declared.step.Outcome.TheVariants as outcome
-use Rattle.model.specs.declared.step.Step.TheVariants as step
 use Rattle.commands.specs.Freed.{KeepsSums, freed_in, freed_with}
 use Rattle.commands.proofs.Replies.{outcome_shows, printed_as, prints_refused, prints_taken, step_refused}
 use Rattle.commands.proofs.simulation.run_event.Goals as goal
@@ -12,10 +11,8 @@ returns-in-Ok g c number =
     (λ text status zero. prints_taken
     (record {
       outcome = o;
-      answers = λ h shown. outcome_shows h (step.Act c.args.node c.args.event)
-          c.args.space.now _ c.args.freed.now _ o shown
-          (rw c.in-Ok.is at c.act.ensures.stepped.follows)
-          (rw c.in-Ok.is at c.act.ensures.stepped.early)
+      answers = λ h shown. outcome_shows h c.args.freed.now _ shown
+          (rw c.in-Ok.is at c.act.ensures.stepped)
           (λ w sums there kept. subst (λ s. KeepsSums c.note.new.freed.sums
           (freed_with w s (freed_in o) sums)) c.sweeper-swept.ensures
           (subst (λ k. KeepsSums c.note.new.freed.sums
