@@ -11,10 +11,10 @@ use Rattle.ids.specs.declared.refusal.Refusal.{Refusal}
 use Rattle.ids.specs.declared.refusal.Refusal.TheVariants.{AckBeyond, LinkSpent, WrongNode}
 use Rattle.msg.specs.declared.frame.Ack.{Ack}
 use Rattle.model.specs.Checks.{guarded}
-use Rattle.model.specs.Effects.{Effect, unchanged}
+use Rattle.model.specs.Effects.{is_change}
 use Rattle.model.specs.Steps.{is_addressed}
 use Rattle.model.proofs.Checks.{guarded-ok}
-use Rattle.model.proofs.Shown.{view-ok}
+use Rattle.model.proofs.Shown.{ack-answer}
 use Rattle.std.proofs.Common.{Result, Err, OnOk, replicate, drop, take}
 use Rattle.std.specs.Prelude.{nat_le, ◌||◌, ◌&&◌, ◌-◌}
 use Rattle.std.proofs.lemmas.Bool.{false≢true, true≢false}
@@ -116,19 +116,10 @@ after_uncounted n node b is =
     ∙ ap (λ (c : Bool). after n node n.log c (n.is_unsaved || false)) (or-false n.is_changed)
     ∙ ap (λ (c : Bool). after n node n.log n.is_changed c) (or-false n.is_unsaved))
 
--- an acknowledgement that is answered isn't quiet
+-- an acknowledgement that is answered counts as a change, since the links may change by it
 pub ack_now : (n new : NodeView) (a : Ack) (x : Answer) → view_act n (event.Ack a) ≡ Ok (new, x)
     → is_change x ≡ true
-unfolding view_act
-ack_now n new a x h =
-    let ts : List (Bool × Refusal) =
-    (is_addressed n.local a.by a.of, WrongNode)
-    ∷ (nat_le a.number (link_to n a.by).kept, AckBeyond) ∷ (true, LinkSpent) ∷ [] in
-    let found =
-    view-ok n new (let_go n.links (Some a)) (guarded ts (unchanged n.local answer.Done)) x h in
-    let same : unchanged n.local answer.Done ≡ found.0 =
-    guarded-ok ts (unchanged n.local answer.Done) found.0 found.1 in
-    ap is_change (found.3 ∙ ap (λ (z : Effect). z.answer) (sym same))
+ack_now n new a x h = ap is_change (ack-answer n new a x h)
 
 -- ---- more counts as saved
 

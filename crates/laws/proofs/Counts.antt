@@ -25,7 +25,7 @@ use Rattle.laws.proofs.Lookups.{set-no_fewer}
 use Rattle.laws.proofs.Turns.{Turn, at_turn}
 use Rattle.laws.proofs.Tallies.{TakesOne, tally-takes}
 use Rattle.laws.proofs.Flights.{number_sent, TakesCounted, flows-taken, flight-inside}
-use Rattle.laws.proofs.Rings.{counted-loud, RingStep, safra-turn}
+use Rattle.laws.proofs.Rings.{counted-loud, RingStep, safra-turn, counted-first}
 use Rattle.laws.proofs.Safra.{Loud}
 use Rattle.laws.proofs.Invariant.{phases_of, cycle_of, Joined, Covered, is_marked, StampFits, fresh_balance, is_fresh, Tally, IsPassive, IsBlack, ringed, Inv}
 use Rattle.laws.proofs.Inner.{Known, unshaded, Sent, sends_reference, TargetsAt, Inner}
@@ -251,25 +251,33 @@ module _ {shape : Shaped} {c d : Cut} {i j : ℕ} {x : Message} (s : Counting sh
       → after_count.ring ≡ record (c i).local.ring { recent = (c i).local.ring.recent -ℤ pos 1 }
   ring-recent e = ap (λ (z : Option Balance). counted_down z (c i).local.ring) e
 
-  count-recent : Turn c d i after_count [] → balance_of (cycle_of c i) x.stamp x.body ≡ Some Recent
-      → Tally shape.nodes (d i)
-  count-recent turn e =
+  -- one balance is this much less, and the other one this much
+  count-less : Turn c d i after_count [] → (earlier_less recent_less : ℕ)
+      → after_count.ring.earlier ≡ (c i).local.ring.earlier -ℤ pos earlier_less
+      → after_count.ring.recent ≡ (c i).local.ring.recent -ℤ pos recent_less
+      → earlier_less + recent_less ≤ 1 → Tally shape.nodes (d i)
+  count-less turn earlier_less recent_less earlier recent together =
       let taking : TakesOne shape c d i after_count j = record {
         base = s.inv.base;
         inside = s.inside;
         sender = (flight-inside j i (taken c j i) x s.inv.base s.flight).0;
         turn = turn;
         got = refl;
-        earlier_less = 0;
-        recent_less = 1;
-        earlier =
-            (let r : after_count.ring.earlier ≡ (c i).local.ring.earlier =
-            ap (λ (k : Ring). k.earlier) (ring-recent e) in
-            omega (arith, ints, r));
-        recent = ap (λ (k : Ring). k.recent) (ring-recent e);
-        together = omega arith;
+        earlier_less = earlier_less;
+        recent_less = recent_less;
+        earlier = earlier;
+        recent = recent;
+        together = together;
       } in
       tally-takes taking (s.inv.tallies i s.inside)
+
+  count-recent : Turn c d i after_count [] → balance_of (cycle_of c i) x.stamp x.body ≡ Some Recent
+      → Tally shape.nodes (d i)
+  count-recent turn e =
+      let r : after_count.ring.earlier ≡ (c i).local.ring.earlier =
+      ap (λ (k : Ring). k.earlier) (ring-recent e) in
+      count-less turn 0 1 (omega (arith, ints, r)) (ap (λ (k : Ring). k.recent) (ring-recent e))
+      (omega arith)
 
   -- the token stays
   ring-token : after_count.ring.token ≡ (c i).local.ring.token
@@ -373,14 +381,7 @@ module _ {shape : Shaped} {c d : Cut} {i j : ℕ} {x : Message} (s : Counting sh
           × (after_count.ring.earlier ≡ (c i).local.ring.earlier))
           ⊎ Loud shape.nodes (ringed c) t
       far (counts_earlier e joined counted stale) =
-          inr (counted-loud s.inv.base s.inv.flows (record {
-            from = j;
-            to = i;
-            place = taken c j i;
-            message = x;
-            flight = s.flight;
-            counted = counted;
-          }) t)
+          inr (counted-loud s.inv.base s.inv.flows (counted-first s.flight counted) t)
       far (counts_fresh e joined counted new) =
           inl (λ p. (p, ap (λ (k : Ring). k.earlier) (ring-recent e)))
       far (counts_recent e apart counted stale) =
@@ -388,22 +389,10 @@ module _ {shape : Shaped} {c d : Cut} {i j : ℕ} {x : Message} (s : Counting sh
 
   count-tally : Turn c d i after_count [] → Kind c i x → Tally shape.nodes (d i)
   count-tally turn (counts_earlier e joined counted stale) =
-      let taking : TakesOne shape c d i after_count j = record {
-        base = s.inv.base;
-        inside = s.inside;
-        sender = (flight-inside j i (taken c j i) x s.inv.base s.flight).0;
-        turn = turn;
-        got = refl;
-        earlier_less = 1;
-        recent_less = 0;
-        earlier = ap (λ (k : Ring). k.earlier) (ring-earlier e);
-        recent =
-            (let r : after_count.ring.recent ≡ (c i).local.ring.recent =
-            ap (λ (k : Ring). k.recent) (ring-earlier e) in
-            omega (arith, ints, r));
-        together = omega arith;
-      } in
-      tally-takes taking (s.inv.tallies i s.inside)
+      let r : after_count.ring.recent ≡ (c i).local.ring.recent =
+      ap (λ (k : Ring). k.recent) (ring-earlier e) in
+      count-less turn 1 0 (ap (λ (k : Ring). k.earlier) (ring-earlier e)) (omega (arith, ints, r))
+      (omega arith)
   count-tally turn (counts_fresh e joined counted new) = count-recent turn e
   count-tally turn (counts_recent e apart counted stale) = count-recent turn e
 

@@ -48,12 +48,6 @@ in-among r (s ∷ rs) h = ⊎_elim {C = Among r (s ∷ rs)}
     (λ same. inl (same-is r s same)) (λ later. inr (in-among r rs later))
     (or_cases (is_same r s) (is_in r rs) h)
 
-pub among-in : (r : Ref) (rs : List Ref) → Among r rs → is_in r rs ≡ true
-among-in r [] never = absurd never
-among-in r (s ∷ rs) (inl same) =
-    or_left (is_same r s) (is_in r rs) (subst (λ (z : Ref). is_same r z ≡ true) same (is-same r))
-among-in r (s ∷ rs) (inr later) = or_right (is_same r s) (is_in r rs) (among-in r rs later)
-
 in-append_left : (r : Ref) (rs us : List Ref) → is_in r rs ≡ true → is_in r (rs ++ us) ≡ true
 in-append_left r [] us h = absurd cc
 in-append_left r (s ∷ rs) us h = ⊎_elim {C = is_in r ((s ∷ rs) ++ us) ≡ true}

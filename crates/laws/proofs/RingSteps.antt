@@ -15,7 +15,7 @@ use Rattle.model.specs.Cuts.{Cut, taken, IsInFlight, Among}
 use Rattle.laws.proofs.Turns.{Turn, at_turn, flew, flies}
 use Rattle.laws.proofs.Safra.{Safra}
 use Rattle.laws.proofs.Rings.{RingStep, safra-turn}
-use Rattle.laws.proofs.Invariant.{phases_of, cycle_of, Marking, Resting, BodyFits, Messages, Tokens, Spot, at_node, on_way, place_of_spot, IsAt, is_held, is_sent, IsPassive, IsBlack, ringed, Bound}
+use Rattle.laws.proofs.Invariant.{phases_of, cycle_of, Marking, Resting, BodyFits, Messages, Tokens, Spot, at_node, on_way, IsAt, is_held, is_sent, IsPassive, IsBlack, ringed, Bound}
 
 -- ---- tokens
 
@@ -30,9 +30,6 @@ at-once c t u (on_way from to place) (is_sent f0 t0 p0 s a) (is_sent f1 t1 p1 z 
     (record { stamp = z; body = body.Token u }) = cc in
     let bodies : body.Token t ≡ body.Token u = ap (λ (m : Message). m.body) inner in
     cc
-
-pub node-spot : (s : Spot) → ℕ × ℕ → (i : ℕ) → s ≡ at_node i → place_of_spot s ≡ i
-node-spot s k i e = ap place_of_spot e
 
 pub way-not-node : (a b k i : ℕ) → on_way a b k ≡ at_node i → ⊥
 way-not-node a b k i e = absurd cc
@@ -170,7 +167,11 @@ pub flew-one : {c d : Cut} {i : ℕ} {q : LocalState} {to : ℕ} {x : Message}
     → Turn c d i q ((to, x) ∷ []) → (from k place : ℕ) (y : Message) → IsInFlight d from k place y
     → IsInFlight c from k place y
     ⊎ ((from ≡ i) × (k ≡ to) × (y ≡ x) × (place ≡ length (sent_to (c i) to)))
-flew-one {c = c} {d = d} {i = i} {to = to} {x = x} turn from k place y flight = ⊎_elim
+flew-one {c = c} {d = d} {i = i} {to = to} {x = x} turn from k place y flight =
+    let fewer : taken c from k ≤ taken d from k =
+    at_turn (λ j s. taken c from j ≤ got_from s.local from) turn (turn.heard from)
+    (λ j _. le_refl _) k in
+    ⊎_elim
     {C = IsInFlight c from k place y
     ⊎ ((from ≡ i) × (k ≡ to) × (y ≡ x) × (place ≡ length (sent_to (c i) to)))}
     (λ before. inl before)
@@ -194,11 +195,7 @@ flew-one {c = c} {d = d} {i = i} {to = to} {x = x} turn from k place y flight = 
     ⊎ ((from ≡ i) × (k ≡ to) × (y ≡ x) × (place ≡ length (sent_to (c i) to)))}
     (λ (old : place < length (sent_to (c i) to)).
     inl (record {
-      later =
-          (let fewer : taken c from k ≤ taken d from k =
-          at_turn (λ j s. taken c from j ≤ got_from s.local from) turn (turn.heard from)
-          (λ j _. le_refl _) k in
-          omega (arith, fewer, flight.later));
+      later = omega (arith, fewer, flight.later);
       there =
           ap (λ (z : ℕ). slice_get (sent_to (c z) k) place) new.0
           ∙ ap (λ (z : ℕ). slice_get (sent_to (c i) z) place) at
@@ -209,11 +206,7 @@ flew-one {c = c} {d = d} {i = i} {to = to} {x = x} turn from k place y flight = 
     (cases_lt place (length (sent_to (c i) to))))
     (λ h.
     inl (record {
-      later =
-          (let fewer : taken c from k ≤ taken d from k =
-          at_turn (λ j s. taken c from j ≤ got_from s.local from) turn (turn.heard from)
-          (λ j _. le_refl _) k in
-          omega (arith, fewer, flight.later));
+      later = omega (arith, fewer, flight.later);
       there = ap (λ (z : ℕ). slice_get (sent_to (c z) k) place) new.0 ∙ h;
     })) there)
     (λ never. absurd never) new.1)

@@ -274,6 +274,7 @@ ack-passes : (n new : NodeView) (a : Ack) (x : Answer) → view_act n (event.Ack
       local = n.local;
       links = set n.links a.by (trimmed (link_to n a.by) a.number);
     })
+    × (x ≡ answer.Done)
 unfolding view_act
 ack-passes n new a x h =
     let ts : List (Bool × Refusal) =
@@ -290,7 +291,12 @@ ack-passes n new a x h =
             local = z.local;
             links = append_to (let_go n.links (Some a)) z.sends;
           }) (sym same),
+      found.3 ∙ ap (λ (z : Effect). z.answer) (sym same),
     )
+
+pub ack-answer : (n new : NodeView) (a : Ack) (x : Answer) → view_act n (event.Ack a) ≡ Ok (new, x)
+    → x ≡ answer.Done
+ack-answer n new a x h = (ack-passes n new a x h).3
 
 -- an answered acknowledgement is of released messages, and drops them
 pub ack-done : (n new : NodeView) (a : Ack) (x : Answer) → view_act n (event.Ack a) ≡ Ok (new, x)

@@ -150,20 +150,6 @@ impl Answer {
     pub fn is_change(&self) -> bool
         ensures { result ≡ is_change self.now }
     {
-        match self {
-            Answer::Word(_) | Answer::Repeat | Answer::Early => false,
-            Answer::New(_)
-            | Answer::Done
-            | Answer::Value(_)
-            | Answer::Sent(_)
-            | Answer::Letter(_)
-            | Answer::Begun(_)
-            | Answer::Scanned(_)
-            | Answer::Passed(_)
-            | Answer::ProbeAgain
-            | Answer::Ended(_)
-            | Answer::Freed { .. }
-            | Answer::Received => true,
-        }
+        !matches!(self, Answer::Word(_) | Answer::Repeat | Answer::Early)
     }
 }

@@ -103,16 +103,6 @@ module _ {sites : List SiteView} {w : World} (h : ShowsWorld sites w) where
   open-shown : is_open (local_at sites 0) ≡ is_open (c 0).local
   open-shown = ap is_open (local-shown 0)
 
-  pub scan-shown : (i : ℕ) → is_open (local_at sites 0) ≡ true → i ≡ first_with sites sign.Grey
-      → i < n → Do i event.Scan ≡ own_move n c
-  scan-shown i opened is less =
-      let same : i ≡ least n (is_grey c) = is ∙ sign-shown sign.Grey in
-      ap (λ k. Do k event.Scan) same
-      ∙ sym
-      (cond-true (is_open (c 0).local) _ _ (sym open-shown ∙ opened)
-      ∙ cond-true (ltb (least n (is_grey c)) n) _ _
-      (lt-ltb _ _ (omega (arith, less, same))))
-
   pub pass-shown : (i : ℕ) → is_open (local_at sites 0) ≡ true → n ≤ first_with sites sign.Grey
       → i ≡ first_with sites sign.Token → Do i event.Pass ≡ own_move n c
   pass-shown i opened none is =

@@ -101,15 +101,6 @@ of-code w s e new f ok =
     (λ (lost : is_taken (Err e) ≡ false). lost-is e lost)
     (cases_Bool (is_taken (Err e)))
 
--- the collector's steps are a node's own
-pub collectors-own : (s : Step) → is_collectors s ≡ true → is_own_step s ≡ true
-collectors-own (step.Act i event.Begin) is = refl
-collectors-own (step.Act i event.Scan) is = refl
-collectors-own (step.Act i event.Pass) is = refl
-collectors-own (step.Act i (event.Sweep count)) is = refl
-collectors-own (step.Act i e) is = absurd cc
-collectors-own s is = refl
-
 -- what the list of steps says of the one in this place
 all-at : {A : Type 0} (P : A → Type 0) (xs : List A) (i : ℕ) (d : A) → AllByRecursion P xs
     → i < length xs → P (get_or xs i d)
@@ -223,20 +214,6 @@ stops-short {moves = moves} e new few p here b = record {
   parts = b.parts;
   shown = b.shown;
   cause = λ less. b.cause;
-}
-
--- after the greatest number of moves
-pub gives-up : {n cycle moves : ℕ} {w : World} (e : Refusal) (new : SpaceView)
-    → moves ≡ GREATEST_NUMBER → Played n cycle moves w new → StopsShort n cycle e w new
-gives-up {n = n} {moves = moves} {w = w} e new same p = record {
-  moves = moves;
-  few = omega (arith, same);
-  before = λ k le less. p.before k (omega (arith, less, same));
-  done = [];
-  rest = next_steps n (play n moves w);
-  parts = refl;
-  shown = p.shown;
-  cause = λ less. absurd (omega (arith, less, same));
 }
 
 -- ---- what the code knows at the end of a move
