@@ -25,7 +25,7 @@ use Rattle.model.specs.World.{World, KeepsSent, new_world, released, acknowledge
 use Rattle.model.specs.Cuts.{Cut, cut, taken, Becomes}
 use Rattle.model.proofs.Lookups.{get_or-replicate_any}
 use Rattle.model.proofs.Walk.{work_in}
-use Rattle.laws.specs.Objects.{Space, new_space, is_program, IsTold, Sight, told, came, IsRun, then, after}
+use Rattle.laws.specs.Objects.{Space, new_space, is_program, MayBeTold, Sight, told, came, IsRun, after_sight, after}
 use Rattle.laws.specs.Sights.{came_of, observed_in_step, choosing, choice_before, choice_at_start, observed_in_cut, programs, CollectorIsUnseen}
 use Rattle.laws.proofs.StepFacts.{Delivery, tests_of, IsTurnOf, IsReleased, Stepped, act-ok, Receipt, repeated, next, receipt-cases}
 use Rattle.laws.proofs.NoEvent.{only-events-change}
@@ -68,11 +68,11 @@ new-same shape choice = record {
 run-append : (nodes : ℕ) (s : Space) (xs ys : List Sight) → IsRun nodes s xs
     → IsRun nodes (after s xs) ys → IsRun nodes s (xs ++ ys)
 run-append nodes s [] ys a b = b
-run-append nodes s (x ∷ xs) ys a b = (a.0, run-append nodes (then s x) xs ys a.1 b)
+run-append nodes s (x ∷ xs) ys a b = (a.0, run-append nodes (after_sight s x) xs ys a.1 b)
 
 after-append : (s : Space) (xs ys : List Sight) → after s (xs ++ ys) ≡ after (after s xs) ys
 after-append s [] ys = refl
-after-append s (x ∷ xs) ys = after-append (then s x) xs ys
+after-append s (x ∷ xs) ys = after-append (after_sight s x) xs ys
 
 -- these sights are allowed, and the space afterwards matches the cut
 pub record Seen (nodes : ℕ) (s : Space) (xs : List Sight) (d : Cut) : Type 0 where
@@ -141,10 +141,10 @@ at-node w choice i h same within = record {
 -- what is told at a node of the cut
 told-at : {shape : Shaped} {s : Space} {c : Cut} {i : ℕ} (e : Event)
     (r : Result Answer Refusal) → At shape s c i
-    → IsTold s (c i).local.own (c i).local.shape.nodes e r → IsTold s i shape.nodes e r
+    → MayBeTold s (c i).local.own (c i).local.shape.nodes e r → MayBeTold s i shape.nodes e r
 told-at {shape = shape} {s = s} {c = c} {i = i} e r at h =
-    subst (λ (z : ℕ). IsTold s z shape.nodes e r) (at.inv.base.own i at.inside)
-    (subst (λ (z : Shaped). IsTold s (c i).local.own z.nodes e r)
+    subst (λ (z : ℕ). MayBeTold s z shape.nodes e r) (at.inv.base.own i at.inside)
+    (subst (λ (z : Shaped). MayBeTold s (c i).local.own z.nodes e r)
     (at.inv.base.shapes i at.inside) h)
 
 answer-seen : {shape : Shaped} {s : Space} {w : World} {choice : ℕ → Bool} {i : ℕ} {e : Event}
@@ -178,7 +178,7 @@ answer-seen {shape = shape} {s = s} {w = w} {choice = choice} {i = i} {e = e} t 
         (
           at.inside,
           is,
-          subst (λ (z : Answer). IsTold s i shape.nodes e (Ok z)) (sym found.answer)
+          subst (λ (z : Answer). MayBeTold s i shape.nodes e (Ok z)) (sym found.answer)
               (told-at e (Ok (made p counts e).answer) at
               (told-ok p counts e is (ready at) (doing at found.passed))),
         ),

@@ -26,9 +26,14 @@ use Rattle.model.specs.World.{World, new_world, run, happens, released, acknowle
 use Rattle.model.specs.Cuts.{cut, IsLive, Reachable, PlainRun}
 use Rattle.model.specs.Agreement.{total, flow, is_counted, balance, EndsAlike, OldGarbage}
 
--- The space has the property after any list of steps, whatever its shape.
+-- The property holds of every space after any list of steps. It may speak of the number of nodes.
+abbrev pub OfSpaces : (ℕ → World → Type 0) → Type 0
+OfSpaces P =
+    (shape : Shaped) → IsShape shape → (steps : List Step)
+    → P shape.nodes (run (new_world shape) steps)
+
 abbrev pub OfEveryRun : (World → Type 0) → Type 0
-OfEveryRun P = (shape : Shaped) → IsShape shape → (steps : List Step) → P (run (new_world shape) steps)
+OfEveryRun P = OfSpaces (λ nodes w. P w)
 
 -- A step that isn't an event leaves every space as it is.
 abbrev pub OnlyEventsChange : Type 0

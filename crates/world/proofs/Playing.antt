@@ -342,14 +342,14 @@ finishes (Ok k) new plays shape limits steps shown room =
     let h : Collects shape.nodes (current_cycle w) k w new =
     subst (λ (z : ℕ). Collects z (current_cycle w) k w new) (shape-width shape steps shown)
     (plays w shown) in
-    (few-moves h c c.then, tt)
+    (few-moves h c c.holds, tt)
 finishes (Err e) new plays shape limits steps shown room =
     let w : World = run (new_world shape) steps in
     let c = cycle-can-end shape limits steps room in
     let h : StopsShort shape.nodes (current_cycle w) e w new =
     subst (λ (z : ℕ). StopsShort z (current_cycle w) e w new) (shape-width shape steps shown)
     (plays w shown) in
-    (tt, code-fails h c (omega (arith, room 0 0, limits.least_nodes)) c.then)
+    (tt, code-fails h c (omega (arith, room 0 0, limits.least_nodes)) c.holds)
 
 pub collects : {old : SpaceView} (result : Result ℕ Refusal) (new : SpaceView)
     → PlaysTo result old new (λ w. current_cycle w + 1) → (shape : Shaped) → IsShape shape
@@ -364,7 +364,7 @@ collects (Ok k) new plays shape limits steps shown can =
     subst (λ (z : ℕ). Collects z (current_cycle w + 1) k w new) (shape-width shape steps shown)
     (plays w shown) in (
       record {
-        few = few-moves h c c.then.0;
+        few = few-moves h c c.holds.0;
         gone = gone shape limits steps (played shape.nodes k w) (current_cycle w + 1)
             (omega arith) h.swept;
       },
@@ -376,4 +376,4 @@ collects (Err e) new plays shape limits steps shown can =
     let h : StopsShort shape.nodes (current_cycle w + 1) e w new =
     subst (λ (z : ℕ). StopsShort z (current_cycle w + 1) e w new) (shape-width shape steps shown)
     (plays w shown) in
-    (tt, code-fails h c (omega (arith, can.room 0 0, limits.least_nodes)) c.then.0)
+    (tt, code-fails h c (omega (arith, can.room 0 0, limits.least_nodes)) c.holds.0)

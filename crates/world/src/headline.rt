@@ -1,7 +1,7 @@
 //! The theorems over all runs, as the contract of one function that does nothing. The statements
 //! are in `laws/specs`, and docs/RULES.md explains their terms.
 ghost use Rattle.laws.specs.Sights.{CollectorIsUnseen};
-ghost use Rattle.laws.specs.Statements.{OfEveryRun, OnlyEventsChange, CutsExtend, ReachIsLive, SweepsFreeNoneReachable, NodesAgree, BalancesAddUp, OldGarbageGoes, TargetsAreLive, NetGrows, NoneRefusedInTurn, NoneBeyond, AcknowledgementsGoThrough, HandsGoThrough, AcknowledgedIsTakenIn};
+ghost use Rattle.laws.specs.Statements.{OfEveryRun, OfSpaces, OnlyEventsChange, CutsExtend, ReachIsLive, SweepsFreeNoneReachable, NodesAgree, BalancesAddUp, OldGarbageGoes, TargetsAreLive, NetGrows, NoneRefusedInTurn, NoneBeyond, AcknowledgementsGoThrough, HandsGoThrough, AcknowledgedIsTakenIn};
 ghost use Rattle.laws.specs.Progress.{MarkingCanEnd, CycleCanEnd, GarbageCanGo, EndIsFoundSoon};
 ghost use Rattle.world.specs.Answered.{AnswersAreUnseen};
 ghost use Rattle.world.specs.Played.{PlayedIsAnswered};
@@ -94,15 +94,15 @@ pub fn laws()
     // Take the moves that the strategy plays after any run. Within a bound that the current states
     // determine, node 0 counts the cycle's marking as ended. No step of the moves is refused, if no
     // link runs out of numbers.
-    ensures marking { MarkingCanEnd }
+    ensures marking { OfSpaces MarkingCanEnd }
     // Within another bound, each node has swept the cycle, and node 0 was told so.
-    ensures cycle { CycleCanEnd }
+    ensures cycle { OfSpaces CycleCanEnd }
     // Within a third one, each node has swept the next cycle too. Once each is saved after that,
     // none has an object that was old garbage at the start, rings of objects across nodes included.
-    ensures garbage { GarbageCanGo }
+    ensures garbage { OfSpaces GarbageCanGo }
     // If marking has terminated, node 0 finds that within three rounds of the token and the moves
     // that messages in flight need.
-    ensures soon { EndIsFoundSoon }
+    ensures soon { OfSpaces EndIsFoundSoon }
     // The calls of `Sim::step` for these moves all succeed, unless one fails with `Memory` or
     // `ImageTooLarge`. The space then shows what the moves lead to.
     ensures played { PlayedIsAnswered }

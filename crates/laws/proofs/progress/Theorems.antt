@@ -18,6 +18,7 @@ use Rattle.laws.proofs.Flights.{load_sent}
 use Rattle.model.proofs.Joining.{join-phases}
 use Rattle.model.proofs.Walk.{join-walks}
 use Rattle.laws.proofs.Invariant.{cycle_of, Inv}
+use Rattle.laws.specs.Statements.{OfSpaces}
 use Rattle.laws.specs.Strategy.{now, next_steps, played}
 use Rattle.laws.specs.Bounds.{sum_to, weight, scan_work, slot_work, held_work, grey_work, heap_work, root_work, node_work, whole_node_work, work_left, whole_work, HasRoom, flight, rounds, marking_moves, cycle_moves, next_work, both_moves}
 use Rattle.laws.proofs.progress.Flights.{sum-le, sum-at, sum-add, sum-const, flight-sends, room-after, room-less, numbers-fit}
@@ -188,7 +189,7 @@ known-now shape w spare r =
 
 -- ---- the end of marking, and of the cycle
 
-pub marking-can-end : MarkingCanEnd
+pub marking-can-end : OfSpaces MarkingCanEnd
 marking-can-end shape limits steps room =
     let w : World = run (new_world shape) steps in
     let n : ℕ = shape.nodes in
@@ -215,7 +216,7 @@ cycle-ends shape w spare r room =
     (marking_moves n (now w) + n + (left + 4 * n + spare)) (omega arith) room))
     (λ v o. clearing-ends a spare v (omega arith) o))
 
-pub cycle-can-end : CycleCanEnd
+pub cycle-can-end : OfSpaces CycleCanEnd
 cycle-can-end shape limits steps room =
     let w : World = run (new_world shape) steps in
     let n : ℕ = shape.nodes in
@@ -337,7 +338,7 @@ gone shape limits steps later cycle before swept r old choice live =
     (omega (arith, done)))
     (subst (λ (z : World). IsLive (cut z choice) r) (sym same) live)
 
-pub garbage-can-go : GarbageCanGo
+pub garbage-can-go : OfSpaces GarbageCanGo
 garbage-can-go shape limits steps below room =
     let w : World = run (new_world shape) steps in
     let n : ℕ = shape.nodes in
@@ -348,15 +349,15 @@ garbage-can-go shape limits steps below room =
       moves = c.moves;
       few = c.few;
       played = c.played;
-      then = (
-        c.then,
-        gone shape limits steps (played n c.moves w) (current_cycle w + 1) (omega arith) c.then,
+      holds = (
+        c.holds,
+        gone shape limits steps (played n c.moves w) (current_cycle w + 1) (omega arith) c.holds,
       );
     }
 
 -- ---- the end of marking is found
 
-pub end-is-found-soon : EndIsFoundSoon
+pub end-is-found-soon : OfSpaces EndIsFoundSoon
 end-is-found-soon shape limits steps terminated room =
     let w : World = run (new_world shape) steps in
     let n : ℕ = shape.nodes in
