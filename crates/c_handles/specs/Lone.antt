@@ -105,8 +105,8 @@ abbrev pub has_changed : Result Answer Refusal → Bool
 has_changed (Ok a) = is_change a
 has_changed (Err e) = false
 
--- The event was given to the node, which is changed if the answer says so. The log, if there is one,
--- leads to the node still; or it is lost, but only by a change.
+-- The event was given to the node, which is changed if the answer says so. The log, if there is
+-- one, leads to the node still; or it is lost, but only by a change.
 pub record Gave (old new : LoneNode) (e : Event) (r : Result Answer Refusal) : Type 0 where
   pub acts : Acts old.node new.node e r
   pub stays : new ≡ record old {

@@ -1,5 +1,5 @@
 -- A node's step that receives nothing, and one that changes only its heap.
-use Rattle.std.proofs.Common.{◌≡◌, ◌≢◌, ℕ, pos, ◌+◌, ◌+ℤ◌, ◌<◌, ◌≤◌, ◌⊎◌, eqb, cond, List, [], ◌∷◌, length, get_or, refl, sym, ap, ◌∙◌, subst, ⊎_elim, inl, inr, arith}
+use Rattle.std.proofs.Common.{◌≡◌, ◌≢◌, ℕ, pos, ◌+◌, ◌+ℤ◌, ◌<◌, ◌≤◌, ◌⊎◌, eqb, ◌==◌, cond, List, [], ◌∷◌, length, get_or, refl, sym, ap, ◌∙◌, subst, ⊎_elim, inl, inr, arith}
 use Rattle.std.specs.Prelude.{◌≤ℤ◌}
 use Rattle.std.specs.List.{AllByRecursion}
 use Rattle.std.proofs.lemmas.Int.{ints}
@@ -8,7 +8,7 @@ use Rattle.ids.specs.Limits.{Shaped}
 use Rattle.ids.specs.declared.names.Ref.{Ref}
 use Rattle.msg.specs.declared.body.Body.TheVariants as body
 use Rattle.msg.specs.declared.body.Message.{Message}
-use Rattle.model.specs.State.{Object, Occupied, Heap, Phases, LocalState, NodeState, slot_at, got_from}
+use Rattle.model.specs.State.{Object, Occupied, Heap, Phases, Ring, LocalState, NodeState, slot_at, got_from}
 use Rattle.model.specs.Steps.{append_all}
 use Rattle.model.specs.Cuts.{Cut, taken, IsInFlight, Among, Becomes}
 use Rattle.model.specs.Agreement.{is_counted, balance}
@@ -100,6 +100,43 @@ covered-kept {c = c} {d = d} {i = i} {q = q} h r (is_asked from place flight) =
 
 -- ---- a step that receives nothing
 
+-- how the node counts what it sends
+pub record CountsSent (c : Cut) (i : ℕ) (q : LocalState) (ms : List (ℕ × Message)) : Type 0 where
+  pub earlier_more : ℕ
+  pub recent_more : ℕ
+  pub earlier : q.ring.earlier ≡ (c i).local.ring.earlier +ℤ pos earlier_more
+  pub recent : q.ring.recent ≡ (c i).local.ring.recent +ℤ pos recent_more
+  pub together : earlier_more + recent_more ≡ length ms
+  pub colour : q.ring.colour ≡ (c i).local.ring.colour
+  pub owes : (c i).local.ring.earlier ≤ℤ q.ring.earlier
+  pub counted : balance (cycle_of c 0) q
+      ≡ balance (cycle_of c 0) (c i).local +ℤ pos (number_sent (is_counted (cycle_of c 0)) ms)
+  pub fresh : fresh_balance (cycle_of c 0) q
+      ≡ fresh_balance (cycle_of c 0) (c i).local +ℤ pos (number_sent (is_fresh (cycle_of c 0)) ms)
+
+-- nothing is sent, and the ring stays
+pub none-sent : {c : Cut} {i : ℕ} {q : LocalState} → q.phases ≡ (c i).local.phases
+    → q.ring ≡ (c i).local.ring → CountsSent c i q []
+none-sent {c = c} {i = i} {q = q} phases ring =
+    let z : ℕ = cycle_of c 0 in
+    let earlier : q.ring.earlier ≡ (c i).local.ring.earlier = ap (λ (r : Ring). r.earlier) ring in
+    let recent : q.ring.recent ≡ (c i).local.ring.recent = ap (λ (r : Ring). r.recent) ring in
+    let counted : balance z q ≡ balance z (c i).local =
+    λ k. cond ((phases k).cycle == z) (ring k).earlier ((ring k).earlier +ℤ (ring k).recent) in
+    let fresh : fresh_balance z q ≡ fresh_balance z (c i).local =
+    λ k. cond ((phases k).cycle == z) (ring k).recent (pos 0) in
+    record {
+      earlier_more = 0;
+      recent_more = 0;
+      earlier = omega (arith, ints, earlier);
+      recent = omega (arith, ints, recent);
+      together = refl;
+      colour = ap (λ (r : Ring). r.colour) ring;
+      owes = omega (arith, ints, earlier);
+      counted = omega (arith, ints, counted);
+      fresh = omega (arith, ints, fresh);
+    }
+
 pub record Outer (shape : Shaped) (c d : Cut) (i : ℕ) (q : LocalState) (ms : List (ℕ × Message))
     : Type 0 where
   pub inv : Inv shape c
@@ -108,20 +145,10 @@ pub record Outer (shape : Shaped) (c d : Cut) (i : ℕ) (q : LocalState) (ms : L
   pub same : Same (c i).local q
   pub got : q.got ≡ (c i).local.got
   pub preserves : Preserves shape c i q ms
-  pub earlier_more : ℕ
-  pub recent_more : ℕ
-  pub earlier : q.ring.earlier ≡ (c i).local.ring.earlier +ℤ pos earlier_more
-  pub recent : q.ring.recent ≡ (c i).local.ring.recent +ℤ pos recent_more
-  pub together : earlier_more + recent_more ≡ length ms
-  pub colour : q.ring.colour ≡ (c i).local.ring.colour
-  pub owes : (c i).local.ring.earlier ≤ℤ q.ring.earlier
+  pub counts : CountsSent c i q ms
   pub far : (Joined c i → (c i).local.heap.grey ≡ []
       → (q.heap.grey ≡ []) × (q.ring.earlier ≡ (c i).local.ring.earlier))
       ⊎ Counted c
-  pub counted : balance (cycle_of c 0) q
-      ≡ balance (cycle_of c 0) (c i).local +ℤ pos (number_sent (is_counted (cycle_of c 0)) ms)
-  pub fresh : fresh_balance (cycle_of c 0) q
-      ≡ fresh_balance (cycle_of c 0) (c i).local +ℤ pos (number_sent (is_fresh (cycle_of c 0)) ms)
 
 pub all-from : {A : Type 0} (P : A → Type 0) (xs : List A) → ((x : A) → Among x xs → P x)
     → AllByRecursion P xs
@@ -158,8 +185,8 @@ outer-inner {shape = shape} {c = c} {d = d} {i = i} {q = q} {ms = ms} h =
       cycle = cycle;
       got = h.got;
       all = all-from (λ m. m.0 < shape.nodes) ms (λ m a. sent-inside (h.preserves.sends m.0 m.1 a));
-      counted = h.counted;
-      fresh = h.fresh;
+      counted = h.counts.counted;
+      fresh = h.counts.fresh;
     } in
     let here : q.phases.cycle ≡ cycle_of c i = ap (λ (z : Phases). z.cycle) h.same.phases in
     let ring : (t : ℕ) → RingStep shape.nodes c d i q ms t = λ t. record {
@@ -169,8 +196,8 @@ outer-inner {shape = shape} {c = c} {d = d} {i = i} {q = q} {ms = ms} h =
       near = λ _. inl (
         (λ b. ⊎_elim {C = IsBlack (cycle_of c 0) q}
             (λ apart. inl (λ e. apart (sym here ∙ e)))
-            (λ black. inr (h.colour ∙ black)) b),
-        h.owes,
+            (λ black. inr (h.counts.colour ∙ black)) b),
+        h.counts.owes,
       );
       far = λ _. ⊎_elim {C = (IsPassive (cycle_of c 0) (c i).local
           → IsPassive (cycle_of c 0) q × (q.ring.earlier ≡ (c i).local.ring.earlier))
@@ -197,12 +224,13 @@ outer-inner {shape = shape} {c = c} {d = d} {i = i} {q = q} {ms = ms} h =
             inside = h.inside;
             turn = turn;
             got = h.got;
-            all = all-from (λ m. m.0 < shape.nodes) ms (λ m a. sent-inside (h.preserves.sends m.0 m.1 a));
-            earlier_more = h.earlier_more;
-            recent_more = h.recent_more;
-            earlier = h.earlier;
-            recent = h.recent;
-            together = h.together;
+            all = all-from (λ m. m.0 < shape.nodes) ms
+                (λ m a. sent-inside (h.preserves.sends m.0 m.1 a));
+            earlier_more = h.counts.earlier_more;
+            recent_more = h.counts.recent_more;
+            earlier = h.counts.earlier;
+            recent = h.counts.recent;
+            together = h.counts.together;
           } in
           tally-sends tallied (h.inv.tallies i h.inside));
       safra = λ t z b. safra-turn (ring t) z b;
@@ -243,16 +271,8 @@ heap-inner {c = c} {i = i} {h = heap} h = outer-inner (record {
     asks = λ _ _ r asked. inl asked;
     sends = λ to x never. absurd never;
   };
-  earlier_more = 0;
-  recent_more = 0;
-  earlier = omega (arith, ints);
-  recent = omega (arith, ints);
-  together = refl;
-  colour = refl;
-  owes = omega (arith, ints);
+  counts = none-sent refl refl;
   far = inl (λ _ grey. (h.calm grey, refl));
-  counted = omega (arith, ints);
-  fresh = omega (arith, ints);
 })
 
 -- ---- two steps, one after the other

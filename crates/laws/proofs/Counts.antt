@@ -117,46 +117,48 @@ send-inner {shape = shape} {c = c} {i = i} {to = to} {b = b} s becomes =
           (subst (λ (z : Message). Sent shape.nodes c i to z) (sym is)
           (sends_reference refl s.reference s.receiver s.known s.targets)))
           (λ never. absurd never) a);
-      earlier_more = 0;
-      recent_more = 1;
-      earlier = omega (arith, ints);
-      recent = refl;
-      together = refl;
-      colour = refl;
-      owes = omega (arith, ints);
+      counts = record {
+        earlier_more = 0;
+        recent_more = 1;
+        earlier = omega (arith, ints);
+        recent = refl;
+        together = refl;
+        colour = refl;
+        owes = omega (arith, ints);
+        counted = ⊎_elim {C = balance cycle q
+            ≡ balance cycle p +ℤ pos (number_sent (is_counted cycle) ((to, x) ∷ []))}
+            (λ (there : cycle_of c i ≡ cycle).
+            let none : ◌≡◌ {A = ℕ} (cond (ltb (cycle_of c i) cycle) 1 0) 0 =
+            cond-false (ltb (cycle_of c i) cycle) 1 0
+            (le-ltb (cycle_of c i) cycle (omega (arith, there))) in
+            let a = balance-joined cycle q there in
+            let z = balance-joined cycle p there in
+            omega (arith, ints, none, is_old, a, z))
+            (λ (apart : cycle_of c i ≢ cycle).
+            let one : ◌≡◌ {A = ℕ} (cond (ltb (cycle_of c i) cycle) 1 0) 1 =
+            cond-true (ltb (cycle_of c i) cycle) 1 0
+            (lt-ltb (cycle_of c i) cycle (omega (arith, apart, latest s.inv i s.inside))) in
+            let a = balance-apart cycle q apart in
+            let z = balance-apart cycle p apart in
+            omega (arith, ints, one, is_old, a, z))
+            (cases_eq (cycle_of c i) cycle);
+        fresh = ⊎_elim {C = fresh_balance cycle q
+            ≡ fresh_balance cycle p +ℤ pos (number_sent (is_fresh cycle) ((to, x) ∷ []))}
+            (λ (there : cycle_of c i ≡ cycle).
+            let one : ◌≡◌ {A = ℕ} (cond (cycle_of c i == cycle) 1 0) 1 =
+            cond-true (cycle_of c i == cycle) 1 0 (eq-eqb _ _ there) in
+            let a = fresh-joined cycle q there in
+            let z = fresh-joined cycle p there in
+            omega (arith, ints, one, is_new, a, z))
+            (λ (apart : cycle_of c i ≢ cycle).
+            let none : ◌≡◌ {A = ℕ} (cond (cycle_of c i == cycle) 1 0) 0 =
+            cond-false (cycle_of c i == cycle) 1 0 (ne_eqb _ _ apart) in
+            let a = fresh-apart cycle q apart in
+            let z = fresh-apart cycle p apart in
+            omega (arith, ints, none, is_new, a, z))
+            (cases_eq (cycle_of c i) cycle);
+      };
       far = inl (λ _ grey. (grey, refl));
-      counted = ⊎_elim {C = balance cycle q
-          ≡ balance cycle p +ℤ pos (number_sent (is_counted cycle) ((to, x) ∷ []))}
-          (λ (there : cycle_of c i ≡ cycle).
-          let none : ◌≡◌ {A = ℕ} (cond (ltb (cycle_of c i) cycle) 1 0) 0 =
-          cond-false (ltb (cycle_of c i) cycle) 1 0
-          (le-ltb (cycle_of c i) cycle (omega (arith, there))) in
-          let a = balance-joined cycle q there in
-          let z = balance-joined cycle p there in
-          omega (arith, ints, none, is_old, a, z))
-          (λ (apart : cycle_of c i ≢ cycle).
-          let one : ◌≡◌ {A = ℕ} (cond (ltb (cycle_of c i) cycle) 1 0) 1 =
-          cond-true (ltb (cycle_of c i) cycle) 1 0
-          (lt-ltb (cycle_of c i) cycle (omega (arith, apart, latest s.inv i s.inside))) in
-          let a = balance-apart cycle q apart in
-          let z = balance-apart cycle p apart in
-          omega (arith, ints, one, is_old, a, z))
-          (cases_eq (cycle_of c i) cycle);
-      fresh = ⊎_elim {C = fresh_balance cycle q
-          ≡ fresh_balance cycle p +ℤ pos (number_sent (is_fresh cycle) ((to, x) ∷ []))}
-          (λ (there : cycle_of c i ≡ cycle).
-          let one : ◌≡◌ {A = ℕ} (cond (cycle_of c i == cycle) 1 0) 1 =
-          cond-true (cycle_of c i == cycle) 1 0 (eq-eqb _ _ there) in
-          let a = fresh-joined cycle q there in
-          let z = fresh-joined cycle p there in
-          omega (arith, ints, one, is_new, a, z))
-          (λ (apart : cycle_of c i ≢ cycle).
-          let none : ◌≡◌ {A = ℕ} (cond (cycle_of c i == cycle) 1 0) 0 =
-          cond-false (cycle_of c i == cycle) 1 0 (ne_eqb _ _ apart) in
-          let a = fresh-apart cycle q apart in
-          let z = fresh-apart cycle p apart in
-          omega (arith, ints, none, is_new, a, z))
-          (cases_eq (cycle_of c i) cycle);
     })
 
 -- ---- one is counted as received

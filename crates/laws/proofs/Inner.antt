@@ -229,7 +229,8 @@ module _ {shape : Shaped} {c d : Cut} {i : ℕ} {q : LocalState} {ms : List (ℕ
   stays j k g x =
       at_turn (λ l s. slot_at (c l).local.heap k ≡ Occupied g x
       → StaysIn (slot_at s.local.heap k) (cycle_of c l) g x) h.turn
-      (h.preserves.lasting k g x) (λ l _ there. record { object = x; there = there; mark = inl refl }) j
+      (h.preserves.lasting k g x)
+      (λ l _ there. record { object = x; there = there; mark = inl refl }) j
 
   pub safe-kept : (r : Ref) → Safe c r → Safe d r
   safe-kept r safe =
@@ -446,7 +447,9 @@ module _ {shape : Shaped} {c d : Cut} {i : ℕ} {q : LocalState} {ms : List (ℕ
         (λ before.
         all-map (Covered c) (Covered d) (h.cover (marking-back marking)) (carried x.body)
         (h.inv.cover.messages (marking-back marking) from to place x before (stamp ∙ same-cycle)))
-        (λ new. sent-covered (marking-back marking) to x (h.preserves.sends to x new.1) (stamp ∙ same-cycle))
+        (λ new.
+        sent-covered (marking-back marking) to x (h.preserves.sends to x new.1)
+        (stamp ∙ same-cycle))
         (flew h.turn from to place x flight);
   }
 
@@ -480,7 +483,8 @@ module _ {shape : Shaped} {c d : Cut} {i : ℕ} {q : LocalState} {ms : List (ℕ
   step-held = record {
     roots = at_turn (λ j s. is_open s.local ≡ true → RootsAll (Holds s.local) s.local.heap) h.turn
         (λ opened.
-        roots-map (Known c i) (Holds q) (λ r k. holds-kept r (k.held (open-back opened))) h.preserves.roots)
+        roots-map (Known c i) (Holds q) (λ r k. holds-kept r (k.held (open-back opened)))
+        h.preserves.roots)
         (λ j _. h.inv.held.roots j);
     blacks = λ j k g o.
         at_turn (λ l s. is_open s.local ≡ true → slot_at s.local.heap k ≡ Occupied g o

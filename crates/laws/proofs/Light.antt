@@ -87,7 +87,8 @@ module _ {shape : Shaped} {c d : Cut} {i : ℕ} {q : LocalState} {ms : List (ℕ
   light-heap = at_turn (λ j s. s.local.heap ≡ (c j).local.heap) h.step.turn h.heap (λ j _. refl)
 
   pub light-cycle : (j : ℕ) → cycle_of d j ≡ cycle_of c j
-  light-cycle = at_turn (λ j s. s.local.phases.cycle ≡ cycle_of c j) h.step.turn h.cycle (λ j _. refl)
+  light-cycle =
+      at_turn (λ j s. s.local.phases.cycle ≡ cycle_of c j) h.step.turn h.cycle (λ j _. refl)
 
   pub light-marking : Marking (phases_of d 0) → Marking (phases_of c 0)
   light-marking m = omega (arith, m, h.ended, light-cycle 0)
@@ -155,7 +156,8 @@ module _ {shape : Shaped} {c d : Cut} {i : ℕ} {q : LocalState} {ms : List (ℕ
         light-covered r
         (h.inv.cover.asked (light-marking marking) j r inside
         (sym (light-cycle j) ∙ joined ∙ light-cycle 0)
-        (at_turn (λ l s. is_in r s.local.asked ≡ true → is_in r (c l).local.asked ≡ true) h.step.turn
+        (at_turn (λ l s. is_in r s.local.asked ≡ true → is_in r (c l).local.asked ≡ true)
+        h.step.turn
         (λ a. subst (λ (z : List Ref). is_in r z ≡ true) h.asked a) (λ l _ a. a) j asked));
     messages = λ marking from to place x flight stamp.
         ⊎_elim {C = AllByRecursion (Covered d) (carried x.body)}
@@ -171,7 +173,8 @@ module _ {shape : Shaped} {c d : Cut} {i : ℕ} {q : LocalState} {ms : List (ℕ
 
   light-held : Held d
   light-held = record {
-    roots = at_turn (λ j s. is_open s.local ≡ true → RootsAll (Holds s.local) s.local.heap) h.step.turn
+    roots = at_turn (λ j s. is_open s.local ≡ true → RootsAll (Holds s.local) s.local.heap)
+        h.step.turn
         (λ opened.
         subst (RootsAll (Holds q)) (sym h.heap)
         (roots-map (Holds (c i).local) (Holds q) light-holds

@@ -8,20 +8,20 @@ use Rattle.ids.specs.Limits.{Shaped}
 use Rattle.ids.specs.declared.names.Ref.{Ref}
 use Rattle.msg.specs.declared.body.Body.TheVariants as body
 use Rattle.msg.specs.declared.body.Message.{Message}
-use Rattle.model.specs.State.{Object, Occupied, Heap, LocalState, slot_at, Ring}
+use Rattle.model.specs.State.{Object, Occupied, Heap, LocalState, slot_at}
 use Rattle.model.specs.Heaps.{no_letter}
 use Rattle.model.specs.Shading.{is_same, is_in, is_open, make_all_grey, unasked, mark_for, marks_for, seen}
 use Rattle.model.specs.Steps.{append_all}
 use Rattle.model.specs.References.{IfAny}
 use Rattle.model.specs.Cuts.{Cut, Among, Becomes}
-use Rattle.model.specs.Agreement.{is_counted, balance}
+use Rattle.model.specs.Agreement.{is_counted}
 use Rattle.model.proofs.Slots.{same-object}
 use Rattle.model.proofs.Shading.{marks-none}
 use Rattle.laws.proofs.Flights.{number_sent}
 use Rattle.laws.proofs.Rings.{Counted}
 use Rattle.laws.proofs.Invariant.{phases_of, cycle_of, Marking, Resting, Joined, Safe, Holds, holds_marked, holds_asked, Covered, is_marked, is_asked, RootsAll, Tidy, FreeSlots, fresh_balance, is_fresh, Inv}
 use Rattle.laws.proofs.Inner.{Known, Same, Origin, kept, greyed, Sent, sends_mark, Inner, known-roots, occupied-inside, open-joined}
-use Rattle.laws.proofs.Acting.{outer-inner, balance-joined, fresh-joined}
+use Rattle.laws.proofs.Acting.{outer-inner, none-sent, balance-joined, fresh-joined}
 use Rattle.laws.proofs.Slots.{rewrites-free}
 use Rattle.laws.proofs.Greys.{Greys, greys-all, Turned, as_was, turned, all-marked, wakes-any}
 
@@ -383,20 +383,43 @@ module _ {shape : Shaped} {c d : Cut} {i : ℕ} {rs : List Ref} (s : Shading sha
               let from = unasked-from (c i).local.own (c i).local.asked rs r new in
               let safe : Safe c r = m.safe r from.0 in
               inr
-              (inr (occupied-inside r.node r.slot r.generation safe.object m.inv.base safe.there, a)))
+              (inr (
+                occupied-inside r.node r.slot r.generation safe.object m.inv.base safe.there,
+                a,
+              )))
               (in-append r (c i).local.asked news asked);
           sends = shaded-sends;
         };
-        earlier_more = length news;
-        recent_more = 0;
-        earlier = refl;
-        recent = omega (arith, ints);
-        together =
-            (let e : length (marks_for (cycle_of c i) news) ≡ length news =
-            marks-length (cycle_of c i) news in
-            omega (arith, e));
-        colour = refl;
-        owes = grows;
+        counts = record {
+          earlier_more = length news;
+          recent_more = 0;
+          earlier = refl;
+          recent = omega (arith, ints);
+          together =
+              (let e : length (marks_for (cycle_of c i) news) ≡ length news =
+              marks-length (cycle_of c i) news in
+              omega (arith, e));
+          colour = refl;
+          owes = grows;
+          counted =
+              balance-joined (cycle_of c 0) shaded here
+              ∙ ap (λ (z : ℕ). (c i).local.ring.earlier +ℤ pos z)
+              (sym (marks-counted (cycle_of c i) news))
+              ∙ ap (λ (z : ℕ). (c i).local.ring.earlier
+              +ℤ pos (number_sent (is_counted z) (marks_for (cycle_of c i) news))) here
+              ∙ ap (λ (z : ℤ).
+              z +ℤ pos (number_sent (is_counted (cycle_of c 0)) (marks_for (cycle_of c i) news)))
+              (sym (balance-joined (cycle_of c 0) (c i).local here));
+          fresh =
+              (let a : fresh_balance (cycle_of c 0) shaded ≡ (c i).local.ring.recent =
+              fresh-joined (cycle_of c 0) shaded here in
+              let b : fresh_balance (cycle_of c 0) (c i).local ≡ (c i).local.ring.recent =
+              fresh-joined (cycle_of c 0) (c i).local here in
+              let k : number_sent (is_fresh (cycle_of c 0)) (marks_for (cycle_of c i) news) ≡ 0 =
+              ap (λ (z : ℕ). number_sent (is_fresh z) (marks_for (cycle_of c i) news)) (sym here)
+              ∙ marks-stale (cycle_of c i) news in
+              omega (arith, ints, a, b, k));
+        };
         far = ⊎_elim
             {C = (Joined c i → (c i).local.heap.grey ≡ []
             → (shaded.heap.grey ≡ [])
@@ -409,24 +432,6 @@ module _ {shape : Shaped} {c d : Cut} {i : ℕ} {rs : List Ref} (s : Shading sha
             )))
             (λ some. inr some.0)
             s.quiet;
-        counted =
-            balance-joined (cycle_of c 0) shaded here
-            ∙ ap (λ (z : ℕ). (c i).local.ring.earlier +ℤ pos z)
-            (sym (marks-counted (cycle_of c i) news))
-            ∙ ap (λ (z : ℕ). (c i).local.ring.earlier
-            +ℤ pos (number_sent (is_counted z) (marks_for (cycle_of c i) news))) here
-            ∙ ap (λ (z : ℤ).
-            z +ℤ pos (number_sent (is_counted (cycle_of c 0)) (marks_for (cycle_of c i) news)))
-            (sym (balance-joined (cycle_of c 0) (c i).local here));
-        fresh =
-            (let a : fresh_balance (cycle_of c 0) shaded ≡ (c i).local.ring.recent =
-            fresh-joined (cycle_of c 0) shaded here in
-            let b : fresh_balance (cycle_of c 0) (c i).local ≡ (c i).local.ring.recent =
-            fresh-joined (cycle_of c 0) (c i).local here in
-            let k : number_sent (is_fresh (cycle_of c 0)) (marks_for (cycle_of c i) news) ≡ 0 =
-            ap (λ (z : ℕ). number_sent (is_fresh z) (marks_for (cycle_of c i) news)) (sym here)
-            ∙ marks-stale (cycle_of c i) news in
-            omega (arith, ints, a, b, k));
       })
 
 -- ---- vouching
@@ -493,21 +498,17 @@ module _ {shape : Shaped} {c d : Cut} {i : ℕ} {rs : List Ref} (s : Vouching sh
           resting = λ rest. ap (λ (z : Heap). z.grey) (rest-calm m rest) ∙ m.inv.rested.grey i rest;
           still = λ r asked. in-append_left r (c i).local.asked _ asked;
           asks = λ marking there r asked. ⊎_elim
-              {C = (is_in r (c i).local.asked ≡ true) ⊎ (Covered c r ⊎ ((r.node < shape.nodes) × ⊥))}
+              {C = (is_in r (c i).local.asked ≡ true)
+              ⊎ (Covered c r ⊎ ((r.node < shape.nodes) × ⊥))}
               (λ before. inl before)
               (λ new.
               inr
-              (inl (s.covered marking r (unasked-from (c i).local.own (c i).local.asked rs r new).0)))
+              (inl (s.covered marking r
+              (unasked-from (c i).local.own (c i).local.asked rs r new).0)))
               (in-append r (c i).local.asked _ asked);
           sends = λ to x never. absurd never;
         };
-        earlier_more = 0;
-        recent_more = 0;
-        earlier = omega (arith, ints);
-        recent = omega (arith, ints);
-        together = refl;
-        colour = refl;
-        owes = omega (arith, ints);
+        counts = none-sent refl (marks-none (c i).local.ring);
         far = ⊎_elim
             {C = (Joined c i → (c i).local.heap.grey ≡ []
             → (vouched.heap.grey ≡ [])
@@ -517,10 +518,4 @@ module _ {shape : Shaped} {c d : Cut} {i : ℕ} {rs : List Ref} (s : Vouching sh
               +ℤ_idr (c i).local.ring.earlier,
             )))
             (λ some. inr some) vouched-calm;
-        counted =
-            (let same : balance (cycle_of c 0) vouched ≡ balance (cycle_of c 0) (c i).local =
-            ap (λ (z : Ring). balance (cycle_of c 0) (record vouched { ring = z }))
-            (marks-none (c i).local.ring) in
-            omega (arith, ints, same));
-        fresh = omega (arith, ints);
       })

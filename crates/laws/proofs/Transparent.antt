@@ -495,11 +495,13 @@ run-seen : {shape : Shaped} (w : World) (steps : List Step) (choice : ℕ → Bo
     → Seen shape.nodes s (observed_in_cut w steps choice) (cut (run w steps) choice)
 run-seen w [] choice s h same = seen-nothing same
 run-seen {shape = shape} w (st ∷ ss) choice s h same =
-    let xs : List Sight = observed_in_step w (choice_at_start ss choice) st (outcome_of (take_step w st)) in
+    let xs : List Sight =
+    observed_in_step w (choice_at_start ss choice) st (outcome_of (take_step w st)) in
     let first = step-seen w st (choice_at_start ss choice) h same in
     let rest = run-seen (happens w st) ss choice (after s xs) (standing-next st h) first.same in
     record {
-      runs = run-append shape.nodes s xs (observed_in_cut (happens w st) ss choice) first.runs rest.runs;
+      runs = run-append shape.nodes s xs (observed_in_cut (happens w st) ss choice) first.runs
+          rest.runs;
       same = subst (λ (z : Space). Same z (cut (run (happens w st) ss) choice))
           (sym (after-append s xs (observed_in_cut (happens w st) ss choice))) rest.same;
     }

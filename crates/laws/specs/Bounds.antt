@@ -2,8 +2,8 @@
 -- current states.
 --
 -- Work is paid for in advance. A message that is sent costs its receipt and its number on its link,
--- and all that its receipt may lead to. So work bounds both the moves and the messages that are sent
--- by them, and each move of the collector takes some of it away, except those of the token.
+-- and all that its receipt may lead to. So work bounds both the moves and the messages that they
+-- send. Each move takes some of it away, except those of the token.
 use Rattle.std.specs.Prelude.{ℕ, zero, suc, ◌+◌, ◌*◌, ◌≤◌, cond, ◌==◌, length}
 use Rattle.std.specs.List.{sum_by}
 use Rattle.ids.specs.declared.limits.TheConstants.{GREATEST_NUMBER}
@@ -27,8 +27,8 @@ sum_to (suc n) f = sum_to n f + f n
 --   carry one, and 4 for Put, which carries two.
 -- * A Give may become a letter, which is a root: 2 for its Mark when the receiver joins, and 2 for
 --   its Mark in the next cycle.
--- * A Get may make the receiver send a Mark of what it reads, which costs 2, and a Give, which costs
---   8: its own 7, and its number on its link.
+-- * A Get may make the receiver send a Mark of what it reads, which costs 2, and a Give, which
+--   costs 8: its own 7, and its number on its link.
 abbrev pub cost_of : Body → ℕ
 cost_of body.Begin = 1
 cost_of (body.Token token) = 0

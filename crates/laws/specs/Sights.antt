@@ -33,8 +33,8 @@ came_of from to (Ok (outcome.Answer answer.Received)) (Some x) =
     cond (is_reference x.body) (came from to ∷ []) []
 came_of from to r found = []
 
--- What is observed of a step, by its outcome. If the choice takes a node's saved state, neither what
--- its program is told nor what the node receives is in the cut.
+-- What is observed of a step, by its outcome. If the choice takes a node's saved state, neither
+-- what its program is told nor what the node receives is in the cut.
 abbrev pub observed_in_step : World → (ℕ → Bool) → Step → Result Outcome Refusal → List Sight
 observed_in_step w choice (step.Act i e) r =
     cond (is_node w i && (is_program e && not (choice i))) (told_of i e r) []

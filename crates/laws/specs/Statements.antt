@@ -1,9 +1,9 @@
 -- The theorems. Each is a property of a space at one time, with its current and its saved states.
--- It holds after all steps (`OfEveryRun`): events of programs, deliveries in any order and any number
--- of times, acknowledgements, saves and restarts. So it also holds at every later time.
+-- It holds after any steps (`OfEveryRun`): events of programs, deliveries in any order and any
+-- number of times, acknowledgements, saves and restarts.
 --
--- A cut is one choice of a state of each node, the current or the saved one. It is what the nodes go
--- on from if those nodes restart whose saved state is chosen.
+-- A cut is one choice of a state of each node, the current or the saved one. It is what the nodes
+-- go on from if those nodes restart whose saved state is chosen.
 use Rattle.std.specs.Prelude.{◌≡◌, ◌≢◌, ℕ, ◌+◌, ◌<◌, ◌≤◌, Bool, false, List, length, Some, Ok, Err, ◌⊎◌}
 use Rattle.ids.specs.Limits.{Shaped, IsShape}
 use Rattle.ids.specs.declared.limits.TheConstants.{WINDOW}

@@ -50,7 +50,8 @@ Happens v (step.Deliver from to number) q =
     (to ≡ v.me) × (from < v.nodes) × (q.saved ≡ v.pair.saved)
     × ((x : Message) × (a : Answer)
     × HasTaken v from number x
-    × (receive v.pair.current from v.me number x.stamp x.body ≡ Ok (q.current, a)) × (is_change a ≡ true))
+    × (receive v.pair.current from v.me number x.stamp x.body ≡ Ok (q.current, a))
+    × (is_change a ≡ true))
 Happens v (step.Hand from to) q = ⊥
 
 -- ---- The rule, read at a step

@@ -41,7 +41,8 @@ module _ (w : World) (old : SpaceView) (k : Call) (ks : List Call) (choice : ℕ
         cond-true (is_taken k.result) (here k.result ++ sights (happens w met) k.space ks choice)
         (sights w k.space ks choice) is
         ∙ ap (λ (z : List Sight). here k.result ++ z) rest.seen
-        ∙ ap (λ (z : Result Outcome Refusal). here z ++ observed_in_cut (happens w met) later choice)
+        ∙ ap
+        (λ (z : Result Outcome Refusal). here z ++ observed_in_cut (happens w met) later choice)
         (sym same)
         ∙ ap (λ (z : List Step). observed_in_cut w z choice)
         (sym (cond-true (is_taken k.result) (met ∷ later) later is));

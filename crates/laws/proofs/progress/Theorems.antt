@@ -57,7 +57,8 @@ slot-held cycle (Occupied g o) =
 slot-held cycle Retired = omega arith
 
 -- a node that hasn't joined the cycle, and has nothing grey
-node-held : (cycle : ℕ) (p : LocalState) → p.heap.grey ≡ [] → node_work cycle p ≤ 1 + whole_node_work p
+node-held : (cycle : ℕ) (p : LocalState) → p.heap.grey ≡ []
+    → node_work cycle p ≤ 1 + whole_node_work p
 node-held cycle p calm =
     let slots = sum-by_le (slot_work cycle) held_work p.heap.slots (slot-held cycle) in
     let greys : sum_by (grey_work p.heap) p.heap.grey ≡ 0 =
@@ -198,7 +199,7 @@ marking-can-end shape limits steps room =
     (λ v (o : Over (marks (aim_at shape w 0)) v).
     record { current = o.known.cycle; ended = o.ended })
     (marking-ends (aim_at shape w 0) w (known-now shape w 0 (reached-now shape limits steps))
-    (room-less (now w) (marking_moves n (now w) + n) (marking_moves n (now w) + n + 0) (omega arith) room)))
+    (room-less (now w) (marking_room n (now w)) (marking_room n (now w) + 0) (omega arith) room)))
 
 cycle-ends : (shape : Shaped) (w : World) (spare : ℕ) → Reached shape w
     → HasRoom (cycle_moves shape.nodes (now w) + shape.nodes + spare) (now w)

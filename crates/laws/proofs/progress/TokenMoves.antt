@@ -44,7 +44,8 @@ pub record Idles (shape : Shaped) (w : World) (i : ℕ) (q : LocalState) (ms : L
       ≡ (now w j).local.heap.grey
   pub work : work_left shape.nodes (now (run w (next_steps shape.nodes w)))
       ≤ work_left shape.nodes (now w) + load_sent weight ms
-  pub held : whole_work shape.nodes (now (run w (next_steps shape.nodes w))) ≡ whole_work shape.nodes (now w)
+  pub held : whole_work shape.nodes (now (run w (next_steps shape.nodes w)))
+      ≡ whole_work shape.nodes (now w)
   pub flown : flight shape.nodes (now (run w (next_steps shape.nodes w)))
       ≤ flight shape.nodes (now w) + load_sent weight ms
   pub uncounted : (cycle : ℕ) → AllByRecursion (λ m. is_counted cycle m.1 ≡ false) ms

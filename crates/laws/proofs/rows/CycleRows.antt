@@ -28,8 +28,8 @@ two_probes cycle out back =
     ++ pass_token 0 gives ended cycle
     ∷ []
 
--- Both find nothing to free, and the next cycle begins. Node 1 is told of the end by this message of
--- node 0, and reports its sweep by this message.
+-- Both find nothing to free, and the next cycle begins. Node 1 is told of the end by this message
+-- of node 0, and reports its sweep by this message.
 abbrev pub swept_by_both : ℕ → ℕ → List Row
 swept_by_both out back =
     both_sweep 0 out 0

@@ -14,8 +14,8 @@ use Rattle.laws.proofs.rows.ObjectRows.{copy, load, store, put, get, value}
 use Rattle.laws.proofs.rows.Words.{begin_cycle, scan_grey, pass_token, save, deliver, ok, began, scanned_grey, probe_again, ended, state, Row, ◌gives◌, ◌shows◌, Prints, passes_on, first_token, comes_over, handed_over}
 use Rattle.laws.proofs.rows.CycleRows.{swept_by_both}
 
--- The letters 1 and 2 bring node 0 references of these two registers of node 1, which name objects in
--- the slots of the same numbers. They end up in this register of node 0 and the next one.
+-- The letters 1 and 2 bring node 0 references of these two registers of node 1, which name objects
+-- in the slots of the same numbers. They end up in this register of node 0 and the next one.
 abbrev two_given : (first second register : ℕ) → List Row
 two_given first second register =
     give 1 0 1 first gives sent 1
@@ -148,8 +148,8 @@ unfolding int_wrap take_step act receive append announce see_to make_grey enter 
     scan scanned conclude passed count_in take_body settled taken_in
 target-first-prints = refl
 
--- Node 0 gets an object whose place names what is in register 1 of node 1, and asks for that. A cycle
--- begins before node 1 hears of it. The object ends up in this register, and is dropped.
+-- Node 0 gets an object whose place names what is in register 1 of node 1, and asks for that. A
+-- cycle begins before node 1 hears of it. The object ends up in this register, and is dropped.
 abbrev asked_before : ℕ → List Row
 asked_before register =
     store 1 0 0 1 gives ok

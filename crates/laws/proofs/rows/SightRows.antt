@@ -1,6 +1,6 @@
 -- Worked examples of what programs observe. First come runs of two steps; then a run with a restart
--- and a sweep, and its sights in two cuts. The restart undoes what node 1 received first. Nothing is seen of the collector, and what
--- came after a save isn't in the saved state.
+-- and a sweep, and its sights in two cuts. The restart undoes what node 1 received first. Nothing is
+-- seen of the collector, and what came after a save isn't in the saved state.
 use Rattle.std.proofs.Common.{◌≡◌, Bool, true, false, List, [], ◌∷◌, ◌++◌, Some, Ok, Err, refl}
 use Rattle.std.specs.Int.{int_wrap}
 use Rattle.ids.specs.declared.refusal.Refusal.TheVariants.{EmptyRegister}
@@ -109,7 +109,8 @@ after_sweep =
     ∷ told 0 (event.Alloc 0 0) (Ok (answer.New (object 0 0 2)))
     ∷ []
 
-pub saved-sights : observed_in_cut (new_world (space 2 4 16)) (steps_in rows) (λ _. true) ≡ before_saves
+pub saved-sights : observed_in_cut (new_world (space 2 4 16)) (steps_in rows) (λ _. true)
+    ≡ before_saves
 unfolding int_wrap take_step act receive append announce see_to make_grey enter join begun probe
     conclude passed sweep_one swept_slots count_in take_body settled taken_in
 saved-sights = refl

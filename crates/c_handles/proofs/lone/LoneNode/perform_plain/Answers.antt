@@ -50,7 +50,8 @@ returns-else-is_change c =
     let counts : is_change c.in_ok-answer.answer ≡ false =
     sym c.is_change.ensures ∙ c.if-is_change.false in
     let same : new.core ≡ old.node.core =
-    quiet-same old.node.core new.core (met old.node.early c.args.event) c.in_ok-answer.answer acts counts in
+    quiet-same old.node.core new.core (met old.node.early c.args.event) c.in_ok-answer.answer acts
+    counts in
     record {
       acts = record {
         performs = c.in_ok-answer.ensures.performs;
