@@ -20,7 +20,7 @@ use Rattle.model.proofs.Walk.{join-walks}
 use Rattle.laws.proofs.Invariant.{cycle_of, Inv}
 use Rattle.laws.specs.Statements.{OfSpaces}
 use Rattle.laws.specs.Strategy.{now, next_steps, played}
-use Rattle.laws.specs.Bounds.{sum_to, weight, scan_work, slot_work, held_work, grey_work, heap_work, root_work, node_work, whole_node_work, work_left, whole_work, HasRoom, flight, rounds, marking_moves, cycle_moves, next_work, both_moves}
+use Rattle.laws.specs.Bounds.{sum_to, weight, scan_work, slot_work, held_work, grey_work, heap_work, root_work, node_work, whole_node_work, work_left, whole_work, HasRoom, flight, rounds, marking_moves, cycle_moves, next_work, both_moves, marking_room}
 use Rattle.laws.proofs.progress.Flights.{sum-le, sum-at, sum-add, sum-const, flight-sends, room-after, room-less, numbers-fit}
 use Rattle.laws.proofs.progress.Paths.{Goes, run-append, Reaches, more, reaches-later, reaches-then, reaches-as, comes}
 use Rattle.laws.proofs.progress.Spaces.{Reached, reached-whole, do-moved, Moved, reached-more, reached-count, reached-saved, save-step}
