@@ -1,30 +1,30 @@
-"""Two objects on two nodes refer to each other. Once no program holds either, one cycle frees both."""
+"""A ring of two objects on two nodes. Once no program holds it, one cycle frees both."""
 from markring import Node, errors
 
 nodes = [Node(nodes=2, registers=4, slots=16, own=own) for own in range(2)]
 
 def turn(own):
-    """Does what the collector has to do on a node, saves it, and moves its frames to the other one."""
+    """Collects, saves the node, and moves its frames to the other one."""
     node, peer = nodes[own], nodes[1 - own]
     for step in (node.scan, node.pass_token, lambda: node.sweep(16)):
         try:
             print(f"node {own}: {step()}")
         except errors.NothingToDo:
             pass
-    node.kept(node.image().mark)  # A real program stores the image first,
+    node.kept(node.image().mark)  # A real program stores the image first.
     for _, frame in node.frames(to=1 - own):
-        peer.take(frame)  # and sends the frames over a network.
+        peer.take(frame)
     node.take(peer.ack_for(own))
 
 for own, node in enumerate(nodes):
-    node.alloc(0, places=1)  # Register 0 holds a new object.
-    node.give(to=1 - own, label=7, register=0)  # The other node gets a reference to it,
+    node.alloc(0, places=1)
+    node.give(to=1 - own, label=7, register=0)
     turn(own)
 for node in nodes:
-    node.accept(1)  # and holds it in register 1.
-    node.store(object=0, place=0, register=1)  # Now the objects refer to each other.
+    node.accept(1)  # Register 1 gets the other node's object,
+    node.store(object=0, place=0, register=1)  # and the own object refers to it.
     node.drop(0)
-    node.drop(1)  # No program holds either of them any more.
+    node.drop(1)
 nodes[0].begin()
 while any(node.state().live for node in nodes):
     turn(0), turn(1)
