@@ -1,4 +1,4 @@
--- How many moves may be needed ("Progress" in docs/RULES.md). The numbers are functions of the
+-- How many moves may be needed ("Progress" in docs/PROOF.md). The numbers are functions of the
 -- current states.
 use Rattle.std.specs.Prelude.{ℕ, zero, suc, ◌+◌, ◌*◌, ◌≤◌, cond, ◌==◌, length}
 use Rattle.std.specs.List.{sum_by}

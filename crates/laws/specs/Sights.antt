@@ -1,5 +1,5 @@
 -- What programs see of a run of a space, and that it is a run of a space without a collector
--- ("Without a collector" in docs/RULES.md).
+-- ("Without a collector" in docs/PROOF.md).
 use Rattle.std.specs.Prelude.{◌≡◌, ℕ, Bool, true, false, cond, ◌==◌, ◌&&◌, not, List, [], ◌∷◌, ◌++◌, map, filter, Option, Some, Result, Ok, Err}
 use Rattle.ids.specs.Limits.{Shaped, IsShape}
 use Rattle.ids.specs.declared.names.Ref.{Ref}
