@@ -51,7 +51,7 @@ same-let_go : (o : Option Ack) (ls ks : List Link) → map all_kept ls ≡ map a
     → map all_kept (let_go ls o) ≡ map all_kept (let_go ks o)
 same-let_go None ls ks same = same
 same-let_go (Some a) ls ks same =
-    same-set (λ l. trimmed l a.number) (λ l. refl) ls ks a.from same
+    same-set (λ l. trimmed l a.number) (λ l. refl) ls ks a.by same
 
 same-appended : (ms : List (ℕ × Message)) (ls ks : List Link) → map all_kept ls ≡ map all_kept ks
     → map all_kept (append_to ls ms) ≡ map all_kept (append_to ks ms)
@@ -65,10 +65,10 @@ same-appended (m ∷ ms) ls ks same =
 
 -- an acknowledgement that is answered is of released messages
 released : (n new : NodeView) (e : Event) (x : Answer) → view_act n e ≡ Ok (new, x) → (a : Ack)
-    → ack_of e ≡ Some a → a.number ≤ (link_to n a.from).kept
+    → ack_of e ≡ Some a → a.number ≤ (link_to n a.by).kept
 released n new (event.Ack b) x h a is =
     let same : b ≡ a = cc in
-    subst (λ (c : Ack). c.number ≤ (link_to n c.from).kept) same (ack-done n new b x h).0
+    subst (λ (c : Ack). c.number ≤ (link_to n c.by).kept) same (ack-done n new b x h).0
 released n new e x h a is = absurd cc
 
 module _ (n m : NodeView) (behind : IsBehind n m) where
@@ -79,17 +79,17 @@ module _ (n m : NodeView) (behind : IsBehind n m) where
   links = ap (λ (v : NodeView). v.links) behind.same
 
   same-tests : (o : Option Ack)
-      → ((a : Ack) → o ≡ Some a → a.number ≤ (link_to n a.from).kept)
+      → ((a : Ack) → o ≡ Some a → a.number ≤ (link_to n a.by).kept)
       → ack_tests n o ≡ ack_tests m o
   same-tests None here = refl
   same-tests (Some a) here =
       ap (λ (b : Bool). (b, AckBeyond) ∷ [])
       (le-leb _ _ (here a refl)
-      ∙ sym (le-leb _ _ (le_trans (here a refl) (behind.less a.from))))
+      ∙ sym (le-leb _ _ (le_trans (here a refl) (behind.less a.by))))
 
   -- the same effect
   same-effect : (e : Event)
-      → ((a : Ack) → ack_of e ≡ Some a → a.number ≤ (link_to n a.from).kept)
+      → ((a : Ack) → ack_of e ≡ Some a → a.number ≤ (link_to n a.by).kept)
       → checked (tests m.local e ++ ack_tests m (ack_of e)) (map used m.links)
       (made m.local (map used m.links) e)
       ≡ checked (tests n.local e ++ ack_tests n (ack_of e)) (map used n.links)
@@ -165,12 +165,12 @@ unchanged-link l number old =
     ∙ ap (λ (ms : List Message). record l { unacknowledged = ms }) all
 
 pub old_ack : (n new : NodeView) (a : Ack) (x : Answer) → view_act n (event.Ack a) ≡ Ok (new, x)
-    → a.number ≤ (link_to n a.from).base → new ≡ n
+    → a.number ≤ (link_to n a.by).base → new ≡ n
 old_ack n new a x h old =
     (ack-done n new a x h).1
-    ∙ ap (λ (l : Link). record n { links = set n.links a.from l })
-    (unchanged-link (link_to n a.from) a.number old)
-    ∙ ap (λ (ls : List Link). record n { links = ls }) (set-get_or n.links a.from no_link)
+    ∙ ap (λ (l : Link). record n { links = set n.links a.by l })
+    (unchanged-link (link_to n a.by) a.number old)
+    ∙ ap (λ (ls : List Link). record n { links = ls }) (set-get_or n.links a.by no_link)
 
 -- ---- more counts as saved
 

@@ -11,10 +11,10 @@ use Rattle.ids.specs.declared.refusal.Refusal.{Refusal}
 use Rattle.ids.specs.declared.refusal.Refusal.TheVariants.{AckBeyond, LinkSpent, WrongNode}
 use Rattle.msg.specs.declared.frame.Ack.{Ack}
 use Rattle.model.specs.Checks.{guarded}
-use Rattle.model.specs.Effects.{Effect, unchanged}
+use Rattle.model.specs.Effects.{is_change}
 use Rattle.model.specs.Steps.{is_addressed}
 use Rattle.model.proofs.Checks.{guarded-ok}
-use Rattle.model.proofs.Shown.{view-ok}
+use Rattle.model.proofs.Shown.{ack-answer}
 use Rattle.std.proofs.Common.{Result, Err, OnOk, replicate, drop, take}
 use Rattle.std.specs.Prelude.{nat_le, ◌||◌, ◌&&◌, ◌-◌}
 use Rattle.std.proofs.lemmas.Bool.{false≢true, true≢false}
@@ -22,11 +22,10 @@ use Rattle.std.proofs.lemmas.List.{take_all}
 use Rattle.node_store.proofs.Stores.{image_plain}
 use Rattle.image.specs.Logged.{IsEither}
 use Rattle.image.specs.Wholes.{IsWholeOf}
-use Rattle.c_handles.specs.Lone.{is_counted}
 use Rattle.model.specs.View.{NodeView, all_kept, kept_of, kept_view, let_go, link_to, no_link, used, view_act}
 use Rattle.node.specs.Invariant.{IsNode}
 use Rattle.node.specs.Keeping.{WholeNode}
-use Rattle.node_store.specs.Logs.{IsDone, Logged, is_quiet}
+use Rattle.node_store.specs.Logs.{IsDone, Logged}
 use Rattle.node_log.specs.Noted.{Noted}
 use Rattle.node_store.proofs.Ends.{logged_more, logged_none}
 use Rattle.c_handles.specs.declared.lone.images.Counts.{Counts}
@@ -63,7 +62,7 @@ saved_still (Some counts) n m same saved = λ peer. omega (arith, same peer, sav
 
 -- an event is done and noted
 pub led_noted : (first n new : NodeView) (counts : Option (Vec Counts)) (e : Event) (a : Answer)
-    (log log' : Option (List ℕ)) → view_act n e ≡ Ok (new, a) → is_quiet a ≡ false
+    (log log' : Option (List ℕ)) → view_act n e ≡ Ok (new, a) → is_change a ≡ true
     → Noted log log' e → LedIf log first n counts → LedIf log' first new counts
 led_noted first n new counts e a log log' acts now noted led bytes is =
     let more = noted.more bytes is in
@@ -78,19 +77,6 @@ led_noted first n new counts e a log log' acts now noted led bytes is =
       behind = next.behind;
       saved = saved_still counts was.last next.after next.kept was.saved;
     }
-
--- what counts as a change is what isn't quiet
-pub counted_now : (a : Answer) → is_counted a ≡ true → is_quiet a ≡ false
-counted_now (answer.Word word) is = absurd (false≢true is)
-counted_now answer.Repeat is = absurd (false≢true is)
-counted_now answer.Early is = absurd (false≢true is)
-counted_now a is = refl
-
-pub uncounted_quiet : (a : Answer) → is_counted a ≡ false → is_quiet a ≡ true
-uncounted_quiet (answer.Word word) is = refl
-uncounted_quiet answer.Repeat is = refl
-uncounted_quiet answer.Early is = refl
-uncounted_quiet a is = absurd (true≢false is)
 
 or-true : (b : Bool) → (b || true) ≡ true
 or-true true = refl
@@ -130,19 +116,10 @@ after_uncounted n node b is =
     ∙ ap (λ (c : Bool). after n node n.log c (n.is_unsaved || false)) (or-false n.is_changed)
     ∙ ap (λ (c : Bool). after n node n.log n.is_changed c) (or-false n.is_unsaved))
 
--- an acknowledgement that is answered isn't quiet
+-- an acknowledgement that is answered counts as a change, since the links may change by it
 pub ack_now : (n new : NodeView) (a : Ack) (x : Answer) → view_act n (event.Ack a) ≡ Ok (new, x)
-    → is_quiet x ≡ false
-unfolding view_act
-ack_now n new a x h =
-    let ts : List (Bool × Refusal) =
-    (is_addressed n.local a.from a.to, WrongNode)
-    ∷ (nat_le a.number (link_to n a.from).kept, AckBeyond) ∷ (true, LinkSpent) ∷ [] in
-    let found =
-    view-ok n new (let_go n.links (Some a)) (guarded ts (unchanged n.local answer.Done)) x h in
-    let same : unchanged n.local answer.Done ≡ found.0 =
-    guarded-ok ts (unchanged n.local answer.Done) found.0 found.1 in
-    ap is_quiet (found.3 ∙ ap (λ (z : Effect). z.answer) (sym same))
+    → is_change x ≡ true
+ack_now n new a x h = ap is_change (ack-answer n new a x h)
 
 -- ---- more counts as saved
 

@@ -32,7 +32,7 @@ ack_bytes n from =
 
 abbrev pub number_of : Plain → ℕ
 number_of (data_frame from to number stamp body) = number
-number_of (ack_frame from to number) = number
+number_of (ack_frame by of number) = number
 
 -- a frame after its length and its number
 abbrev pub packed : Plain → List ℕ

@@ -9,6 +9,7 @@ use Rattle.frames.specs.Grammar.{Fits, spelling}
 use Rattle.msg.specs.declared.frame.Ack.{Ack}
 use Rattle.msg.specs.declared.frame.Frame.{Frame}
 use Rattle.msg.specs.declared.frame.Frame.TheVariants as frame
+use Rattle.model.specs.Effects.{is_change}
 use Rattle.model.specs.State.{LocalState, NodeState}
 use Rattle.model.specs.Steps.{act, is_memory_free, is_shading}
 use Rattle.model.specs.View.{NodeView, Shows, Follows, Performs, Leaves, link_to, view_act}
@@ -85,13 +86,6 @@ is_congested n e =
 
 -- ---- Events
 
--- the answer is that of an event that changes the node, unless that is an acknowledgement
-abbrev pub is_counted : Answer → Bool
-is_counted (answer.Word word) = false
-is_counted answer.Repeat = false
-is_counted answer.Early = false
-is_counted a = true
-
 -- What an event is to the node. An answer and the node afterwards are what the definitions say,
 -- also of each state that the node shows; a refusal is the first that applies, and changes nothing.
 pub record Acts (old new : WholeNode) (e : Event) (r : Result Answer Refusal) : Type 0 where
@@ -107,7 +101,7 @@ pub record Acts (old new : WholeNode) (e : Event) (r : Result Answer Refusal) : 
   pub turn : met old.early e ≢ e → IfOk r (λ a. a ≡ answer.Received)
 
 abbrev pub counted : Result Answer Refusal → Bool
-counted (Ok a) = is_counted a
+counted (Ok a) = is_change a
 counted (Err e) = false
 
 -- The event was given to the node, which is changed if the event was answered and counts. The log,

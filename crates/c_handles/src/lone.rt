@@ -2,7 +2,7 @@
 ghost use Rattle.std.specs.Prelude.{◌≡◌, ◌||◌, ◌&&◌, false, None, Ok};
 ghost use Rattle.msg.specs.Frames.{plain};
 ghost use Rattle.node_store.specs.Logs.{is_turn};
-ghost use Rattle.c_handles.specs.Lone.{Acknowledged, Given, Made, Read, TookIn, is_congested, is_counted};
+ghost use Rattle.c_handles.specs.Lone.{Acknowledged, Given, Made, Read, TookIn, is_congested};
 ghost use Rattle.c_handles.specs.Lone.{lone, receiver_of, unacknowledged};
 
 mod batches;
@@ -44,28 +44,6 @@ pub struct LoneNode {
     log: Log,
     // Whether what the last image or batch holds counts as saved.
     is_kept: bool,
-}
-
-// Whether an answer is that of an event that changes the node. Reading a word changes nothing, nor
-// does a repeat or an early message.
-fn is_counted(answer: &Answer) -> bool
-    ensures { result ≡ is_counted answer.now }
-{
-    match answer {
-        Answer::Word(_) | Answer::Repeat | Answer::Early => false,
-        Answer::New(_)
-        | Answer::Done
-        | Answer::Value(_)
-        | Answer::Sent(_)
-        | Answer::Letter(_)
-        | Answer::Begun(_)
-        | Answer::Scanned(_)
-        | Answer::Passed(_)
-        | Answer::ProbeAgain
-        | Answer::Ended(_)
-        | Answer::Freed { .. }
-        | Answer::Received => true,
-    }
 }
 
 impl LoneNode {
@@ -203,7 +181,7 @@ impl LoneNode {
         ensures { Given false self.old self.new event result }
     {
         let answer = self.node.act(event)?;
-        if is_counted(&answer) {
+        if answer.is_change() {
             self.is_changed = true;
             self.is_unsaved = true;
             if self.logs {

@@ -13,7 +13,8 @@ use Rattle.laws.proofs.OldGarbage as garbage
 use Rattle.laws.proofs.Onward.{run-behind}
 use Rattle.wire.proofs.NewWires.{new-width}
 use Rattle.cell.specs.Reached.{AreAlike, IsReached}
-use Rattle.cell.specs.Theorems.{BalancesAddUp, NodesAgree, OldGarbageGoes, ReachIsLive}
+use Rattle.laws.specs.Statements.{BalancesAddUp, NodesAgree, OldGarbageGoes, ReachIsLive}
+use Rattle.cell.specs.Theorems.{OfEveryReached}
 use Rattle.cell.proofs.AlikeCuts.{CutsAlike, cuts-alike, cuts-sym, ends-too, live-too, reached-too}
 use Rattle.cell.proofs.AlikeRuns.{run-like}
 use Rattle.cell.proofs.Reaches.{end_of, heard-end}
@@ -26,8 +27,8 @@ pub node-count : (w : World) (r : IsReached w) → length w.current ≡ r.shape.
 node-count w r =
     r.by.current.width ∙ run-count (new_world r.shape) r.steps ∙ new-width r.shape
 
-pub reach-is-live : ReachIsLive
-reach-is-live w choice r reached reach =
+pub reach-is-live : OfEveryReached ReachIsLive
+reach-is-live w reached choice r reach =
     let cuts = cuts-end w choice reached in
     live-too r (cuts-sym cuts)
     (laws.reach-is-live reached.shape reached.limits reached.steps choice r
@@ -46,16 +47,16 @@ balances-same n m count h same =
     total (count k) (λ from. total (count k) (λ to.
     pos (number_of (is_counted (h.locals 0 k).phases.cycle) (h.flights from to k)))))
 
-pub balances-add-up : BalancesAddUp
-balances-add-up w choice reached =
-    balances-same (length w.current) reached.shape.nodes (node-count w reached)
+pub balances-add-up : OfEveryReached BalancesAddUp
+balances-add-up w reached choice =
+    balances-same (length w.current) (length (end_of reached).current) reached.by.current.width
     (cuts-end w choice reached)
     (laws.balances-add-up reached.shape reached.limits reached.steps choice)
 
-pub nodes-agree : NodesAgree
-nodes-agree w choice i cycle reached inside ended =
+pub nodes-agree : OfEveryReached NodesAgree
+nodes-agree w reached choice i cycle inside ended =
     let cuts = cuts-end w choice reached in
-    let count = node-count w reached in
+    let count = reached.by.current.width in
     ends-too (length w.current) cycle (cuts-sym cuts)
     (subst (λ (n : ℕ). EndsAlike n cycle (cut (end_of reached) choice)) (sym count)
     (laws.nodes-agree reached.shape reached.limits reached.steps choice i cycle
@@ -73,8 +74,8 @@ old-too w v r h cuts old = record {
       old.unreachable choice (reached-too (cuts-sym (cuts choice)) reach);
 }
 
-pub old-garbage-goes : OldGarbageGoes
-old-garbage-goes w later choice cycle r reached before old swept live =
+pub old-garbage-goes : OfEveryReached OldGarbageGoes
+old-garbage-goes w reached later choice cycle r before old swept live =
     let end : World = end_of reached in
     let heard = heard-end reached in
     let cuts : CutsAlike (cut (run w later) choice) (cut (run end later) choice) =

@@ -17,15 +17,18 @@ use Rattle.model.specs.Steps.{act, made, receive}
 use Rattle.model.specs.Collecting.{swept_slots}
 use Rattle.model.specs.World.{World, acknowledged, run, IsInNet}
 use Rattle.model.specs.Cuts.{cut, Reachable}
+use Rattle.model.proofs.Refusals.{refused-as}
 use Rattle.laws.proofs.StepFacts.{act-ok}
 use Rattle.laws.proofs.Live as laws
 use Rattle.laws.proofs.Deliveries as deliveries
 use Rattle.wire.specs.Rule.{receiver}
 use Rattle.wire.specs.Views.{Pair}
-use Rattle.wire.specs.Entering.{is_counted}
+use Rattle.model.specs.Effects.{is_change}
 use Rattle.wire.specs.Sending.{emptied}
 use Rattle.cell.specs.Events.{Handled}
-use Rattle.cell.specs.Laws.{NoneRefusedInTurn, SweepsFreeNoneReachable}
+use Rattle.laws.specs.Statements.{IsSpentOrEarly, NoneRefusedInTurn, SweepsFreeNoneReachable}
+use Rattle.cell.specs.Laws.{CellsFreeNoneReachable, CellsRefuseNoneInTurn}
+use Rattle.cell.specs.Theorems.{OfEveryReached}
 use Rattle.cell.specs.Reached.{IsReached}
 use Rattle.cell.proofs.Alike.{act-like, other-answer, other-refusal}
 use Rattle.cell.proofs.AlikeCuts.{reached-too}
@@ -35,18 +38,8 @@ use Rattle.cell.proofs.Reaches.{end_of, heard-end, stays-reached}
 
 -- ---- Sweeps
 
--- the theorem, for one world
-abbrev SweptIn : World → Type 0
-SweptIn w =
-    (choice : ℕ → Bool) (i count : ℕ) (s : NodeState) (a : Answer) (r : Ref) → choice i ≡ false
-    → act (node_at w.current i) (event.Sweep count) ≡ Ok (s, a)
-    → Reachable (cut w choice) r → r.node ≡ i
-    → (o : Object)
-    × (slot_at (node_at w.current i).local.heap r.slot ≡ Occupied r.generation o)
-    × (slot_at s.local.heap r.slot ≡ Occupied r.generation o)
-
-swept-in : (w : World) → IsReached w → SweptIn w
-swept-in w reached choice i count s a r current answered reach own =
+swept-in : OfEveryReached SweepsFreeNoneReachable
+swept-in w reached i count s a answered choice r current reach own =
     let end : World = end_of reached in
     let like = reached.by.current.each i in
     let given =
@@ -54,28 +47,28 @@ swept-in w reached choice i count s a r current answered reach own =
     like in
     let other = other-answer (acknowledged end i) _ _ s a given answered in
     let kept =
-    laws.sweeps-free-none-reachable reached.shape reached.limits reached.steps choice i count
-    other.0 a r current other.1 (reached-too (cuts-end w choice reached) reach) own in (
+    laws.sweeps-free-none-reachable reached.shape reached.limits reached.steps i count other.0 a
+    other.1 choice r current (reached-too (cuts-end w choice reached) reach) own in (
       kept.0,
       ap (λ (p : LocalState). slot_at p.heap r.slot) like.local ∙ kept.1,
       ap (λ (p : LocalState). slot_at p.heap r.slot) other.2.local ∙ kept.2,
     )
 
 sweep-answer : (p : LocalState) (counts : List ℕ) (count : ℕ)
-    → is_counted (made p counts (event.Sweep count)).answer ≡ true
+    → is_change (made p counts (event.Sweep count)).answer ≡ true
 unfolding swept_slots
 sweep-answer p counts count = refl
 
 -- each sweep is an event
 sweep-counts : (s t : NodeState) (count : ℕ) (a : Answer) → act s (event.Sweep count) ≡ Ok (t, a)
-    → is_counted a ≡ true
+    → is_change a ≡ true
 sweep-counts s t count a answered =
-    subst (λ (x : Answer). is_counted x ≡ true)
+    subst (λ (x : Answer). is_change x ≡ true)
     (sym (act-ok s (event.Sweep count) t a answered).answer)
     (sweep-answer s.local (map length s.sent) count)
 
-pub sweeps-free-none-reachable : SweepsFreeNoneReachable
-sweeps-free-none-reachable count old new v w reached shows swept =
+pub cells-free-none-reachable : CellsFreeNoneReachable
+cells-free-none-reachable count old new v w reached shows swept =
     let a = swept.answer in
     let acted = swept.given.acted in
     let s : NodeState = acted.states.0 in
@@ -89,8 +82,9 @@ sweeps-free-none-reachable count old new v w reached shows swept =
       e.after,
       λ choice r current reach own.
           (let now = stays-reached v.opening e.log reached in
-          let kept = swept-in (run v.opening e.log) now choice v.me count s a r current
-          (ap (λ (t : NodeState). act t (event.Sweep count)) here ∙ answered) reach own in (
+          let kept = swept-in (run v.opening e.log) now v.me count s a
+          (ap (λ (t : NodeState). act t (event.Sweep count)) here ∙ answered) choice r current
+          reach own in (
             kept.0,
             ap (λ (p : LocalState). slot_at p.heap r.slot)
                 (shows.local ∙ ap (λ (t : NodeState). t.local) (sym here)) ∙ kept.1,
@@ -100,15 +94,7 @@ sweeps-free-none-reachable count old new v w reached shows swept =
 
 -- ---- Messages
 
-abbrev InTurnIn : World → Type 0
-InTurnIn w =
-    (from to number stamp : ℕ) (body : Body) (e : Refusal)
-    → IsInNet w (data_frame from to number stamp body)
-    → receive (node_at w.current to) from to number stamp body ≡ Err e
-    → (e ≡ LinkSpent)
-    ⊎ ((e ≡ OutOfOrder) × (got_from (node_at w.current to).local from + WINDOW < number))
-
-pub in-turn : (w : World) → IsReached w → InTurnIn w
+pub in-turn : OfEveryReached NoneRefusedInTurn
 in-turn w reached from to number stamp body e there refused =
     let end : World = end_of reached in
     let x : Message = record { stamp = stamp; body = body } in
@@ -116,10 +102,10 @@ in-turn w reached from to number stamp body e there refused =
     let y : Message = found.0 in
     let like =
     given-like w end from to number x y reached.by (heard-end reached) there found.1 in
-    subst
-    (λ (k : ℕ). (e ≡ LinkSpent) ⊎ ((e ≡ OutOfOrder) × (k + WINDOW < number)))
-    (sym (ap (λ (p : LocalState). got_from p from) (reached.by.current.each to).local))
-    (deliveries.refused-beyond reached.shape reached.limits reached.steps from to found.1
+    subst (λ (p : LocalState). IsSpentOrEarly p from number e)
+    (sym (reached.by.current.each to).local)
+    (deliveries.none-refused-in-turn reached.shape reached.limits reached.steps from to number stamp
+    body e found.1
     (other-refusal (acknowledged end to) _ _ e like refused))
 
 pub received : (s : NodeState) (d : Data) (e : Refusal) → act s (event.Data d) ≡ Err e
@@ -127,8 +113,8 @@ pub received : (s : NodeState) (d : Data) (e : Refusal) → act s (event.Data d)
 unfolding act receive
 received s d e refused = refused
 
-pub none-refused-in-turn : NoneRefusedInTurn
-none-refused-in-turn d e old v reached shows refusing plenty =
+pub cells-refuse-none-in-turn : CellsRefuseNoneInTurn
+cells-refuse-none-in-turn d e old v reached shows refusing plenty =
     let took = refusing.took in
     let is = refusing.is in
     let net : IsInNet (run v.opening took.arrives.log) (plain_data d) =
@@ -138,16 +124,14 @@ none-refused-in-turn d e old v reached shows refusing plenty =
     let given : Handled (frame.Data d) (Err e) old refusing.new taken refusing.w =
     subst (λ (f : Frame). Handled f (Err e) old refusing.new taken refusing.w) is
     took.handled in
-    let refused = received v.pair.current d e ((given.acted.states tt).0 plenty) in
+    let refused = received v.pair.current d e (refused-as (given.acted.states tt) plenty) in
     let to : v.me ≡ d.to =
     sym took.receiver ∙ ap (λ (f : Frame). receiver (plain f)) is in
     let here : node_at (run v.opening took.arrives.log).current d.to ≡ v.pair.current =
     ap (λ (i : ℕ). node_at (run v.opening took.arrives.log).current i) (sym to)
     ∙ ap (λ (p : Pair). p.current) took.arrives.pair in
-    subst
-    (λ (k : ℕ). (e ≡ LinkSpent) ⊎ ((e ≡ OutOfOrder) × (k + WINDOW < d.number)))
-    (ap (λ (s : NodeState). got_from s.local d.from) here
-    ∙ ap (λ (p : LocalState). got_from p d.from) (sym shows.local))
+    subst (λ (p : LocalState). IsSpentOrEarly p d.from d.number e)
+    (ap (λ (s : NodeState). s.local) here ∙ sym shows.local)
     (in-turn (run v.opening took.arrives.log) (stays-reached v.opening took.arrives.log reached)
     d.from d.to d.number d.stamp d.body e net
     (ap (λ (s : NodeState). receive s d.from d.to d.number d.stamp d.body) here ∙ refused))

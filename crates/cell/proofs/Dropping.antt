@@ -30,7 +30,8 @@ use Rattle.wire.proofs.Lists.{continues-both}
 use Rattle.cell.specs.Desks.{DeskView, HasDropped, IsDropped}
 use Rattle.cell.specs.Disks.{is_same_node}
 use Rattle.cell.specs.Events.{Given, Handled}
-use Rattle.wire.specs.Entering.{is_counted, known_after, pair_by}
+use Rattle.model.specs.Effects.{is_change}
+use Rattle.wire.specs.Entering.{known_after, pair_by}
 use Rattle.wire.specs.Sending.{IsSent}
 use Rattle.cell.proofs.Sames.{same-true}
 
@@ -64,7 +65,7 @@ trimmed-base l number =
 -- an acknowledgement drops no message above its number
 ack-drops : (n m : NodeView) (a : Ack) (x : Answer) (to : ℕ) → view_act n (event.Ack a) ≡ Ok (m, x)
     → ((link_to m to).base ≤ (link_to n to).base)
-    ⊎ ((a.from ≡ to) × ((link_to m to).base ≤ a.number))
+    ⊎ ((a.by ≡ to) × ((link_to m to).base ≤ a.number))
 unfolding view_act
 ack-drops n m a x to done =
     let found = view-ok n m (let_go n.links (Some a)) _ x done in
@@ -72,16 +73,16 @@ ack-drops n m a x to done =
     ap (λ (v : NodeView). (link_to v to).base) found.2
     ∙ base-at (append_to (let_go n.links (Some a)) found.0.sends) (let_go n.links (Some a)) to
     (appended-bases (let_go n.links (Some a)) found.0.sends) in
-    subst (λ (b : ℕ). (b ≤ (link_to n to).base) ⊎ ((a.from ≡ to) × (b ≤ a.number))) (sym same)
+    subst (λ (b : ℕ). (b ≤ (link_to n to).base) ⊎ ((a.by ≡ to) × (b ≤ a.number))) (sym same)
     (at_set_if
-    (λ (l : Link). (l.base ≤ (link_to n to).base) ⊎ ((a.from ≡ to) × (l.base ≤ a.number)))
-    n.links a.from to (trimmed (get_or n.links a.from no_link) a.number) no_link
+    (λ (l : Link). (l.base ≤ (link_to n to).base) ⊎ ((a.by ≡ to) × (l.base ≤ a.number)))
+    n.links a.by to (trimmed (get_or n.links a.by no_link) a.number) no_link
     (λ is. ⊎_elim
     (λ less. inl (subst
-    (λ (k : ℕ). (trimmed (get_or n.links a.from no_link) a.number).base ≤ (link_to n k).base) is
+    (λ (k : ℕ). (trimmed (get_or n.links a.by no_link) a.number).base ≤ (link_to n k).base) is
     less))
     (λ few. inr (is, few))
-    (trimmed-base (get_or n.links a.from no_link) a.number))
+    (trimmed-base (get_or n.links a.by no_link) a.number))
     (inl (le_refl _)))
 
 -- ---- What a seat took
@@ -154,7 +155,7 @@ dropped-found first v w n saved found more which now before =
 -- the seat took this acknowledgement
 pub record IsAcked (w : Known) (a : Ack) : Type 0 where
   pub taken : ∥ ((k : ℕ) × (slice_get w.taken k ≡ Some (plain_ack a))) ∥₁
-  pub receiver : a.to ≡ w.me
+  pub receiver : a.of ≡ w.me
 
 -- the performed event: either no acknowledgement, or one that the seat took
 dropped-acked : (first : NodeView) (v w : Known) (n m : NodeView) (a : Ack) (x : Answer)
@@ -186,7 +187,7 @@ ack-dropped first v w n m a (Err e) more acked performs same h =
 after-took : (e : Event) (s : Step) (r : Result Answer Refusal) (v : Known)
     → TookMore v (known_after e s r v)
 after-took e s (Ok a) v =
-    cond_both (is_counted a) (ticks s (pair_by e v.pair) v) v (TookMore v)
+    cond_both (is_change a) (ticks s (pair_by e v.pair) v) v (TookMore v)
     (λ _. took-same v (ticks s (pair_by e v.pair) v) refl refl)
     (λ _. took-same v v refl refl)
 after-took e s (Err f) v = took-same v v refl refl

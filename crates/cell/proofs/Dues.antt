@@ -9,6 +9,7 @@ use Rattle.msg.specs.declared.frame.Data.{Data}
 use Rattle.model.specs.State.{LocalState, NodeState, got_from, node_at}
 use Rattle.model.specs.Steps.{receive}
 use Rattle.model.specs.World.{run}
+use Rattle.model.proofs.Refusals.{refused-as}
 use Rattle.wire.specs.Plays.{Arrives}
 use Rattle.wire.specs.Views.{Known, Pair}
 use Rattle.cell.specs.Events.{IsDue}
@@ -38,6 +39,6 @@ due-taken v p d e reached shows due arrives refused =
 pub next-taken-in : NextIsTakenIn
 next-taken-in from d s e old new v w reached shows given plenty =
     let due = given.due from d refl refl in
-    let refused = received v.pair.current d e ((given.acted.states tt).0 plenty) in
+    let refused = received v.pair.current d e (refused-as (given.acted.states tt) plenty) in
     ∥∥₁_elim due.arrives (hlevel props)
     (λ arrives. due-taken v old.core.local d e reached shows.local due arrives refused)

@@ -6,7 +6,8 @@ use Rattle.model.specs.declared.event.Event.{Event}
 use Rattle.model.specs.declared.event.Answer.{Answer}
 use Rattle.model.specs.declared.step.Step.{Step}
 use Rattle.wire.specs.Views.{Known, ticks}
-use Rattle.wire.specs.Entering.{is_counted, known_after, pair_by}
+use Rattle.model.specs.Effects.{is_change}
+use Rattle.wire.specs.Entering.{known_after, pair_by}
 use Rattle.cell.specs.Events.{unsaved_after, IsMarked}
 
 pub marked-after : (e : Event) (s : Step) (r : Result Answer Refusal) (v w : Known) (was is : Bool)
@@ -18,17 +19,17 @@ marked-after e s (Ok a) v w was is known says =
     (λ yes.
     let grew : w.events ≡ v.events ++ s ∷ [] =
     ap (λ (u : Known). u.events)
-    (known ∙ cond-true (is_counted a) (ticks s (pair_by e v.pair) v) v yes) in (
+    (known ∙ cond-true (is_change a) (ticks s (pair_by e v.pair) v) v yes) in (
       λ same. absurd (omega (
         arith,
         ap length (sym grew ∙ same),
         length-append v.events (s ∷ []),
       )),
-      λ _. says ∙ cond-true (is_counted a) true was yes,
+      λ _. says ∙ cond-true (is_change a) true was yes,
     ))
     (λ no.
     let stayed : w.events ≡ v.events =
     ap (λ (u : Known). u.events)
-    (known ∙ cond-false (is_counted a) (ticks s (pair_by e v.pair) v) v no) in
-    (λ _. says ∙ cond-false (is_counted a) true was no, λ differs. absurd (differs stayed)))
-    (cases_Bool (is_counted a))
+    (known ∙ cond-false (is_change a) (ticks s (pair_by e v.pair) v) v no) in
+    (λ _. says ∙ cond-false (is_change a) true was no, λ differs. absurd (differs stayed)))
+    (cases_Bool (is_change a))

@@ -21,7 +21,7 @@ use Rattle.wire.specs.Views.{Known}
 use Rattle.msg.specs.Frames.{data_frame}
 use Rattle.cell.specs.Desks.{IsTaken}
 use Rattle.cell.specs.Events.{MayAct}
-use Rattle.wire.specs.Entering.{is_counted}
+use Rattle.model.specs.Effects.{is_change}
 
 -- a space of one node
 abbrev alone : NodeState → World
@@ -35,7 +35,7 @@ unfolding take_step
 own-step s e t a own answered = rw (own, answered) refl
 
 pub quiet-own : (s : NodeState) (e : Event) (t : NodeState) (a : Answer) → is_own e ≡ true
-    → act s e ≡ Ok (t, a) → is_counted a ≡ false → t ≡ s
+    → act s e ≡ Ok (t, a) → is_change a ≡ false → t ≡ s
 quiet-own s e t a own answered quiet =
     let stepped = own-step s e t a own answered in
     let same : happens (alone s) (step.Act 0 e) ≡ alone s =
@@ -50,12 +50,12 @@ pub quiet-ack : (s : NodeState) (x : Ack) (t : NodeState) (a : Answer)
 quiet-ack s x t a answered = (act-ok s (event.Ack x) t a answered).state
 
 quiet-receipt : (s : NodeState) (m : Delivery) (t : NodeState) (a : Answer) → Receipt s m t a
-    → is_counted a ≡ false → t ≡ s
+    → is_change a ≡ false → t ≡ s
 unfolding taken_in
 quiet-receipt s m t a (repeated same says) quiet = same
 quiet-receipt s m t a (next turn may found) quiet =
-    absurd (let received : is_counted answer.Received ≡ false =
-    subst (λ (x : Answer). is_counted x ≡ false) found.answer quiet in cc)
+    absurd (let received : is_change answer.Received ≡ false =
+    subst (λ (x : Answer). is_change x ≡ false) found.answer quiet in cc)
 
 -- a message, as it is delivered
 abbrev delivery_of : Data → Delivery

@@ -42,8 +42,8 @@ module _ {D : Type 0} (may_leave : D → Areas → Type 0) where
       let second = each j d there in
       let mine = local-there opening once.log c first (once.each i c here) in
       let theirs = local-there opening once.log d second (once.each j d there) in
-      let all = nodes-agree w (λ _. false) (seat_node c.seat) cycle
-      (stays-reached opening once.log reached) (inside-there opening once.log c first)
+      let all = nodes-agree w (stays-reached opening once.log reached) (λ _. false)
+      (seat_node c.seat) cycle (inside-there opening once.log c first)
       (subst (λ (p : LocalState). cycle ≤ p.phases.ended) (sym mine) ended) in
       let inside = inside-there opening once.log d second in
       subst (IsOver cycle) theirs
@@ -58,7 +58,7 @@ module _ {D : Type 0} (may_leave : D → Areas → Type 0) where
       let w : World = run opening once.log in
       let mine = local-there opening once.log c (each i c here) (once.each i c here) in
       let theirs = local-there opening once.log d (each j d there) (once.each j d there) in
-      let live = reach-is-live w (λ _. false) r (stays-reached opening once.log reached)
+      let live = reach-is-live w (stays-reached opening once.log reached) (λ _. false) r
       (in_register (seat_node c.seat) register
       (ap (λ (p : LocalState). register_at p.heap register) mine ∙ named)) in (
         live.object,

@@ -16,15 +16,16 @@ use Rattle.model.specs.State.{LocalState, NodeState, got_from}
 use Rattle.model.specs.Steps.{act, is_shading}
 use Rattle.model.specs.View.{NodeView, Follows, Performs, view_act}
 use Rattle.node.specs.Keeping.{WholeNode, early_after}
-use Rattle.wire.specs.Entering.{is_counted, known_after, Entered}
+use Rattle.model.specs.Effects.{is_change}
+use Rattle.wire.specs.Entering.{known_after, Entered}
 use Rattle.wire.specs.Views.{Known, Pair, ticks}
-use Rattle.wire.specs.Plays.{Arrives, Happens, IsEventful}
+use Rattle.wire.specs.Plays.{Arrives, Happens}
 use Rattle.cell.specs.declared.call.CallOutcome as trace
 use Rattle.cell.specs.declared.call.CallOutcome.TheVariants as traced
 
 -- whether, after this answer, an event happened since the last save
 abbrev pub unsaved_after : Result Answer Refusal → Bool → Bool
-unsaved_after (Ok a) was = cond (is_counted a) true was
+unsaved_after (Ok a) was = cond (is_change a) true was
 unsaved_after (Err r) was = was
 
 -- the same after a call, depending on whether the seat's events changed
@@ -41,7 +42,7 @@ pub record Acted (e : Event) (s : Step) (result : Result Answer Refusal) (old ne
   pub states : Follows e result new (act v.pair.current e)
   pub unchanged : OnErr result (new ≡ old)
   pub known : w ≡ known_after e s result v
-  pub entered : IfOk result (λ a. is_counted a ≡ true → Entered s v w)
+  pub entered : IfOk result (λ a. is_change a ≡ true → Entered s v w)
 
 -- The message is the next one from its sender. Some list of events leads to what the seat knows and
 -- has released the message, so it may be delivered to the seat's node.
@@ -72,10 +73,10 @@ pub record Acknowledged (a : Ack) (result : Result Answer Refusal) (old new : Wh
 -- What is required to give a node this event as this step: if the event counts, the step happens to
 -- the seat's node; if it doesn't count, nothing changes.
 pub record MayAct (v : Known) (e : Event) (s : Step) : Type 0 where
-  pub happens : (t : NodeState) (a : Answer) → act v.pair.current e ≡ Ok (t, a) → IsEventful a
+  pub happens : (t : NodeState) (a : Answer) → act v.pair.current e ≡ Ok (t, a) → is_change a ≡ true
       → Happens v s (record { current = t; saved = v.pair.saved })
   pub quiet : (t : NodeState) (a : Answer) → act v.pair.current e ≡ Ok (t, a)
-      → is_counted a ≡ false → t ≡ v.pair.current
+      → is_change a ≡ false → t ≡ v.pair.current
 
 -- ---- frames that were taken
 

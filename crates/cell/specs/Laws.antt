@@ -17,7 +17,7 @@ use Rattle.model.specs.declared.step.Step.TheVariants as step
 use Rattle.model.specs.State.{NodeState, Object, Occupied, got_from, node_at, slot_at}
 use Rattle.model.specs.View.{NodeView, Shows}
 use Rattle.model.specs.World.{World, new_world, run}
-use Rattle.model.specs.Cuts.{cut, Reachable}
+use Rattle.laws.specs.Statements.{IsSpentOrEarly, KeepsReachable}
 use Rattle.cell.specs.declared.trace.TraceLine.{TraceLine}
 use Rattle.node.specs.Keeping.{WholeNode}
 use Rattle.disk.specs.Areas.{Areas}
@@ -61,14 +61,6 @@ BlankIsNew =
     × IsReadFrom shape k c n)
     → world_of (cores nodes) ≡ new_world shape
 
--- the sweep of node i leaves every reachable object of the node in its slot
-abbrev pub KeepsReachable : World → ℕ → NodeView → NodeView → Type 0
-KeepsReachable w i old new =
-    (choice : ℕ → Bool) (r : Ref) → choice i ≡ false → Reachable (cut w choice) r → r.node ≡ i
-    → (o : Object)
-    × (slot_at old.local.heap r.slot ≡ Occupied r.generation o)
-    × (slot_at new.local.heap r.slot ≡ Occupied r.generation o)
-
 -- a cell's call in which its node swept
 pub record HasSwept (count : ℕ) (old new : WholeNode) (v w : Known) : Type 0 where
   pub answer : Answer
@@ -76,17 +68,17 @@ pub record HasSwept (count : ℕ) (old new : WholeNode) (v w : Known) : Type 0 w
       (Ok answer) old new v w
 
 -- A cell's sweep frees nothing that is reachable. Some list of events that ends with the sweep
--- leads to what the seat knows. Take a cut just before the sweep that picks the node's current
--- state: what is reachable in it is in its slot before and after the sweep.
-abbrev pub SweepsFreeNoneReachable : Type 0
-SweepsFreeNoneReachable =
+-- leads to what the seat knows. What is reachable just before the sweep is in its slot before and
+-- after it.
+abbrev pub CellsFreeNoneReachable : Type 0
+CellsFreeNoneReachable =
     (count : ℕ) (old new : WholeNode) (v w : Known) → IsReached v.opening
     → Shows old.core v.pair.current → HasSwept count old new v w
     → (log : List Step)
     × AreEvents v.opening (log ++ step.Act v.me (event.Sweep count) ∷ [])
     × (pair_at (run v.opening log) v.me ≡ v.pair)
     × (pair_at (run v.opening (log ++ step.Act v.me (event.Sweep count) ∷ [])) v.me ≡ w.pair)
-    × KeepsReachable (run v.opening log) v.me old.core new.core
+    × KeepsReachable (run v.opening log) v.me old.core.local.heap new.core.local.heap
 
 -- a cell's call in which a message that it took from the wire was refused
 pub record HasRefused (d : Data) (e : Refusal) (old : WholeNode) (v : Known) : Type 0 where
@@ -102,11 +94,11 @@ pub record HasRefused (d : Data) (e : Refusal) (old : WholeNode) (v : Known) : T
 -- A cell refuses a message that it took from the wire in three cases only. The message is so early
 -- that the node has no place for it; a message that it makes the node send would need a number
 -- above the greatest; or memory runs out.
-abbrev pub NoneRefusedInTurn : Type 0
-NoneRefusedInTurn =
+abbrev pub CellsRefuseNoneInTurn : Type 0
+CellsRefuseNoneInTurn =
     (d : Data) (e : Refusal) (old : WholeNode) (v : Known) → IsReached v.opening
     → Shows old.core v.pair.current → HasRefused d e old v → e ≢ Memory
-    → (e ≡ LinkSpent) ⊎ ((e ≡ OutOfOrder) × (got_from old.core.local d.from + WINDOW < d.number))
+    → IsSpentOrEarly old.core.local d.from d.number e
 
 -- A cell refuses a message that it kept until its turn in two cases only: a message that it makes
 -- the node send would need a number above the greatest, or memory runs out.

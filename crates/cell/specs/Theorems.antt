@@ -1,13 +1,10 @@
 -- The theorems on runs, of each world that a run reaches, except perhaps for messages that are
 -- acknowledged. So they hold of spaces that were opened from used disks.
-use Rattle.std.specs.Prelude.{◌≡◌, ◌⊎◌, ℕ, ◌<◌, ◌≤◌, Bool, List, [], Some, length, slice_get}
+use Rattle.std.specs.Prelude.{◌≡◌, ◌⊎◌, ℕ, List, [], Some, length, slice_get}
 use Rattle.ids.specs.Limits.{Shaped, IsShape}
-use Rattle.ids.specs.declared.names.Ref.{Ref}
 use Rattle.model.specs.declared.step.Step.{Step}
 use Rattle.model.specs.State.{new_node, node_at}
 use Rattle.model.specs.World.{World, run}
-use Rattle.model.specs.Cuts.{cut, IsLive, Reachable}
-use Rattle.model.specs.Agreement.{balance, flow, is_counted, total, EndsAlike, OldGarbage}
 use Rattle.disk.specs.Areas.{Areas}
 use Rattle.node.specs.Keeping.{WholeNode}
 use Rattle.wire.specs.OneAge.{AreOfOneAge}
@@ -27,35 +24,9 @@ FreshIsReached =
 abbrev pub StaysReached : Type 0
 StaysReached = (w : World) (steps : List Step) → IsReached w → IsReached (run w steps)
 
--- What is reachable in some cut is live in it.
-abbrev pub ReachIsLive : Type 0
-ReachIsLive =
-    (w : World) (choice : ℕ → Bool) (r : Ref) → IsReached w → Reachable (cut w choice) r
-    → IsLive (cut w choice) r
-
--- The balances of the nodes add up to the number of messages in flight that node 0's cycle counts.
-abbrev pub BalancesAddUp : Type 0
-BalancesAddUp =
-    (w : World) (choice : ℕ → Bool) → IsReached w
-    → total (length w.current)
-    (λ i. balance (cut w choice 0).local.phases.cycle (cut w choice i).local)
-    ≡ flow (length w.current) (is_counted (cut w choice 0).local.phases.cycle) (cut w choice)
-
--- If a node counts the marking of a cycle as ended, it has ended, and so do node 0 and each node in
--- a later cycle.
-abbrev pub NodesAgree : Type 0
-NodesAgree =
-    (w : World) (choice : ℕ → Bool) (i cycle : ℕ) → IsReached w → i < length w.current
-    → cycle ≤ (cut w choice i).local.phases.ended
-    → EndsAlike (length w.current) cycle (cut w choice)
-
--- What was garbage in every cut before a cycle began is gone once its owner has swept that cycle.
-abbrev pub OldGarbageGoes : Type 0
-OldGarbageGoes =
-    (w : World) (later : List Step) (choice : ℕ → Bool) (cycle : ℕ) (r : Ref) → IsReached w
-    → (node_at w.current 0).local.phases.cycle < cycle → OldGarbage w r
-    → cycle ≤ (cut (run w later) choice r.node).local.phases.swept
-    → IsLive (cut (run w later) choice) r → ⊥
+-- The theorems on runs hold of each such world too.
+abbrev pub OfEveryReached : (World → Type 0) → Type 0
+OfEveryReached P = (w : World) → IsReached w → P w
 
 -- ---- Disks of one age
 

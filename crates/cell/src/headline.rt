@@ -2,24 +2,22 @@
 //! world in which their wire was made.
 ghost use Rattle.ids.specs.Limits.{IsShape, Shaped};
 ghost use Rattle.model.specs.World.{new_world, World};
+ghost use Rattle.laws.specs.Statements.{BalancesAddUp, NodesAgree, OldGarbageGoes, ReachIsLive};
 ghost use Rattle.cell.specs.Closing.{CellsAgree, CellsHaveNamed, ClosedIsLeft, ClosedIsReached};
 ghost use Rattle.cell.specs.Laws.{
   restarted,
   BlankIsNew,
+  CellsFreeNoneReachable,
+  CellsRefuseNoneInTurn,
   LeftIsOpened,
   NextIsTakenIn,
-  NoneRefusedInTurn,
-  SweepsFreeNoneReachable,
 };
 ghost use Rattle.cell.specs.Reached.{AlikeGoOn, AlikeReach, IsReached, WorldOfIsReached};
 ghost use Rattle.cell.specs.Theorems.{
-  BalancesAddUp,
   BeginOfOneAge,
   FreshIsReached,
   LeftIsOfOneAge,
-  NodesAgree,
-  OldGarbageGoes,
-  ReachIsLive,
+  OfEveryReached,
   ReopenedIsReached,
   StaysReached,
 };
@@ -51,11 +49,11 @@ pub fn laws()
     ensures left { LeftIsOpened }
     // A sweep frees nothing reachable: each reachable object of the node is the same before and
     // after.
-    ensures frees_none_reachable { SweepsFreeNoneReachable }
+    ensures frees_none_reachable { CellsFreeNoneReachable }
     // No message that came over the wire fails with `WrongNode`. It is refused only if it is so
     // early that the node has no place for it, if a message that it makes the node send would need
     // a number above the greatest, or if memory runs out.
-    ensures in_turn { NoneRefusedInTurn }
+    ensures in_turn { CellsRefuseNoneInTurn }
     // No message that was kept until its turn is refused, unless a message that it makes the node
     // send would need a number above the greatest, or memory runs out.
     ensures next { NextIsTakenIn }
@@ -73,16 +71,16 @@ pub fn laws()
     // The same is reachable in every cut of both.
     ensures alike_reach { AlikeReach }
     // What is reachable in a cut of a reached world is live in it.
-    ensures live { ReachIsLive }
+    ensures live { OfEveryReached ReachIsLive }
     // In such a cut, the balances add up to the number of messages in flight that node 0's cycle
     // counts.
-    ensures balances { BalancesAddUp }
+    ensures balances { OfEveryReached BalancesAddUp }
     // In such a cut, if a node counts a cycle's marking as ended, it has ended, and node 0 and each
     // node in a later cycle count it so too.
-    ensures agreement { NodesAgree }
+    ensures agreement { OfEveryReached NodesAgree }
     // What was saved and reachable in no cut before a cycle began is gone once its node has swept
     // that cycle.
-    ensures old_garbage { OldGarbageGoes }
+    ensures old_garbage { OfEveryReached OldGarbageGoes }
     // Nodes in which a reached world begins are of one age. So no opening of new disks is refused
     // because of ages.
     ensures one_age { BeginOfOneAge }

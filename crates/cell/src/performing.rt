@@ -8,7 +8,7 @@ ghost use Rattle.msg.specs.declared.frame.Data.{Data};
 ghost use Rattle.node.specs.Keeping.{met, own_step};
 ghost use Rattle.wire.specs.Readers.{known, IsSeatOf, IsSame};
 ghost use Rattle.cell.specs.Desks.{GoesOnAt, IsTaken};
-ghost use Rattle.wire.specs.Entering.{is_counted};
+ghost use Rattle.model.specs.Effects.{is_change};
 ghost use Rattle.cell.specs.Events.{unsaved_after, Acknowledged, Given, IsDue, MayAct};
 
 use crate::desk::Desk;

@@ -52,24 +52,22 @@ denied_shows denied step e shown = (denied, (ap reply.Refused shown, refl), show
 denied_shows (there w all sums) step e shown = absurd shown
 
 -- a step that was taken
-pub outcome_shows : (h : Held) (step : Step) (x y : SpaceView) (f g : Freed) (o : Outcome)
-    → ShowsHeld (state.Open x f) h
-    → ((w : World) → ShowsSpace x w → FollowsStep ShowsSpace w (step_met x.early step) (Ok o) y)
-    → ((w : World) → ShowsSpace x w → KeepsAfter w x.early step (Ok o) y.early)
+pub outcome_shows : {step : Step} {x y : SpaceView} {o : Outcome} (h : Held) (f g : Freed)
+    → ShowsHeld (state.Open x f) h → SteppedSpace (Ok o) x y step
     → ((v : World) (sums : List ℕ) → ShowsSpace y v → KeepsSums f.sums sums
     → KeepsSums g.sums (freed_after v step o sums))
     → (k : Held) × TakesStep h step (reply.Outcome o) k
     × ShowsHeld (state.Open y g) k
-outcome_shows awaited step x y f g o shown follows early noted = absurd shown
-outcome_shows denied step x y f g o shown follows early noted = absurd shown
-outcome_shows (there w all sums) step x y f g o shown follows early noted =
-    let r = follows w shown.0 in
-    let stepped = subst (λ (z : List Rings). take_step w (step_met z step) ≡ Ok (r.0, o)) shown.1
+outcome_shows awaited f g shown stepped noted = absurd shown
+outcome_shows denied f g shown stepped noted = absurd shown
+outcome_shows {step} {x} {y} {o} (there w all sums) f g shown stepped noted =
+    let r = stepped.follows w shown.0 in
+    let taken = subst (λ (z : List Rings). take_step w (step_met z step) ≡ Ok (r.0, o)) shown.1
     r.1 in
     let kept = subst (λ (z : List Rings). KeepsAfter w z step (Ok o) y.early) shown.1
-    (early w shown.0) in (
+    (stepped.early w shown.0) in (
       there r.0 y.early (freed_after r.0 step o sums),
-      (r.0, y.early, stepped, kept, refl),
+      (r.0, y.early, taken, kept, refl),
       (r.2, refl, noted r.0 sums r.2 shown.2),
     )
 
@@ -95,7 +93,7 @@ pub step_taken : {s : Step} {x y : SpaceView} {line : List ℕ} → (o : Outcome
 step_taken {s} {x} {y} o stepped none text f = record {
   taken = record {
     outcome = o;
-    answers = λ h shown. outcome_shows h s x y f f o shown stepped.follows stepped.early
+    answers = λ h shown. outcome_shows h f f shown stepped
         (λ w sums there kept. subst (λ z. KeepsSums f.sums (freed_with w z (freed_in o) sums))
         (sym none) kept);
     text = text;

@@ -40,7 +40,7 @@ pub data Entry : Type 0 where
   next : ℕ → Entry
   -- from, to, number, stamp and body
   received : ℕ → ℕ → ℕ → ℕ → Body → Entry
-  -- from, to and number
+  -- by, of and number
   acknowledged : ℕ → ℕ → ℕ → Entry
 
 -- how what follows a tag is spelled
@@ -89,7 +89,7 @@ entry_tag (sweep count) = tag 16 number4 count
 entry_tag (next from) = tag 17 byte from
 entry_tag (received from to number stamp body) =
     tag 0x45 sent ((from, (to, number)), (stamp, body))
-entry_tag (acknowledged from to number) = tag 0x42 known (from, (to, number))
+entry_tag (acknowledged by of number) = tag 0x42 known (by, (of, number))
 
 unfoldable pub alloc_at : Reader Entry
 alloc_at bytes = made_at placed (λ x. alloc x.0 x.1) bytes

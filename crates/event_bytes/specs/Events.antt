@@ -11,7 +11,7 @@ abbrev pub received_of : Data → Entry
 received_of d = received d.from d.to d.number d.stamp d.body
 
 abbrev pub acknowledged_of : Ack → Entry
-acknowledged_of a = acknowledged a.from a.to a.number
+acknowledged_of a = acknowledged a.by a.of a.number
 
 abbrev pub entry_of : Event → Entry
 entry_of (event.Alloc register places) = alloc register places

@@ -157,8 +157,8 @@ fn read_data(reader: &mut Reader) -> Option<Data>
 fn read_ack(reader: &mut Reader) -> Option<Ack>
     ensures { Takes acknowledged_at reader.old reader.new (option_map acknowledged_of result) }
 {
-    let (from, (to, number)) = read_head(reader);
-    Ack::new(from, to, number)
+    let (by, (of, number)) = read_head(reader);
+    Ack::new(by, of, number)
 }
 
 /// Reads an event from the front of what is left. If no event is there, the reader has failed, or

@@ -138,7 +138,7 @@ fn add_ack(piece: &mut Piece, ack: &Ack)
     ensures { Adds entry 48 piece.old piece.new (acknowledged_of ack.now) }
 {
     piece.u8(ACK);
-    add_head(piece, ack.from, ack.to, ack.number);
+    add_head(piece, ack.by, ack.of, ack.number);
 }
 
 /// Appends the bytes that spell the event to the piece, which must have room for them.

@@ -8,7 +8,7 @@ use Rattle.frames.specs.Formats.{sent, known}
 abbrev pub frame_tag : Plain → Behind
 frame_tag (data_frame from to number stamp body) =
     tag 0x45 sent ((from, (to, number)), (stamp, body))
-frame_tag (ack_frame from to number) = tag 0x42 known (from, (to, number))
+frame_tag (ack_frame by of number) = tag 0x42 known (by, (of, number))
 
 unfoldable pub data_at : Reader Plain
 data_at bytes = made_at sent (λ x. data_frame x.0.0 x.0.1.0 x.0.1.1 x.1.0 x.1.1) bytes

@@ -178,8 +178,8 @@ fn read_data(reader: &mut Reader) -> Option<Frame>
 fn read_ack(reader: &mut Reader) -> Option<Ack>
     ensures { Takes ack_at reader.old reader.new (option_map plain_ack result) }
 {
-    let (from, (to, number)) = read_head(reader);
-    Ack::new(from, to, number)
+    let (by, (of, number)) = read_head(reader);
+    Ack::new(by, of, number)
 }
 
 #[tactic(auto, unfolding(crate::specs::Grammar::frame), using(crate::proofs::Joins::tags))]

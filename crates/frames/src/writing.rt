@@ -241,7 +241,7 @@ fn add_ack(piece: &mut Piece, ack: &Ack)
     ensures { Adds frame 48 piece.old piece.new (plain_ack ack.now) }
 {
     piece.u8(ACK);
-    add_head(piece, ack.from, ack.to, ack.number);
+    add_head(piece, ack.by, ack.of, ack.number);
 }
 
 /// Appends the bytes that spell the frame to the piece, which must have room for them.

@@ -1,5 +1,5 @@
 -- A node's step that receives nothing, and one that changes only its heap.
-use Rattle.std.proofs.Common.{◌≡◌, ◌≢◌, ℕ, pos, ◌+◌, ◌+ℤ◌, ◌<◌, ◌≤◌, ◌⊎◌, eqb, cond, true, List, [], ◌∷◌, length, get_or, refl, sym, ap, ◌∙◌, subst, ⊎_elim, inl, inr, arith}
+use Rattle.std.proofs.Common.{◌≡◌, ◌≢◌, ℕ, pos, ◌+◌, ◌+ℤ◌, ◌<◌, ◌≤◌, ◌⊎◌, eqb, cond, List, [], ◌∷◌, length, get_or, refl, sym, ap, ◌∙◌, subst, ⊎_elim, inl, inr, arith}
 use Rattle.std.specs.Prelude.{◌≤ℤ◌}
 use Rattle.std.specs.List.{AllByRecursion}
 use Rattle.std.proofs.lemmas.Int.{ints}
@@ -9,7 +9,6 @@ use Rattle.ids.specs.declared.names.Ref.{Ref}
 use Rattle.msg.specs.declared.body.Body.TheVariants as body
 use Rattle.msg.specs.declared.body.Message.{Message}
 use Rattle.model.specs.State.{Object, Occupied, Heap, Phases, LocalState, NodeState, slot_at, got_from}
-use Rattle.model.specs.Shading.{is_in}
 use Rattle.model.specs.Steps.{append_all}
 use Rattle.model.specs.Cuts.{Cut, taken, IsInFlight, Among, Becomes}
 use Rattle.model.specs.Agreement.{is_counted, balance}
@@ -18,8 +17,8 @@ use Rattle.laws.proofs.Tallies.{Sends, tally-sends}
 use Rattle.laws.proofs.Flights.{number_sent, SendsCounted, flows-sent}
 use Rattle.laws.proofs.Rings.{Counted, counted-loud, RingStep, safra-turn}
 use Rattle.laws.proofs.Safra.{Loud}
-use Rattle.laws.proofs.Inner.{Known, Same, Origin, StaysIn, Sent, sends_mark, sends_reference, Inner, occupied-inside}
-use Rattle.laws.proofs.Invariant.{phases_of, cycle_of, Marking, Resting, Joined, Covered, is_marked, is_asked, RootsAll, Tidy, fresh_balance, is_fresh, IsPassive, IsBlack, ringed, Inv}
+use Rattle.laws.proofs.Inner.{Known, Preserves, Same, Origin, StaysIn, Sent, sends_mark, sends_reference, Inner, occupied-inside}
+use Rattle.laws.proofs.Invariant.{cycle_of, Joined, Covered, is_marked, is_asked, RootsAll, Tidy, fresh_balance, is_fresh, IsPassive, IsBlack, ringed, Inv}
 
 -- ---- balances by cases
 
@@ -108,19 +107,7 @@ pub record Outer (shape : Shaped) (c d : Cut) (i : ℕ) (q : LocalState) (ms : L
   pub becomes : Becomes c d i (record { local = q; sent = append_all (c i).sent ms })
   pub same : Same (c i).local q
   pub got : q.got ≡ (c i).local.got
-  pub tidy : Tidy q
-  pub origin : (k g : ℕ) (y : Object) → slot_at q.heap k ≡ Occupied g y → Origin c i q k g y
-  pub lasting : (k g : ℕ) (x : Object) → slot_at (c i).local.heap k ≡ Occupied g x
-      → StaysIn (slot_at q.heap k) (cycle_of c i) g x
-  pub roots : RootsAll (Known c i) q.heap
-  pub resting : Resting (phases_of c 0) → q.heap.grey ≡ []
-  pub still : (r : Ref) → is_in r (c i).local.asked ≡ true → is_in r q.asked ≡ true
-  pub asks : Marking (phases_of c 0) → Joined c i → (r : Ref) → is_in r q.asked ≡ true
-      → (is_in r (c i).local.asked ≡ true)
-      ⊎ (Covered c r
-      ⊎ ((r.node < shape.nodes)
-      × Among (r.node, record { stamp = cycle_of c i; body = body.Mark r }) ms))
-  pub sends : (to : ℕ) (x : Message) → Among (to, x) ms → Sent shape.nodes c i to x
+  pub preserves : Preserves shape c i q ms
   pub earlier_more : ℕ
   pub recent_more : ℕ
   pub earlier : q.ring.earlier ≡ (c i).local.ring.earlier +ℤ pos earlier_more
@@ -161,7 +148,7 @@ outer-inner {shape = shape} {c = c} {d = d} {i = i} {q = q} {ms = ms} h =
       inv = h.inv;
       turn = turn;
       cycle = cycle;
-      lasting = h.lasting;
+      lasting = h.preserves.lasting;
       marks = λ from place r e flight. inl (omega (arith, heard from, flight.later));
     } in
     let sent : SendsCounted shape c d i q ms = record {
@@ -170,7 +157,7 @@ outer-inner {shape = shape} {c = c} {d = d} {i = i} {q = q} {ms = ms} h =
       turn = turn;
       cycle = cycle;
       got = h.got;
-      all = all-from (λ m. m.0 < shape.nodes) ms (λ m a. sent-inside (h.sends m.0 m.1 a));
+      all = all-from (λ m. m.0 < shape.nodes) ms (λ m a. sent-inside (h.preserves.sends m.0 m.1 a));
       counted = h.counted;
       fresh = h.fresh;
     } in
@@ -200,14 +187,7 @@ outer-inner {shape = shape} {c = c} {d = d} {i = i} {q = q} {ms = ms} h =
       same = h.same;
       heard = ap length h.got;
       within = λ from. omega (arith, heard from, h.inv.base.within from i);
-      tidy = h.tidy;
-      origin = h.origin;
-      lasting = h.lasting;
-      roots = h.roots;
-      resting = h.resting;
-      still = h.still;
-      asks = h.asks;
-      sends = h.sends;
+      preserves = h.preserves;
       tokens = λ from place stamp t flight. omega (arith, heard from, flight.later);
       cover = λ _. covered-kept keeps;
       flows = flows-sent sent h.inv.flows;
@@ -217,7 +197,7 @@ outer-inner {shape = shape} {c = c} {d = d} {i = i} {q = q} {ms = ms} h =
             inside = h.inside;
             turn = turn;
             got = h.got;
-            all = all-from (λ m. m.0 < shape.nodes) ms (λ m a. sent-inside (h.sends m.0 m.1 a));
+            all = all-from (λ m. m.0 < shape.nodes) ms (λ m a. sent-inside (h.preserves.sends m.0 m.1 a));
             earlier_more = h.earlier_more;
             recent_more = h.recent_more;
             earlier = h.earlier;
@@ -253,14 +233,16 @@ heap-inner {c = c} {i = i} {h = heap} h = outer-inner (record {
   becomes = h.becomes;
   same = record { shape = refl; own = refl; phases = refl; token = refl };
   got = refl;
-  tidy = h.tidy;
-  origin = h.origin;
-  lasting = h.lasting;
-  roots = h.roots;
-  resting = λ rest. h.calm (h.inv.rested.grey i rest);
-  still = λ r asked. asked;
-  asks = λ _ _ r asked. inl asked;
-  sends = λ to x never. absurd never;
+  preserves = record {
+    tidy = h.tidy;
+    origin = h.origin;
+    lasting = h.lasting;
+    roots = h.roots;
+    resting = λ rest. h.calm (h.inv.rested.grey i rest);
+    still = λ r asked. asked;
+    asks = λ _ _ r asked. inl asked;
+    sends = λ to x never. absurd never;
+  };
   earlier_more = 0;
   recent_more = 0;
   earlier = omega (arith, ints);

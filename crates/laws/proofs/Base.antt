@@ -90,6 +90,21 @@ base-step {shape = shape} {c = c} {i = i} {ms = ms} h base = record {
       omega (arith, before, sent-grows h.turn from to);
 }
 
+-- a node that receives nothing
+pub unheard : {shape : Shaped} {c d : Cut} {i : ℕ} {q : LocalState} {ms : List (ℕ × Message)}
+    → i < shape.nodes → Turn c d i q ms → q.own ≡ (c i).local.own → q.shape ≡ (c i).local.shape
+    → q.got ≡ (c i).local.got → Base shape c → BaseStep shape c d i q ms
+unheard {c = c} {i = i} inside turn own same_shape got base = record {
+  inside = inside;
+  turn = turn;
+  own = own;
+  same_shape = same_shape;
+  heard = ap length got;
+  within = λ from.
+      subst (λ (z : List ℕ). get_or z from 0 ≤ length (sent_to (c from) i)) (sym got)
+      (base.within from i);
+}
+
 -- nothing is received
 pub own-heard : {p q : LocalState} → Stands p q → (from : ℕ) → got_from p from ≤ got_from q from
 own-heard {p = p} h from =

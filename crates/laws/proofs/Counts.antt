@@ -25,10 +25,10 @@ use Rattle.laws.proofs.Lookups.{set-no_fewer}
 use Rattle.laws.proofs.Turns.{Turn, at_turn}
 use Rattle.laws.proofs.Tallies.{TakesOne, tally-takes}
 use Rattle.laws.proofs.Flights.{number_sent, TakesCounted, flows-taken, flight-inside}
-use Rattle.laws.proofs.Rings.{counted-loud, RingStep, safra-turn}
+use Rattle.laws.proofs.Rings.{counted-loud, RingStep, safra-turn, counted-first}
 use Rattle.laws.proofs.Safra.{Loud}
 use Rattle.laws.proofs.Invariant.{phases_of, cycle_of, Joined, Covered, is_marked, StampFits, fresh_balance, is_fresh, Tally, IsPassive, IsBlack, ringed, Inv}
-use Rattle.laws.proofs.Inner.{Known, kept, Sent, sends_reference, TargetsAt, Inner, known-roots}
+use Rattle.laws.proofs.Inner.{Known, unshaded, Sent, sends_reference, TargetsAt, Inner}
 use Rattle.laws.proofs.Acting.{outer-inner, Keeps, covered-kept, balance-joined, balance-apart, fresh-joined, fresh-apart, latest}
 
 -- ---- messages with references
@@ -108,26 +108,15 @@ send-inner {shape = shape} {c = c} {i = i} {to = to} {b = b} s becomes =
       becomes = becomes;
       same = record { shape = refl; own = refl; phases = refl; token = refl };
       got = refl;
-      tidy = record {
-        free = (s.inv.tidy i).free;
-        room = (s.inv.tidy i).room;
-        marks = (s.inv.tidy i).marks;
-        calm = (s.inv.tidy i).calm;
-      };
-      origin = λ k g y there. kept y there refl (λ j. inl refl) (λ a. inl a);
-      lasting = λ k g y there. record { object = y; there = there; mark = inl refl };
-      roots = known-roots i s.inv;
-      resting = λ rest. s.inv.rested.grey i rest;
-      still = λ r asked. asked;
-      asks = λ _ _ r asked. inl asked;
-      sends = λ k y a. ⊎_elim {C = Sent shape.nodes c i k y}
+      preserves = unshaded s.inv (
+          λ k y a. ⊎_elim {C = Sent shape.nodes c i k y}
           (λ (e : (k, y) ≡ (to, x)).
           let at : k ≡ to = ap (λ (z : ℕ × Message). z.0) e in
           let is : y ≡ x = ap (λ (z : ℕ × Message). z.1) e in
           subst (λ (z : ℕ). Sent shape.nodes c i z y) (sym at)
           (subst (λ (z : Message). Sent shape.nodes c i to z) (sym is)
           (sends_reference refl s.reference s.receiver s.known s.targets)))
-          (λ never. absurd never) a;
+          (λ never. absurd never) a);
       earlier_more = 0;
       recent_more = 1;
       earlier = omega (arith, ints);
@@ -262,25 +251,33 @@ module _ {shape : Shaped} {c d : Cut} {i j : ℕ} {x : Message} (s : Counting sh
       → after_count.ring ≡ record (c i).local.ring { recent = (c i).local.ring.recent -ℤ pos 1 }
   ring-recent e = ap (λ (z : Option Balance). counted_down z (c i).local.ring) e
 
-  count-recent : Turn c d i after_count [] → balance_of (cycle_of c i) x.stamp x.body ≡ Some Recent
-      → Tally shape.nodes (d i)
-  count-recent turn e =
+  -- one balance is this much less, and the other one this much
+  count-less : Turn c d i after_count [] → (earlier_less recent_less : ℕ)
+      → after_count.ring.earlier ≡ (c i).local.ring.earlier -ℤ pos earlier_less
+      → after_count.ring.recent ≡ (c i).local.ring.recent -ℤ pos recent_less
+      → earlier_less + recent_less ≤ 1 → Tally shape.nodes (d i)
+  count-less turn earlier_less recent_less earlier recent together =
       let taking : TakesOne shape c d i after_count j = record {
         base = s.inv.base;
         inside = s.inside;
         sender = (flight-inside j i (taken c j i) x s.inv.base s.flight).0;
         turn = turn;
         got = refl;
-        earlier_less = 0;
-        recent_less = 1;
-        earlier =
-            (let r : after_count.ring.earlier ≡ (c i).local.ring.earlier =
-            ap (λ (k : Ring). k.earlier) (ring-recent e) in
-            omega (arith, ints, r));
-        recent = ap (λ (k : Ring). k.recent) (ring-recent e);
-        together = omega arith;
+        earlier_less = earlier_less;
+        recent_less = recent_less;
+        earlier = earlier;
+        recent = recent;
+        together = together;
       } in
       tally-takes taking (s.inv.tallies i s.inside)
+
+  count-recent : Turn c d i after_count [] → balance_of (cycle_of c i) x.stamp x.body ≡ Some Recent
+      → Tally shape.nodes (d i)
+  count-recent turn e =
+      let r : after_count.ring.earlier ≡ (c i).local.ring.earlier =
+      ap (λ (k : Ring). k.earlier) (ring-recent e) in
+      count-less turn 0 1 (omega (arith, ints, r)) (ap (λ (k : Ring). k.recent) (ring-recent e))
+      (omega arith)
 
   -- the token stays
   ring-token : after_count.ring.token ≡ (c i).local.ring.token
@@ -384,14 +381,7 @@ module _ {shape : Shaped} {c d : Cut} {i j : ℕ} {x : Message} (s : Counting sh
           × (after_count.ring.earlier ≡ (c i).local.ring.earlier))
           ⊎ Loud shape.nodes (ringed c) t
       far (counts_earlier e joined counted stale) =
-          inr (counted-loud s.inv.base s.inv.flows (record {
-            from = j;
-            to = i;
-            place = taken c j i;
-            message = x;
-            flight = s.flight;
-            counted = counted;
-          }) t)
+          inr (counted-loud s.inv.base s.inv.flows (counted-first s.flight counted) t)
       far (counts_fresh e joined counted new) =
           inl (λ p. (p, ap (λ (k : Ring). k.earlier) (ring-recent e)))
       far (counts_recent e apart counted stale) =
@@ -399,22 +389,10 @@ module _ {shape : Shaped} {c d : Cut} {i j : ℕ} {x : Message} (s : Counting sh
 
   count-tally : Turn c d i after_count [] → Kind c i x → Tally shape.nodes (d i)
   count-tally turn (counts_earlier e joined counted stale) =
-      let taking : TakesOne shape c d i after_count j = record {
-        base = s.inv.base;
-        inside = s.inside;
-        sender = (flight-inside j i (taken c j i) x s.inv.base s.flight).0;
-        turn = turn;
-        got = refl;
-        earlier_less = 1;
-        recent_less = 0;
-        earlier = ap (λ (k : Ring). k.earlier) (ring-earlier e);
-        recent =
-            (let r : after_count.ring.recent ≡ (c i).local.ring.recent =
-            ap (λ (k : Ring). k.recent) (ring-earlier e) in
-            omega (arith, ints, r));
-        together = omega arith;
-      } in
-      tally-takes taking (s.inv.tallies i s.inside)
+      let r : after_count.ring.recent ≡ (c i).local.ring.recent =
+      ap (λ (k : Ring). k.recent) (ring-earlier e) in
+      count-less turn 1 0 (ap (λ (k : Ring). k.earlier) (ring-earlier e)) (omega (arith, ints, r))
+      (omega arith)
   count-tally turn (counts_fresh e joined counted new) = count-recent turn e
   count-tally turn (counts_recent e apart counted stale) = count-recent turn e
 
@@ -482,19 +460,7 @@ module _ {shape : Shaped} {c d : Cut} {i j : ℕ} {x : Message} (s : Counting sh
             at_set_if (λ z. z ≤ length (sent_to (c from) i)) p.got j from number 0
             (λ e. subst (λ (z : ℕ). number ≤ length (sent_to (c z) i)) e (omega (arith, there)))
             (s.inv.base.within from i);
-        tidy = record {
-          free = (s.inv.tidy i).free;
-          room = (s.inv.tidy i).room;
-          marks = (s.inv.tidy i).marks;
-          calm = (s.inv.tidy i).calm;
-        };
-        origin = λ k g y here. kept y here refl (λ l. inl refl) (λ a. inl a);
-        lasting = λ k g y here. record { object = y; there = here; mark = inl refl };
-        roots = known-roots i s.inv;
-        resting = λ rest. s.inv.rested.grey i rest;
-        still = λ r asked. asked;
-        asks = λ _ _ r asked. inl asked;
-        sends = λ to y never. absurd never;
+        preserves = unshaded s.inv (λ to y never. absurd never);
         tokens = λ from place stamp t flight. ⊎_elim {C = got_from after_count from ≤ place}
             (λ after. after)
             (λ is. absurd (s.no_token t (ap (λ (z : Message). z.body) (sym is))))

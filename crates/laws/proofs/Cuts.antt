@@ -11,7 +11,7 @@ use Rattle.model.specs.State.{NodeState, no_node, node_at, sent_to, got_from}
 use Rattle.model.specs.Steps.{act, receive}
 use Rattle.model.specs.World.{World, KeepsSent, released, numbered, new_world, happens, run}
 use Rattle.model.specs.Cuts.{Cut, cut, taken, IsInFlight, Becomes, PlainStep, acts, delivers, PlainRun, still, further}
-use Rattle.laws.specs.Statements.{CutsExtend}
+use Rattle.laws.specs.Statements.{OfEveryRun, CutsExtend}
 use Rattle.laws.specs.Sights.{choosing}
 use Rattle.model.proofs.Lookups.{at_set_if}
 use Rattle.laws.proofs.Lookups.{Grows, grows-refl, slice_get-grows}
@@ -236,7 +236,7 @@ pub run-keeps-sent : (w : World) (steps : List Step) → KeepsSent w → KeepsSe
 run-keeps-sent w [] h = h
 run-keeps-sent w (s ∷ ss) h = run-keeps-sent (happens w s) ss (keeps-sent w s h)
 
-pub cuts-extend : CutsExtend
+pub cuts-extend : OfEveryRun CutsExtend
 cuts-extend shape within earlier later choice =
     cut-run (run (new_world shape) earlier) later choice
     (run-keeps-sent (new_world shape) earlier (new-keeps-sent shape))

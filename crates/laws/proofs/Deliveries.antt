@@ -1,33 +1,29 @@
 -- A message that is delivered in its turn is addressed to its receiver, may be received, and finds
 -- its target live.
-use Rattle.std.proofs.Common.{◌≡◌, ◌≢◌, ◌⊎◌, Err, ℕ, ◌+◌, ◌%◌, ◌<◌, ◌≤◌, Bool, true, false, not, ◌==◌, ◌&&◌, ltb, ◌||◌, eq-eqb, ne_eqb, lt-ltb, le-leb, leb, leb-true, leb-false, List, [], ◌∷◌, length, Option, None, Some, refl, sym, ap, ◌∙◌, subst, inl, inr, ⊎_elim, arith}
+use Rattle.std.proofs.Common.{◌≡◌, ◌≢◌, ℕ, ◌+◌, ◌%◌, ◌<◌, ◌≤◌, Bool, true, false, not, ◌==◌, ◌&&◌, ltb, ◌||◌, eq-eqb, ne_eqb, lt-ltb, le-leb, leb, leb-true, leb-false, List, [], ◌∷◌, length, Option, None, Some, refl, sym, ap, ◌∙◌, subst, inl, inr, ⊎_elim, arith}
 use Rattle.std.specs.Prelude.{is_none}
 use Rattle.std.specs.List.{AllByRecursion}
 use Rattle.std.proofs.lemmas.Bool.{eqb-false, ltb-false, le-ltb, and_from, or_left, or_right, cases_Bool, cases_lt, cond_both, cond-true, cond-false, not_from_false}
 use Rattle.std.proofs.lemmas.List.{get_or_past}
-use Rattle.ids.specs.Limits.{IsShape, Shaped}
-use Rattle.ids.specs.declared.refusal.Refusal.{Refusal}
-use Rattle.ids.specs.declared.refusal.Refusal.TheVariants.{LinkSpent, OutOfOrder}
+use Rattle.ids.specs.Limits.{Shaped}
 use Rattle.ids.specs.declared.limits.TheConstants.{WINDOW}
 use Rattle.ids.specs.declared.names.Ref.{Ref}
-use Rattle.msg.specs.Frames.{data_frame}
 use Rattle.msg.specs.declared.body.Body.{Body}
 use Rattle.msg.specs.declared.body.Body.TheVariants as body
 use Rattle.msg.specs.declared.body.Token.{Token}
 use Rattle.msg.specs.declared.body.Message.{Message}
 use Rattle.model.specs.declared.event.Answer.TheVariants as answer
-use Rattle.model.specs.declared.step.Step.{Step}
 use Rattle.model.specs.Checks.{AllPass}
 use Rattle.model.specs.State.{Phases, LocalState, NodeState, node_at, sent_to, got_from}
 use Rattle.model.specs.Effects.{Work, at_rest}
 use Rattle.model.specs.Shading.{is_calm, join, joined}
 use Rattle.model.specs.Collecting.{token_sender}
 use Rattle.model.specs.References.{IfAny}
-use Rattle.model.specs.Steps.{mentioned, target_of, may_reach, may_follow, is_marking, may_settle, may_take, is_within, are_within, is_repeat, is_early, receive}
-use Rattle.model.specs.World.{World, KeepsSent, new_world, run, numbered, IsInNet}
+use Rattle.model.specs.Steps.{mentioned, target_of, may_reach, may_follow, is_marking, may_settle, may_take, is_within, are_within, is_repeat, is_early}
+use Rattle.model.specs.World.{World, KeepsSent, new_world, run, numbered}
 use Rattle.model.specs.Cuts.{Cut, cut, taken, IsInFlight, IsLive}
 use Rattle.model.proofs.Joining.{join-phases, join-token}
-use Rattle.laws.specs.Statements.{TargetsAreLive, NoneRefusedInTurn}
+use Rattle.laws.specs.Statements.{OfEveryRun, TargetsAreLive, NoneRefusedInTurn}
 use Rattle.model.proofs.Slots.{occupied-within}
 use Rattle.model.proofs.Lookups.{all-map}
 use Rattle.laws.proofs.StepFacts.{Delivery, IsReleased, tests_of, Receipt, repeated, next, receipt-cases, deliver-answer, receive-passed, receive-early}
@@ -80,7 +76,7 @@ received-target {shape = shape} w m r h inv there about (next turn may found) =
     (inv.closed.messages m.from m.to place m.message flight)) in
     (own, record { object = safe.object; there = safe.there })
 
-pub targets-are-live : TargetsAreLive
+pub targets-are-live : OfEveryRun TargetsAreLive
 targets-are-live shape within steps from to number x target there about answered =
     let w : World = run (new_world shape) steps in
     let m : Delivery = record { from = from; to = to; number = number; message = x } in
@@ -362,14 +358,8 @@ turn-passes shape w m h inv between there turn =
     )
 
 -- a message is refused only if it is beyond the window, or if a number would be too great
-pub refused-beyond : {number stamp : ℕ} {b : Body} {e : Refusal} (shape : Shaped)
-    → IsShape shape → (steps : List Step) (from to : ℕ)
-    → IsInNet (run (new_world shape) steps) (data_frame from to number stamp b)
-    → receive (node_at (run (new_world shape) steps).current to) from to number stamp b ≡ Err e
-    → (e ≡ LinkSpent)
-    ⊎ ((e ≡ OutOfOrder)
-    × (got_from (node_at (run (new_world shape) steps).current to).local from + WINDOW < number))
-refused-beyond {number} {stamp} {b} {e} shape within steps from to there refused =
+pub none-refused-in-turn : OfEveryRun NoneRefusedInTurn
+none-refused-in-turn shape within steps from to number stamp b e there refused =
     let w : World = run (new_world shape) steps in
     let m : Delivery = record
     { from = from; to = to; number = number; message = record { stamp = stamp; body = b } } in
@@ -390,8 +380,3 @@ refused-beyond {number} {stamp} {b} {e} shape within steps from to there refused
       leb-false number _ early,
     ))
     (cases_Bool (leb number (got_from s.local from + WINDOW)))
-
-pub none-refused-in-turn : NoneRefusedInTurn
-none-refused-in-turn shape within steps from to number stamp b e there refused =
-    ⊎_elim inl (λ early. inr (early.0, let past = early.1 in omega (arith, past)))
-    (refused-beyond shape within steps from to there refused)

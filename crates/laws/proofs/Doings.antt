@@ -17,7 +17,7 @@ use Rattle.model.specs.Counting.{is_reference, append}
 use Rattle.model.specs.Shading.{is_same, see_to}
 use Rattle.model.specs.declared.event.Answer.TheVariants as answer
 use Rattle.model.specs.Steps.{tests, made, take_body, target_of}
-use Rattle.laws.specs.Objects.{Thing, Space, object_in, has_that, stands_in, word_in, with_desk, with_thing, rewriting, posted, is_program, new_thing, IsAnswer, does, follows, with_place, with_word}
+use Rattle.laws.specs.Objects.{Thing, Space, object_in, has_that, content_of, word_in, with_desk, with_thing, rewriting, posted, is_program, new_thing, IsAnswer, does, follows, with_place, with_word}
 use Rattle.laws.specs.Sights.{thing_of, programs}
 use Rattle.model.proofs.Slots.{found-object}
 use Rattle.laws.proofs.Slots.{object-where, object-placed}
@@ -174,7 +174,7 @@ thing-has None place = refl
 thing-has (Some o) place = refl
 
 pub thing-place : (o : Option Object) (place : ℕ)
-    → stands_in (option_map thing_of o) place ≡ place_of o place
+    → content_of (option_map thing_of o) place ≡ place_of o place
 thing-place None place = refl
 thing-place (Some o) place = refl
 
@@ -286,10 +286,10 @@ own-allocates {s = s} p register places d =
 -- what a Load reads
 own-reads : {s : Space} (p : LocalState) (register object place : ℕ)
     → Doing s p (event.Load register object place)
-    → stands_in (object_in s p.own object) place ≡ place_loaded p.heap object place
+    → content_of (object_in s p.own object) place ≡ place_loaded p.heap object place
 own-reads p register object place d =
     let found : Option Object = object_at p.heap (named p.heap object) in
-    ap (λ (z : Option Thing). stands_in z place)
+    ap (λ (z : Option Thing). content_of z place)
     (object-same object d.here d.passed.1.1.1.0 (placed-there found place d.passed.1.1.1.1.0))
     ∙ thing-place found place
 
@@ -298,7 +298,7 @@ own-loads : {s : Space} (p : LocalState) (counts : List ℕ) (register object pl
     → Doing s p (event.Load register object place)
     → Effects s
     (with_desk s p.own
-    (with_register (s.desk p.own) register (stands_in (object_in s p.own object) place)))
+    (with_register (s.desk p.own) register (content_of (object_in s p.own object) place)))
     p.own (made p counts (event.Load register object place)).local.heap
     (made p counts (event.Load register object place)).sends
 own-loads {s = s} p counts register object place d =
@@ -306,7 +306,7 @@ own-loads {s = s} p counts register object place d =
     let w : Work = see_to true (option_to_list v) p in
     let calm = calm-collects.sees true (option_to_list v) p in
     effects-desk {h = with_register w.local.heap register v}
-    (with_register (s.desk p.own) register (stands_in (object_in s p.own object) place))
+    (with_register (s.desk p.own) register (content_of (object_in s p.own object) place))
     (ap (λ (z : Option Ref). with_register (s.desk p.own) register z)
     (own-reads p register object place d)
     ∙ ap (λ (z : Heap). with_register z register v)
@@ -426,8 +426,8 @@ body-does {s = s} {i = i} from stamp (body.Get target place label) p is f =
     let v : Option Ref = place_of found place in
     let w : Work = see_to true (option_to_list v) p in
     let calm = calm-collects.sees true (option_to_list v) p in
-    let same : stands_in (s.objects target) place ≡ v =
-    ap (λ (z : Option Thing). stands_in z place)
+    let same : content_of (s.objects target) place ≡ v =
+    ap (λ (z : Option Thing). content_of z place)
     (found-same target f.here (f.own target refl) (f.there target place label refl))
     ∙ thing-place found place in
     subst (λ (z : Option Ref). Effects s (posted s i from (body.Give label z)) i w.local.heap

@@ -24,7 +24,7 @@ use Rattle.laws.proofs.Turns.{Turn, at_turn, flew}
 use Rattle.laws.proofs.Sums.{total-same}
 use Rattle.laws.proofs.Safra.{Safra, PassiveAbove, safra-verdict}
 use Rattle.laws.proofs.Flights.{flow-positive}
-use Rattle.laws.proofs.Base.{BaseStep, base-step}
+use Rattle.laws.proofs.Base.{base-step, unheard}
 use Rattle.laws.proofs.Tallies.{tally-same, tallies-turn}
 use Rattle.laws.proofs.Inner.{marking-open, holds-covered, occupied-inside, mentioned-carried, roots-map}
 use Rattle.laws.proofs.Acting.{balance-joined}
@@ -312,16 +312,7 @@ module _ {shape : Shaped} {c d : Cut} {t : Token} (h : Ending shape c d t) where
 
   pub end-inv : Inv shape d
   end-inv = record {
-    base =
-        (let step : BaseStep shape c d 0 over [] = record {
-          inside = h.inside;
-          turn = end-turn;
-          own = refl;
-          same_shape = refl;
-          heard = refl;
-          within = λ from. h.inv.base.within from 0;
-        } in
-        base-step step h.inv.base);
+    base = base-step (unheard h.inside end-turn refl refl refl h.inv.base) h.inv.base;
     tidy = at_turn (λ j s. Tidy s.local) end-turn
         (record {
           free = (h.inv.tidy 0).free;

@@ -18,13 +18,20 @@ use Rattle.laws.proofs.Slots.{Rewrites, rewrites-free, rewritten-rewrites, rewri
 abbrev pub re_rooted : NodeState → List (Option Ref) → List Letter → NodeState
 re_rooted s rs ls = with_heap s (record s.local.heap { registers = rs; letters = ls })
 
-pub roots-inner : {shape : Shaped} {c d : Cut} {i : ℕ} (rs : List (Option Ref)) (ls : List Letter)
-    → i < shape.nodes → Becomes c d i (re_rooted (c i) rs ls)
-    → RootsAll (Known c i) (record (c i).local.heap { registers = rs; letters = ls })
-    → Inv shape c
+-- Registers, letters and the grey list change, but no object does. What is no longer grey has only
+-- known references.
+around-inner : {shape : Shaped} {c d : Cut} {i : ℕ} {rs : List (Option Ref)} {ls : List Letter}
+    {grey : List ℕ} → i < shape.nodes
+    → Becomes c d i
+    (with_heap (c i) (record (c i).local.heap { registers = rs; letters = ls; grey = grey }))
+    → RootsAll (Known c i) (record (c i).local.heap { registers = rs; letters = ls; grey = grey })
+    → ((k g : ℕ) (y : Object) → slot_at (c i).local.heap k ≡ Occupied g y
+    → Among k (c i).local.heap.grey → Among k grey ⊎ PlacesAll (Known c i) y)
+    → ((c i).local.heap.grey ≡ [] → grey ≡ []) → Inv shape c
     → Inner shape c d i
-    (record (c i).local { heap = record (c i).local.heap { registers = rs; letters = ls } }) []
-roots-inner {i = i} rs ls inside becomes known inv = heap-inner (record {
+    (record (c i).local
+    { heap = record (c i).local.heap { registers = rs; letters = ls; grey = grey } }) []
+around-inner {i = i} inside becomes known fewer calm inv = heap-inner (record {
   inv = inv;
   inside = inside;
   becomes = becomes;
@@ -32,13 +39,23 @@ roots-inner {i = i} rs ls inside becomes known inv = heap-inner (record {
     free = (inv.tidy i).free;
     room = (inv.tidy i).room;
     marks = (inv.tidy i).marks;
-    calm = (inv.tidy i).calm;
+    calm = λ shut. calm ((inv.tidy i).calm shut);
   };
-  origin = λ k g y there. kept y there refl (λ j. inl refl) (λ a. inl a);
+  origin = λ k g y there. kept y there refl (λ j. inl refl) (fewer k g y there);
   lasting = λ k g x there. record { object = x; there = there; mark = inl refl };
   roots = known;
-  calm = λ grey. grey;
+  calm = calm;
 })
+
+pub roots-inner : {shape : Shaped} {c d : Cut} {i : ℕ} (rs : List (Option Ref)) (ls : List Letter)
+    → i < shape.nodes → Becomes c d i (re_rooted (c i) rs ls)
+    → RootsAll (Known c i) (record (c i).local.heap { registers = rs; letters = ls })
+    → Inv shape c
+    → Inner shape c d i
+    (record (c i).local { heap = record (c i).local.heap { registers = rs; letters = ls } }) []
+roots-inner rs ls inside becomes known inv =
+    around-inner inside becomes (record { registers = known.registers; letters = known.letters })
+    (λ k g y there a. inl a) (λ grey. grey) inv
 
 -- ---- an object is rewritten
 
@@ -156,24 +173,11 @@ pub scanned-inner : {shape : Shaped} {c d : Cut} {i : ℕ} (grey : List ℕ) (sl
     → PlacesAll (Known c i) y)
     → Inv shape c
     → Inner shape c d i (record (c i).local { heap = record (c i).local.heap { grey = grey } }) []
-scanned-inner {c = c} {i = i} grey slot inside becomes fewer calm places inv = heap-inner (record {
-  inv = inv;
-  inside = inside;
-  becomes = becomes;
-  tidy = record {
-    free = (inv.tidy i).free;
-    room = (inv.tidy i).room;
-    marks = (inv.tidy i).marks;
-    calm = λ shut. calm ((inv.tidy i).calm shut);
-  };
-  origin = λ k g y there.
-      kept y there refl (λ j. inl refl)
-      (λ a. ⊎_elim {C = Among k grey ⊎ PlacesAll (Known c i) y}
-      (λ still. inl still)
-      (λ (e : k ≡ slot). inr (places g y (ap (slot_at (c i).local.heap) (sym e) ∙ there)))
-      (fewer k a));
-  lasting = λ k g x there. record { object = x; there = there; mark = inl refl };
-  roots =
-      let old = known-roots i inv in record { registers = old.registers; letters = old.letters };
-  calm = calm;
-})
+scanned-inner {c = c} {i = i} grey slot inside becomes fewer calm places inv =
+    let old = known-roots i inv in
+    around-inner inside becomes (record { registers = old.registers; letters = old.letters })
+    (λ k g y there a. ⊎_elim {C = Among k grey ⊎ PlacesAll (Known c i) y}
+    (λ still. inl still)
+    (λ (e : k ≡ slot). inr (places g y (ap (slot_at (c i).local.heap) (sym e) ∙ there)))
+    (fewer k a))
+    calm inv

@@ -10,7 +10,7 @@ use Rattle.msg.specs.declared.body.Body.{Body}
 use Rattle.msg.specs.declared.body.Body.TheVariants as body
 use Rattle.msg.specs.declared.body.Token.{Token}
 use Rattle.msg.specs.declared.body.Message.{Message}
-use Rattle.model.specs.State.{Object, Slot, Occupied, Heap, Phases, LocalState, NodeState, slot_at, got_from, sent_to}
+use Rattle.model.specs.State.{Object, Slot, Occupied, Heap, Phases, Ring, LocalState, NodeState, slot_at, got_from, sent_to}
 use Rattle.model.specs.Counting.{is_reference}
 use Rattle.model.specs.Shading.{is_in, is_open}
 use Rattle.model.specs.References.{IfAny}
@@ -149,14 +149,9 @@ pub data Sent (n : ℕ) (c : Cut) (i to : ℕ) (x : Message) : Type 0 where
   sends_reference : x.stamp ≡ cycle_of c i → is_reference x.body ≡ true → to < n
       → AllByRecursion (Known c i) (carried x.body) → TargetsAt to x.body → Sent n c i to x
 
-pub record Inner (shape : Shaped) (c d : Cut) (i : ℕ) (q : LocalState) (ms : List (ℕ × Message))
+-- What the step keeps true at its node: of the heap, of what was asked for, and of what is sent.
+pub record Preserves (shape : Shaped) (c : Cut) (i : ℕ) (q : LocalState) (ms : List (ℕ × Message))
     : Type 0 where
-  pub inv : Inv shape c
-  pub inside : i < shape.nodes
-  pub turn : Turn c d i q ms
-  pub same : Same (c i).local q
-  pub heard : length q.got ≡ length (c i).local.got
-  pub within : (from : ℕ) → got_from q from ≤ length (sent_to (c from) i)
   pub tidy : Tidy q
   pub origin : (k g : ℕ) (y : Object) → slot_at q.heap k ≡ Occupied g y → Origin c i q k g y
   pub lasting : (k g : ℕ) (x : Object) → slot_at (c i).local.heap k ≡ Occupied g x
@@ -170,6 +165,37 @@ pub record Inner (shape : Shaped) (c d : Cut) (i : ℕ) (q : LocalState) (ms : L
       ⊎ ((r.node < shape.nodes)
       × Among (r.node, record { stamp = cycle_of c i; body = body.Mark r }) ms))
   pub sends : (to : ℕ) (x : Message) → Among (to, x) ms → Sent shape.nodes c i to x
+
+-- neither the heap changes nor what was asked for
+pub unshaded : {shape : Shaped} {c : Cut} {i : ℕ} {got : List ℕ} {ring : Ring}
+    {ms : List (ℕ × Message)} → Inv shape c
+    → ((to : ℕ) (x : Message) → Among (to, x) ms → Sent shape.nodes c i to x)
+    → Preserves shape c i (record (c i).local { got = got; ring = ring }) ms
+unshaded {i = i} inv sends = record {
+  tidy = record {
+    free = (inv.tidy i).free;
+    room = (inv.tidy i).room;
+    marks = (inv.tidy i).marks;
+    calm = (inv.tidy i).calm;
+  };
+  origin = λ k g y there. kept y there refl (λ j. inl refl) (λ a. inl a);
+  lasting = λ k g y there. record { object = y; there = there; mark = inl refl };
+  roots = known-roots i inv;
+  resting = λ rest. inv.rested.grey i rest;
+  still = λ r asked. asked;
+  asks = λ _ _ r asked. inl asked;
+  sends = sends;
+}
+
+pub record Inner (shape : Shaped) (c d : Cut) (i : ℕ) (q : LocalState) (ms : List (ℕ × Message))
+    : Type 0 where
+  pub inv : Inv shape c
+  pub inside : i < shape.nodes
+  pub turn : Turn c d i q ms
+  pub same : Same (c i).local q
+  pub heard : length q.got ≡ length (c i).local.got
+  pub within : (from : ℕ) → got_from q from ≤ length (sent_to (c from) i)
+  pub preserves : Preserves shape c i q ms
   pub tokens : (from place stamp : ℕ) (t : Token)
       → IsInFlight c from i place (record { stamp = stamp; body = body.Token t })
       → got_from q from ≤ place
@@ -203,7 +229,7 @@ module _ {shape : Shaped} {c d : Cut} {i : ℕ} {q : LocalState} {ms : List (ℕ
   stays j k g x =
       at_turn (λ l s. slot_at (c l).local.heap k ≡ Occupied g x
       → StaysIn (slot_at s.local.heap k) (cycle_of c l) g x) h.turn
-      (h.lasting k g x) (λ l _ there. record { object = x; there = there; mark = inl refl }) j
+      (h.preserves.lasting k g x) (λ l _ there. record { object = x; there = there; mark = inl refl }) j
 
   pub safe-kept : (r : Ref) → Safe c r → Safe d r
   safe-kept r safe =
@@ -226,13 +252,13 @@ module _ {shape : Shaped} {c d : Cut} {i : ℕ} {q : LocalState} {ms : List (ℕ
   -- what the node held it still holds
   holds-kept : (r : Ref) → Holds (c i).local r → Holds q r
   holds-kept r (holds_marked o own there mark) =
-      let found = h.lasting r.slot r.generation o there in
+      let found = h.preserves.lasting r.slot r.generation o there in
       let cycle : q.phases.cycle ≡ cycle_of c i = ap (λ (z : Phases). z.cycle) h.same.phases in
       holds_marked found.object (own ∙ sym h.same.own) found.there
       (⊎_elim {C = found.object.mark ≡ q.phases.cycle}
       (λ same. same ∙ mark ∙ sym cycle) (λ now. now ∙ sym cycle) found.mark)
   holds-kept r (holds_asked far asked) =
-      holds_asked (λ (e : r.node ≡ q.own). far (e ∙ h.same.own)) (h.still r asked)
+      holds_asked (λ (e : r.node ≡ q.own). far (e ∙ h.same.own)) (h.preserves.still r asked)
 
   open-back : is_open q ≡ true → is_open (c i).local ≡ true
   open-back = subst (λ (z : Phases). not (z.ended == z.cycle) ≡ true) h.same.phases
@@ -299,7 +325,7 @@ module _ {shape : Shaped} {c d : Cut} {i : ℕ} {q : LocalState} {ms : List (ℕ
       → is_single x.body ≡ true → IsInFlight c from to place x
   single-before from to place x flight single = ⊎_elim {C = IsInFlight c from to place x}
       (λ before. before)
-      (λ new. absurd (both_ways _ (sent-plain to x (h.sends to x new.1)) single))
+      (λ new. absurd (both_ways _ (sent-plain to x (h.preserves.sends to x new.1)) single))
       (flew h.turn from to place x flight)
 
   step-messages : Messages shape.nodes d
@@ -310,7 +336,7 @@ module _ {shape : Shaped} {c d : Cut} {i : ℕ} {q : LocalState} {ms : List (ℕ
         (λ before. h.inv.messages.fits from to place x before)
         (λ new.
         subst (λ (z : ℕ). BodyFits shape.nodes (phases_of c) z to x.stamp x.body) (sym new.0)
-        (sent-fits to x (h.sends to x new.1)))
+        (sent-fits to x (h.preserves.sends to x new.1)))
         (flew h.turn from to place x flight));
     once = λ from to k l x y fx fy same single.
         h.inv.messages.once from to k l x y (single-before from to k x fx single)
@@ -351,11 +377,11 @@ module _ {shape : Shaped} {c d : Cut} {i : ℕ} {q : LocalState} {ms : List (ℕ
   step-closed : Closed d
   step-closed = record {
     roots = at_turn (λ j s. RootsAll (Safe d) s.local.heap) h.turn
-        (roots-map (Known c i) (Safe d) (λ r known. safe-kept r known.safe) h.roots)
+        (roots-map (Known c i) (Safe d) (λ r known. safe-kept r known.safe) h.preserves.roots)
         (λ j _. roots-map (Safe c) (Safe d) safe-kept (h.inv.closed.roots j));
     places = λ j k g o there marked.
         at_turn (λ l s. slot_at s.local.heap k ≡ Occupied g o → PlacesAll (Safe d) o) h.turn
-        (λ t. places-safe k g o (h.origin k g o t)
+        (λ t. places-safe k g o (h.preserves.origin k g o t)
         (λ rest. marked (subst Resting (sym same-first) rest) ∙ same-cycle))
         (λ l _ t m. safe-any _ (h.inv.closed.places l k g o t
         (λ rest. marked (subst Resting (sym same-first) rest) ∙ same-cycle) m))
@@ -364,7 +390,7 @@ module _ {shape : Shaped} {c d : Cut} {i : ℕ} {q : LocalState} {ms : List (ℕ
         (λ before.
         all-map (Safe c) (Safe d) safe-kept (mentioned x.body)
         (h.inv.closed.messages from to place x before))
-        (λ new. sent-safe to x (h.sends to x new.1))
+        (λ new. sent-safe to x (h.preserves.sends to x new.1))
         (flew h.turn from to place x flight);
   }
 
@@ -389,7 +415,7 @@ module _ {shape : Shaped} {c d : Cut} {i : ℕ} {q : LocalState} {ms : List (ℕ
       (λ (z : ℕ). IsInFlight d i r.node found.place (record { stamp = z; body = body.Mark r }))
       (joined ∙ sym same-cycle) found.flight))
       later)
-      (h.asks marking joined r asked)
+      (h.preserves.asks marking joined r asked)
 
   sent-covered : Marking (phases_of c 0) → (to : ℕ) (x : Message) → Sent shape.nodes c i to x
       → x.stamp ≡ cycle_of c 0 → AllByRecursion (Covered d) (carried x.body)
@@ -420,7 +446,7 @@ module _ {shape : Shaped} {c d : Cut} {i : ℕ} {q : LocalState} {ms : List (ℕ
         (λ before.
         all-map (Covered c) (Covered d) (h.cover (marking-back marking)) (carried x.body)
         (h.inv.cover.messages (marking-back marking) from to place x before (stamp ∙ same-cycle)))
-        (λ new. sent-covered (marking-back marking) to x (h.sends to x new.1) (stamp ∙ same-cycle))
+        (λ new. sent-covered (marking-back marking) to x (h.preserves.sends to x new.1) (stamp ∙ same-cycle))
         (flew h.turn from to place x flight);
   }
 
@@ -454,13 +480,13 @@ module _ {shape : Shaped} {c d : Cut} {i : ℕ} {q : LocalState} {ms : List (ℕ
   step-held = record {
     roots = at_turn (λ j s. is_open s.local ≡ true → RootsAll (Holds s.local) s.local.heap) h.turn
         (λ opened.
-        roots-map (Known c i) (Holds q) (λ r k. holds-kept r (k.held (open-back opened))) h.roots)
+        roots-map (Known c i) (Holds q) (λ r k. holds-kept r (k.held (open-back opened))) h.preserves.roots)
         (λ j _. h.inv.held.roots j);
     blacks = λ j k g o.
         at_turn (λ l s. is_open s.local ≡ true → slot_at s.local.heap k ≡ Occupied g o
         → o.mark ≡ s.local.phases.cycle → (Among k s.local.heap.grey → ⊥)
         → PlacesAll (Holds s.local) o) h.turn
-        (λ opened there. places-held (open-back opened) k g o (h.origin k g o there))
+        (λ opened there. places-held (open-back opened) k g o (h.preserves.origin k g o there))
         (λ l _. h.inv.held.blacks l k g o) j;
   }
 
@@ -478,14 +504,14 @@ module _ {shape : Shaped} {c d : Cut} {i : ℕ} {q : LocalState} {ms : List (ℕ
   step-rested : Rested d
   step-rested = record {
     grey = λ j rest.
-        at_turn (λ l s. s.local.heap.grey ≡ []) h.turn (h.resting (resting-back rest))
+        at_turn (λ l s. s.local.heap.grey ≡ []) h.turn (h.preserves.resting (resting-back rest))
         (λ l _. h.inv.rested.grey l (resting-back rest)) j;
     behind = λ j k g o rest there past.
         at_turn (λ l s. slot_at s.local.heap k ≡ Occupied g o
         → (k < s.local.phases.cursor) ⊎ (s.local.phases.swept ≡ cycle_of d 0)
         → o.mark ≡ cycle_of d 0) h.turn
         (λ t p.
-        behind-marked k g o (resting-back rest) (h.origin k g o t)
+        behind-marked k g o (resting-back rest) (h.preserves.origin k g o t)
         (subst (λ (z : Phases). (k < z.cursor) ⊎ (z.swept ≡ cycle_of c 0)) h.same.phases
         (subst (λ (z : ℕ). (k < q.phases.cursor) ⊎ (q.phases.swept ≡ z)) same-cycle p))
         ∙ sym same-cycle)
@@ -508,7 +534,7 @@ module _ {shape : Shaped} {c d : Cut} {i : ℕ} {q : LocalState} {ms : List (ℕ
       is_sent f0 t0 p0 stamp
       (⊎_elim {C = IsInFlight c f0 t0 p0 (record { stamp = stamp; body = body.Token t })}
       (λ before. before)
-      (λ new. absurd (no-token _ (h.sends t0 _ new.1) t refl))
+      (λ new. absurd (no-token _ (h.preserves.sends t0 _ new.1) t refl))
       (flew h.turn f0 t0 p0 _ flight))
     where
       no-token : {to : ℕ} (x : Message) → Sent shape.nodes c i to x → (k : Token)
@@ -551,7 +577,7 @@ module _ {shape : Shaped} {c d : Cut} {i : ℕ} {q : LocalState} {ms : List (ℕ
   pub inner-inv : Inv shape d
   inner-inv = record {
     base = step-base;
-    tidy = at_turn (λ j s. Tidy s.local) h.turn h.tidy (λ j _. h.inv.tidy j);
+    tidy = at_turn (λ j s. Tidy s.local) h.turn h.preserves.tidy (λ j _. h.inv.tidy j);
     phased = subst (Phased shape.nodes) (sym same-phases) h.inv.phased;
     messages = step-messages;
     closed = step-closed;

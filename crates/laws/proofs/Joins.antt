@@ -18,7 +18,7 @@ use Rattle.laws.proofs.Lookups.{any-map}
 use Rattle.laws.proofs.Turns.{Turn, at_turn, flew, flies}
 use Rattle.laws.proofs.Rings.{RingStep, safra-turn}
 use Rattle.laws.proofs.Flights.{SendsCounted, flows-sent}
-use Rattle.laws.proofs.Base.{BaseStep, base-step}
+use Rattle.laws.proofs.Base.{base-step, unheard}
 use Rattle.laws.proofs.Tallies.{bound-turn, tally-enter, tallies-turn}
 use Rattle.laws.proofs.Inner.{roots-map}
 use Rattle.laws.proofs.Acting.{balance-joined, balance-apart, fresh-joined, fresh-apart}
@@ -84,16 +84,7 @@ enter-inv {shape = shape} {c = c} {d = d} {i = i} {cycle = cycle} {grey = grey} 
       marked = λ rest. absurd (rested rest);
     } in
     record {
-      base =
-          (let step : BaseStep shape c d i q [] = record {
-            inside = h.inside;
-            turn = turn;
-            own = refl;
-            same_shape = refl;
-            heard = refl;
-            within = λ from. h.inv.base.within from i;
-          } in
-          base-step step h.inv.base);
+      base = base-step (unheard h.inside turn refl refl refl h.inv.base) h.inv.base;
       tidy = at_turn (λ j s. Tidy s.local) turn
           (record {
             free = (h.inv.tidy i).free;

@@ -1,8 +1,9 @@
 -- What a node's saved state sent stays sent: no step of a space takes any of it back.
 use Rattle.std.proofs.Common.{◌≡◌, ℕ, List, [], ◌∷◌, length, refl, sym, ◌∙◌, length-set}
+use Rattle.std.proofs.lemmas.List.FromFn.{length-map-range_with_len}
 use Rattle.ids.specs.Limits.{Shaped}
 use Rattle.model.specs.declared.step.Step.{Step}
-use Rattle.model.specs.State.{NodeState, node_at, sent_to}
+use Rattle.model.specs.State.{NodeState, new_node, node_at, sent_to}
 use Rattle.model.specs.World.{World, KeepsSent, new_world, happens, run}
 use Rattle.laws.proofs.Lookups.{Grows, grows-refl, grows-trans}
 use Rattle.laws.proofs.StepFacts.{Happening, nothing, acted, delivered, saved, restarted, happening, act-grows, receive-grows}
@@ -33,6 +34,12 @@ count-stays w v (restarted i within) = length-set w.current i (node_at w.saved i
 pub run-count : (w : World) (steps : List Step) → length (run w steps).current ≡ length w.current
 run-count w [] = refl
 run-count w (s ∷ ss) = run-count (happens w s) ss ∙ count-stays w (happens w s) (happening w s)
+
+-- There are as many nodes as the shape has, so theorems on runs may speak of either number.
+pub node-count : (shape : Shaped) (steps : List Step)
+    → length (run (new_world shape) steps).current ≡ shape.nodes
+node-count shape steps =
+    run-count (new_world shape) steps ∙ length-map-range_with_len (new_node shape) 0 shape.nodes
 
 -- there are as many saved states as current ones
 width-stays : (w v : World) → Happening w v → length w.saved ≡ length w.current

@@ -61,12 +61,7 @@ idle-counts cycle x is = by x.body is
 pub record Light (shape : Shaped) (c d : Cut) (i : ℕ) (q : LocalState) (ms : List (ℕ × Message))
     : Type 0 where
   pub inv : Inv shape c
-  pub inside : i < shape.nodes
-  pub turn : Turn c d i q ms
-  pub own : q.own ≡ (c i).local.own
-  pub same_shape : q.shape ≡ (c i).local.shape
-  pub heard : length q.got ≡ length (c i).local.got
-  pub within : (from : ℕ) → got_from q from ≤ length (sent_to (c from) i)
+  pub step : BaseStep shape c d i q ms
   pub heap : q.heap ≡ (c i).local.heap
   pub asked : q.asked ≡ (c i).local.asked
   pub cycle : q.phases.cycle ≡ (c i).local.phases.cycle
@@ -89,10 +84,10 @@ pub record Light (shape : Shaped) (c d : Cut) (i : ℕ) (q : LocalState) (ms : L
 module _ {shape : Shaped} {c d : Cut} {i : ℕ} {q : LocalState} {ms : List (ℕ × Message)}
     (h : Light shape c d i q ms) where
   light-heap : (j : ℕ) → (d j).local.heap ≡ (c j).local.heap
-  light-heap = at_turn (λ j s. s.local.heap ≡ (c j).local.heap) h.turn h.heap (λ j _. refl)
+  light-heap = at_turn (λ j s. s.local.heap ≡ (c j).local.heap) h.step.turn h.heap (λ j _. refl)
 
   pub light-cycle : (j : ℕ) → cycle_of d j ≡ cycle_of c j
-  light-cycle = at_turn (λ j s. s.local.phases.cycle ≡ cycle_of c j) h.turn h.cycle (λ j _. refl)
+  light-cycle = at_turn (λ j s. s.local.phases.cycle ≡ cycle_of c j) h.step.turn h.cycle (λ j _. refl)
 
   pub light-marking : Marking (phases_of d 0) → Marking (phases_of c 0)
   light-marking m = omega (arith, m, h.ended, light-cycle 0)
@@ -115,18 +110,18 @@ module _ {shape : Shaped} {c d : Cut} {i : ℕ} {q : LocalState} {ms : List (ℕ
       is_asked from place
       (subst (λ (z : ℕ). IsInFlight d from r.node place (record { stamp = z; body = body.Mark r }))
       (sym (light-cycle 0))
-      (flies h.turn from r.node place _ flight
+      (flies h.step.turn from r.node place _ flight
       (at_turn
       (λ l s. IsInFlight c from l place (record { stamp = cycle_of c 0; body = body.Mark r })
-      → got_from s.local from ≤ place) h.turn
+      → got_from s.local from ≤ place) h.step.turn
       (λ f. h.marks from place (cycle_of c 0) r f) (λ l _ f. f.later) r.node flight)))
 
   light-holds : (r : Ref) → Holds (c i).local r → Holds q r
   light-holds r (holds_marked o own there mark) =
-      holds_marked o (own ∙ sym h.own) (ap (λ (z : Heap). slot_at z r.slot) h.heap ∙ there)
+      holds_marked o (own ∙ sym h.step.own) (ap (λ (z : Heap). slot_at z r.slot) h.heap ∙ there)
       (mark ∙ sym h.cycle)
   light-holds r (holds_asked far asked) =
-      holds_asked (λ (e : r.node ≡ q.own). far (e ∙ h.own))
+      holds_asked (λ (e : r.node ≡ q.own). far (e ∙ h.step.own))
       (subst (λ (z : List Ref). is_in r z ≡ true) (sym h.asked) asked)
 
   light-closed : Closed d
@@ -151,7 +146,7 @@ module _ {shape : Shaped} {c d : Cut} {i : ℕ} {q : LocalState} {ms : List (ℕ
         (λ new.
         subst (λ (z : List Ref). AllByRecursion (Safe d) z)
         (sym (idle-mentions x.body (h.idle to x new.1))) tt)
-        (flew h.turn from to place x flight);
+        (flew h.step.turn from to place x flight);
   }
 
   light-cover : Cover shape.nodes d
@@ -160,7 +155,7 @@ module _ {shape : Shaped} {c d : Cut} {i : ℕ} {q : LocalState} {ms : List (ℕ
         light-covered r
         (h.inv.cover.asked (light-marking marking) j r inside
         (sym (light-cycle j) ∙ joined ∙ light-cycle 0)
-        (at_turn (λ l s. is_in r s.local.asked ≡ true → is_in r (c l).local.asked ≡ true) h.turn
+        (at_turn (λ l s. is_in r s.local.asked ≡ true → is_in r (c l).local.asked ≡ true) h.step.turn
         (λ a. subst (λ (z : List Ref). is_in r z ≡ true) h.asked a) (λ l _ a. a) j asked));
     messages = λ marking from to place x flight stamp.
         ⊎_elim {C = AllByRecursion (Covered d) (carried x.body)}
@@ -171,12 +166,12 @@ module _ {shape : Shaped} {c d : Cut} {i : ℕ} {q : LocalState} {ms : List (ℕ
         (λ new.
         subst (λ (z : List Ref). AllByRecursion (Covered d) z)
         (sym (idle-carries x.body (h.idle to x new.1))) tt)
-        (flew h.turn from to place x flight);
+        (flew h.step.turn from to place x flight);
   }
 
   light-held : Held d
   light-held = record {
-    roots = at_turn (λ j s. is_open s.local ≡ true → RootsAll (Holds s.local) s.local.heap) h.turn
+    roots = at_turn (λ j s. is_open s.local ≡ true → RootsAll (Holds s.local) s.local.heap) h.step.turn
         (λ opened.
         subst (RootsAll (Holds q)) (sym h.heap)
         (roots-map (Holds (c i).local) (Holds q) light-holds
@@ -185,7 +180,7 @@ module _ {shape : Shaped} {c d : Cut} {i : ℕ} {q : LocalState} {ms : List (ℕ
     blacks = λ j k g o.
         at_turn (λ l s. is_open s.local ≡ true → slot_at s.local.heap k ≡ Occupied g o
         → o.mark ≡ s.local.phases.cycle → (Among k s.local.heap.grey → ⊥)
-        → PlacesAll (Holds s.local) o) h.turn
+        → PlacesAll (Holds s.local) o) h.step.turn
         (λ opened there mark black l.
         any-map (Holds (c i).local) (Holds q) light-holds _
         (h.inv.held.blacks i k g o (h.opened opened)
@@ -201,7 +196,7 @@ module _ {shape : Shaped} {c d : Cut} {i : ℕ} {q : LocalState} {ms : List (ℕ
     behind = λ j k g o rest there past.
         at_turn (λ l s. slot_at s.local.heap k ≡ Occupied g o
         → (k < s.local.phases.cursor) ⊎ (s.local.phases.swept ≡ cycle_of c 0)
-        → o.mark ≡ cycle_of c 0) h.turn
+        → o.mark ≡ cycle_of c 0) h.step.turn
         (λ t p.
         h.behind k g o (light-resting rest) (ap (λ (z : Heap). slot_at z k) (sym h.heap) ∙ t) p)
         (λ l _ t p. h.inv.rested.behind l k g o (light-resting rest) t p)
@@ -218,7 +213,7 @@ module _ {shape : Shaped} {c d : Cut} {i : ℕ} {q : LocalState} {ms : List (ℕ
         free = subst (λ (z : Heap). FreeSlots z.slots z.free) (sym h.heap) tidy.free;
         room =
             let most : q.shape.slots ≡ (c i).local.shape.slots =
-            ap (λ (z : Shaped). z.slots) h.same_shape in
+            ap (λ (z : Shaped). z.slots) h.step.same_shape in
             let wide : length q.heap.slots ≡ length (c i).local.heap.slots =
             ap (λ (z : Heap). length z.slots) h.heap in
             omega (arith, most, wide, tidy.room);
@@ -231,17 +226,8 @@ module _ {shape : Shaped} {c d : Cut} {i : ℕ} {q : LocalState} {ms : List (ℕ
 
   pub light-inv : Inv shape d
   light-inv = record {
-    base =
-        (let step : BaseStep shape c d i q ms = record {
-          inside = h.inside;
-          turn = h.turn;
-          own = h.own;
-          same_shape = h.same_shape;
-          heard = h.heard;
-          within = h.within;
-        } in
-        base-step step h.inv.base);
-    tidy = at_turn (λ j s. Tidy s.local) h.turn light-tidy (λ j _. h.inv.tidy j);
+    base = base-step h.step h.inv.base;
+    tidy = at_turn (λ j s. Tidy s.local) h.step.turn light-tidy (λ j _. h.inv.tidy j);
     phased = h.phased;
     messages = h.messages;
     closed = light-closed;
@@ -250,8 +236,8 @@ module _ {shape : Shaped} {c d : Cut} {i : ℕ} {q : LocalState} {ms : List (ℕ
     rested = light-rested;
     flows = h.flows;
     tokens = h.tokens;
-    tallies = tallies-turn shape.nodes h.turn
-        (tally-same h.turn h.owed.0 h.owed.1 (h.inv.tallies i h.inside)) h.inv.tallies;
+    tallies = tallies-turn shape.nodes h.step.turn
+        (tally-same h.step.turn h.owed.0 h.owed.1 (h.inv.tallies i h.step.inside)) h.inv.tallies;
   }
 
 -- ---- counted messages in flight

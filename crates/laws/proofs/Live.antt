@@ -23,11 +23,12 @@ use Rattle.model.specs.Counting.{is_reference}
 use Rattle.model.specs.Steps.{act, tests, carried, mentioned}
 use Rattle.model.specs.World.{World, new_world, run}
 use Rattle.model.specs.Cuts.{Cut, cut, Among, Reachable, in_register, in_letter, in_message, in_place, PlainRun, still, further}
-use Rattle.model.specs.Agreement.{counts}
+use Rattle.model.specs.Agreement.{total, flow, counts, is_counted, balance, EndsAlike}
 use Rattle.model.proofs.Lookups.{get_or-replicate_any}
-use Rattle.laws.specs.Statements.{ReachIsLive, BalancesAddUp, NodesAgree, SweepsFreeNoneReachable}
+use Rattle.laws.specs.Statements.{OfEveryRun, ReachIsLive, BalancesAddUp, NodesAgree, SweepsFreeNoneReachable}
 use Rattle.model.proofs.Slots.{same-object}
 use Rattle.laws.proofs.Lookups.{any-some, all-among}
+use Rattle.laws.proofs.KeepsSent.{node-count}
 use Rattle.laws.proofs.Cuts.{cuts-extend}
 use Rattle.laws.proofs.StepFacts.{act-ok}
 use Rattle.laws.proofs.Base.{inside-where, no-node-refuses, at-new}
@@ -113,15 +114,21 @@ reached-safe {c = c} inv r (in_place owner o k reached there place) =
     (λ rest. ap (λ (z : Object). z.mark) (sym same) ∙ safe.marked rest) k)
     place
 
-pub reach-is-live : ReachIsLive
+pub reach-is-live : OfEveryRun ReachIsLive
 reach-is-live shape limits steps choice r reached =
     let safe = reached-safe (all-inv shape limits steps choice) r reached in
     record { object = safe.object; there = safe.there }
 
 -- ---- the balances
 
-pub balances-add-up : BalancesAddUp
-balances-add-up shape limits steps choice = (all-inv shape limits steps choice).flows.counted
+pub balances-add-up : OfEveryRun BalancesAddUp
+balances-add-up shape limits steps choice =
+    let c : Cut = cut (run (new_world shape) steps) choice in
+    subst
+    (λ (n : ℕ). total n (λ i. balance (cycle_of c 0) (c i).local)
+    ≡ flow n (is_counted (cycle_of c 0)) c)
+    (sym (node-count shape steps))
+    (all-inv shape limits steps choice).flows.counted
 
 -- ---- agreement
 
@@ -170,10 +177,9 @@ ended-calm {c = c} cycle j inv inside done at = ⊎_elim {C = (c j).local.heap.g
     omega (arith, behind.1, behind.2, a, b) in e))))
     (inv.phased.apart j inside)
 
-pub nodes-agree : NodesAgree
-nodes-agree shape limits steps choice i cycle inside ended =
-    let c : Cut = cut (run (new_world shape) steps) choice in
-    let inv : Inv shape c = all-inv shape limits steps choice in
+ends-alike : {shape : Shaped} {c : Cut} → Inv shape c → (i cycle : ℕ)
+    → cycle ≤ (phases_of c i).ended → EndsAlike shape.nodes cycle c
+ends-alike {c = c} inv i cycle ended =
     let done : cycle ≤ (phases_of c 0).ended =
     (let w = inv.phased.first i in omega (arith, w, ended)) in
     record {
@@ -188,6 +194,12 @@ nodes-agree shape limits steps choice i cycle inside ended =
       later = λ j within past.
           (let a = inv.phased.cycle j in let b = inv.phased.swept j in omega (arith, past, a, b));
     }
+
+pub nodes-agree : OfEveryRun NodesAgree
+nodes-agree shape limits steps choice i cycle inside ended =
+    let c : Cut = cut (run (new_world shape) steps) choice in
+    subst (λ (n : ℕ). EndsAlike n cycle c) (sym (node-count shape steps))
+    (ends-alike (all-inv shape limits steps choice) i cycle ended)
 
 -- ---- sweeps
 
@@ -216,8 +228,8 @@ swept-stays {shape = shape} {c = c} {s = s} {a = a} i count r inv answered safe 
           ∙ heap.keeps r.slot r.generation safe.object there (safe.marked resting ∙ sym joined),
     )
 
-pub sweeps-free-none-reachable : SweepsFreeNoneReachable
-sweeps-free-none-reachable shape limits steps choice i count s a r current answered reached here =
+pub sweeps-free-none-reachable : OfEveryRun SweepsFreeNoneReachable
+sweeps-free-none-reachable shape limits steps i count s a answered choice r current reached here =
     let w : World = run (new_world shape) steps in
     let c : Cut = cut w choice in
     let inv : Inv shape c = all-inv shape limits steps choice in

@@ -68,10 +68,6 @@ pub any-list : (P : Ref → Type 0) (o : Option Ref) → IfAny P o → AllByRecu
 any-list P None h = tt
 any-list P (Some r) h = (h, tt)
 
-pub list-any : (P : Ref → Type 0) (o : Option Ref) → AllByRecursion P (option_to_list o) → IfAny P o
-list-any P None h = tt
-list-any P (Some r) h = h.0
-
 pub any-there : (P : Ref → Type 0) (o : Option Ref) (d : Ref) → is_some o ≡ true → IfAny P o
     → P (unwrap_or o d)
 any-there P None d there h = absurd cc

@@ -48,12 +48,6 @@ in-among r (s ∷ rs) h = ⊎_elim {C = Among r (s ∷ rs)}
     (λ same. inl (same-is r s same)) (λ later. inr (in-among r rs later))
     (or_cases (is_same r s) (is_in r rs) h)
 
-pub among-in : (r : Ref) (rs : List Ref) → Among r rs → is_in r rs ≡ true
-among-in r [] never = absurd never
-among-in r (s ∷ rs) (inl same) =
-    or_left (is_same r s) (is_in r rs) (subst (λ (z : Ref). is_same r z ≡ true) same (is-same r))
-among-in r (s ∷ rs) (inr later) = or_right (is_same r s) (is_in r rs) (among-in r rs later)
-
 in-append_left : (r : Ref) (rs us : List Ref) → is_in r rs ≡ true → is_in r (rs ++ us) ≡ true
 in-append_left r [] us h = absurd cc
 in-append_left r (s ∷ rs) us h = ⊎_elim {C = is_in r ((s ∷ rs) ++ us) ≡ true}
@@ -372,25 +366,27 @@ module _ {shape : Shaped} {c d : Cut} {i : ℕ} {rs : List Ref} (s : Shading sha
         becomes = becomes;
         same = shaded-same;
         got = refl;
-        tidy = meet-tidy m refl shaded-same;
-        origin = meet-origin m {q = shaded} refl;
-        lasting = (greys m).rewrites.lasting;
-        roots = meet-roots m;
-        resting = λ rest. ap (λ (z : Heap). z.grey) (rest-calm m rest) ∙ m.inv.rested.grey i rest;
-        still = λ r asked. in-append_left r (c i).local.asked news asked;
-        asks = λ marking there r asked. ⊎_elim
-            {C = (is_in r (c i).local.asked ≡ true) ⊎ (Covered c r ⊎ ((r.node < shape.nodes)
-            × Among (r.node, record { stamp = cycle_of c i; body = body.Mark r })
-            (marks_for (cycle_of c i) news)))}
-            (λ before. inl before)
-            (λ new.
-            let a = marks-for (cycle_of c i) news r new in
-            let from = unasked-from (c i).local.own (c i).local.asked rs r new in
-            let safe : Safe c r = m.safe r from.0 in
-            inr
-            (inr (occupied-inside r.node r.slot r.generation safe.object m.inv.base safe.there, a)))
-            (in-append r (c i).local.asked news asked);
-        sends = shaded-sends;
+        preserves = record {
+          tidy = meet-tidy m refl shaded-same;
+          origin = meet-origin m {q = shaded} refl;
+          lasting = (greys m).rewrites.lasting;
+          roots = meet-roots m;
+          resting = λ rest. ap (λ (z : Heap). z.grey) (rest-calm m rest) ∙ m.inv.rested.grey i rest;
+          still = λ r asked. in-append_left r (c i).local.asked news asked;
+          asks = λ marking there r asked. ⊎_elim
+              {C = (is_in r (c i).local.asked ≡ true) ⊎ (Covered c r ⊎ ((r.node < shape.nodes)
+              × Among (r.node, record { stamp = cycle_of c i; body = body.Mark r })
+              (marks_for (cycle_of c i) news)))}
+              (λ before. inl before)
+              (λ new.
+              let a = marks-for (cycle_of c i) news r new in
+              let from = unasked-from (c i).local.own (c i).local.asked rs r new in
+              let safe : Safe c r = m.safe r from.0 in
+              inr
+              (inr (occupied-inside r.node r.slot r.generation safe.object m.inv.base safe.there, a)))
+              (in-append r (c i).local.asked news asked);
+          sends = shaded-sends;
+        };
         earlier_more = length news;
         recent_more = 0;
         earlier = refl;
@@ -489,20 +485,22 @@ module _ {shape : Shaped} {c d : Cut} {i : ℕ} {rs : List Ref} (s : Vouching sh
         becomes = becomes;
         same = same;
         got = refl;
-        tidy = meet-tidy m refl same;
-        origin = meet-origin m {q = vouched} refl;
-        lasting = (greys m).rewrites.lasting;
-        roots = meet-roots m;
-        resting = λ rest. ap (λ (z : Heap). z.grey) (rest-calm m rest) ∙ m.inv.rested.grey i rest;
-        still = λ r asked. in-append_left r (c i).local.asked _ asked;
-        asks = λ marking there r asked. ⊎_elim
-            {C = (is_in r (c i).local.asked ≡ true) ⊎ (Covered c r ⊎ ((r.node < shape.nodes) × ⊥))}
-            (λ before. inl before)
-            (λ new.
-            inr
-            (inl (s.covered marking r (unasked-from (c i).local.own (c i).local.asked rs r new).0)))
-            (in-append r (c i).local.asked _ asked);
-        sends = λ to x never. absurd never;
+        preserves = record {
+          tidy = meet-tidy m refl same;
+          origin = meet-origin m {q = vouched} refl;
+          lasting = (greys m).rewrites.lasting;
+          roots = meet-roots m;
+          resting = λ rest. ap (λ (z : Heap). z.grey) (rest-calm m rest) ∙ m.inv.rested.grey i rest;
+          still = λ r asked. in-append_left r (c i).local.asked _ asked;
+          asks = λ marking there r asked. ⊎_elim
+              {C = (is_in r (c i).local.asked ≡ true) ⊎ (Covered c r ⊎ ((r.node < shape.nodes) × ⊥))}
+              (λ before. inl before)
+              (λ new.
+              inr
+              (inl (s.covered marking r (unasked-from (c i).local.own (c i).local.asked rs r new).0)))
+              (in-append r (c i).local.asked _ asked);
+          sends = λ to x never. absurd never;
+        };
         earlier_more = 0;
         recent_more = 0;
         earlier = omega (arith, ints);

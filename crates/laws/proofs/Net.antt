@@ -1,7 +1,6 @@
 -- Frames in the net stay there, and the acknowledgements among them are accepted.
 use Rattle.std.proofs.Common.{◌≡◌, ◌≢◌, ℕ, ◌-◌, ◌<◌, ◌≤◌, true, false, ltb, ◌==◌, le-leb, le_refl, le_trans, List, length, map, None, Some, Ok, refl, sym, ◌∙◌, subst, arith, slice_get}
 use Rattle.std.proofs.lemmas.Bool.{and_from, ne_eqb, lt-ltb, cond-true, cond-false, cond_both}
-use Rattle.std.proofs.lemmas.List.FromFn.{length-map-range_with_len}
 use Rattle.ids.specs.Limits.{Shaped, IsShape}
 use Rattle.msg.specs.Frames.{Plain, data_frame, ack_frame}
 use Rattle.msg.specs.declared.body.Message.{Message}
@@ -10,15 +9,15 @@ use Rattle.model.specs.declared.event.Answer.{Answer}
 use Rattle.model.specs.declared.step.Step.{Step}
 use Rattle.model.specs.declared.step.Step.TheVariants as step
 use Rattle.model.specs.declared.step.Outcome.TheVariants as outcome
-use Rattle.model.specs.State.{NodeState, node_at, new_node, got_from, sent_to}
+use Rattle.model.specs.State.{NodeState, node_at, got_from, sent_to}
 use Rattle.model.specs.Steps.{act, is_own, is_addressed}
 use Rattle.model.specs.World.{World, new_world, run, numbered, released, acknowledged, release_count, take_step, IsInNet}
 use Rattle.model.proofs.Leaving.{own-stands, taken-stands}
-use Rattle.laws.specs.Statements.{NetGrows, NoneBeyond, AcknowledgementsGoThrough, HandsGoThrough, AcknowledgedIsTakenIn}
+use Rattle.laws.specs.Statements.{OfEveryRun, NetGrows, NoneBeyond, AcknowledgementsGoThrough, HandsGoThrough, AcknowledgedIsTakenIn}
 use Rattle.laws.proofs.Lookups.{Grows, slice_get-grows}
 use Rattle.laws.proofs.StepFacts.{Delivery, act-ok, Receipt, repeated, next, receipt-cases}
 use Rattle.laws.proofs.Onward.{Onward, Behind, new-behind, run-behind, run-saved}
-use Rattle.laws.proofs.KeepsSent.{SentMore, sent-onward, new-keeps-sent, run-count}
+use Rattle.laws.proofs.KeepsSent.{SentMore, sent-onward, new-keeps-sent, node-count, run-count}
 use Rattle.laws.proofs.Cuts.{released-numbered, run-keeps-sent}
 use Rattle.laws.proofs.Base.{own-heard, taken-heard, between-nodes, all-base}
 
@@ -73,28 +72,22 @@ pub run-heard : (shape : Shaped) (steps : List Step)
 run-heard shape steps =
     run-behind heard-onward (new_world shape) steps (new-behind heard-onward.order shape)
 
--- there are as many nodes as the shape has
-node-count : (shape : Shaped) (steps : List Step)
-    → length (run (new_world shape) steps).current ≡ shape.nodes
-node-count shape steps =
-    run-count (new_world shape) steps ∙ length-map-range_with_len (new_node shape) 0 shape.nodes
-
--- the same from any space whose saved states are behind its current ones
+-- whatever was released stays so, in any space whose saved states are behind its current ones
 pub net-onward : (w : World) (later : List Step) (f : Plain)
     → Behind SentMore w → Behind HeardMore w → IsInNet w f → IsInNet (run w later) f
 net-onward w later (data_frame from to number stamp b) sent heard there =
     released-grows w (run w later) from to number (record { stamp = stamp; body = b })
     (run-saved sent-onward w later sent from to)
     there
-net-onward w later (ack_frame from to number) sent heard there =
+net-onward w later (ack_frame by of number) sent heard there =
     let count : length (run w later).current ≡ length w.current = run-count w later in (
-      subst (λ (n : ℕ). from < n) (sym count) there.0,
-      subst (λ (n : ℕ). to < n) (sym count) there.1,
+      subst (λ (n : ℕ). by < n) (sym count) there.0,
+      subst (λ (n : ℕ). of < n) (sym count) there.1,
       there.2,
-      le_trans there.3 (run-saved heard-onward w later heard from to),
+      le_trans there.3 (run-saved heard-onward w later heard by of),
     )
 
-pub net-grows : NetGrows
+pub net-grows : OfEveryRun NetGrows
 net-grows shape within earlier later f there =
     net-onward (run (new_world shape) earlier) later f
     (run-keeps-sent (new_world shape) earlier (new-keeps-sent shape)).sent
@@ -108,13 +101,13 @@ acknowledged-sent : (shape : Shaped) → IsShape shape → (steps : List Step) (
 acknowledged-sent shape within steps from to =
     (all-base shape within steps (λ _. true)).within from to
 
-pub none-beyond : NoneBeyond
-none-beyond shape within steps from to number there =
-    le_trans there.3 (acknowledged-sent shape within steps to from)
+pub none-beyond : OfEveryRun NoneBeyond
+none-beyond shape within steps by of number there =
+    le_trans there.3 (acknowledged-sent shape within steps of by)
 
-pub acknowledged-is-taken-in : AcknowledgedIsTakenIn
-acknowledged-is-taken-in shape within steps from to number there =
-    le_trans there.3 (run-heard shape steps from to)
+pub acknowledged-is-taken-in : OfEveryRun AcknowledgedIsTakenIn
+acknowledged-is-taken-in shape within steps by of number there =
+    le_trans there.3 (run-heard shape steps by of)
 
 pub ack-addressed : (shape : Shaped) → IsShape shape → (steps : List Step) (from to number : ℕ)
     → IsInNet (run (new_world shape) steps) (ack_frame from to number)
@@ -126,10 +119,10 @@ ack-addressed shape within steps from to number there =
     (subst (λ (n : ℕ). to < n) count there.1)
     there.2
 
-pub acknowledgements-go-through : AcknowledgementsGoThrough
+pub acknowledgements-go-through : OfEveryRun AcknowledgementsGoThrough
 unfolding act
 acknowledgements-go-through shape within steps a there =
-    rw (ack-addressed shape within steps a.from a.to a.number there) refl
+    rw (ack-addressed shape within steps a.by a.of a.number there) refl
 
 -- so the tests of a Hand pass
 hand-passes : (w : World) (from to : ℕ)
@@ -145,13 +138,12 @@ hand-passes w from to f t apart addressed fewer =
     ∙ cond-true _ _ _ addressed
     ∙ cond-true _ _ _ (le-leb _ _ fewer)
 
-pub hands-go-through : HandsGoThrough
+pub hands-go-through : OfEveryRun HandsGoThrough
 hands-go-through shape within steps from to f t apart =
-    let w : World = run (new_world shape) steps in
     let count = node-count shape steps in
-    hand-passes w from to
-    (subst (λ (k : ℕ). from < k) (sym count) f)
-    (subst (λ (k : ℕ). to < k) (sym count) t)
-    apart
-    (between-nodes (all-base shape within steps (λ _. false)) to from t f (λ e. apart (sym e)))
+    hand-passes (run (new_world shape) steps) from to f t apart
+    (between-nodes (all-base shape within steps (λ _. false)) to from
+    (subst (λ (k : ℕ). to < k) count t)
+    (subst (λ (k : ℕ). from < k) count f)
+    (λ e. apart (sym e)))
     (acknowledged-sent shape within steps from to)

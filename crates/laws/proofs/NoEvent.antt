@@ -14,7 +14,7 @@ use Rattle.model.specs.declared.step.Outcome.{Outcome}
 use Rattle.model.specs.declared.step.Outcome.TheVariants as outcome
 use Rattle.model.specs.Checks.{guarded}
 use Rattle.model.specs.State.{LocalState, NodeState, no_node, node_at}
-use Rattle.model.specs.Effects.{Effect, answers}
+use Rattle.model.specs.Effects.{Effect, answers, is_change}
 use Rattle.model.specs.Steps.{act, made, taken_in, is_own, is_addressed, append_all}
 use Rattle.model.specs.Collecting.{without_token, is_concluded, probe, begun, scanned, conclude, judged, handed_on, passed, swept_slots}
 use Rattle.model.specs.World.{World, released, acknowledged, release_count, moved, delivery, is_node, take_step, outcome_of, world_after, is_eventful}
@@ -23,7 +23,7 @@ use Rattle.laws.proofs.StepFacts.{Delivery, given_to, act-ok, Receipt, repeated,
 
 -- an answer that makes no event
 abbrev IsQuiet : Answer → Type 0
-IsQuiet a = is_eventful (Ok (outcome.Answer a)) ≡ false
+IsQuiet a = is_change a ≡ false
 
 -- nothing is changed and nothing is sent
 record IsNothing (p : LocalState) (x : Effect) : Type 0 where

@@ -7,21 +7,20 @@ use Rattle.std.proofs.lemmas.Option.{slice_get-get_or}
 use Rattle.ids.specs.Limits.{Shaped, IsShape}
 use Rattle.ids.specs.declared.names.Ref.{Ref}
 use Rattle.msg.specs.declared.body.Body.TheVariants as body
-use Rattle.msg.specs.declared.body.Message.{Message}
 use Rattle.model.specs.declared.event.Answer.{Answer}
 use Rattle.model.specs.declared.event.Letter.{Letter}
 use Rattle.model.specs.declared.step.Step.{Step}
-use Rattle.model.specs.State.{Object, Occupied, NodeState, node_at, sent_to, slot_at}
+use Rattle.model.specs.State.{Occupied, NodeState, node_at, sent_to, slot_at}
 use Rattle.model.specs.Heaps.{no_letter}
 use Rattle.model.specs.References.{IfAny}
 use Rattle.model.specs.World.{World, new_world, happens, run}
-use Rattle.model.specs.Cuts.{Cut, cut, IsInFlight, IsLive, Reachable, in_register, in_letter, in_message, in_place}
-use Rattle.laws.specs.Statements.{OldGarbageGoes}
+use Rattle.model.specs.Cuts.{Cut, cut, IsLive, Reachable, in_register, in_letter, in_message, in_place}
+use Rattle.laws.specs.Statements.{OfEveryRun, OldGarbageGoes}
 use Rattle.laws.proofs.StepFacts.{Delivery, act-ok, Receipt, repeated, next, receipt-cases, Happening, nothing, acted, delivered, saved, restarted, happening}
 use Rattle.laws.proofs.Onward.{Compares, Behind, new-behind, behind-changed, behind-saved, behind-restarted}
 use Rattle.laws.proofs.Cuts.{cuts-extend}
 use Rattle.laws.proofs.Base.{at-new}
-use Rattle.laws.proofs.Invariant.{PlacesAll, phases_of, cycle_of, Tidy, BodyFits, Inv}
+use Rattle.laws.proofs.Invariant.{phases_of, cycle_of, Tidy, BodyFits, Inv}
 use Rattle.laws.proofs.Inner.{occupied-inside}
 use Rattle.laws.proofs.Acting.{latest}
 use Rattle.laws.proofs.Dressing.{option-holds}
@@ -29,7 +28,7 @@ use Rattle.laws.proofs.New.{new-unsent}
 use Rattle.laws.proofs.Live.{Whole, run-whole, all-whole, new-whole, all-inv}
 use Rattle.laws.proofs.Past.{PastAt, occupied-past, Ages, ages-same, ages-through, ages-own, ages-taken}
 use Rattle.laws.proofs.GoodHeaps.{own_reference}
-use Rattle.laws.proofs.Good.{GoodPart, GoodMessage}
+use Rattle.laws.proofs.Good.{GoodPart}
 use Rattle.laws.proofs.GoodCuts.{GoodCut, run-good}
 
 -- ---- a saved state is no later than the current one
@@ -201,7 +200,7 @@ swept-reached {c = c} {d = d} {cycle = cycle} r own good done live past =
     (subst (λ (z : ℕ). FromHere c (own_reference z r.slot r.generation)) own
     (part.marks r.slot r.generation live.object live.there (omega (arith, mark, done))))
 
-pub old-garbage-goes : OldGarbageGoes
+pub old-garbage-goes : OfEveryRun OldGarbageGoes
 old-garbage-goes shape limits earlier later choice cycle r before old done live =
     let w : World = run (new_world shape) earlier in
     let d : Cut = cut (run w later) choice in

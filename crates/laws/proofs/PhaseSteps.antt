@@ -10,7 +10,7 @@ use Rattle.msg.specs.declared.body.Body.{Body}
 use Rattle.msg.specs.declared.body.Body.TheVariants as body
 use Rattle.msg.specs.declared.body.Token.{Token}
 use Rattle.msg.specs.declared.body.Message.{Message}
-use Rattle.model.specs.State.{Heap, Phases, Ring, LocalState, NodeState, got_from, sent_to}
+use Rattle.model.specs.State.{Heap, Phases, LocalState, NodeState, got_from, sent_to}
 use Rattle.model.specs.Counting.{stamped, to_others}
 use Rattle.model.specs.Shading.{is_open}
 use Rattle.model.specs.Steps.{append_all}
@@ -23,6 +23,7 @@ use Rattle.laws.proofs.Rings.{RingStep, safra-turn}
 use Rattle.laws.proofs.Tallies.{bound-turn}
 use Rattle.laws.proofs.Acting.{all-from}
 use Rattle.laws.proofs.Invariant.{phases_of, cycle_of, Marking, Phased, StampFits, BodyFits, is_single, IsSaidOnce, Tokens, IsBlack, Inv}
+use Rattle.laws.proofs.Base.{unheard}
 use Rattle.laws.proofs.Light.{is_idle, light-inv, Speaks, speaks-flows, Hears, hears-turn, hears-flows, hears-width, hears-within, hears-others, hears-marks}
 use Rattle.laws.proofs.RingSteps.{NoToken, tokens-same, token-back, token-on}
 
@@ -283,12 +284,7 @@ module _ {shape : Shaped} {c d : Cut} {i : ℕ} {ms : List (ℕ × Message)}
   pub says-inv : IsSaidOnce d → Inv shape d
   says-inv once = light-inv (record {
     inv = h.inv;
-    inside = h.inside;
-    turn = says-turn;
-    own = refl;
-    same_shape = refl;
-    heard = refl;
-    within = λ from. h.inv.base.within from i;
+    step = unheard h.inside says-turn refl refl refl h.inv.base;
     heap = refl;
     asked = refl;
     cycle = refl;
@@ -383,11 +379,7 @@ tell-inv {shape = shape} {c = c} {d = d} {b = b} h =
 pub record Hearing (shape : Shaped) (c d : Cut) (i : ℕ) (q : LocalState) (j : ℕ) (x : Message)
     : Type 0 where
   pub hears : Hears shape c d i q j x
-  pub own : q.own ≡ (c i).local.own
-  pub same_shape : q.shape ≡ (c i).local.shape
-  pub heap : q.heap ≡ (c i).local.heap
-  pub asked : q.asked ≡ (c i).local.asked
-  pub ring : q.ring ≡ (c i).local.ring
+  pub same : q ≡ record (c i).local { got = q.got; phases = q.phases }
   pub no_token : (t : Token) → x.body ≡ body.Token t → ⊥
   pub ended : (phases_of d 0).ended ≡ (phases_of c 0).ended
   pub opened : is_open q ≡ true → is_open (c i).local ≡ true
@@ -406,6 +398,7 @@ pub hear-inv : {shape : Shaped} {c d : Cut} {i : ℕ} {q : LocalState} {j : ℕ}
 hear-inv {shape = shape} {c = c} {d = d} {i = i} {q = q} {j = j} {x = x} h =
     let turn : Turn c d i q [] = hears-turn h.hears in
     let inv : Inv shape c = h.hears.inv in
+    let heap : q.heap ≡ (c i).local.heap = ap (λ (z : LocalState). z.heap) h.same in
     let cycle0 : cycle_of d 0 ≡ cycle_of c 0 =
     at_turn (λ l s. s.local.phases.cycle ≡ cycle_of c l) turn h.hears.cycle (λ l _. refl) 0 in
     let swept : (l : ℕ) → (phases_of d l).swept ≡ (phases_of c l).swept =
@@ -419,10 +412,10 @@ hear-inv {shape = shape} {c = c} {d = d} {i = i} {q = q} {j = j} {x = x} h =
       inside = h.hears.inside;
       cycle = h.hears.cycle;
       ended = h.ended;
-      grey = ap (λ (z : Heap). z.grey) h.heap;
+      grey = ap (λ (z : Heap). z.grey) heap;
       earlier = h.hears.earlier;
-      colour = ap (λ (z : Ring). z.colour) h.ring;
-      token = ap (λ (z : Ring). z.token) h.ring;
+      colour = ap (λ (z : LocalState). z.ring.colour) h.same;
+      token = ap (λ (z : LocalState). z.ring.token) h.same;
       none = λ to y t a. absurd a;
       stays = λ from place stamp t flight. ⊎_elim {C = got_from q from ≤ place}
           (λ after. after)
@@ -431,14 +424,16 @@ hear-inv {shape = shape} {c = c} {d = d} {i = i} {q = q} {j = j} {x = x} h =
     } in
     light-inv (record {
       inv = inv;
-      inside = h.hears.inside;
-      turn = turn;
-      own = h.own;
-      same_shape = h.same_shape;
-      heard = hears-width h.hears;
-      within = hears-within h.hears;
-      heap = h.heap;
-      asked = h.asked;
+      step = record {
+        inside = h.hears.inside;
+        turn = turn;
+        own = ap (λ (z : LocalState). z.own) h.same;
+        same_shape = ap (λ (z : LocalState). z.shape) h.same;
+        heard = hears-width h.hears;
+        within = hears-within h.hears;
+      };
+      heap = heap;
+      asked = ap (λ (z : LocalState). z.asked) h.same;
       cycle = h.hears.cycle;
       ended = h.ended;
       opened = h.opened;

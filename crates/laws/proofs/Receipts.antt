@@ -20,6 +20,7 @@ use Rattle.model.specs.Steps.{carried, count_in, take_carried, take_body, settle
 use Rattle.model.specs.Cuts.{Cut, taken, IsInFlight, Among, Becomes}
 use Rattle.model.proofs.Lookups.{at_push}
 use Rattle.model.proofs.Shading.{see_to-none}
+use Rattle.laws.proofs.Rings.{counted-first}
 use Rattle.laws.proofs.Lookups.{all-among}
 use Rattle.laws.proofs.Turns.{at_turn, flies}
 use Rattle.laws.proofs.Invariant.{phases_of, cycle_of, Marking, Resting, Joined, Safe, Holds, holds_marked, holds_asked, Covered, StampFits, Inv}
@@ -209,17 +210,10 @@ carried-met {shape = shape} {c = c} {d = d} {i = i} {j = j} {x = x} s is fits be
       safe = safe;
       quiet = λ opened.
           inr (
-            record {
-              from = j;
-              to = i;
-              place = taken c j i;
-              message = x;
-              flight = s.flight;
-              counted =
-                  reference-counts (cycle_of c 0) x.stamp x.body is
-                  ∙ lt-ltb x.stamp (cycle_of c 0)
-                  (let w = latest s.inv i s.inside in omega (arith, less, w));
-            },
+            counted-first s.flight
+                (reference-counts (cycle_of c 0) x.stamp x.body is
+                ∙ lt-ltb x.stamp (cycle_of c 0)
+                (let w = latest s.inv i s.inside in omega (arith, less, w))),
             ⊎_elim {C = Marking (phases_of c 0)}
                 (λ now. absurd (let w = latest s.inv i s.inside in omega (arith, now, less, w)))
                 (λ before. before.0) fits,
@@ -396,14 +390,7 @@ take-mark {shape = shape} {c = c} {d = d} {i = i} {j = j} {stamp = stamp} r s be
           ⊎_elim {C = Safe c z} (λ e. subst (Safe c) (sym e) safe) (λ never. absurd never) a;
       quiet = λ _.
           inr (
-            record {
-              from = j;
-              to = i;
-              place = taken c j i;
-              message = x;
-              flight = s.flight;
-              counted = eq-eqb stamp (cycle_of c 0) fits.2;
-            },
+            counted-first s.flight (eq-eqb stamp (cycle_of c 0) fits.2),
             marking,
           );
     } in

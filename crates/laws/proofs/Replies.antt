@@ -105,6 +105,32 @@ idle-becomes {c = c} {d = d} i j stamp b is becomes =
     subst (λ (z : Work). Becomes c d i (worked (c i) z))
     (settled-bare j (taken c j i + 1) stamp b (c i).local (idle-carries b is)) becomes
 
+-- such a message changes nothing but the node's phases
+hears-idle : {shape : Shaped} {c d : Cut} {i j stamp : ℕ} {phases : Phases} {b : Body}
+    → is_idle b ≡ true → phases.cycle ≡ cycle_of c i
+    → Taking shape c i j (record { stamp = stamp; body = b })
+    → Becomes c d i (record {
+      local = record (c i).local {
+        got = set (c i).local.got j (taken c j i + 1);
+        phases = phases;
+      };
+      sent = (c i).sent;
+    })
+    → Hears shape c d i
+    (record (c i).local { got = set (c i).local.got j (taken c j i + 1); phases = phases })
+    j (record { stamp = stamp; body = b })
+hears-idle idle cycle s becomes = record {
+  inv = s.inv;
+  inside = s.inside;
+  becomes = becomes;
+  flight = s.flight;
+  idle = idle;
+  cycle = cycle;
+  got = refl;
+  earlier = refl;
+  recent = refl;
+}
+
 take-begin : {shape : Shaped} {c d : Cut} {i j stamp : ℕ}
     → Taking shape c i j (record { stamp = stamp; body = body.Begin })
     → Settles c d i j stamp body.Begin → Inv shape d
@@ -114,27 +140,13 @@ take-begin {shape = shape} {c = c} {d = d} {i = i} {j = j} {stamp = stamp} s bec
     let q : LocalState = record (c i).local { got = set (c i).local.got j (taken c j i + 1) } in
     let b : Becomes c d i (record { local = q; sent = (c i).sent }) =
     idle-becomes i j stamp body.Begin refl becomes in
-    let hears : Hears shape c d i q j x = record {
-      inv = s.inv;
-      inside = s.inside;
-      becomes = b;
-      flight = s.flight;
-      idle = refl;
-      cycle = refl;
-      got = refl;
-      earlier = refl;
-      recent = refl;
-    } in
+    let hears : Hears shape c d i q j x = hears-idle refl refl s b in
     let turn = hears-turn hears in
     let phases : phases_of d ≡ phases_of c =
     fun_ext (at_turn (λ l z. z.local.phases ≡ phases_of c l) turn refl (λ l _. refl)) in
     hear-inv (record {
       hears = hears;
-      own = refl;
-      same_shape = refl;
-      heap = refl;
-      asked = refl;
-      ring = refl;
+      same = refl;
       no_token = λ t e. absurd cc;
       ended = ap (λ (z : ℕ → Phases). (z 0).ended) phases;
       opened = λ o. o;
@@ -213,17 +225,7 @@ take-ended {shape = shape} {c = c} {d = d} {i = i} {j = j} {stamp = stamp} s bec
     (let w : (phases_of c 0).ended < cycle_of c 0 =
     subst (λ (z : ℕ). (phases_of c z).ended < cycle_of c 0) e fits.3 in
     omega (arith, w, resting)) in
-    let hears : Hears shape c d i q j x = record {
-      inv = s.inv;
-      inside = s.inside;
-      becomes = b;
-      flight = s.flight;
-      idle = refl;
-      cycle = refl;
-      got = refl;
-      earlier = refl;
-      recent = refl;
-    } in
+    let hears : Hears shape c d i q j x = hears-idle refl refl s b in
     let turn = hears-turn hears in
     let first : phases_of d 0 ≡ phases_of c 0 =
     ap (λ (z : NodeState). z.local.phases) (b.others 0 (λ e. other (sym e))) in
@@ -234,11 +236,7 @@ take-ended {shape = shape} {c = c} {d = d} {i = i} {j = j} {stamp = stamp} s bec
     let shut : is_open q ≡ false = not_from_true _ (eq-eqb p.phases.cycle p.phases.cycle refl) in
     hear-inv (record {
       hears = hears;
-      own = refl;
-      same_shape = refl;
-      heap = refl;
-      asked = refl;
-      ring = refl;
+      same = refl;
       no_token = λ t e. absurd cc;
       ended = ap (λ (z : Phases). z.ended) first;
       opened = λ o. absurd (both_ways _ shut o);
@@ -300,17 +298,7 @@ take-swept {shape = shape} {c = c} {d = d} {i = i} {j = j} {stamp = stamp} s bec
     idle-becomes i j stamp body.Swept refl becomes in
     let fits = s.inv.messages.fits j i (taken c j i) x s.flight in
     let zero_is : i ≡ 0 = fits.0 in
-    let hears : Hears shape c d i q j x = record {
-      inv = s.inv;
-      inside = s.inside;
-      becomes = b;
-      flight = s.flight;
-      idle = refl;
-      cycle = refl;
-      got = refl;
-      earlier = refl;
-      recent = refl;
-    } in
+    let hears : Hears shape c d i q j x = hears-idle refl refl s b in
     let turn = hears-turn hears in
     let cycles : (l : ℕ) → cycle_of d l ≡ cycle_of c l =
     at_turn (λ l z. z.local.phases.cycle ≡ cycle_of c l) turn refl (λ l _. refl) in
@@ -326,11 +314,7 @@ take-swept {shape = shape} {c = c} {d = d} {i = i} {j = j} {stamp = stamp} s bec
     ∙ ap (λ (z : ℕ). set (phases_of c z).reports j stamp) zero_is in
     hear-inv (record {
       hears = hears;
-      own = refl;
-      same_shape = refl;
-      heap = refl;
-      asked = refl;
-      ring = refl;
+      same = refl;
       no_token = λ t e. absurd cc;
       ended = ended 0;
       opened = λ o. o;

@@ -7,6 +7,7 @@ use Rattle.std.proofs.lemmas.Option.{slice_get_within}
 use Rattle.std.proofs.Math.Path.{fun_ext}
 use Rattle.model.proofs.Lookups.{at_set_if, slice_get-left}
 use Rattle.msg.specs.declared.body.Body.TheVariants as body
+use Rattle.msg.specs.declared.body.Colour.{Colour}
 use Rattle.msg.specs.declared.body.Token.{Token}
 use Rattle.msg.specs.declared.body.Message.{Message}
 use Rattle.model.specs.State.{Phases, LocalState, NodeState, got_from, sent_to}
@@ -14,7 +15,7 @@ use Rattle.model.specs.Cuts.{Cut, taken, IsInFlight, Among}
 use Rattle.laws.proofs.Turns.{Turn, at_turn, flew, flies}
 use Rattle.laws.proofs.Safra.{Safra}
 use Rattle.laws.proofs.Rings.{RingStep, safra-turn}
-use Rattle.laws.proofs.Invariant.{phases_of, cycle_of, Marking, Resting, BodyFits, Messages, Tokens, Spot, at_node, on_way, place_of_spot, IsAt, is_held, is_sent, IsPassive, IsBlack, ringed, Bound}
+use Rattle.laws.proofs.Invariant.{phases_of, cycle_of, Marking, Resting, BodyFits, Messages, Tokens, Spot, at_node, on_way, IsAt, is_held, is_sent, IsPassive, IsBlack, ringed, Bound}
 
 -- ---- tokens
 
@@ -30,9 +31,6 @@ at-once c t u (on_way from to place) (is_sent f0 t0 p0 s a) (is_sent f1 t1 p1 z 
     let bodies : body.Token t ≡ body.Token u = ap (λ (m : Message). m.body) inner in
     cc
 
-pub node-spot : (s : Spot) → ℕ × ℕ → (i : ℕ) → s ≡ at_node i → place_of_spot s ≡ i
-node-spot s k i e = ap place_of_spot e
-
 pub way-not-node : (a b k i : ℕ) → on_way a b k ≡ at_node i → ⊥
 way-not-node a b k i e = absurd cc
 
@@ -47,6 +45,20 @@ pub record Ringless (p q : LocalState) : Type 0 where
   pub phases : q.phases ≡ p.phases
   pub earlier : q.ring.earlier ≡ p.ring.earlier
   pub recent : q.ring.recent ≡ p.ring.recent
+
+-- what was received may change too
+pub ringless-as : {p : LocalState} {got : List ℕ} {colour : Colour} {token : Option Token}
+    → Ringless p
+    (record p { got = got; ring = record p.ring { colour = colour; token = token } })
+ringless-as = record {
+  own = refl;
+  shape = refl;
+  heap = refl;
+  asked = refl;
+  phases = refl;
+  earlier = refl;
+  recent = refl;
+}
 
 module _ {c d : Cut} {i : ℕ} {q : LocalState} {ms : List (ℕ × Message)} (turn : Turn c d i q ms)
     (same : Ringless (c i).local q) where
@@ -155,7 +167,11 @@ pub flew-one : {c d : Cut} {i : ℕ} {q : LocalState} {to : ℕ} {x : Message}
     → Turn c d i q ((to, x) ∷ []) → (from k place : ℕ) (y : Message) → IsInFlight d from k place y
     → IsInFlight c from k place y
     ⊎ ((from ≡ i) × (k ≡ to) × (y ≡ x) × (place ≡ length (sent_to (c i) to)))
-flew-one {c = c} {d = d} {i = i} {to = to} {x = x} turn from k place y flight = ⊎_elim
+flew-one {c = c} {d = d} {i = i} {to = to} {x = x} turn from k place y flight =
+    let fewer : taken c from k ≤ taken d from k =
+    at_turn (λ j s. taken c from j ≤ got_from s.local from) turn (turn.heard from)
+    (λ j _. le_refl _) k in
+    ⊎_elim
     {C = IsInFlight c from k place y
     ⊎ ((from ≡ i) × (k ≡ to) × (y ≡ x) × (place ≡ length (sent_to (c i) to)))}
     (λ before. inl before)
@@ -179,11 +195,7 @@ flew-one {c = c} {d = d} {i = i} {to = to} {x = x} turn from k place y flight = 
     ⊎ ((from ≡ i) × (k ≡ to) × (y ≡ x) × (place ≡ length (sent_to (c i) to)))}
     (λ (old : place < length (sent_to (c i) to)).
     inl (record {
-      later =
-          (let fewer : taken c from k ≤ taken d from k =
-          at_turn (λ j s. taken c from j ≤ got_from s.local from) turn (turn.heard from)
-          (λ j _. le_refl _) k in
-          omega (arith, fewer, flight.later));
+      later = omega (arith, fewer, flight.later);
       there =
           ap (λ (z : ℕ). slice_get (sent_to (c z) k) place) new.0
           ∙ ap (λ (z : ℕ). slice_get (sent_to (c i) z) place) at
@@ -194,11 +206,7 @@ flew-one {c = c} {d = d} {i = i} {to = to} {x = x} turn from k place y flight = 
     (cases_lt place (length (sent_to (c i) to))))
     (λ h.
     inl (record {
-      later =
-          (let fewer : taken c from k ≤ taken d from k =
-          at_turn (λ j s. taken c from j ≤ got_from s.local from) turn (turn.heard from)
-          (λ j _. le_refl _) k in
-          omega (arith, fewer, flight.later));
+      later = omega (arith, fewer, flight.later);
       there = ap (λ (z : ℕ). slice_get (sent_to (c z) k) place) new.0 ∙ h;
     })) there)
     (λ never. absurd never) new.1)

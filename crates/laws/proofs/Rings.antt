@@ -7,7 +7,7 @@ use Rattle.std.proofs.lemmas.Bool.{cases_eq, cases_lt, cond-true}
 use Rattle.ids.specs.Limits.{Shaped}
 use Rattle.msg.specs.declared.body.Message.{Message}
 use Rattle.model.specs.State.{LocalState, NodeState}
-use Rattle.model.specs.Cuts.{Cut, IsInFlight}
+use Rattle.model.specs.Cuts.{Cut, taken, IsInFlight}
 use Rattle.model.specs.Agreement.{total, flow, is_counted, balance}
 use Rattle.laws.proofs.Sums.{total-same}
 use Rattle.laws.proofs.Safra.{BlackUpTo, Safra, Loud, NodeStep, safra-step}
@@ -50,6 +50,18 @@ pub record Counted (c : Cut) : Type 0 where
   pub message : Message
   pub flight : IsInFlight c from to place message
   pub counted : is_counted (cycle_of c 0) message ≡ true
+
+-- the first message in flight on a link
+pub counted-first : {c : Cut} {from to : ℕ} {x : Message} → IsInFlight c from to (taken c from to) x
+    → is_counted (cycle_of c 0) x ≡ true → Counted c
+counted-first {c = c} {from = from} {to = to} {x = x} flight counted = record {
+  from = from;
+  to = to;
+  place = taken c from to;
+  message = x;
+  flight = flight;
+  counted = counted;
+}
 
 pub counted-loud : {shape : Shaped} {c : Cut} → Base shape c → Flows shape.nodes c → Counted c
     → (t : ℕ) → Loud shape.nodes (ringed c) t

@@ -21,7 +21,7 @@ use Rattle.model.proofs.Lookups.{all-map, at_set_if}
 use Rattle.model.proofs.Slots.{occupied-within}
 use Rattle.laws.proofs.Lookups.{any-map}
 use Rattle.laws.proofs.Turns.{Turn, at_turn, flew}
-use Rattle.laws.proofs.Base.{BaseStep, base-step}
+use Rattle.laws.proofs.Base.{base-step, unheard}
 use Rattle.laws.proofs.Tallies.{tally-same, tallies-turn}
 use Rattle.laws.proofs.Inner.{roots-map, resting-joined, sweeping-resting}
 use Rattle.laws.proofs.Slots.{still-free}
@@ -362,16 +362,7 @@ module _ {shape : Shaped} {c d : Cut} {i : ℕ} {h : Heap} {to swept cursor : �
 
   pub sweep-inv : Inv shape d
   sweep-inv = record {
-    base =
-        (let step : BaseStep shape c d i swept_now [] = record {
-          inside = s.inside;
-          turn = sweep-turn;
-          own = refl;
-          same_shape = refl;
-          heard = refl;
-          within = λ from. s.inv.base.within from i;
-        } in
-        base-step step s.inv.base);
+    base = base-step (unheard s.inside sweep-turn refl refl refl s.inv.base) s.inv.base;
     tidy = at_turn (λ j z. Tidy z.local) sweep-turn
         (record {
           free = s.heap.free (s.inv.tidy i).free;

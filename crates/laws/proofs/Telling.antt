@@ -11,7 +11,7 @@ use Rattle.model.specs.Checks.{guarded, AllPass}
 use Rattle.model.specs.State.{Heap, LocalState, NodeState}
 use Rattle.model.specs.Heaps.{is_register, is_filled, is_local, has_slot, has_place, named, object_at, own_tests, copy_tests, drop_tests, word_tests, register_tests, put_tests, get_tests, accept_tests}
 use Rattle.model.specs.Steps.{tests, made, fits, all_tests, checked, act}
-use Rattle.laws.specs.Objects.{Thing, Space, object_in, has_that, is_program, checks, IsLimit, IsTold}
+use Rattle.laws.specs.Objects.{Thing, Space, object_in, has_that, is_program, checks, IsLimit, MayBeTold}
 use Rattle.model.proofs.Checks.{guarded-pass, guarded-passes}
 use Rattle.laws.proofs.StepFacts.{after-err, last-refusal}
 use Rattle.laws.proofs.Doings.{Here, thing-has, thing-there, object-same, Doing, own-answers}
@@ -170,7 +170,7 @@ tests-alike p e never x = absurd cc
 -- an answer
 pub told-ok : {s : Space} (p : LocalState) (counts : List ℕ) (e : Event) → is_program e ≡ true
     → Ready s p → Doing s p e
-    → IsTold s p.own p.shape.nodes e (Ok (made p counts e).answer)
+    → MayBeTold s p.own p.shape.nodes e (Ok (made p counts e).answer)
 told-ok {s = s} p counts e is x d = (
   alike-pass (tested p e) (checks s p.own p.shape.nodes e) (tests-alike p e is x)
       (tested-pass p e d.passed),
@@ -209,14 +209,14 @@ limit-refused p counts e r is h = never-refused _ r h
 -- a refusal
 pub told-err : {s : Space} (n : NodeState) (e : Event) (r : Refusal) → is_program e ≡ true
     → Ready s n.local → act n e ≡ Err r
-    → IsTold s n.local.own n.local.shape.nodes e (Err r)
+    → MayBeTold s n.local.own n.local.shape.nodes e (Err r)
 unfolding act
 told-err {s = s} n e r is x refused =
     let p : LocalState = n.local in
     let counts : List ℕ = map length n.sent in
     let all = after-err n (checked (tests p e) counts (made p counts e)) r refused in
     let alike = tests-alike p e is x in
-    ⊎_elim {C = IsTold s p.own p.shape.nodes e (Err r)}
+    ⊎_elim {C = MayBeTold s p.own p.shape.nodes e (Err r)}
     (λ first. inl (alike-refuse (tested p e) (checks s p.own p.shape.nodes e) _ s r alike first))
     (λ last. inr (
       alike-pass (tested p e) (checks s p.own p.shape.nodes e) alike last.0,

@@ -17,8 +17,9 @@ use Rattle.laws.proofs.Safra.{Safra, safra-probe, Handing, safra-forward}
 use Rattle.laws.proofs.Flights.{flight-inside}
 use Rattle.laws.proofs.Tallies.{bound-turn}
 use Rattle.laws.proofs.Invariant.{phases_of, cycle_of, Marking, Resting, Joined, Phased, BodyFits, is_single, Round, Spot, at_node, on_way, place_of_spot, IsAt, is_held, is_sent, IsBlack, ringed, is_black, Bound, Inv}
+use Rattle.laws.proofs.Base.{unheard}
 use Rattle.laws.proofs.Light.{is_idle, light-inv, Speaks, speaks-flows, Hears, hears-turn, hears-flows, hears-width, hears-within, hears-marks}
-use Rattle.laws.proofs.RingSteps.{at-once, way-not-node, Ringless, ringless-phases, ringless-cycle, ringless-passive, ringless-owed, ringless-safra, flew-one, quiet-messages}
+use Rattle.laws.proofs.RingSteps.{at-once, way-not-node, Ringless, ringless-as, ringless-phases, ringless-cycle, ringless-passive, ringless-owed, ringless-safra, flew-one, quiet-messages}
 
 -- The node gives its token to another node, and is white then.
 pub record Leaving (shape : Shaped) (c d : Cut) (i to : ℕ) (t u : Token) : Type 0 where
@@ -48,15 +49,7 @@ module _ {shape : Shaped} {c d : Cut} {i to : ℕ} {t u : Token}
   leave-turn = record { becomes = h.becomes; heard = λ from. le_refl _ }
 
   leave-same : Ringless (c i).local left
-  leave-same = record {
-    own = refl;
-    shape = refl;
-    heap = refl;
-    asked = refl;
-    phases = refl;
-    earlier = refl;
-    recent = refl;
-  }
+  leave-same = ringless-as
 
   leave-round : Round shape.nodes c
   leave-round = h.inv.tokens.round h.marking
@@ -131,12 +124,7 @@ module _ {shape : Shaped} {c d : Cut} {i to : ℕ} {t u : Token}
   pub leave-inv : Inv shape d
   leave-inv = light-inv (record {
     inv = h.inv;
-    inside = h.inside;
-    turn = leave-turn;
-    own = refl;
-    same_shape = refl;
-    heard = refl;
-    within = λ from. h.inv.base.within from i;
+    step = unheard h.inside leave-turn refl refl refl h.inv.base;
     heap = refl;
     asked = refl;
     cycle = refl;
@@ -232,15 +220,7 @@ pub forward-safra : {shape : Shaped} {c d : Cut} {i to : ℕ} {t u : Token}
 forward-safra {shape = shape} {c = c} {d = d} {i = i} {to = to} {t = t} {u = u} h safra =
     let same : Ringless (c i).local
     (record (c i).local { ring = whitened (without_token (c i).local.ring) }) =
-    record {
-      own = refl;
-      shape = refl;
-      heap = refl;
-      asked = refl;
-      phases = refl;
-      earlier = refl;
-      recent = refl;
-    } in
+    ringless-as in
     let hands : Handing shape.nodes (ringed c) (ringed d) to = record {
       inside = (let k : suc to < shape.nodes = omega (arith, h.inside, h.before) in k);
       passive = subst (ringed c).passive h.before (h.joined, h.calm);
@@ -303,15 +283,7 @@ module _ {shape : Shaped} {c d : Cut} {i j stamp : ℕ} {t : Token}
   }
 
   arrive-same : Ringless (c i).local arrived
-  arrive-same = record {
-    own = refl;
-    shape = refl;
-    heap = refl;
-    asked = refl;
-    phases = refl;
-    earlier = refl;
-    recent = refl;
-  }
+  arrive-same = ringless-as
 
   arrive-marking : Marking (phases_of c 0)
   arrive-marking = (h.inv.messages.fits j i (taken c j i) _ h.flight).1
@@ -379,12 +351,14 @@ module _ {shape : Shaped} {c d : Cut} {i j stamp : ℕ} {t : Token}
   pub arrive-inv : Inv shape d
   arrive-inv = light-inv (record {
     inv = h.inv;
-    inside = h.inside;
-    turn = hears-turn arrive-hears;
-    own = refl;
-    same_shape = refl;
-    heard = hears-width arrive-hears;
-    within = hears-within arrive-hears;
+    step = record {
+      inside = h.inside;
+      turn = hears-turn arrive-hears;
+      own = refl;
+      same_shape = refl;
+      heard = hears-width arrive-hears;
+      within = hears-within arrive-hears;
+    };
     heap = refl;
     asked = refl;
     cycle = refl;

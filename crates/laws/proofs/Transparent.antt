@@ -25,8 +25,8 @@ use Rattle.model.specs.World.{World, KeepsSent, new_world, released, acknowledge
 use Rattle.model.specs.Cuts.{Cut, cut, taken, Becomes}
 use Rattle.model.proofs.Lookups.{get_or-replicate_any}
 use Rattle.model.proofs.Walk.{work_in}
-use Rattle.laws.specs.Objects.{Space, new_space, is_program, IsTold, Sight, told, came, IsRun, then, after}
-use Rattle.laws.specs.Sights.{came_of, seen, choosing, before, at_first, kept, programs, CollectorIsUnseen}
+use Rattle.laws.specs.Objects.{Space, new_space, is_program, MayBeTold, Sight, told, came, IsRun, after_sight, after}
+use Rattle.laws.specs.Sights.{came_of, observed_in_step, choosing, choice_before, choice_at_start, observed_in_cut, programs, CollectorIsUnseen}
 use Rattle.laws.proofs.StepFacts.{Delivery, tests_of, IsTurnOf, IsReleased, Stepped, act-ok, Receipt, repeated, next, receipt-cases}
 use Rattle.laws.proofs.NoEvent.{only-events-change}
 use Rattle.laws.proofs.KeepsSent.{keeps-sent, new-keeps-sent, run-count}
@@ -68,11 +68,11 @@ new-same shape choice = record {
 run-append : (nodes : ℕ) (s : Space) (xs ys : List Sight) → IsRun nodes s xs
     → IsRun nodes (after s xs) ys → IsRun nodes s (xs ++ ys)
 run-append nodes s [] ys a b = b
-run-append nodes s (x ∷ xs) ys a b = (a.0, run-append nodes (then s x) xs ys a.1 b)
+run-append nodes s (x ∷ xs) ys a b = (a.0, run-append nodes (after_sight s x) xs ys a.1 b)
 
 after-append : (s : Space) (xs ys : List Sight) → after s (xs ++ ys) ≡ after (after s xs) ys
 after-append s [] ys = refl
-after-append s (x ∷ xs) ys = after-append (then s x) xs ys
+after-append s (x ∷ xs) ys = after-append (after_sight s x) xs ys
 
 -- these sights are allowed, and the space afterwards matches the cut
 pub record Seen (nodes : ℕ) (s : Space) (xs : List Sight) (d : Cut) : Type 0 where
@@ -141,10 +141,10 @@ at-node w choice i h same within = record {
 -- what is told at a node of the cut
 told-at : {shape : Shaped} {s : Space} {c : Cut} {i : ℕ} (e : Event)
     (r : Result Answer Refusal) → At shape s c i
-    → IsTold s (c i).local.own (c i).local.shape.nodes e r → IsTold s i shape.nodes e r
+    → MayBeTold s (c i).local.own (c i).local.shape.nodes e r → MayBeTold s i shape.nodes e r
 told-at {shape = shape} {s = s} {c = c} {i = i} e r at h =
-    subst (λ (z : ℕ). IsTold s z shape.nodes e r) (at.inv.base.own i at.inside)
-    (subst (λ (z : Shaped). IsTold s (c i).local.own z.nodes e r)
+    subst (λ (z : ℕ). MayBeTold s z shape.nodes e r) (at.inv.base.own i at.inside)
+    (subst (λ (z : Shaped). MayBeTold s (c i).local.own z.nodes e r)
     (at.inv.base.shapes i at.inside) h)
 
 answer-seen : {shape : Shaped} {s : Space} {w : World} {choice : ℕ → Bool} {i : ℕ} {e : Event}
@@ -178,7 +178,7 @@ answer-seen {shape = shape} {s = s} {w = w} {choice = choice} {i = i} {e = e} t 
         (
           at.inside,
           is,
-          subst (λ (z : Answer). IsTold s i shape.nodes e (Ok z)) (sym found.answer)
+          subst (λ (z : Answer). MayBeTold s i shape.nodes e (Ok z)) (sym found.answer)
               (told-at e (Ok (made p counts e).answer) at
               (told-ok p counts e is (ready at) (doing at found.passed))),
         ),
@@ -237,7 +237,7 @@ refusal-seen {shape = shape} {s = s} {w = w} {choice = choice} {i = i} {e = e} r
 abbrev StepSeen : Shaped → Space → World → (ℕ → Bool) → Step → Result (World × Outcome) Refusal
     → Type 0
 StepSeen shape s w choice st r =
-    Seen shape.nodes s (seen w choice st (outcome_of r)) (cut (world_after w r) choice)
+    Seen shape.nodes s (observed_in_step w choice st (outcome_of r)) (cut (world_after w r) choice)
 
 act-seen : {shape : Shaped} {s : Space} (w : World) (choice : ℕ → Bool) (i : ℕ) (e : Event)
     → Standing shape w → Same s (cut w choice)
@@ -478,7 +478,7 @@ hand-quiet w from to =
 -- ---- runs
 
 step-seen : {shape : Shaped} {s : Space} (w : World) (st : Step) (choice : ℕ → Bool)
-    → Standing shape w → Same s (cut w (before st choice))
+    → Standing shape w → Same s (cut w (choice_before st choice))
     → StepSeen shape s w choice st (take_step w st)
 step-seen w (step.Act i e) choice h same = act-seen w choice i e h same
 step-seen w (step.Save i) choice h same = seen-nothing (save-seen w choice i h same)
@@ -491,17 +491,17 @@ step-seen {s = s} w (step.Hand from to) choice h same =
     (sym (only-events-change w (step.Hand from to) (hand-quiet w from to))) same)
 
 run-seen : {shape : Shaped} (w : World) (steps : List Step) (choice : ℕ → Bool) (s : Space)
-    → Standing shape w → Same s (cut w (at_first steps choice))
-    → Seen shape.nodes s (kept w steps choice) (cut (run w steps) choice)
+    → Standing shape w → Same s (cut w (choice_at_start steps choice))
+    → Seen shape.nodes s (observed_in_cut w steps choice) (cut (run w steps) choice)
 run-seen w [] choice s h same = seen-nothing same
 run-seen {shape = shape} w (st ∷ ss) choice s h same =
-    let xs : List Sight = seen w (at_first ss choice) st (outcome_of (take_step w st)) in
-    let first = step-seen w st (at_first ss choice) h same in
+    let xs : List Sight = observed_in_step w (choice_at_start ss choice) st (outcome_of (take_step w st)) in
+    let first = step-seen w st (choice_at_start ss choice) h same in
     let rest = run-seen (happens w st) ss choice (after s xs) (standing-next st h) first.same in
     record {
-      runs = run-append shape.nodes s xs (kept (happens w st) ss choice) first.runs rest.runs;
+      runs = run-append shape.nodes s xs (observed_in_cut (happens w st) ss choice) first.runs rest.runs;
       same = subst (λ (z : Space). Same z (cut (run (happens w st) ss) choice))
-          (sym (after-append s xs (kept (happens w st) ss choice))) rest.same;
+          (sym (after-append s xs (observed_in_cut (happens w st) ss choice))) rest.same;
     }
 
 new-standing : (shape : Shaped) → IsShape shape → Standing shape (new_world shape)
@@ -516,7 +516,7 @@ collector-is-unseen shape limits steps choice =
     let w : World = new_world shape in
     let c : Cut = cut (run w steps) choice in
     let all = run-seen w steps choice (new_space shape) (new-standing shape limits)
-    (new-same shape (at_first steps choice)) in (
+    (new-same shape (choice_at_start steps choice)) in (
       all.runs,
       record {
         registers = λ i. ap (λ (z : Heap). z.registers) (all.same.here i).desk;

@@ -47,9 +47,9 @@ has_that None place = false
 has_that (Some o) place = nat_lt place (length o.places)
 
 -- the content of a place; nothing if there is no such place or no object
-abbrev pub stands_in : Option Thing → ℕ → Option Ref
-stands_in None place = None
-stands_in (Some o) place = slice_index_or o.places place None
+abbrev pub content_of : Option Thing → ℕ → Option Ref
+content_of None place = None
+content_of (Some o) place = slice_index_or o.places place None
 
 abbrev pub word_in : Option Thing → ℕ
 word_in None = 0
@@ -160,7 +160,7 @@ module _ (s : Space) (i : ℕ) where
   IsAnswer (event.Alloc register places) a =
       (r : Ref) × (a ≡ answer.New r) × (r.node ≡ i) × (s.objects r ≡ None)
   IsAnswer (event.Load register object place) a =
-      a ≡ answer.Value (stands_in (object_in object) place)
+      a ≡ answer.Value (content_of (object_in object) place)
   IsAnswer (event.Word object) a = a ≡ answer.Word (word_in (object_in object))
   IsAnswer (event.Give to label register) a = (number : ℕ) × (a ≡ answer.Sent number)
   IsAnswer (event.Accept register) a = a ≡ answer.Letter (oldest_letter (s.desk i))
@@ -170,9 +170,9 @@ module _ (s : Space) (i : ℕ) where
 
   -- what the program may be told about an event: an answer if every test passes, the refusal of the
   -- first test that fails, or, if none fails, the refusal of a limit
-  abbrev pub IsTold : ℕ → Event → Result Answer Refusal → Type 0
-  IsTold nodes e (Ok a) = AllPass (checks nodes e) × IsAnswer e a
-  IsTold nodes e (Err r) =
+  abbrev pub MayBeTold : ℕ → Event → Result Answer Refusal → Type 0
+  MayBeTold nodes e (Ok a) = AllPass (checks nodes e) × IsAnswer e a
+  MayBeTold nodes e (Err r) =
       (guarded (checks nodes e) s ≡ Err r) ⊎ (AllPass (checks nodes e) × IsLimit e r)
 
   -- what an answered event does
@@ -183,7 +183,7 @@ module _ (s : Space) (i : ℕ) where
   does (event.Copy register source) a = with_desk s i (register_copied (s.desk i) register source)
   does (event.Drop register) a = with_desk s i (with_register (s.desk i) register None)
   does (event.Load register object place) a =
-      with_desk s i (with_register (s.desk i) register (stands_in (object_in object) place))
+      with_desk s i (with_register (s.desk i) register (content_of (object_in object) place))
   does (event.Store object place register) a = with_place s (named_by object) place (held register)
   does (event.Clear object place) a = with_place s (named_by object) place None
   does (event.SetWord object word) a = with_word s (named_by object) word
@@ -204,7 +204,7 @@ follows s from to (body.Give label reference) =
     (with_letter (s.desk to) (record { from = from; label = label; reference = reference }))
 follows s from to (body.Put target place reference) = with_place s target place reference
 follows s from to (body.Get target place label) =
-    posted s to from (body.Give label (stands_in (s.objects target) place))
+    posted s to from (body.Give label (content_of (s.objects target) place))
 follows s from to b = s
 
 -- the first message in flight arrives
@@ -222,20 +222,20 @@ pub data Sight : Type 0 where
 
 -- this space may show it
 abbrev pub IsSight : ℕ → Space → Sight → Type 0
-IsSight nodes s (told i e r) = (i < nodes) × IsTrue (is_program e) × IsTold s i nodes e r
+IsSight nodes s (told i e r) = (i < nodes) × IsTrue (is_program e) × MayBeTold s i nodes e r
 IsSight nodes s (came from to) = (from < nodes) × (to < nodes) × (s.under_way from to ≢ [])
 
 -- the space afterwards
-abbrev pub then : Space → Sight → Space
-then s (told i e (Ok a)) = does s i e a
-then s (told i e (Err r)) = s
-then s (came from to) = arrives s from to (s.under_way from to)
+abbrev pub after_sight : Space → Sight → Space
+after_sight s (told i e (Ok a)) = does s i e a
+after_sight s (told i e (Err r)) = s
+after_sight s (came from to) = arrives s from to (s.under_way from to)
 
 -- one sight after another
 abbrev pub IsRun : ℕ → Space → List Sight → Type 0
 IsRun nodes s [] = Unit {0}
-IsRun nodes s (x ∷ xs) = IsSight nodes s x × IsRun nodes (then s x) xs
+IsRun nodes s (x ∷ xs) = IsSight nodes s x × IsRun nodes (after_sight s x) xs
 
 abbrev pub after : Space → List Sight → Space
 after s [] = s
-after s (x ∷ xs) = after (then s x) xs
+after s (x ∷ xs) = after (after_sight s x) xs

@@ -2,19 +2,18 @@
 -- The collector alone, by the moves of `Strategy`, ends the cycle's marking, has each node sweep
 -- the cycle, and frees what was garbage. No step of it is refused, and the number of moves is
 -- bounded, if no link runs out of numbers.
-use Rattle.std.specs.Prelude.{◌≡◌, ℕ, ◌+◌, ◌*◌, ◌<◌, ◌≤◌, Bool, true, List, map}
+use Rattle.std.specs.Prelude.{◌≡◌, ℕ, ◌+◌, ◌<◌, ◌≤◌, Bool, true, List, map}
 use Rattle.std.specs.List.{range_with_len}
-use Rattle.ids.specs.Limits.{Shaped, IsShape}
 use Rattle.ids.specs.declared.names.Ref.{Ref}
 use Rattle.ids.specs.declared.limits.TheConstants.{GREATEST_CYCLE}
 use Rattle.model.specs.declared.step.Step.{Step}
 use Rattle.model.specs.declared.step.Step.TheVariants as step
 use Rattle.model.specs.Collecting.{is_swept_everywhere}
-use Rattle.model.specs.World.{World, new_world, run}
+use Rattle.model.specs.World.{World, run}
 use Rattle.model.specs.Cuts.{Cut, cut, IsLive}
 use Rattle.model.specs.Agreement.{Terminated, OldGarbage}
 use Rattle.laws.specs.Strategy.{now, play, IsPlayed}
-use Rattle.laws.specs.Bounds.{flight, moves, cycle_moves, next_work, both_moves, HasRoom}
+use Rattle.laws.specs.Bounds.{marking_moves, cycle_moves, both_moves, soon_moves, marking_room, cycle_room, both_room, soon_room, HasRoom}
 
 abbrev pub current_cycle : World → ℕ
 current_cycle w = (now w 0).local.phases.cycle
@@ -35,29 +34,19 @@ pub record Comes (n most : ℕ) (w : World) (P : World → Type 0) : Type 0 wher
   pub moves : ℕ
   pub few : moves ≤ most
   pub played : IsPlayed n moves w
-  pub then : P (play n moves w)
+  pub holds : P (play n moves w)
 
--- what is true of every space after any steps
-abbrev pub OfSpaces : (ℕ → World → Type 0) → Type 0
-OfSpaces P =
-    (shape : Shaped) → IsShape shape → (steps : List Step)
-    → P shape.nodes (run (new_world shape) steps)
-
--- The cycle's marking ends.
-abbrev pub MarkingCanEnd : Type 0
-MarkingCanEnd =
-    OfSpaces
-    (λ n w.
-    HasRoom (moves n (now w) + n) (now w)
-    → Comes n (moves n (now w)) w (λ v. HasEnded (current_cycle w) (now v)))
+-- The cycle's marking ends. (Here and below, n is the number of nodes.)
+abbrev pub MarkingCanEnd : ℕ → World → Type 0
+MarkingCanEnd n w =
+    HasRoom (marking_room n (now w)) (now w)
+    → Comes n (marking_moves n (now w)) w (λ v. HasEnded (current_cycle w) (now v))
 
 -- Each node sweeps the cycle.
-abbrev pub CycleCanEnd : Type 0
-CycleCanEnd =
-    OfSpaces
-    (λ n w.
-    HasRoom (cycle_moves n (now w) + n) (now w)
-    → Comes n (cycle_moves n (now w)) w (λ v. IsSwept n (current_cycle w) (now v)))
+abbrev pub CycleCanEnd : ℕ → World → Type 0
+CycleCanEnd n w =
+    HasRoom (cycle_room n (now w)) (now w)
+    → Comes n (cycle_moves n (now w)) w (λ v. IsSwept n (current_cycle w) (now v))
 
 -- Each node sweeps the next cycle too. Once each is saved after that, none of them has an object
 -- that was old garbage at the start, in any choice of current and saved states.
@@ -67,20 +56,15 @@ saves n = map step.Save (range_with_len 0 n)
 abbrev pub IsGone : World → World → Ref → Type 0
 IsGone w v r = OldGarbage w r → (choice : ℕ → Bool) → IsLive (cut v choice) r → ⊥
 
-abbrev pub GarbageCanGo : Type 0
-GarbageCanGo =
-    OfSpaces
-    (λ n w.
-    current_cycle w < GREATEST_CYCLE
-    → HasRoom (both_moves n (now w) + next_work n (now w) + 3 * n) (now w)
+abbrev pub GarbageCanGo : ℕ → World → Type 0
+GarbageCanGo n w =
+    current_cycle w < GREATEST_CYCLE → HasRoom (both_room n (now w)) (now w)
     → Comes n (both_moves n (now w)) w
-    (λ v. IsSwept n (current_cycle w + 1) (now v) × ((r : Ref) → IsGone w (run v (saves n)) r)))
+    (λ v. IsSwept n (current_cycle w + 1) (now v) × ((r : Ref) → IsGone w (run v (saves n)) r))
 
 -- Once marking has terminated, node 0 finds that in three rounds of the token, if nothing else is
 -- in flight.
-abbrev pub EndIsFoundSoon : Type 0
-EndIsFoundSoon =
-    OfSpaces
-    (λ n w.
-    Terminated n (current_cycle w) (now w) → HasRoom (6 * n + flight n (now w) + n) (now w)
-    → Comes n (6 * n + flight n (now w)) w (λ v. HasEnded (current_cycle w) (now v)))
+abbrev pub EndIsFoundSoon : ℕ → World → Type 0
+EndIsFoundSoon n w =
+    Terminated n (current_cycle w) (now w) → HasRoom (soon_room n (now w)) (now w)
+    → Comes n (soon_moves n (now w)) w (λ v. HasEnded (current_cycle w) (now v))

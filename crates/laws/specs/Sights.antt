@@ -19,7 +19,7 @@ use Rattle.model.specs.Cuts.{Cut, cut, Reachable}
 use Rattle.model.specs.Agreement.{in_flight}
 use Rattle.laws.specs.Objects.{Thing, Space, new_space, is_program, Sight, told, came, IsRun, after}
 
--- ---- what is seen of a step
+-- ---- what is observed of a step
 
 -- what a program was told about its event
 abbrev pub told_of : ℕ → Event → Result Outcome Refusal → List Sight
@@ -27,45 +27,52 @@ told_of i e (Ok (outcome.Answer a)) = told i e (Ok a) ∷ []
 told_of i e (Ok o) = []
 told_of i e (Err r) = told i e (Err r) ∷ []
 
--- a program's message that was received; the collector's messages aren't seen
+-- a program's message that was received; the collector's messages aren't observed
 abbrev pub came_of : ℕ → ℕ → Result Outcome Refusal → Option Message → List Sight
 came_of from to (Ok (outcome.Answer answer.Received)) (Some x) =
     cond (is_reference x.body) (came from to ∷ []) []
 came_of from to r found = []
 
--- What is seen of a step, by its outcome. If the choice takes a node's saved state, neither what
+-- What is observed of a step, by its outcome. If the choice takes a node's saved state, neither what
 -- its program is told nor what the node receives is in the cut.
-abbrev pub seen : World → (ℕ → Bool) → Step → Result Outcome Refusal → List Sight
-seen w choice (step.Act i e) r =
+abbrev pub observed_in_step : World → (ℕ → Bool) → Step → Result Outcome Refusal → List Sight
+observed_in_step w choice (step.Act i e) r =
     cond (is_node w i && (is_program e && not (choice i))) (told_of i e r) []
-seen w choice (step.Deliver from to number) r =
+observed_in_step w choice (step.Deliver from to number) r =
     cond (choice to) [] (came_of from to r (released w from to number))
-seen w choice s r = []
+observed_in_step w choice s r = []
 
--- ---- what is seen of a run
+-- ---- what is observed of a run
 
 -- The choice before a step that picks the same states as the choice after it. For a node that is
 -- saved, it is the current state; for a node that is restarted, the saved one.
 abbrev pub choosing : (ℕ → Bool) → ℕ → Bool → ℕ → Bool
 choosing choice i b k = cond (k == i) b (choice k)
 
-abbrev pub before : Step → (ℕ → Bool) → ℕ → Bool
-before (step.Save i) choice = choosing choice i false
-before (step.Restart i) choice = choosing choice i true
-before s choice = choice
+abbrev pub choice_before : Step → (ℕ → Bool) → ℕ → Bool
+choice_before (step.Save i) choice = choosing choice i false
+choice_before (step.Restart i) choice = choosing choice i true
+choice_before s choice = choice
 
 -- the same before a list of steps
-abbrev pub at_first : List Step → (ℕ → Bool) → ℕ → Bool
-at_first [] choice = choice
-at_first (s ∷ ss) choice = before s (at_first ss choice)
+abbrev pub choice_at_start : List Step → (ℕ → Bool) → ℕ → Bool
+choice_at_start [] choice = choice
+choice_at_start (s ∷ ss) choice = choice_before s (choice_at_start ss choice)
 
--- What was seen in a run, as far as it belongs to the cut that the choice picks at its end. What a
--- restart has undone, or what a saved state lacks, is left out. If nothing was restarted and all
+-- What is observed in a run, as far as it belongs to the cut that the choice picks at its end. What
+-- a restart has undone, or what a saved state lacks, is left out. If nothing was restarted and all
 -- states are current, nothing is left out.
-abbrev pub kept : World → List Step → (ℕ → Bool) → List Sight
-kept w [] choice = []
-kept w (s ∷ ss) choice =
-    seen w (at_first ss choice) s (outcome_of (take_step w s)) ++ kept (happens w s) ss choice
+--
+-- Three runs of two steps, where node 0 makes an object in one of them
+-- (`proofs/rows/SightRows.antt`):
+-- * made, then node 0 is restarted: no cut has it, since the restart took the object back;
+-- * made, then node 0 is saved: every cut has it;
+-- * node 0 is saved, then made: only the cuts of node 0's current state have it.
+abbrev pub observed_in_cut : World → List Step → (ℕ → Bool) → List Sight
+observed_in_cut w [] choice = []
+observed_in_cut w (s ∷ ss) choice =
+    observed_in_step w (choice_at_start ss choice) s (outcome_of (take_step w s))
+    ++ observed_in_cut (happens w s) ss choice
 
 -- ---- the theorem
 
@@ -95,6 +102,6 @@ pub record LooksLike (s : Space) (c : Cut) : Type 0 where
 abbrev pub CollectorIsUnseen : Type 0
 CollectorIsUnseen =
     (shape : Shaped) → IsShape shape → (steps : List Step) (choice : ℕ → Bool)
-    → IsRun shape.nodes (new_space shape) (kept (new_world shape) steps choice)
-    × LooksLike (after (new_space shape) (kept (new_world shape) steps choice))
+    → IsRun shape.nodes (new_space shape) (observed_in_cut (new_world shape) steps choice)
+    × LooksLike (after (new_space shape) (observed_in_cut (new_world shape) steps choice))
     (cut (run (new_world shape) steps) choice)

@@ -16,8 +16,8 @@ abbrev pub now : World → Cut
 now w = cut w (λ _. false)
 
 -- the least number below n that passes, or n
-abbrev pub first : ℕ → (ℕ → Bool) → ℕ
-first n f = position_or_len f (range_with_len 0 n)
+abbrev pub least : ℕ → (ℕ → Bool) → ℕ
+least n f = position_or_len f (range_with_len 0 n)
 
 -- a message in flight is received; or a node does one of its own events
 pub data Move : Type 0 where
@@ -28,7 +28,7 @@ abbrev pub is_waiting : Cut → ℕ → ℕ → Bool
 is_waiting c from to = nat_lt (taken c from to) (length (sent_to (c from) to))
 
 abbrev pub has_waiting : ℕ → Cut → ℕ → Bool
-has_waiting n c from = nat_lt (first n (is_waiting c from)) n
+has_waiting n c from = nat_lt (least n (is_waiting c from)) n
 
 abbrev pub is_grey : Cut → ℕ → Bool
 is_grey c i = not (is_calm (c i).local.heap)
@@ -42,10 +42,10 @@ is_unswept c i = not ((c i).local.phases.swept == (c 0).local.phases.cycle)
 -- A message in flight is received first. While marking goes on, grey objects are scanned, and then
 -- the token is passed. After that each node sweeps all its slots, and last a cycle begins.
 abbrev pub bring_move : ℕ → Cut → ℕ → Move
-bring_move n c from = Bring from (first n (is_waiting c from))
+bring_move n c from = Bring from (least n (is_waiting c from))
 
 abbrev pub mark_move : ℕ → Cut → ℕ → Move
-mark_move n c i = cond (nat_lt i n) (Do i event.Scan) (Do (first n (has_token c)) event.Pass)
+mark_move n c i = cond (nat_lt i n) (Do i event.Scan) (Do (least n (has_token c)) event.Pass)
 
 abbrev pub sweep_move : ℕ → Cut → ℕ → Move
 sweep_move n c i =
@@ -55,14 +55,14 @@ abbrev pub own_move : ℕ → Cut → Move
 own_move n c =
     cond
     (is_open (c 0).local)
-    (mark_move n c (first n (is_grey c)))
-    (sweep_move n c (first n (is_unswept c)))
+    (mark_move n c (least n (is_grey c)))
+    (sweep_move n c (least n (is_unswept c)))
 
 abbrev pub next_move : ℕ → Cut → Move
 next_move n c =
     cond
-    (nat_lt (first n (has_waiting n c)) n)
-    (bring_move n c (first n (has_waiting n c)))
+    (nat_lt (least n (has_waiting n c)) n)
+    (bring_move n c (least n (has_waiting n c)))
     (own_move n c)
 
 -- The steps of a move. Both nodes are saved before a message is given to its receiver: so it is

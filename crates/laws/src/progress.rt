@@ -2,6 +2,7 @@
 //! cycle, by moves that the space determines (`specs/Strategy`), and within a bound
 //! (`specs/Bounds`). `specs/Progress` says this in four statements, and `proofs/progress` proves
 //! them over the definitions of crate `model` and the invariant of this crate (`Invariant`).
+ghost use Rattle.laws.specs.Statements.{OfSpaces};
 ghost use Rattle.laws.specs.Progress.{MarkingCanEnd, CycleCanEnd, GarbageCanGo, EndIsFoundSoon};
 
 /// The four theorems. They hold for every list of steps of every space, and for the moves that the
@@ -12,13 +13,13 @@ ghost use Rattle.laws.specs.Progress.{MarkingCanEnd, CycleCanEnd, GarbageCanGo, 
 /// This function does nothing: its contract is the theorems.
 pub fn laws()
     // Node 0 counts the cycle's marking as ended.
-    ensures marking { MarkingCanEnd }
+    ensures marking { OfSpaces MarkingCanEnd }
     // Each node has swept the cycle, and node 0 knows it.
-    ensures cycle { CycleCanEnd }
+    ensures cycle { OfSpaces CycleCanEnd }
     // Each node has swept the next cycle too. Once each is saved, none of them has an object that
     // was old garbage at the start, rings of objects across nodes included.
-    ensures garbage { GarbageCanGo }
+    ensures garbage { OfSpaces GarbageCanGo }
     // Once marking has terminated, three rounds of the token are enough, and the moves for what
     // else is in flight.
-    ensures soon { EndIsFoundSoon }
+    ensures soon { OfSpaces EndIsFoundSoon }
 {}

@@ -117,7 +117,7 @@ appended-keeps f same links (m ∷ ms) =
 let_go-kept : (links : List Link) (o : Option Ack)
     → map kept_of (let_go links o) ≡ map kept_of links
 let_go-kept links None = refl
-let_go-kept links (Some a) = map-set_same kept_of links a.from _ no_link refl
+let_go-kept links (Some a) = map-set_same kept_of links a.by _ no_link refl
 
 let_go-none : (links : List Link) (o : Option Ack) → o ≡ None → let_go links o ≡ links
 let_go-none links o none = ap (let_go links) none

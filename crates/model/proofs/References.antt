@@ -1,7 +1,7 @@
 -- Each change of a heap keeps a property of all references that the heap holds.
-use Rattle.std.proofs.Common.{◌≡◌, ℕ, zero, suc, ◌+◌, ◌-◌, true, cond, ◌==◌, List, [], ◌∷◌, ◌++◌, length, map, take, drop, replicate, get_or, is_some, Option, Some, None, refl, sym, subst}
+use Rattle.std.proofs.Common.{◌≡◌, ℕ, zero, suc, ◌+◌, ◌-◌, cond, ◌==◌, List, [], ◌∷◌, ◌++◌, length, map, take, drop, replicate, get_or, Option, Some, None, refl, sym, subst}
 use Rattle.std.specs.List.{AllByRecursion}
-use Rattle.std.specs.Option.{option_to_list, unwrap_or}
+use Rattle.std.specs.Option.{option_to_list}
 use Rattle.std.proofs.lemmas.Bool.{cond_both}
 use Rattle.std.proofs.lemmas.Grind.{get_or_after_one}
 use Rattle.ids.specs.declared.limits.TheConstants.{GREATEST_GENERATION}
@@ -149,15 +149,6 @@ any-list P (Some r) h = (h, tt)
 pub list-any : (P : Ref → Type 0) (v : Option Ref) → AllByRecursion P (option_to_list v) → IfAny P v
 list-any P None h = tt
 list-any P (Some r) h = h.0
-
--- a reference that is present
-pub any-there : (P : Ref → Type 0) (v : Option Ref) (r : Ref) → is_some v ≡ true → IfAny P v
-    → P (unwrap_or v r)
-any-there P None r there h = absurd cc
-any-there P (Some s) r there h = h
-
-pub any-some : (P : Ref → Type 0) (v : Option Ref) (r : Ref) → IfAny P v → v ≡ Some r → P r
-any-some P v r h there = subst (IfAny P) there h
 
 -- ---- marking and sweeping
 

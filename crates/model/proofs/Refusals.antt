@@ -1,15 +1,40 @@
--- Some refusals are those of frames, images, disks and cells. No event of a node fails with them.
-use Rattle.std.proofs.Common.{◌≡◌, ◌≢◌, ℕ, Bool, true, false, List, [], ◌∷◌, ◌++◌, map, Result, Ok, Err, refl, ap, sym, ◌∙◌, subst}
+-- Why a call fails. Some refusals are those of frames, images, disks and cells: no event of a node
+-- fails with them.
+use Rattle.std.proofs.Common.{◌≡◌, ◌≢◌, ◌⊎◌, inl, inr, ⊎_elim, ℕ, Bool, true, false, List, [], ◌∷◌, ◌++◌, map, Result, Ok, Err, refl, ap, sym, ◌∙◌, subst}
 use Rattle.std.specs.List.{list_all}
 use Rattle.std.proofs.lemmas.Bool.{and_parts, both_ways}
 use Rattle.ids.specs.declared.refusal.Refusal.{Refusal}
 use Rattle.ids.specs.declared.refusal.Refusal.TheVariants.{Memory, BadFrame, BadImage, ImageTooLarge, Disk, Closed}
 use Rattle.model.specs.declared.event.Event.{Event}
 use Rattle.model.specs.declared.event.Event.TheVariants as event
-use Rattle.model.specs.Checks.{guarded, IsFirstRefusal}
+use Rattle.model.specs.Checks.{guarded, IsFirstRefusal, IsReplaced, by_test, by_memory}
 use Rattle.model.specs.Effects.{Effect}
 use Rattle.model.specs.Steps.{tests, made, all_tests, checked, ack_of}
 use Rattle.model.specs.View.{Link, NodeView, used, ack_tests, let_go, view_after, view_act}
+
+-- a refusal is `Memory` or something else
+pub memory-or : (e : Refusal) → (e ≡ Memory) ⊎ (e ≢ Memory)
+memory-or Memory = inl refl
+memory-or e = inr (λ is. absurd cc)
+
+pub memory-alone : (e : Refusal) → (e ≢ Memory → ⊥) → e ≡ Memory
+memory-alone e never =
+    ⊎_elim {C = e ≡ Memory} (λ is. is) (λ other. absurd (never other)) (memory-or e)
+
+-- A call fails for the first reason if and only if its refusal is that of the definitions, unless
+-- it is `Memory`, which replaces the definitions' result.
+pub first-refusal : {Y : Type 0} {shading : Bool} {e : Refusal} {r : Result Y Refusal}
+    → (e ≢ Memory → r ≡ Err e) → (e ≡ Memory → IsReplaced shading r) → IsFirstRefusal shading e r
+first-refusal {shading = shading} {e = e} {r = r} test memory =
+    ⊎_elim {C = IsFirstRefusal shading e r} (λ is. by_memory is (memory is))
+    (λ other. by_test other (test other)) (memory-or e)
+
+pub refused-as : {Y : Type 0} {shading : Bool} {e : Refusal} {r : Result Y Refusal}
+    → IsFirstRefusal shading e r → e ≢ Memory → r ≡ Err e
+refused-as (by_test other is) apart = is
+refused-as (by_memory memory is) apart = absurd (apart memory)
+
+-- ---- refusals of events
 
 abbrev pub is_of_event : Refusal → Bool
 is_of_event BadFrame = false
@@ -53,9 +78,7 @@ view-of n e f h =
 
 pub event-never : (shading : Bool) (n : NodeView) (e : Event) (f k : Refusal)
     → is_of_event k ≡ false → IsFirstRefusal shading f (view_act n e) → f ≢ k
-event-never shading n e f k other first is =
-    let of_event : f ≢ Memory → is_of_event k ≡ true =
-    λ apart. subst (λ (z : Refusal). is_of_event z ≡ true) is (view-of n e f (first.0 apart)) in
-    both_ways _ other
-    (of_event (λ memory.
-    both_ways _ other (ap is_of_event (sym is ∙ memory))))
+event-never shading n e f k other (by_test apart is) same =
+    both_ways _ other (ap is_of_event (sym same) ∙ view-of n e f is)
+event-never shading n e f k other (by_memory memory is) same =
+    both_ways _ other (ap is_of_event (sym same ∙ memory))

@@ -16,7 +16,7 @@ use Rattle.model.specs.declared.event.Event.TheVariants as event
 use Rattle.model.specs.declared.event.Answer.TheVariants as answer
 use Rattle.msg.specs.declared.frame.Data.{Data}
 use Rattle.model.specs.State.{LocalState, NodeState, got_from}
-use Rattle.model.specs.Checks.{guarded, AllPass, IsOkOrSpent, IsReplaced}
+use Rattle.model.specs.Checks.{guarded, AllPass, IsOkOrSpent, IsReplaced, by_test, by_memory}
 use Rattle.model.specs.Effects.{Effect, unchanged}
 use Rattle.model.specs.Steps.{checked, tests, made, fits, ack_of, is_addressed, is_repeat, is_early, may_take, receipt_tests, receipt, taken_in, act, after, is_shading, append_all}
 use Rattle.model.specs.View.{Link, NodeView, ShowsSent, Shows, link_to, IsTold, Follows, Performs, no_link, used, appended, append_to, ack_tests, trimmed, let_go, view_act, view_after, view_done}
@@ -88,14 +88,14 @@ shows_let_go : (links : List Link) (sent : List (List Message)) (o : Option Ack)
     → ShowAll links sent → ShowAll (let_go links o) sent
 shows_let_go links sent None h = h
 shows_let_go links sent (Some a) h = record {
-  width = length-set links a.from _ ∙ h.width;
+  width = length-set links a.by _ ∙ h.width;
   each = subst (λ (z : List (List Message)).
       (i : ℕ)
       → ShowsSent
-      (get_or (set links a.from (trimmed (get_or links a.from no_link) a.number)) i no_link)
-      (get_or z i [])) (set-get_or sent a.from [])
-      (λ i. both_set_if ShowsSent no_link [] _ _ links sent a.from h.width i
-      (λ _. shows_trimmed _ _ a.number (h.each a.from)) (h.each i));
+      (get_or (set links a.by (trimmed (get_or links a.by no_link) a.number)) i no_link)
+      (get_or z i [])) (set-get_or sent a.by [])
+      (λ i. both_set_if ShowsSent no_link [] _ _ links sent a.by h.width i
+      (λ _. shows_trimmed _ _ a.number (h.each a.by)) (h.each i));
 }
 
 -- the tests on the code's node: also those of an acknowledgement, which a state can't make
@@ -203,12 +203,11 @@ module _ {n : NodeView} {s : NodeState} (h : Shows n s) (e : Event)
               links = append_to left z.sends;
             }) same ∙ sym found.2) shown,
       )
-  follows_effect new (Err r) p = λ told. (
-    (λ ne.
-        ap (after s)
-        (refused-heard ts f n (ack_of e) x r told (view-err n left (guarded all x) r (p.0 ne)))),
-    (λ full. replaced-heard (is_shading e) (p.1 full)),
-  )
+  follows_effect new (Err r) (by_test other p) = λ told.
+      by_test other (ap (after s)
+      (refused-heard ts f n (ack_of e) x r told (view-err n left (guarded all x) r p)))
+  follows_effect new (Err r) (by_memory full p) = λ told.
+      by_memory full (replaced-heard (is_shading e) p)
 
 -- A node's result for an event, and the node after it, follow the event on every state that the
 -- node shows.
@@ -268,18 +267,19 @@ view-taken_in n d addressed turn may =
 ack-passes : (n new : NodeView) (a : Ack) (x : Answer) → view_act n (event.Ack a) ≡ Ok (new, x)
     → (y : Effect)
     × AllPass
-    ((is_addressed n.local a.from a.to, WrongNode)
-    ∷ (nat_le a.number (link_to n a.from).kept, AckBeyond) ∷ (true, LinkSpent) ∷ [])
+    ((is_addressed n.local a.by a.of, WrongNode)
+    ∷ (nat_le a.number (link_to n a.by).kept, AckBeyond) ∷ (true, LinkSpent) ∷ [])
     × (new
     ≡ record n {
       local = n.local;
-      links = set n.links a.from (trimmed (link_to n a.from) a.number);
+      links = set n.links a.by (trimmed (link_to n a.by) a.number);
     })
+    × (x ≡ answer.Done)
 unfolding view_act
 ack-passes n new a x h =
     let ts : List (Bool × Refusal) =
-    (is_addressed n.local a.from a.to, WrongNode)
-    ∷ (nat_le a.number (link_to n a.from).kept, AckBeyond) ∷ (true, LinkSpent) ∷ [] in
+    (is_addressed n.local a.by a.of, WrongNode)
+    ∷ (nat_le a.number (link_to n a.by).kept, AckBeyond) ∷ (true, LinkSpent) ∷ [] in
     let found =
     view-ok n new (let_go n.links (Some a)) (guarded ts (unchanged n.local answer.Done)) x h in
     let same : unchanged n.local answer.Done ≡ found.0 =
@@ -291,41 +291,46 @@ ack-passes n new a x h =
             local = z.local;
             links = append_to (let_go n.links (Some a)) z.sends;
           }) (sym same),
+      found.3 ∙ ap (λ (z : Effect). z.answer) (sym same),
     )
+
+pub ack-answer : (n new : NodeView) (a : Ack) (x : Answer) → view_act n (event.Ack a) ≡ Ok (new, x)
+    → x ≡ answer.Done
+ack-answer n new a x h = (ack-passes n new a x h).3
 
 -- an answered acknowledgement is of released messages, and drops them
 pub ack-done : (n new : NodeView) (a : Ack) (x : Answer) → view_act n (event.Ack a) ≡ Ok (new, x)
-    → (a.number ≤ (link_to n a.from).kept)
-    × (new ≡ record n { links = set n.links a.from (trimmed (link_to n a.from) a.number) })
+    → (a.number ≤ (link_to n a.by).kept)
+    × (new ≡ record n { links = set n.links a.by (trimmed (link_to n a.by) a.number) })
 ack-done n new a x h =
     let found = ack-passes n new a x h in
     (leb-true _ _ found.1.1.0, found.2)
 
 -- if it is addressed to the node, it is refused only if it goes beyond what was released
-pub ack-refused : (n : NodeView) (a : Ack) (e : Refusal) → is_addressed n.local a.from a.to ≡ true
-    → view_act n (event.Ack a) ≡ Err e → (e ≡ AckBeyond) × ((link_to n a.from).kept < a.number)
+pub ack-refused : (n : NodeView) (a : Ack) (e : Refusal) → is_addressed n.local a.by a.of ≡ true
+    → view_act n (event.Ack a) ≡ Err e → (e ≡ AckBeyond) × ((link_to n a.by).kept < a.number)
 unfolding view_act
 ack-refused n a e addressed h =
     let ts : List (Bool × Refusal) =
-    (is_addressed n.local a.from a.to, WrongNode)
-    ∷ (nat_le a.number (link_to n a.from).kept, AckBeyond) ∷ (true, LinkSpent) ∷ [] in
+    (is_addressed n.local a.by a.of, WrongNode)
+    ∷ (nat_le a.number (link_to n a.by).kept, AckBeyond) ∷ (true, LinkSpent) ∷ [] in
     let r : guarded ts (unchanged n.local answer.Done) ≡ Err e =
     view-err n (let_go n.links (Some a)) (guarded ts (unchanged n.local answer.Done)) e h in
-    let s : guarded ((nat_le a.number (link_to n a.from).kept, AckBeyond) ∷ (true, LinkSpent) ∷ [])
+    let s : guarded ((nat_le a.number (link_to n a.by).kept, AckBeyond) ∷ (true, LinkSpent) ∷ [])
     (unchanged n.local answer.Done) ≡ Err e =
-    sym (cond-true (is_addressed n.local a.from a.to) _ (Err WrongNode) addressed) ∙ r in
-    ⊎_elim {C = (e ≡ AckBeyond) × ((link_to n a.from).kept < a.number)}
+    sym (cond-true (is_addressed n.local a.by a.of) _ (Err WrongNode) addressed) ∙ r in
+    ⊎_elim {C = (e ≡ AckBeyond) × ((link_to n a.by).kept < a.number)}
     (λ within.
     absurd
     (let wrong : ◌≡◌ {A = Result Effect Refusal} (Ok (unchanged n.local answer.Done)) (Err e) =
     sym
-    (cond-true (nat_le a.number (link_to n a.from).kept) (Ok (unchanged n.local answer.Done))
+    (cond-true (nat_le a.number (link_to n a.by).kept) (Ok (unchanged n.local answer.Done))
     (Err AckBeyond) within) ∙ s in
     cc))
     (λ beyond.
     let same : ◌≡◌ {A = Result Effect Refusal} (Err AckBeyond) (Err e) =
     sym
-    (cond-false (nat_le a.number (link_to n a.from).kept) (Ok (unchanged n.local answer.Done))
+    (cond-false (nat_le a.number (link_to n a.by).kept) (Ok (unchanged n.local answer.Done))
     (Err AckBeyond) beyond) ∙ s in
     (let again : AckBeyond ≡ e = cc in sym again, leb-false _ _ beyond))
-    (cases_Bool (nat_le a.number (link_to n a.from).kept))
+    (cases_Bool (nat_le a.number (link_to n a.by).kept))

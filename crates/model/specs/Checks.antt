@@ -26,9 +26,10 @@ abbrev pub IsReplaced : {Y : Type 0} → Bool → Result Y Refusal → Type 0
 IsReplaced false answer = IsOk answer
 IsReplaced true answer = IsOkOrSpent answer
 
--- A refused call fails with the refusal of the first test that fails. `Memory` comes last: a call
--- fails with it only instead of an answer, so if every test passes. If the call shades, the test
--- that its messages get numbers needn't pass.
-abbrev pub IsFirstRefusal : {Y : Type 0} → Bool → Refusal → Result Y Refusal → Type 0
-IsFirstRefusal shading e answer =
-    (e ≢ Memory → answer ≡ Err e) × (e ≡ Memory → IsReplaced shading answer)
+-- Why a call fails, and with which refusal: for the first test that fails, or, although every test
+-- passes, because allocation failed. If the call shades, the test that its messages get numbers
+-- needn't pass for the latter.
+pub data IsFirstRefusal {Y : Type 0} (shading : Bool) (e : Refusal)
+    (answer : Result Y Refusal) : Type 0 where
+  by_test : e ≢ Memory → answer ≡ Err e → IsFirstRefusal shading e answer
+  by_memory : e ≡ Memory → IsReplaced shading answer → IsFirstRefusal shading e answer

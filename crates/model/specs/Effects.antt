@@ -1,8 +1,9 @@
 -- What a step of a node yields: its local state, the messages that it appended, and its answer
 -- ("Events" in docs/RULES.md).
-use Rattle.std.specs.Prelude.{ℕ, List, [], ◌++◌}
+use Rattle.std.specs.Prelude.{ℕ, Bool, true, false, List, [], ◌++◌}
 use Rattle.msg.specs.declared.body.Message.{Message}
 use Rattle.model.specs.declared.event.Answer.{Answer}
+use Rattle.model.specs.declared.event.Answer.TheVariants as answer
 use Rattle.model.specs.State.{Heap, LocalState}
 
 -- a node's local state after some step, and the messages that it appended, in order, each with its
@@ -18,6 +19,14 @@ at_rest p = record { local = p; sends = [] }
 -- one step after another
 abbrev pub then : Work → (LocalState → Work) → Work
 then w f = record { local = (f w.local).local; sends = w.sends ++ (f w.local).sends }
+
+-- Whether an event with this answer changes the node's state. The reading of a word doesn't, nor
+-- does a repeat or an early message. Nor does an acknowledgement, whose answer is `Done`.
+abbrev pub is_change : Answer → Bool
+is_change (answer.Word word) = false
+is_change answer.Repeat = false
+is_change answer.Early = false
+is_change a = true
 
 -- what an event does: the local state, the messages, the answer
 pub record Effect : Type 0 where

@@ -276,7 +276,7 @@ rule p (event.Data d) = record {
   deed = Takes (receipt p d.from d.number d.stamp d.body);
 }
 rule p (event.Ack a) = record {
-  tests = (is_addressed p a.from a.to, WrongNode) ∷ [];
+  tests = (is_addressed p a.by a.of, WrongNode) ∷ [];
   deed = Reads answer.Done;
 }
 

@@ -65,7 +65,7 @@ retracted l =
 -- holds.
 abbrev pub ack_tests : NodeView → Option Ack → List (Bool × Refusal)
 ack_tests n None = []
-ack_tests n (Some a) = (nat_le a.number (link_to n a.from).kept, AckBeyond) ∷ []
+ack_tests n (Some a) = (nat_le a.number (link_to n a.by).kept, AckBeyond) ∷ []
 
 -- The messages up to this number are dropped; none if the number was acknowledged before.
 abbrev pub trimmed : Link → ℕ → Link
@@ -78,7 +78,7 @@ trimmed l number =
 abbrev pub let_go : List Link → Option Ack → List Link
 let_go links None = links
 let_go links (Some a) =
-    slice_set links a.from (trimmed (slice_index_or links a.from no_link) a.number)
+    slice_set links a.by (trimmed (slice_index_or links a.by no_link) a.number)
 
 abbrev pub view_after : NodeView → List Link → Result Effect Refusal
     → Result (NodeView × Answer) Refusal

@@ -8,12 +8,12 @@ use Rattle.ids.specs.declared.refusal.Refusal.TheVariants.{NoNode, AckBeyond, Wr
 use Rattle.msg.specs.Frames.{Plain, data_frame, ack_frame}
 use Rattle.msg.specs.declared.body.Message.{Message}
 use Rattle.model.specs.declared.event.Answer.{Answer}
-use Rattle.model.specs.declared.event.Answer.TheVariants as answer
 use Rattle.model.specs.declared.step.Step.{Step}
 use Rattle.model.specs.declared.step.Step.TheVariants as step
 use Rattle.model.specs.declared.step.Outcome.{Outcome}
 use Rattle.model.specs.declared.step.Outcome.TheVariants as outcome
 use Rattle.model.specs.Checks.{guarded, IsFirstRefusal}
+use Rattle.model.specs.Effects.{is_change}
 use Rattle.model.specs.State.{NodeState, new_node, node_at, got_from, sent_to}
 use Rattle.model.specs.Steps.{act, receive, is_own, is_addressed, is_next, is_memory_free, is_shading}
 
@@ -165,10 +165,7 @@ FollowsStep shows w s (Err e) new = IsStepRefusal w s e × shows new w
 -- repeat, an early message, a message that isn't there, an acknowledgement, and a refusal. The same
 -- test applies to the code's own result, which may also be a failed allocation.
 abbrev pub is_eventful : Result Outcome Refusal → Bool
-is_eventful (Ok (outcome.Answer (answer.Word word))) = false
-is_eventful (Ok (outcome.Answer answer.Repeat)) = false
-is_eventful (Ok (outcome.Answer answer.Early)) = false
-is_eventful (Ok (outcome.Answer a)) = true
+is_eventful (Ok (outcome.Answer a)) = is_change a
 is_eventful (Ok outcome.Done) = true
 is_eventful (Ok (outcome.Handed number)) = false
 is_eventful (Ok outcome.NoFrame) = false
@@ -184,6 +181,5 @@ is_event w s = is_eventful (outcome_of (take_step w s))
 abbrev pub IsInNet : World → Plain → Type 0
 IsInNet w (data_frame from to number stamp body) =
     released w from to number ≡ Some (record { stamp = stamp; body = body })
-IsInNet w (ack_frame from to number) =
-    (from < length w.current) × (to < length w.current) × (from ≢ to)
-    × (number ≤ acknowledged w to from)
+IsInNet w (ack_frame by of number) =
+    (by < length w.current) × (of < length w.current) × (by ≢ of) × (number ≤ acknowledged w of by)

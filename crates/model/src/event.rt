@@ -1,4 +1,7 @@
 //! The events of a node and its answers. The program uses these enums, and so do the definitions.
+ghost use Rattle.std.specs.Prelude.{◌≡◌};
+ghost use Rattle.model.specs.Effects.{is_change};
+
 use ids::Ref;
 use msg::{Ack, Data, Token};
 
@@ -138,4 +141,15 @@ pub enum Answer {
     /// The message came before its turn. It changes nothing. A node that keeps early messages
     /// receives it when its turn comes.
     Early,
+}
+
+impl Answer {
+    /// Whether an event with this answer changes the node's state. The reading of a word doesn't,
+    /// nor does a repeat or an early message. Nor does an acknowledgement, whose answer is `Done`.
+    #[inline(always)]
+    pub fn is_change(&self) -> bool
+        ensures { result ≡ is_change self.now }
+    {
+        !matches!(self, Answer::Word(_) | Answer::Repeat | Answer::Early)
+    }
 }

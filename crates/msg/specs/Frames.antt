@@ -10,14 +10,14 @@ use Rattle.msg.specs.declared.frame.Frame.TheVariants as frame
 pub data Plain : Type 0 where
   -- from, to, number, stamp and body
   data_frame : ℕ → ℕ → ℕ → ℕ → Body → Plain
-  -- from, to and number
+  -- by, of and number
   ack_frame : ℕ → ℕ → ℕ → Plain
 
 abbrev pub plain_data : Data → Plain
 plain_data d = data_frame d.from d.to d.number d.stamp d.body
 
 abbrev pub plain_ack : Ack → Plain
-plain_ack a = ack_frame a.from a.to a.number
+plain_ack a = ack_frame a.by a.of a.number
 
 abbrev pub plain : Frame → Plain
 plain (frame.Data d) = plain_data d

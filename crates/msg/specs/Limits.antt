@@ -39,4 +39,4 @@ data_fits from to number stamp body =
 
 -- the parts of an acknowledgement: two different nodes, and a number
 abbrev pub ack_fits : ℕ → ℕ → ℕ → Bool
-ack_fits from to number = nodes_fit from to && nat_le number GREATEST_NUMBER
+ack_fits by of number = nodes_fit by of && nat_le number GREATEST_NUMBER

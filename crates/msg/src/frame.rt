@@ -21,15 +21,14 @@ pub struct Data {
     pub ghost fits: { IsTrue (data_fits from to number stamp body) },
 }
 
-/// An acknowledgement from one node to another: the first has received and saved all messages of
-/// the second up to this number. The two nodes differ, and the number is at most
-/// [`GREATEST_NUMBER`].
+/// An acknowledgement: the node `by` has received and saved all messages of the node `of` up to
+/// this number. The two nodes differ, and the number is at most [`GREATEST_NUMBER`].
 #[derive(Clone, Copy)]
 pub struct Ack {
-    pub from: u8,
-    pub to: u8,
+    pub by: u8,
+    pub of: u8,
     pub number: u64,
-    pub ghost fits: { IsTrue (ack_fits from to number) },
+    pub ghost fits: { IsTrue (ack_fits by of number) },
 }
 
 /// What a link carries: a message or an acknowledgement.
@@ -113,12 +112,12 @@ impl Ack {
     ghost use Rattle.msg.specs.Frames.{ack_frame, plain_ack};
 
     /// The acknowledgement of these parts, or `None` if they aren't within the limits.
-    pub fn new(from: u8, to: u8, number: u64) -> Option<Ack>
-        ensures within { IsSome result ↔ IsTrue (ack_fits from to number) }
-        ensures value { IfSome result (λ a. plain_ack a ≡ ack_frame from to number) }
+    pub fn new(by: u8, of: u8, number: u64) -> Option<Ack>
+        ensures within { IsSome result ↔ IsTrue (ack_fits by of number) }
+        ensures value { IfSome result (λ a. plain_ack a ≡ ack_frame by of number) }
     {
-        if nodes_fit(from, to) && number <= GREATEST_NUMBER {
-            Some(Ack { from, to, number })
+        if nodes_fit(by, of) && number <= GREATEST_NUMBER {
+            Some(Ack { by, of, number })
         } else {
             None
         }

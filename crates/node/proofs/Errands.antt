@@ -59,13 +59,6 @@ module _ (n : NodeView) (old : IsNode n) where
   node-listed (extra.Answer to label reference) = old
   node-listed extra.Begins = old
 
-  pub ends : (x : Extra) → IsFit n.local.shape n.local.own x → HasEnds (length n.links) x
-  ends (extra.Answer to label reference) fit = omega (arith, fit.0.0, old.links.width)
-  ends extra.Begins fit = omega (arith, old.links.width, old.shape.least_nodes)
-  ends extra.Nothing fit = tt
-  ends extra.Scanned fit = tt
-  ends (extra.Letter l) fit = tt
-
   begins-may : n.local.own ≡ 0 → MaySend n.local.shape n.local.own n.local.phases.cycle
       (begins n.local.own n.local.shape.nodes n.local.phases.cycle new_token)
   begins-may first =

@@ -6,7 +6,8 @@ use Rattle.ids.specs.declared.refusal.Refusal.{Refusal}
 use Rattle.ids.specs.declared.refusal.Refusal.TheVariants.{LinkSpent, Memory}
 use Rattle.msg.specs.declared.body.Message.{Message}
 use Rattle.model.specs.declared.event.Answer.{Answer}
-use Rattle.model.specs.Checks.{guarded, IsFirstRefusal, IsOkOrSpent}
+use Rattle.model.specs.Checks.{guarded, IsFirstRefusal, IsOkOrSpent, by_test}
+use Rattle.model.proofs.Refusals.{first-refusal}
 use Rattle.model.specs.Effects.{Effect, Work, answers}
 use Rattle.model.specs.State.{Heap, Phases, Ring, LocalState}
 use Rattle.model.specs.Steps.{checked, fits}
@@ -82,11 +83,10 @@ okay m a = Ok (m, a)
 pub test_refused : {A : Type 0} (n : NodeView) (ts : List (Bool × Refusal)) (x : Effect) (y : A)
     (e : Refusal) → spares ts ≡ true → guarded ts y ≡ Err e
     → IsFirstRefusal false e (judged_view n ts x)
-test_refused n ts x y e safe h = (
-  λ other. ap (view_after n n.links)
-      (guarded-err ts ((fits (map used n.links) x.sends, LinkSpent) ∷ []) y x e h),
-  λ memory. absurd (spared ts y e safe h memory),
-)
+test_refused n ts x y e safe h =
+    by_test (spared ts y e safe h)
+    (ap (view_after n n.links)
+    (guarded-err ts ((fits (map used n.links) x.sends, LinkSpent) ∷ []) y x e h))
 
 -- ---- an event that shades: the effect of its errand, and its answer
 
@@ -104,10 +104,9 @@ module _ {n new : NodeView} {x : Effect} {w : Work} {a : Answer} (is : x ≡ ans
   shaded-refused {e = e} runs =
       subst (λ (z : Effect). Performed true (Err e) n new (view_done n z)) (sym is)
       (record {
-        performs = (
-          λ other. let spent = runs.refused other in rw (spent.1, spent.0) refl,
-          λ memory. either (fits (map used n.links) w.sends),
-        );
+        performs = first-refusal
+            (λ other. let spent = runs.refused other in rw (spent.1, spent.0) refl)
+            (λ memory. either (fits (map used n.links) w.sends));
         unchanged = runs.unchanged;
       })
     where

@@ -216,15 +216,15 @@ handled-turn old new e r x = λ differs. absurd (differs refl)
 -- ---- what the code does
 
 -- Next, by what waits
-pub next-handled : (n m : NodeView) (es fs : Rings) (from : ℕ) (o : Option Data)
-    (r : Result Answer Refusal) → AreKeptIn (record { core = n; early = es })
+pub next-handled : {n m : NodeView} {es fs : Rings} {from : ℕ} {o : Option Data}
+    {r : Result Answer Refusal} → AreKeptIn (record { core = n; early = es })
     → waiting es from ≡ o
     → Performed (is_shading (next_event from o)) r n m (view_act n (next_event from o))
     → (IsTrue (is_memory_free n.local (next_event from o)) → IfErr r (λ f. f ≢ Memory))
     → fs ≡ after_next es from o r
     → Handled (record { core = n; early = es }) (record { core = m; early = fs })
     (event.Next from) r
-next-handled n m es fs from o r h waits p free kept =
+next-handled {n} {m} {es} {fs} {from} {o} {r} h waits p free kept =
     subst
     (λ (z : Option Data).
     Performed (is_shading (next_event from z)) r n m (view_act n (next_event from z))
@@ -247,15 +247,15 @@ emptied-kept n m es fs from h same left =
     (h.named from)))
 
 -- any other event
-pub other-handled : (n m : NodeView) (es : Rings) (e : Event) (r : Result Answer Refusal)
+pub other-handled : {n m : NodeView} {es : Rings} {r : Result Answer Refusal} (e : Event)
     → AreKeptIn (record { core = n; early = es })
     → ((from : ℕ) → e ≡ event.Next from → ⊥) → ((d : Data) → e ≡ event.Data d → ⊥)
     → Performed (is_shading e) r n m (view_act n e)
     → (IsTrue (is_memory_free n.local e) → IfErr r (λ f. f ≢ Memory))
     → Handled (record { core = n; early = es }) (record { core = m; early = es }) e r
-other-handled n m es (event.Data d) r h waits comes p free = absurd (comes d refl)
-other-handled n m es (event.Next from) r h waits comes p free = absurd (waits from refl)
-other-handled n m es e r h waits comes p free =
+other-handled (event.Data d) h waits comes p free = absurd (comes d refl)
+other-handled (event.Next from) h waits comes p free = absurd (waits from refl)
+other-handled e h waits comes p free =
     record { before = h; performed = p; memory_free = free; early = refl }
 
 pub ruleset handled = (handled-kept, handled-turn, other-handled, act-shown, act-leaves)

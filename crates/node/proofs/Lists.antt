@@ -61,45 +61,12 @@ came_more {cycle} {slots} {grey} {marks} {n} came within here fresh =
       ];
     }
 
-pub grey-from : {cycle : ℕ} {slots : List Slot} {grey : List ℕ} {marks : List Bool} {n : ℕ}
-    → Came cycle slots grey marks n → length grey ≤ n → AreGreyIn cycle slots grey
-grey-from came all = record {
-  marked = λ i within. came.marked i (omega arith);
-  once = λ j within. came.once j (omega arith);
-}
-
--- a number that names no marked object
-pub unmarked-refused : {cycle : ℕ} {slots : List Slot} {grey : List ℕ} (n : ℕ) → n < length grey
-    → is_marked_in cycle slots (get_or grey n 0) ≡ false → AreGreyIn cycle slots grey → ⊥
-unmarked-refused n within fails are = true≢false (sym (are.marked n within) ∙ fails)
-
--- a number that occurred before
-pub repeated-refused : {cycle : ℕ} {slots : List Slot} {grey : List ℕ} {marks : List Bool} {n : ℕ}
-    → Came cycle slots grey marks n → n < length grey
-    → get_or marks (get_or grey n 0) false ≡ true → AreGreyIn cycle slots grey → ⊥
-repeated-refused {grey = grey} {n = n} came within there are =
-    let found = came.named (get_or grey n 0) there in
-    are.once n within found.0 found.1 found.2
-
 -- ---- what was asked for
 
 -- each of the first `n` references is another node's, and none occurs twice
 pub record Asked (shape : Shaped) (own : ℕ) (rs : List Ref) (n : ℕ) : Type 0 where
   pub foreign : list_all (is_foreign shape own) (take n rs) ≡ true
   pub once : (j : ℕ) → j < n → (d : Ref) → is_in (get_or rs j d) (take j rs) ≡ false
-
-pub asked_more : {shape : Shaped} {own : ℕ} {rs : List Ref} {n : ℕ} → Asked shape own rs n
-    → n < length rs → (r : Ref) → ((d : Ref) → get_or rs n d ≡ r) → is_foreign shape own r ≡ true
-    → is_in r (take n rs) ≡ false → Asked shape own rs (n + 1)
-asked_more {shape} {own} {rs} {n} asked within r at foreign fresh =
-    record {
-      foreign =
-          list_all_more (is_foreign shape own) rs n r within
-          ∙ rw (asked.foreign, at r, foreign) refl;
-      once =
-          below_more (λ (j : ℕ). (d : Ref) → is_in (get_or rs j d) (take j rs) ≡ false) n asked.once
-          (λ d. rw (at d) fresh);
-    }
 
 pub own-refused : {shape : Shaped} {own : ℕ} {rs : List Ref} (n : ℕ) (r : Ref) → n < length rs
     → get_or rs n r ≡ r → is_foreign shape own r ≡ false → AreAsked shape own rs → ⊥

@@ -15,6 +15,7 @@ use Rattle.msg.specs.declared.body.Token.{Token}
 use Rattle.msg.specs.declared.frame.Data.{Data}
 use Rattle.msg.specs.declared.body.Body.TheVariants as body
 use Rattle.model.specs.State.{LocalState, Phases, got_from}
+use Rattle.model.specs.Checks.{by_test}
 use Rattle.model.specs.Effects.{Work, at_rest}
 use Rattle.model.specs.Shading.{filled, is_calm, join, joined, roots, stays_calm}
 use Rattle.model.specs.declared.event.Event.TheVariants as event
@@ -139,7 +140,7 @@ module _ (n : NodeView) (d : Data) where
   pub not-addressed : is_addressed n.local d.from d.to ≡ false → Refuses WrongNode
   unfolding view_act
   not-addressed wrong = (
-    record { performs = (λ _. rw wrong refl, λ memory. absurd cc); unchanged = refl },
+    record { performs = by_test (λ memory. absurd cc) (rw wrong refl); unchanged = refl },
     λ _ memory. absurd cc,
   )
 
@@ -150,7 +151,7 @@ module _ (n : NodeView) (d : Data) where
       let is = offered-err (got_from n.local d.from) d.number far in
       subst Refuses is.0 (
         record {
-          performs = (λ _. rw (addressed, is.1) refl, λ memory. absurd cc);
+          performs = by_test (λ memory. absurd cc) (rw (addressed, is.1) refl);
           unchanged = refl;
         },
         λ _ memory. absurd cc,
@@ -167,7 +168,7 @@ module _ (n : NodeView) (d : Data) where
         let due : nat_lt (got + 1) d.number ≡ false =
         le-ltb (got + 1) d.number (omega (arith, turn)) in (
           record {
-            performs = (λ _. rw (addressed, inside, new, due, may) refl, λ memory. absurd cc);
+            performs = by_test (λ memory. absurd cc) (rw (addressed, inside, new, due, may) refl);
             unchanged = refl;
           },
           λ _ memory. absurd cc,

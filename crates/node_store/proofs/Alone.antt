@@ -1,14 +1,16 @@
 -- Nodes that keep no early message, and events that leave them so.
 use Rattle.std.proofs.Common.{◌≡◌, ◌≢◌, ℕ, zero, suc, Bool, true, false, List, ◌∷◌, set, replicate, Option, None, Result, Ok, Err, refl, ap, sym, ◌∙◌}
-use Rattle.std.proofs.lemmas.Bool.{true≢false}
+use Rattle.std.proofs.lemmas.Bool.{false≢true}
 use Rattle.msg.specs.declared.frame.Data.{Data}
 use Rattle.model.specs.declared.event.Event.{Event}
 use Rattle.model.specs.declared.event.Event.TheVariants as event
 use Rattle.model.specs.declared.event.Answer.{Answer}
 use Rattle.model.specs.declared.event.Answer.TheVariants as answer
 use Rattle.model.specs.Checks.{IsFirstRefusal}
+use Rattle.model.specs.Effects.{is_change}
 use Rattle.model.specs.View.{NodeView, view_act}
 use Rattle.model.specs.State.{LocalState, got_from}
+use Rattle.model.proofs.Refusals.{refused-as}
 use Rattle.model.proofs.Lookups.{get_or-replicate_any}
 use Rattle.link.specs.Early.{no_early, place_at, shifted}
 use Rattle.ids.specs.Limits.{Shaped}
@@ -16,7 +18,7 @@ use Rattle.ids.specs.declared.refusal.Refusal.{Refusal}
 use Rattle.ids.specs.declared.refusal.Refusal.TheVariants.{Memory}
 use Rattle.ids.specs.declared.limits.TheConstants.{WINDOW}
 use Rattle.node.specs.Keeping.{Rings, WholeNode, after_data, after_next, early_after, met, next_event, no_rings, shifted_at, waiting}
-use Rattle.node_store.specs.Logs.{IsDone, is_quiet}
+use Rattle.node_store.specs.Logs.{IsDone}
 use Rattle.node_store.specs.Values.{IsAlone}
 
 -- the same element once more
@@ -49,17 +51,17 @@ ok-same is = cc
 pub not-done : {now m : NodeView} {e t : Event} {r : Refusal} (shading : Bool) → t ≡ e
     → r ≢ Memory → IsFirstRefusal shading r (view_act now t) → IsDone now e m → ⊥
 not-done {now} {m} {e} {t} {r} shading same other refused done =
-    err-no-ok (sym (refused.0 other) ∙ ap (view_act now) same ∙ done.acts)
+    err-no-ok (sym (refused-as refused other) ∙ ap (view_act now) same ∙ done.acts)
 
 pub quiet-not-done : {now new m : NodeView} {e t : Event} {a : Answer} → t ≡ e
-    → view_act now t ≡ Ok (new, a) → is_quiet a ≡ true → IsDone now e m → ⊥
+    → view_act now t ≡ Ok (new, a) → is_change a ≡ false → IsDone now e m → ⊥
 quiet-not-done {now} {new} {m} {e} {t} {a} same acts quiet done =
     let parts = ok-same (sym acts ∙ ap (view_act now) same ∙ done.acts) in
-    true≢false (sym quiet ∙ ap (λ (x : NodeView × Answer). is_quiet x.1) parts ∙ done.now)
+    false≢true (sym quiet ∙ ap (λ (x : NodeView × Answer). is_change x.1) parts ∙ done.now)
 
 -- and one that is answered otherwise is
 pub done-alone : {n : WholeNode} {m : NodeView} (e : Event) (a : Answer) → IsAlone n
-    → view_act n.core (met n.early e) ≡ Ok (m, a) → is_quiet a ≡ false → IsDone n.core e m
+    → view_act n.core (met n.early e) ≡ Ok (m, a) → is_change a ≡ true → IsDone n.core e m
 done-alone {n} {m} e a is acts now = record {
   answer = a;
   acts = ap (view_act n.core) (sym (met-same e is)) ∙ acts;
@@ -72,14 +74,14 @@ shifted-none nodes from =
     (get_or-replicate_any {A = List (Option Data)} nodes from no_early)
     ∙ set-same nodes from no_early
 
-after-alone : (taken nodes : ℕ) (d : Data) (a : Answer) → is_quiet a ≡ false
+after-alone : (taken nodes : ℕ) (d : Data) (a : Answer) → is_change a ≡ true
     → after_data taken (no_rings nodes) d (Ok a) ≡ no_rings nodes
 after-alone taken nodes d answer.Received now = shifted-none nodes d.from
-after-alone taken nodes d answer.Early now = absurd (true≢false now)
+after-alone taken nodes d answer.Early now = absurd (false≢true now)
 after-alone taken nodes d a now = refl
 
 -- and no message is kept afterwards
-pub early-alone : (p : LocalState) (nodes : ℕ) (e : Event) (a : Answer) → is_quiet a ≡ false
+pub early-alone : (p : LocalState) (nodes : ℕ) (e : Event) (a : Answer) → is_change a ≡ true
     → early_after p (no_rings nodes) e (Ok a) ≡ no_rings nodes
 early-alone p nodes (event.Data d) a now = after-alone (got_from p d.from) nodes d a now
 early-alone p nodes (event.Next from) a now =
@@ -88,7 +90,7 @@ early-alone p nodes e a now = refl
 
 pub alone-after : {n m : WholeNode} (e : Event) (a : Answer) → IsAlone n
     → m.early ≡ early_after n.core.local n.early e (Ok a)
-    → m.core.local.shape ≡ n.core.local.shape → is_quiet a ≡ false → IsAlone m
+    → m.core.local.shape ≡ n.core.local.shape → is_change a ≡ true → IsAlone m
 alone-after {n} {m} e a is early shape now =
     let none : m.early ≡ no_rings m.core.local.shape.nodes =
     early

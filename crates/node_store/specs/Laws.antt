@@ -50,11 +50,11 @@ acts n (received from to number stamp body) =
     view_after n n.links
     (checked (receipt_tests n.local from to number stamp body ++ []) (map used n.links)
     (receipt n.local from number stamp body))
-acts n (acknowledged from to number) =
+acts n (acknowledged by of number) =
     view_after n
-    (slice_set n.links from (trimmed (slice_index_or n.links from no_link) number))
-    (checked ((is_addressed n.local from to, WrongNode)
-    ∷ (nat_le number (link_to n from).kept, AckBeyond) ∷ [])
+    (slice_set n.links by (trimmed (slice_index_or n.links by no_link) number))
+    (checked ((is_addressed n.local by of, WrongNode)
+    ∷ (nat_le number (link_to n by).kept, AckBeyond) ∷ [])
     (map used n.links) (unchanged n.local answer.Done))
 
 acts-is : (n : NodeView) (e : Event) → acts n (entry_of e) ≡ view_act n e

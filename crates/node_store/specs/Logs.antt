@@ -3,31 +3,23 @@ use Rattle.std.specs.Prelude.{◌≡◌, ℕ, Bool, true, false, List, [], ◌�
 use Rattle.std.specs.List.{flat_map, AllByRecursion}
 use Rattle.codec.specs.Formats.{Fits}
 use Rattle.model.specs.declared.event.Answer.{Answer}
-use Rattle.model.specs.declared.event.Answer.TheVariants as answer
 use Rattle.model.specs.declared.event.Event.{Event}
 use Rattle.model.specs.declared.event.Event.TheVariants as event
+use Rattle.model.specs.Effects.{is_change}
 use Rattle.model.specs.View.{NodeView, kept_view, view_act}
 use Rattle.event_bytes.specs.Entries.{entry}
 use Rattle.event_bytes.specs.Events.{entry_of}
-
--- whether an answer is that of an event that changes nothing that is saved: a word was read, or a
--- message was repeated, or kept until its turn
-abbrev pub is_quiet : Answer → Bool
-is_quiet (answer.Word word) = true
-is_quiet answer.Repeat = true
-is_quiet answer.Early = true
-is_quiet a = false
 
 -- the event receives the message that waits
 abbrev pub is_turn : Event → Bool
 is_turn (event.Next from) = true
 is_turn e = false
 
--- an event is answered and isn't quiet, and what the node is then
+-- an event is answered and is a change, and what the node is then
 pub record IsDone (n : NodeView) (e : Event) (m : NodeView) : Type 0 where
   pub answer : Answer
   pub acts : view_act n e ≡ Ok (m, answer)
-  pub now : is_quiet answer ≡ false
+  pub now : is_change answer ≡ true
 
 -- these events, one after another
 abbrev pub AreDone : NodeView → List Event → NodeView → Type 0

@@ -6,35 +6,13 @@ ghost use Rattle.model.specs.State.{NodeState};
 ghost use Rattle.model.specs.Steps.{act as act_of, is_memory_free, is_shading};
 ghost use Rattle.model.specs.View.{Follows, Leaves, NodeView, Performs, Shows, view_act};
 ghost use Rattle.node.specs.Keeping.{AreKeptIn, early_after, met};
-ghost use Rattle.node_store.specs.Logs.{is_quiet, is_turn};
+ghost use Rattle.node_store.specs.Logs.{is_turn};
 ghost use Rattle.node_store.specs.Noted.{IsLogged};
 
 use ids::Refusal;
 use model::{Answer, Event};
 use node::Node;
 use node_log::Log;
-
-// Whether an answer is that of an event that changes nothing that is saved: a word was read, or a
-// message was repeated, or kept until its turn.
-pub(crate) fn is_quiet(answer: &Answer) -> bool
-    ensures { result ≡ is_quiet answer.now }
-{
-    match answer {
-        Answer::Word(_) | Answer::Repeat | Answer::Early => true,
-        Answer::New(_)
-        | Answer::Done
-        | Answer::Value(_)
-        | Answer::Sent(_)
-        | Answer::Letter(_)
-        | Answer::Begun(_)
-        | Answer::Scanned(_)
-        | Answer::Passed(_)
-        | Answer::ProbeAgain
-        | Answer::Ended(_)
-        | Answer::Freed { .. }
-        | Answer::Received => false,
-    }
-}
 
 /// Whether an event is `Next`. To the node's core each other event is itself.
 #[inline(always)]
@@ -108,7 +86,7 @@ fn act_noting(node: &mut Node, log: &mut Log, event: Event) -> Result<Answer, Re
 {
     let meant = meant(node, event);
     let answer = node.act(event)?;
-    if !is_quiet(&answer) {
+    if answer.is_change() {
         let _lost = log.note(&meant);
     }
     Ok(answer)

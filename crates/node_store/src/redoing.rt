@@ -3,10 +3,9 @@ ghost use Rattle.std.specs.Prelude.{◌≡◌, ◌≢◌, ◌++◌, replicate, I
 ghost use Rattle.ids.specs.declared.refusal.Refusal.TheVariants.{BadImage, Memory};
 ghost use Rattle.model.specs.View.{NodeView};
 ghost use Rattle.node.specs.Keeping.{WholeNode, alone};
-ghost use Rattle.node_store.specs.Logs.{is_quiet, IsDone};
+ghost use Rattle.node_store.specs.Logs.{IsDone};
 ghost use Rattle.node_store.specs.Values.{IsAlone, LeadsWhole};
 
-use crate::acting::is_quiet;
 use codec::Reader;
 use disk_shelf::{HEAD, Persist, Replay};
 use event_bytes::read_event;
@@ -85,7 +84,7 @@ fn perform(node: &mut Node, event: Event) -> Result<(), Refusal>
         Err(Refusal::Memory) => return Err(Refusal::Memory),
         Err(_) => return Err(Refusal::BadImage),
     };
-    if is_quiet(&answer) {
+    if !answer.is_change() {
         return Err(Refusal::BadImage);
     }
     Ok(())

@@ -42,4 +42,4 @@ abbrev pub frame_text : Plain → List ℕ
 frame_text (data_frame from to number stamp body) =
     codes "data " ++ (head_text from to number ++ (codes " stamp " ++ (decimal stamp
     ++ (codes " " ++ body_text body))))
-frame_text (ack_frame from to number) = codes "ack " ++ head_text from to number
+frame_text (ack_frame by of number) = codes "ack " ++ head_text by of number

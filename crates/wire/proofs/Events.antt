@@ -180,7 +180,7 @@ module _ {w : World} {i : ℕ} {p : Pair} (stands : Stands w i p) {q : Pair} whe
       (sym (saved_is w i p stands.pair_is)))
 
   acted-local : (e : Event) (a : Answer) → is_own e ≡ true → q.saved ≡ p.saved
-      → act p.current e ≡ Ok (q.current, a) → IsEventful a → IsLocal w (step.Act i e) i q
+      → act p.current e ≡ Ok (q.current, a) → is_change a ≡ true → IsLocal w (step.Act i e) i q
   unfolding take_step
   acted-local e a own same acted event =
       moved-local (step.Act i e) q.current (outcome.Answer a) refl
@@ -193,7 +193,7 @@ module _ {w : World} {i : ℕ} {p : Pair} (stands : Stands w i p) {q : Pair} whe
 
   delivered-local : {from number : ℕ} (x : Message) (a : Answer) → from < length w.current
       → released w from i number ≡ Some x → q.saved ≡ p.saved
-      → (receive p.current from i number x.stamp x.body ≡ Ok (q.current, a)) × IsEventful a
+      → (receive p.current from i number x.stamp x.body ≡ Ok (q.current, a)) × is_change a ≡ true
       → IsLocal w (step.Deliver from i number) i q
   unfolding take_step
   delivered-local {from} {number} x a there taken same received =

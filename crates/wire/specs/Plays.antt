@@ -22,17 +22,13 @@ abbrev pub Releases : ℕ → NodeState → Plain → Type 0
 Releases i saved (data_frame from to number stamp body) =
     (from ≡ i) × (to ≢ i)
     × (numbered (sent_to saved to) number ≡ Some (record { stamp = stamp; body = body }))
-Releases i saved (ack_frame from to number) =
-    (from ≡ i) × (to ≢ i) × (number ≤ got_from saved.local to)
+Releases i saved (ack_frame by of number) =
+    (by ≡ i) × (of ≢ i) × (number ≤ got_from saved.local of)
 
 -- the bytes spell a frame that the seat's node releases, for the mailbox's receiver
 abbrev pub Owns : ℕ → Known → List ℕ → Type 0
 Owns m v bytes =
     (f : Plain) × Spells f bytes × (receiver f ≡ m % v.nodes) × Releases v.me v.pair.saved f
-
--- the answer is that of an event
-abbrev pub IsEventful : Answer → Type 0
-IsEventful a = is_eventful (Ok (outcome.Answer a)) ≡ true
 
 -- the node took the frame of this message from the wire
 abbrev pub HasTaken : Known → ℕ → ℕ → Message → Type 0
@@ -44,7 +40,7 @@ HasTaken v from number x =
 abbrev pub Happens : Known → model.Step → Pair → Type 0
 Happens v (step.Act i e) q =
     (i ≡ v.me) × (is_own e ≡ true) × (q.saved ≡ v.pair.saved)
-    × ((a : Answer) × (act v.pair.current e ≡ Ok (q.current, a)) × IsEventful a)
+    × ((a : Answer) × (act v.pair.current e ≡ Ok (q.current, a)) × (is_change a ≡ true))
 Happens v (step.Save i) q =
     (i ≡ v.me) × (q ≡ record { current = v.pair.current; saved = v.pair.current })
 Happens v (step.Restart i) q =
@@ -53,7 +49,7 @@ Happens v (step.Deliver from to number) q =
     (to ≡ v.me) × (from < v.nodes) × (q.saved ≡ v.pair.saved)
     × ((x : Message) × (a : Answer)
     × HasTaken v from number x
-    × (receive v.pair.current from v.me number x.stamp x.body ≡ Ok (q.current, a)) × IsEventful a)
+    × (receive v.pair.current from v.me number x.stamp x.body ≡ Ok (q.current, a)) × (is_change a ≡ true))
 Happens v (step.Hand from to) q = ⊥
 
 -- ---- The rule, read at a step

@@ -50,11 +50,11 @@ AreEvents w (s ∷ ss) = (is_event w s ≡ true) × AreEvents (happens w s) ss
 
 abbrev pub sender : Plain → ℕ
 sender (data_frame from to number stamp body) = from
-sender (ack_frame from to number) = from
+sender (ack_frame by of number) = by
 
 abbrev pub receiver : Plain → ℕ
 receiver (data_frame from to number stamp body) = to
-receiver (ack_frame from to number) = to
+receiver (ack_frame by of number) = of
 
 -- the bytes are the one spelling of the frame
 abbrev pub Spells : Plain → List ℕ → Type 0

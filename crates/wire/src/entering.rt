@@ -1,36 +1,15 @@
 //! How an event that a node has answered enters the history of the space. What changes nothing,
 //! such as a repeat or the reading of a word, doesn't enter it.
 ghost use Rattle.std.specs.Prelude.{◌≡◌, true, Ok};
+ghost use Rattle.model.specs.Effects.{is_change};
 ghost use Rattle.model.specs.declared.step.Step.{Step as StepOf};
-ghost use Rattle.wire.specs.Entering.{is_counted, known_after, pair_by, Entered};
+ghost use Rattle.wire.specs.Entering.{known_after, pair_by, Entered};
 ghost use Rattle.wire.specs.Views.{Pair, ticks};
 ghost use Rattle.wire.specs.Plays.{Happens};
 ghost use Rattle.wire.specs.Readers.{known, IsSeatOf, IsSame};
 
 use crate::seats::{NodeSeat, Wire};
 use model::{Answer, Event, Step};
-
-// Whether an answer is that of an event that counts. Reading a word doesn't count, nor does a
-// repeat or an early message.
-fn is_counted_answer(answer: &Answer) -> bool
-    ensures { result ≡ is_counted answer.now }
-{
-    match answer {
-        Answer::Word(_) | Answer::Repeat | Answer::Early => false,
-        Answer::New(_)
-        | Answer::Done
-        | Answer::Value(_)
-        | Answer::Sent(_)
-        | Answer::Letter(_)
-        | Answer::Begun(_)
-        | Answer::Scanned(_)
-        | Answer::Passed(_)
-        | Answer::ProbeAgain
-        | Answer::Ended(_)
-        | Answer::Freed { .. }
-        | Answer::Received => true,
-    }
-}
 
 // Enters the step of the seat's node that the event is. Only proofs read the step and the event.
 fn enter_step(wire: &Wire, seat: &mut NodeSeat, _step: Step, _event: &Event)
@@ -45,21 +24,21 @@ fn enter_step(wire: &Wire, seat: &mut NodeSeat, _step: Step, _event: &Event)
 }
 
 impl Wire {
-    /// Enters an event that the seat's node has answered into the history of the space, if the
-    /// answer is that of an event that counts, and returns whether it is; see
-    /// [`tick`](Wire::tick). The step says which event of the space it is.
+    /// Enters an event that the seat's node has answered into the history of the space, if it
+    /// changed the node, and returns whether it did; see [`tick`](Wire::tick). The step says which
+    /// event of the space it is.
     pub fn enter(&self, seat: &mut NodeSeat, step: Step, event: &Event, answer: &Answer) -> bool
         requires wire { IsSeatOf self.now seat.old }
-        requires event { is_counted answer.now ≡ true
+        requires event { is_change answer.now ≡ true
             → Happens (known seat.old) step (pair_by event.now (known seat.old).pair) }
         ensures same { IsSame seat.old seat.new }
         ensures known { known seat.new
             ≡ known_after event.now step (Ok answer.now) (known seat.old) }
-        ensures entered { is_counted answer.now ≡ true
+        ensures entered { is_change answer.now ≡ true
             → Entered step (known seat.old) (known seat.new) }
-        ensures counted { result ≡ is_counted answer.now }
+        ensures counted { result ≡ is_change answer.now }
     {
-        if is_counted_answer(answer) {
+        if answer.is_change() {
             enter_step(self, seat, step, event);
             true
         } else {

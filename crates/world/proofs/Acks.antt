@@ -56,9 +56,9 @@ module _ {n : List SiteView} {w : World} {from to : ℕ} {a : Ack} (h : ShowsWor
   told : a.number ≡ acknowledged w from to
   told = ack.number ∙ ap (λ (z : List ℕ). get_or z from 0) (h.each to).saved.acks
 
-  counted : (link_to (site_at n from).current a.from).kept ≡ release_count w from to
+  counted : (link_to (site_at n from).current a.by).kept ≡ release_count w from to
   counted =
-      ap (λ k. (link_to (site_at n from).current k).kept) ack.sender
+      ap (λ k. (link_to (site_at n from).current k).kept) ack.by
       ∙ (h.each from).current.counted to
 
   -- the step between two nodes, reduced to the test of the number
@@ -67,19 +67,19 @@ module _ {n : List SiteView} {w : World} {from to : ℕ} {a : Ack} (h : ShowsWor
       (w, outcome.Handed (acknowledged w from to))
   unfolding take_step
   handed =
-      let reached = rw (ack.sender, ack.receiver, (h.each from).current.shows.local) at
+      let reached = rw (ack.by, ack.of, (h.each from).current.shows.local) at
       ack.addressed in
       cond-true _ _ _ (are-nodes h from to less below) ∙ cond-false _ _ _ (ne_eqb from to apart)
       ∙ cond-true _ _ _ reached
 
-  hand-within : a.number ≤ (link_to (site_at n from).current a.from).kept
+  hand-within : a.number ≤ (link_to (site_at n from).current a.by).kept
       → take_step w (step.Hand from to) ≡ Ok (w, outcome.Handed a.number)
   hand-within within =
       let few : acknowledged w from to ≤ release_count w from to =
       omega (arith, within, told, counted) in
       handed ∙ cond-true _ _ _ (le-leb _ _ few) ∙ ap (λ k. Ok (w, outcome.Handed k)) (sym told)
 
-  hand-beyond : (link_to (site_at n from).current a.from).kept < a.number
+  hand-beyond : (link_to (site_at n from).current a.by).kept < a.number
       → take_step w (step.Hand from to) ≡ Err AckBeyond
   hand-beyond beyond =
       let far : release_count w from to < acknowledged w from to =
@@ -101,7 +101,7 @@ module _ {n : List SiteView} {w : World} {from to : ℕ} {a : Ack} (h : ShowsWor
             rw refusal.0 (hand-beyond refusal.1))
             (λ v is. rw (hand-within (ack-done u v.0 a v.1 is).0) refl)
             first;
-        within = rw (ack.sender, told) (le_refl _);
+        within = rw (ack.by, told) (le_refl _);
         free = λ is. refl;
       }
 
@@ -109,5 +109,5 @@ pub hands : {n m : List SiteView} {from to : ℕ} {a : Ack} {r : Result Answer R
     → to < length n → from ≢ to → IsAckOf n from to a → Given r n m from (event.Ack a)
     → Stepped (outcome_by (λ _. outcome.Handed a.number) r) n m (step.Hand from to)
 hands {from = from} below apart ack h =
-    given h (λ all x. rw ack.sender refl) (λ saves. saves)
+    given h (λ all x. rw ack.by refl) (λ saves. saves)
     (λ w shown. hand-gives shown h.within below apart ack)

@@ -9,16 +9,17 @@ use Rattle.model.specs.declared.step.Outcome.{Outcome}
 use Rattle.model.specs.World.{World, FollowsStep, new_world, take_step, outcome_of, world_after, is_shading_step, happens, run}
 use Rattle.model.specs.Cuts.{cut}
 use Rattle.laws.specs.Objects.{new_space, Sight, IsRun, after}
-use Rattle.laws.specs.Sights.{seen, at_first, kept, LooksLike}
+use Rattle.laws.specs.Sights.{observed_in_step, choice_at_start, observed_in_cut, LooksLike}
 use Rattle.laws.proofs.Transparent.{collector-is-unseen}
 use Rattle.world.specs.Spaces.{SpaceView, ShowsSpace, step_met}
 use Rattle.world.specs.Answered.{Call, AreCalls, space_after, is_taken, steps_of, sights, AnswersAreUnseen}
-use Rattle.world.proofs.Refusals.{refused-as, step-first}
+use Rattle.model.proofs.Refusals.{refused-as}
+use Rattle.world.proofs.Refusals.{step-first}
 
 -- the calls' answers are those of the definitions, and the space that they lead to is shown
 record Answered (w : World) (old : SpaceView) (ks : List Call) (choice : ℕ → Bool) : Type 0
   where
-    seen : sights w old ks choice ≡ kept w (steps_of old ks) choice
+    seen : sights w old ks choice ≡ observed_in_cut w (steps_of old ks) choice
     shown : ShowsSpace (space_after old ks) (run w (steps_of old ks))
 
 -- one more call, which is this step
@@ -30,7 +31,7 @@ module _ (w : World) (old : SpaceView) (k : Call) (ks : List Call) (choice : ℕ
   later = steps_of k.space ks
 
   abbrev here : Result Outcome Refusal → List Sight
-  here r = seen w (at_first later choice) met r
+  here r = observed_in_step w (choice_at_start later choice) met r
 
   -- a step that was taken
   taken-call : is_taken k.result ≡ true → outcome_of (take_step w met) ≡ k.result
@@ -40,9 +41,9 @@ module _ (w : World) (old : SpaceView) (k : Call) (ks : List Call) (choice : ℕ
         cond-true (is_taken k.result) (here k.result ++ sights (happens w met) k.space ks choice)
         (sights w k.space ks choice) is
         ∙ ap (λ (z : List Sight). here k.result ++ z) rest.seen
-        ∙ ap (λ (z : Result Outcome Refusal). here z ++ kept (happens w met) later choice)
+        ∙ ap (λ (z : Result Outcome Refusal). here z ++ observed_in_cut (happens w met) later choice)
         (sym same)
-        ∙ ap (λ (z : List Step). kept w z choice)
+        ∙ ap (λ (z : List Step). observed_in_cut w z choice)
         (sym (cond-true (is_taken k.result) (met ∷ later) later is));
     shown = subst (λ (z : List Step). ShowsSpace (space_after k.space ks) (run w z))
         (sym (cond-true (is_taken k.result) (met ∷ later) later is)) rest.shown;
@@ -56,7 +57,7 @@ module _ (w : World) (old : SpaceView) (k : Call) (ks : List Call) (choice : ℕ
         cond-false (is_taken k.result) (here k.result ++ sights (happens w met) k.space ks choice)
         (sights w k.space ks choice) lost
         ∙ rest.seen
-        ∙ ap (λ (z : List Step). kept w z choice)
+        ∙ ap (λ (z : List Step). observed_in_cut w z choice)
         (sym (cond-false (is_taken k.result) (met ∷ later) later lost));
     shown = subst (λ (z : List Step). ShowsSpace (space_after k.space ks) (run w z))
         (sym (cond-false (is_taken k.result) (met ∷ later) later lost)) rest.shown;
@@ -90,8 +91,7 @@ one-call w old k ks choice follows rest = by k.result refl follows
     by (Err e) is f = ⊎_elim {C = Answered w old (k ∷ ks) choice}
         (λ (taken : is_taken (Err e) ≡ true).
         let refused : take_step w t ≡ Err e =
-        refused-as (is_shading_step t) (take_step w t) e
-        (step-first w e (not-large e taken) t f.0) (not-memory e taken) in
+        refused-as (step-first w e (not-large e taken) t f.0) (not-memory e taken) in
         taken-call w old k ks choice (ap is_taken is ∙ taken) (ap outcome_of refused ∙ sym is)
         (subst (λ (z : World). Answered z k.space ks choice)
         (sym (ap (world_after w) refused)) (rest w f.1)))

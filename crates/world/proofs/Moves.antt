@@ -13,7 +13,7 @@ use Rattle.model.specs.World.{World}
 use Rattle.model.proofs.Shown.{used_is}
 use Rattle.model.specs.Cuts.{Cut}
 use Rattle.model.specs.Collecting.{is_swept_everywhere}
-use Rattle.laws.specs.Strategy.{now, first, Move, Bring, Do, is_waiting, has_waiting, is_grey, has_token, is_unswept, next_move, own_move, next_steps, steps_of}
+use Rattle.laws.specs.Strategy.{now, least, Move, Bring, Do, is_waiting, has_waiting, is_grey, has_token, is_unswept, next_move, own_move, next_steps, steps_of}
 use Rattle.laws.specs.Progress.{IsSwept}
 use Rattle.laws.proofs.progress.Choices.{number-at, first-passes, first-none}
 use Rattle.world.specs.Sites.{SiteView}
@@ -24,7 +24,7 @@ use Rattle.world.specs.Moves.{local_at, awaits, has_awaiting, has_sign, first_wi
 
 -- the first number below n that passes, or n
 pub first-is : (n k : ℕ) (f : ℕ → Bool) → k ≤ n → ((j : ℕ) → j < k → f j ≡ false)
-    → (k < n → f k ≡ true) → k ≡ first n f
+    → (k < n → f k ≡ true) → k ≡ least n f
 first-is n k f le before here =
     let many = length-range_with_len 0 n in
     sym
@@ -34,20 +34,20 @@ first-is n k f le before here =
     let below : k < n = omega (arith, less, many) in
     ap f (number-at n k below) ∙ here below))
 
-first-le : (n : ℕ) (f : ℕ → Bool) → first n f ≤ n
+first-le : (n : ℕ) (f : ℕ → Bool) → least n f ≤ n
 first-le n f =
     omega
     (arith, prefix_len-le-length (λ x. not (f x)) (range_with_len 0 n), length-range_with_len 0 n)
 
 -- by equal tests the same number
-pub first-same : (n : ℕ) (f g : ℕ → Bool) → ((k : ℕ) → f k ≡ g k) → first n f ≡ first n g
+pub first-same : (n : ℕ) (f g : ℕ → Bool) → ((k : ℕ) → f k ≡ g k) → least n f ≡ least n g
 first-same n f g same =
-    first-is n (first n f) g (first-le n f)
+    first-is n (least n f) g (first-le n f)
     (λ j less.
     sym (same j) ∙ ap f (sym (number-at n j (omega (arith, less, first-le n f))))
     ∙ fails_before_first f (range_with_len 0 n) j 0 less)
     (λ below.
-    sym (same (first n f)) ∙ ap f (sym (number-at n (first n f) below))
+    sym (same (least n f)) ∙ ap f (sym (number-at n (least n f) below))
     ∙ passes_at_first f (range_with_len 0 n) 0
     (omega (arith, below, length-range_with_len 0 n)))
 
@@ -81,16 +81,16 @@ module _ {sites : List SiteView} {w : World} (h : ShowsWorld sites w) where
   abbrev n : ℕ
   n = length sites
 
-  pub to-shown : (from : ℕ) → first n (awaits sites from) ≡ first n (is_waiting (now w) from)
+  pub to-shown : (from : ℕ) → least n (awaits sites from) ≡ least n (is_waiting (now w) from)
   to-shown from = first-same n (awaits sites from) (is_waiting (now w) from) (awaits-shown from)
 
-  pub from-shown : first n (has_awaiting sites) ≡ first n (has_waiting n (now w))
+  pub from-shown : least n (has_awaiting sites) ≡ least n (has_waiting n (now w))
   from-shown =
       first-same n (has_awaiting sites) (has_waiting n (now w))
       (λ from. ap (λ k. ltb k n) (to-shown from))
 
   pub sign-shown : (s : Sign)
-      → first_with sites s ≡ first n (λ i. has_sign s (now w i).local)
+      → first_with sites s ≡ least n (λ i. has_sign s (now w i).local)
   sign-shown s =
       first-same n (λ i. has_sign s (local_at sites i)) (λ i. has_sign s (now w i).local)
       (λ i. ap (has_sign s) (local-shown i))
@@ -103,31 +103,21 @@ module _ {sites : List SiteView} {w : World} (h : ShowsWorld sites w) where
   open-shown : is_open (local_at sites 0) ≡ is_open (c 0).local
   open-shown = ap is_open (local-shown 0)
 
-  pub scan-shown : (i : ℕ) → is_open (local_at sites 0) ≡ true → i ≡ first_with sites sign.Grey
-      → i < n → Do i event.Scan ≡ own_move n c
-  scan-shown i opened is less =
-      let same : i ≡ first n (is_grey c) = is ∙ sign-shown sign.Grey in
-      ap (λ k. Do k event.Scan) same
-      ∙ sym
-      (cond-true (is_open (c 0).local) _ _ (sym open-shown ∙ opened)
-      ∙ cond-true (ltb (first n (is_grey c)) n) _ _
-      (lt-ltb _ _ (omega (arith, less, same))))
-
   pub pass-shown : (i : ℕ) → is_open (local_at sites 0) ≡ true → n ≤ first_with sites sign.Grey
       → i ≡ first_with sites sign.Token → Do i event.Pass ≡ own_move n c
   pass-shown i opened none is =
-      let same : i ≡ first n (has_token c) = is ∙ sign-shown sign.Token in
+      let same : i ≡ least n (has_token c) = is ∙ sign-shown sign.Token in
       ap (λ k. Do k event.Pass) same
       ∙ sym
       (cond-true (is_open (c 0).local) _ _ (sym open-shown ∙ opened)
-      ∙ cond-false (ltb (first n (is_grey c)) n) _ _
+      ∙ cond-false (ltb (least n (is_grey c)) n) _ _
       (le-ltb _ _ (omega (arith, none, sign-shown sign.Grey))))
 
   unswept-shown : (cycle : ℕ) → cycle ≡ (local_at sites 0).phases.cycle
-      → first_with sites (sign.Unswept cycle) ≡ first n (is_unswept c)
+      → first_with sites (sign.Unswept cycle) ≡ least n (is_unswept c)
   unswept-shown cycle is =
       sign-shown (sign.Unswept cycle)
-      ∙ ap (λ k. first n (λ i. has_sign (sign.Unswept k) (c i).local))
+      ∙ ap (λ k. least n (λ i. has_sign (sign.Unswept k) (c i).local))
       (is ∙ ap (λ (p : LocalState). p.phases.cycle) (local-shown 0))
 
   pub sweep-shown : {i cycle slots : ℕ} → is_open (local_at sites 0) ≡ false
@@ -135,14 +125,14 @@ module _ {sites : List SiteView} {w : World} (h : ShowsWorld sites w) where
       → slots ≡ length (local_at sites i).heap.slots
       → Do i (event.Sweep slots) ≡ own_move n c
   sweep-shown {i} {cycle} {slots} shut here is less all =
-      let same : i ≡ first n (is_unswept c) = is ∙ unswept-shown cycle here in
+      let same : i ≡ least n (is_unswept c) = is ∙ unswept-shown cycle here in
       let size : slots ≡ length (c i).local.heap.slots =
       all ∙ ap (λ (p : LocalState). length p.heap.slots) (local-shown i) in
       ap (λ k. Do i (event.Sweep k)) size
       ∙ ap (λ k. Do k (event.Sweep (length (c k).local.heap.slots))) same
       ∙ sym
       (cond-false (is_open (c 0).local) _ _ (sym open-shown ∙ shut)
-      ∙ cond-true (ltb (first n (is_unswept c)) n) _ _
+      ∙ cond-true (ltb (least n (is_unswept c)) n) _ _
       (lt-ltb _ _ (omega (arith, less, same))))
 
   pub begin-shown : (cycle : ℕ) → is_open (local_at sites 0) ≡ false
@@ -151,26 +141,26 @@ module _ {sites : List SiteView} {w : World} (h : ShowsWorld sites w) where
   begin-shown cycle shut here none =
       sym
       (cond-false (is_open (c 0).local) _ _ (sym open-shown ∙ shut)
-      ∙ cond-false (ltb (first n (is_unswept c)) n) _ _
+      ∙ cond-false (ltb (least n (is_unswept c)) n) _ _
       (le-ltb _ _ (omega (arith, none, unswept-shown cycle here))))
 
-  pub bring-shown : (from to : ℕ) → from ≡ first n (has_awaiting sites) → from < n
-      → to ≡ first n (awaits sites from) → Bring from to ≡ next_move n c
+  pub bring-shown : (from to : ℕ) → from ≡ least n (has_awaiting sites) → from < n
+      → to ≡ least n (awaits sites from) → Bring from to ≡ next_move n c
   bring-shown from to is less there =
-      let same : from ≡ first n (has_waiting n c) = is ∙ from-shown in
-      let receiver : to ≡ first n (is_waiting c from) = there ∙ to-shown from in
+      let same : from ≡ least n (has_waiting n c) = is ∙ from-shown in
+      let receiver : to ≡ least n (is_waiting c from) = there ∙ to-shown from in
       ap (Bring from) receiver
-      ∙ ap (λ k. Bring k (first n (is_waiting c k))) same
+      ∙ ap (λ k. Bring k (least n (is_waiting c k))) same
       ∙ sym
-      (cond-true (ltb (first n (has_waiting n c)) n) _ _
+      (cond-true (ltb (least n (has_waiting n c)) n) _ _
       (lt-ltb _ _ (omega (arith, less, same))))
 
-  pub other-shown : (m : Move) → n ≤ first n (has_awaiting sites) → m ≡ own_move n c
+  pub other-shown : (m : Move) → n ≤ least n (has_awaiting sites) → m ≡ own_move n c
       → m ≡ next_move n c
   other-shown m none is =
       is
       ∙ sym
-      (cond-false (ltb (first n (has_waiting n c)) n) _ _
+      (cond-false (ltb (least n (has_waiting n c)) n) _ _
       (le-ltb _ _ (omega (arith, none, from-shown))))
 
   -- the steps of a message that is brought
@@ -217,8 +207,8 @@ module _ {sites : List SiteView} {w : World} (h : ShowsWorld sites w) where
 -- ---- a message that is in flight
 
 pub sender-has : (sites : List SiteView) (from : ℕ)
-    → from ≡ first (length sites) (has_awaiting sites) → from < length sites
-    → first (length sites) (awaits sites from) < length sites
+    → from ≡ least (length sites) (has_awaiting sites) → from < length sites
+    → least (length sites) (awaits sites from) < length sites
 sender-has sites from is less =
     let m : ℕ = length sites in
     let found = first-passes m (has_awaiting sites) (lt-ltb _ _ (omega (arith, is, less))) in
@@ -226,8 +216,8 @@ sender-has sites from is less =
     (subst (λ k. has_awaiting sites k ≡ true) (sym is) found.1)
 
 pub receiver-has : (sites : List SiteView) (from to : ℕ)
-    → from ≡ first (length sites) (has_awaiting sites) → from < length sites
-    → to ≡ first (length sites) (awaits sites from) → awaits sites from to ≡ true
+    → from ≡ least (length sites) (has_awaiting sites) → from < length sites
+    → to ≡ least (length sites) (awaits sites from) → awaits sites from to ≡ true
 receiver-has sites from to is less there =
     let found = first-passes (length sites) (awaits sites from)
     (lt-ltb _ _ (sender-has sites from is less)) in

@@ -18,7 +18,7 @@ use Rattle.image_parts.specs.Grammar.{front_format, front_of, nodes_format, head
 use Rattle.image_parts.specs.Grammar.{ring_format, held_format}
 use Rattle.image_parts.specs.Stored.{stored_link, stored_links}
 use Rattle.image.specs.Images.{image_of, stored_by}
-use Rattle.world.proofs.Refusals.{memory-alone}
+use Rattle.model.proofs.Refusals.{memory-alone}
 
 -- ---- its length
 

@@ -26,7 +26,8 @@ use Rattle.world.specs.Collected.{IsOfCode, BreaksOff, TakesAll, Collects, Stops
 use Rattle.world.specs.Answered.{is_taken}
 use Rattle.world.specs.Moves.{local_at}
 use Rattle.world.proofs.Moves.{local-shown}
-use Rattle.world.proofs.Refusals.{refused-as, step-first}
+use Rattle.model.proofs.Refusals.{refused-as}
+use Rattle.world.proofs.Refusals.{step-first}
 use Rattle.world.proofs.Answers.{not-memory, not-large}
 use Rattle.world.proofs.Plays.{met-same}
 
@@ -93,21 +94,12 @@ of-code w s e new f ok =
     ⊎_elim {C = IsOfCode e}
     (λ (taken : is_taken (Err e) ≡ true).
     let refused : take_step w s ≡ Err e =
-    refused-as (is_shading_step s) (take_step w s) e (step-first w e (not-large e taken) s f.0)
+    refused-as (step-first w e (not-large e taken) s f.0)
     (not-memory e taken) in
     let never : IsOk (outcome_of (Err e)) = subst (λ z. IsOk (outcome_of z)) refused ok in
     absurd cc)
     (λ (lost : is_taken (Err e) ≡ false). lost-is e lost)
     (cases_Bool (is_taken (Err e)))
-
--- the collector's steps are a node's own
-pub collectors-own : (s : Step) → is_collectors s ≡ true → is_own_step s ≡ true
-collectors-own (step.Act i event.Begin) is = refl
-collectors-own (step.Act i event.Scan) is = refl
-collectors-own (step.Act i event.Pass) is = refl
-collectors-own (step.Act i (event.Sweep count)) is = refl
-collectors-own (step.Act i e) is = absurd cc
-collectors-own s is = refl
 
 -- what the list of steps says of the one in this place
 all-at : {A : Type 0} (P : A → Type 0) (xs : List A) (i : ℕ) (d : A) → AllByRecursion P xs
@@ -222,20 +214,6 @@ stops-short {moves = moves} e new few p here b = record {
   parts = b.parts;
   shown = b.shown;
   cause = λ less. b.cause;
-}
-
--- after the greatest number of moves
-pub gives-up : {n cycle moves : ℕ} {w : World} (e : Refusal) (new : SpaceView)
-    → moves ≡ GREATEST_NUMBER → Played n cycle moves w new → StopsShort n cycle e w new
-gives-up {n = n} {moves = moves} {w = w} e new same p = record {
-  moves = moves;
-  few = omega (arith, same);
-  before = λ k le less. p.before k (omega (arith, less, same));
-  done = [];
-  rest = next_steps n (play n moves w);
-  parts = refl;
-  shown = p.shown;
-  cause = λ less. absurd (omega (arith, less, same));
 }
 
 -- ---- what the code knows at the end of a move
@@ -364,14 +342,14 @@ finishes (Ok k) new plays shape limits steps shown room =
     let h : Collects shape.nodes (current_cycle w) k w new =
     subst (λ (z : ℕ). Collects z (current_cycle w) k w new) (shape-width shape steps shown)
     (plays w shown) in
-    (few-moves h c c.then, tt)
+    (few-moves h c c.holds, tt)
 finishes (Err e) new plays shape limits steps shown room =
     let w : World = run (new_world shape) steps in
     let c = cycle-can-end shape limits steps room in
     let h : StopsShort shape.nodes (current_cycle w) e w new =
     subst (λ (z : ℕ). StopsShort z (current_cycle w) e w new) (shape-width shape steps shown)
     (plays w shown) in
-    (tt, code-fails h c (omega (arith, room 0 0, limits.least_nodes)) c.then)
+    (tt, code-fails h c (omega (arith, room 0 0, limits.least_nodes)) c.holds)
 
 pub collects : {old : SpaceView} (result : Result ℕ Refusal) (new : SpaceView)
     → PlaysTo result old new (λ w. current_cycle w + 1) → (shape : Shaped) → IsShape shape
@@ -386,7 +364,7 @@ collects (Ok k) new plays shape limits steps shown can =
     subst (λ (z : ℕ). Collects z (current_cycle w + 1) k w new) (shape-width shape steps shown)
     (plays w shown) in (
       record {
-        few = few-moves h c c.then.0;
+        few = few-moves h c c.holds.0;
         gone = gone shape limits steps (played shape.nodes k w) (current_cycle w + 1)
             (omega arith) h.swept;
       },
@@ -398,4 +376,4 @@ collects (Err e) new plays shape limits steps shown can =
     let h : StopsShort shape.nodes (current_cycle w + 1) e w new =
     subst (λ (z : ℕ). StopsShort z (current_cycle w + 1) e w new) (shape-width shape steps shown)
     (plays w shown) in
-    (tt, code-fails h c (omega (arith, can.room 0 0, limits.least_nodes)) c.then.0)
+    (tt, code-fails h c (omega (arith, can.room 0 0, limits.least_nodes)) c.holds.0)

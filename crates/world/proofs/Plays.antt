@@ -12,7 +12,8 @@ use Rattle.laws.specs.Strategy.{is_collectors, played}
 use Rattle.world.specs.Spaces.{SpaceView, ShowsSpace, step_met}
 use Rattle.world.specs.Answered.{Call, AreCalls, space_after, is_taken}
 use Rattle.world.specs.Played.{step_of, PlayedIsAnswered}
-use Rattle.world.proofs.Refusals.{refused-as, step-first}
+use Rattle.model.proofs.Refusals.{refused-as}
+use Rattle.world.proofs.Refusals.{step-first}
 use Rattle.world.proofs.Answers.{not-memory, not-large}
 
 -- none of these steps is Next
@@ -39,7 +40,7 @@ one-goes w s (Ok o) new f taken ok = record {
 one-goes w s (Err e) new f taken ok =
     absurd
     (let refused : take_step w s ≡ Err e =
-    refused-as (is_shading_step s) (take_step w s) e (step-first w e (not-large e taken) s f.0)
+    refused-as (step-first w e (not-large e taken) s f.0)
     (not-memory e taken) in
     let never : IsOk (outcome_of (Err e)) =
     subst (λ z. IsOk (outcome_of z)) refused ok in

@@ -1,31 +1,12 @@
 -- Refusals that are the first to apply.
-use Rattle.std.proofs.Common.{◌≡◌, ◌≢◌, ◌⊎◌, inl, inr, ⊎_elim, Bool, true, false, Result, Ok, Err, refl}
+use Rattle.std.proofs.Common.{◌≡◌, ◌≢◌, Bool, true, false, Result, Ok, Err, refl}
 use Rattle.std.specs.Prelude.{IsOk}
 use Rattle.ids.specs.declared.refusal.Refusal.{Refusal}
-use Rattle.ids.specs.declared.refusal.Refusal.TheVariants.{Memory, ImageTooLarge}
-use Rattle.model.specs.Checks.{IsReplaced, IsFirstRefusal}
+use Rattle.ids.specs.declared.refusal.Refusal.TheVariants.{ImageTooLarge}
+use Rattle.model.specs.Checks.{IsReplaced, IsFirstRefusal, by_test, by_memory}
 use Rattle.model.specs.declared.step.Step.{Step}
 use Rattle.model.specs.declared.step.Step.TheVariants as step
 use Rattle.model.specs.World.{World, IsStepRefusal, is_shading_step, take_step}
-
--- a refusal is `Memory` or something else
-pub memory-or : (e : Refusal) → (e ≡ Memory) ⊎ (e ≢ Memory)
-memory-or Memory = inl refl
-memory-or e = inr (λ is. absurd cc)
-
-pub memory-alone : (e : Refusal) → (e ≢ Memory → ⊥) → e ≡ Memory
-memory-alone e never =
-    ⊎_elim {C = e ≡ Memory} (λ is. is) (λ other. absurd (never other)) (memory-or e)
-
--- a refusal of the definitions
-pub first-refused : {Y : Type 0} (shading : Bool) (r : Result Y Refusal) (e : Refusal) → e ≢ Memory
-    → r ≡ Err e → IsFirstRefusal shading e r
-first-refused shading r e other h = (λ _. h, λ memory. absurd (other memory))
-
--- `Memory`, instead of an answer
-pub first-memory : {Y : Type 0} (r : Result Y Refusal) (e : Refusal) → e ≡ Memory → IsOk r
-    → IsFirstRefusal false e r
-first-memory r e memory h = (λ other. absurd (other memory), λ _. h)
 
 -- If the second call fails whenever the first one does, and with the same refusal, and is answered
 -- whenever the first one is, then whatever may replace the first result may replace the second.
@@ -42,13 +23,9 @@ replaced-by true (Err f) y refuses answers h = rw (refuses f refl) h
 pub first-by : {X Y : Type 0} (shading : Bool) (x : Result X Refusal) (y : Result Y Refusal)
     (e : Refusal) → ((f : Refusal) → x ≡ Err f → y ≡ Err f) → ((v : X) → x ≡ Ok v → IsOk y)
     → IsFirstRefusal shading e x → IsFirstRefusal shading e y
-first-by shading x y e refuses answers h =
-    (λ other. refuses e (h.0 other), λ memory. replaced-by shading x y refuses answers (h.1 memory))
-
--- what a refusal other than `Memory` says
-pub refused-as : {Y : Type 0} (shading : Bool) (r : Result Y Refusal) (e : Refusal)
-    → IsFirstRefusal shading e r → e ≢ Memory → r ≡ Err e
-refused-as shading r e h other = h.0 other
+first-by shading x y e refuses answers (by_test other is) = by_test other (refuses e is)
+first-by shading x y e refuses answers (by_memory memory is) =
+    by_memory memory (replaced-by shading x y refuses answers is)
 
 -- ---- refusals of a step
 

@@ -5,7 +5,8 @@ use Rattle.model.specs.declared.step.Step.{Step}
 use Rattle.model.specs.declared.step.Outcome.{Outcome}
 use Rattle.model.specs.World.{World, new_world, take_step, is_shading_step, world_after, happens, run}
 use Rattle.world.specs.Spaces.{SpaceView, ShowsSpace, FollowsSpace, ExtendsSpace, step_met}
-use Rattle.world.proofs.Refusals.{refused-as, step-first}
+use Rattle.model.proofs.Refusals.{refused-as}
+use Rattle.world.proofs.Refusals.{step-first}
 
 run-push : (w : World) (steps : List Step) (s : Step)
     → run w (steps ++ s ∷ []) ≡ happens (run w steps) s
@@ -25,7 +26,7 @@ extends_space (Err e) n m s follows shape steps h taken short =
     let t : Step = step_met n.early s in
     let after = follows w h in
     let first = step-first w e (λ size. short (ap (λ z. Err z) size)) t after.0 in
-    let stepped = refused-as (is_shading_step t) (take_step w t) e first
+    let stepped = refused-as first
     (λ memory. taken (ap (λ z. Err z) memory)) in
     subst (ShowsSpace m) (sym (run-push (new_world shape) steps t ∙ ap (world_after w) stepped))
     after.1

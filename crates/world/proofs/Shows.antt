@@ -121,20 +121,6 @@ pub record Changes (n m : List SiteView) (i : ℕ) (q p : SiteView) : Type 0 whe
   pub old : q ≡ site_at n i
   pub new : m ≡ set n i p
 
--- in terms of the code, which reads the site at a place of its view of the space
-pub site-read : {n seen : List SiteView} {i place : ℕ} {q : SiteView} → seen ≡ n → place ≡ i
-    → i < length n → q ≡ get_or seen place q → q ≡ site_at n i
-site-read {n = n} {i = i} {q = q} seen named less read =
-    get_or_read n i q less (rw (seen, named) at read) no_site
-
-pub changes : {n seen : List SiteView} {i place : ℕ} {q p : SiteView} → seen ≡ n → place ≡ i
-    → i < length n → q ≡ get_or seen place q → Changes n (set seen place p) i q p
-changes seen named less read = record {
-  within = less;
-  old = site-read seen named less read;
-  new = rw (seen, named);
-}
-
 -- what holds of the element written, and of all others
 module _ {A : Type 0} (P : ℕ → A → Type 0) (xs : List A) {i : ℕ} (x d : A)
     (less : i < length xs) where

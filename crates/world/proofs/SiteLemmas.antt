@@ -36,15 +36,15 @@ base-at n j = get_or-map base_of n.links j no_link
 -- an acknowledgement within a bound that is given for each node
 abbrev pub IsAckWithin : (ℕ → ℕ) → Option Ack → Type 0
 IsAckWithin B None = Unit {0}
-IsAckWithin B (Some a) = a.number ≤ B a.from
+IsAckWithin B (Some a) = a.number ≤ B a.by
 
 -- if what was dropped is within the bounds, so is what is dropped after the acknowledgement
 pub bases-within : (B : ℕ → ℕ) (all : List ℕ) (o : Option Ack) (j : ℕ) → IsAckWithin B o
     → ((k : ℕ) → get_or all k 0 ≤ B k) → get_or (bases_acked all o) j 0 ≤ B j
 bases-within B all None j told low = low j
 bases-within B all (Some a) j told low =
-    at_set_if (λ z. z ≤ B j) all a.from j (max a.number (get_or all a.from 0)) 0
-    (λ e. subst (λ k. max a.number (get_or all a.from 0) ≤ B k) e (omega (arith, told, low a.from)))
+    at_set_if (λ z. z ≤ B j) all a.by j (max a.number (get_or all a.by 0)) 0
+    (λ e. subst (λ k. max a.number (get_or all a.by 0) ≤ B k) e (omega (arith, told, low a.by)))
     (low j)
 
 -- ---- events
@@ -69,8 +69,8 @@ let_go-used : (links : List Link) (o : Option Ack) (j : ℕ)
     → used (get_or links j no_link) ≤ used (get_or (let_go links o) j no_link)
 let_go-used links None j = le_refl _
 let_go-used links (Some a) j =
-    let old : Link = get_or links a.from no_link in
-    set-used links a.from j (trimmed old a.number)
+    let old : Link = get_or links a.by no_link in
+    set-used links a.by j (trimmed old a.number)
     (omega (arith, length-drop (a.number - old.base) old.unacknowledged))
 
 act-used : (n new : NodeView) (e : Event) (r : Result Answer Refusal) (j : ℕ)
@@ -106,10 +106,10 @@ acted-lets_go {r = Err f} o h left p is = tt
 acted-lets_go {r = Ok x} None h left p none = (left.bases none, tt)
 acted-lets_go {n = n} {new = new} {e = e} {r = Ok x} (Some a) h left p is =
     let done = ack-done n new a x (rw (ack-event e a is) at p.performs) in
-    let moved = trimmed-base (link_to n a.from) a.number (h.kept a.from) done.0
-    ∙ ap (max a.number) (sym (base-at n a.from)) in (
-      ap bases done.1 ∙ map-set base_of n.links a.from (trimmed (link_to n a.from) a.number)
-          ∙ ap (set (bases n) a.from) moved,
+    let moved = trimmed-base (link_to n a.by) a.number (h.kept a.by) done.0
+    ∙ ap (max a.number) (sym (base-at n a.by)) in (
+      ap bases done.1 ∙ map-set base_of n.links a.by (trimmed (link_to n a.by) a.number)
+          ∙ ap (set (bases n) a.by) moved,
       done.0,
     )
 
@@ -131,50 +131,38 @@ acted-base {n = n} {new = new} {e = e} {r = Ok x} j h left p =
     )
 
 -- the site after a call of its current node
-module _ (n saved v : NodeView) (rows : List (List (List ℕ))) (e : Event)
-    (r : Result Answer Refusal)
-    (h : IsSite (record { current = n; saved = saved; released = rows })) (left : Leaves n v e)
-    (performs : Performs (is_shading e) r v (view_act n e)) (same : OnErr r (v ≡ n))
-  where
-    performed : Performed (is_shading e) r n v (view_act n e)
-    performed = record { performs = performs; unchanged = same }
+module _ {q : SiteView} {v : NodeView} {e : Event} {r : Result Answer Refusal} (h : IsSite q)
+    (left : Leaves q.current v e)
+    (performed : Performed (is_shading e) r q.current v (view_act q.current e)) where
+  pub site_acted : IsSite (record q { current = v })
+  site_acted =
+      let kept = λ (j : ℕ). link-same kept_of v q.current j left.kept in
+      record {
+        shape = h.shape ∙ sym left.shape;
+        own = h.own ∙ sym left.own;
+        acks = h.acks ∙ sym left.acks;
+        width = h.width ∙ ap (λ (s : Shaped). s.nodes) (sym left.shape);
+        current = record {
+          base = λ j. acted-base j h.current left performed;
+          kept = λ j. omega (arith, h.current.kept j, kept j, act-used q.current v e r j performed);
+          frames = λ j apart.
+              omega (arith, h.current.frames j (λ own. apart (own ∙ sym left.own)), kept j);
+        };
+        saved = h.saved;
+      }
 
-    pub site_acted : IsSite (record { current = v; saved = saved; released = rows })
-    site_acted =
-        let kept = λ (j : ℕ). link-same kept_of v n j left.kept in
-        record {
-          shape = h.shape ∙ sym left.shape;
-          own = h.own ∙ sym left.own;
-          acks = h.acks ∙ sym left.acks;
-          width = h.width ∙ ap (λ (s : Shaped). s.nodes) (sym left.shape);
-          current = record {
-            base = λ j. acted-base j h.current left performed;
-            kept = λ j. omega (arith, h.current.kept j, kept j, act-used n v e r j performed);
-            frames = λ j apart.
-                omega (arith, h.current.frames j (λ own. apart (own ∙ sym left.own)), kept j);
-          };
-          saved = h.saved;
-        }
-
-    pub acts : (IsTrue (is_memory_free n.local e) → IfErr r (λ f. f ≢ Memory))
-        → Acted r (record { current = n; saved = saved; released = rows })
-        (record { current = v; saved = saved; released = rows }) e
-    acts free =
-        let q : NodeView → SiteView = λ m. record {
-          current = m;
-          saved = saved;
-          released = rows;
-        } in
-        record {
-          performs = performs;
-          unchanged = MatchResult-weaker r same (λ x _. tt) (λ f same. ap q same);
-          others = refl;
-          leaves = left;
-          lets_go = MatchResult-weaker r
-              (acted-lets_go (ack_of e) h.current left performed refl) (λ x done. done.0)
-              (λ f _. tt);
-          memory_free = free;
-        }
+  pub acts : (IsTrue (is_memory_free q.current.local e) → IfErr r (λ f. f ≢ Memory))
+      → Acted r q (record q { current = v }) e
+  acts free = record {
+    performs = performed.performs;
+    unchanged = MatchResult-weaker r performed.unchanged (λ x _. tt)
+        (λ f same. ap (λ (m : NodeView). record q { current = m }) same);
+    others = refl;
+    leaves = left;
+    lets_go = MatchResult-weaker r
+        (acted-lets_go (ack_of e) h.current left performed refl) (λ x done. done.0) (λ f _. tt);
+    memory_free = free;
+  }
 
 -- ---- saves
 

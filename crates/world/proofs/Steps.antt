@@ -11,7 +11,7 @@ use Rattle.ids.specs.declared.refusal.Refusal.{Refusal}
 use Rattle.ids.specs.declared.refusal.Refusal.TheVariants.{Memory, NoNode, ImageTooLarge}
 use Rattle.ids.specs.declared.limits.TheConstants.{GREATEST_IMAGE}
 use Rattle.image.specs.Images.{image_of}
-use Rattle.model.specs.Checks.{IsFirstRefusal}
+use Rattle.model.specs.Checks.{IsFirstRefusal, by_test, by_memory}
 use Rattle.model.specs.declared.event.Event.{Event}
 use Rattle.model.specs.declared.event.Event.TheVariants as event
 use Rattle.model.specs.declared.event.Answer.{Answer}
@@ -24,14 +24,14 @@ use Rattle.model.specs.Steps.{act, ack_of, is_own, is_memory_free, is_shading}
 use Rattle.model.specs.View.{NodeView, IsTold, view_act, all_kept, kept_view, base_of}
 use Rattle.model.specs.World.{World, FollowsStep, IsStepRefusal, take_step, is_node, moved, acknowledged, is_step_memory_free, is_shading_step}
 use Rattle.model.proofs.Shown.{act-shown}
-use Rattle.model.proofs.Refusals.{event-never}
+use Rattle.model.proofs.Refusals.{event-never, memory-or}
 use Rattle.node.specs.Invariant.{IsNode}
 use Rattle.node.specs.Summaries.{summary_of}
 use Rattle.model.specs.declared.summary.Summary.{Summary}
 use Rattle.world.specs.Sites.{SiteView, Saves, bases, bases_acked}
 use Rattle.world.specs.Shows.{SiteBases, ShowsWorld, SavesTooLarge, Stepped, Given, IsSim, no_site, site_at, site_bases, bases_of, bases_at, bases_after, summary_at}
 use Rattle.world.specs.Spaces.{outcome_by}
-use Rattle.world.proofs.Refusals.{memory-or, first-refused, first-memory, first-by, step-refused}
+use Rattle.world.proofs.Refusals.{first-by, step-refused}
 use Rattle.world.proofs.SiteLemmas.{IsAckWithin}
 use Rattle.world.proofs.Shows.{Changes, unchanged-sites, shows-moved, shows-saved, node-moved, saved_after}
 
@@ -131,8 +131,14 @@ none-saved n (step.Hand from to) past saves = saves
 pub no-node : (n : List SiteView) (s : Step) → NamesNoNode n s → Stepped (Err NoNode) n n s
 no-node n s past =
     refusing-other s NoNode refl
-    (λ w h. first-refused _ _ NoNode (λ e. absurd cc) (takes-no-node h s past))
+    (λ w h. by_test (λ e. absurd cc) (takes-no-node h s past))
     (λ e. absurd cc) (none-saved n s past) (λ w h free e. absurd cc)
+
+-- the same for a step between two nodes, of which one isn't there
+pub past-either : {n count from to : ℕ} → count ≡ n → (count ≤ from) ⊎ (count ≤ to)
+    → (n ≤ from) ⊎ (n ≤ to)
+past-either is (inl past) = inl (omega (arith, is, past))
+past-either is (inr past) = inr (omega (arith, is, past))
 
 -- a refusal that never occurs, since no space could be shown
 pub never : (n : List SiteView) (s : Step) (e : Refusal) → e ≢ ImageTooLarge
@@ -299,7 +305,7 @@ module _ {n m : List SiteView} {i : ℕ} {q p : SiteView} (c : Changes n m i q p
       → (SavesTooLarge n s → ⊥) → Stepped (Err e) n m s
   starved s e same memory plain wants short =
       refusing-other s e (unchanged-sites c same)
-      (λ w h. rw plain (first-memory _ e memory (wants w h).0))
+      (λ w h. rw plain (by_memory memory (wants w h).0))
       (λ size. let never : Memory ≡ ImageTooLarge = sym memory ∙ size in absurd cc) short
       (λ w h free. absurd (both_ways _ (wants w h).1 free))
 

@@ -8,7 +8,7 @@ use Rattle.model.specs.declared.step.Outcome.{Outcome}
 use Rattle.model.specs.World.{World, new_world, happens, run}
 use Rattle.model.specs.Cuts.{cut}
 use Rattle.laws.specs.Objects.{new_space, Sight, IsRun, after}
-use Rattle.laws.specs.Sights.{seen, at_first, LooksLike}
+use Rattle.laws.specs.Sights.{observed_in_step, choice_at_start, LooksLike}
 use Rattle.world.specs.Spaces.{SpaceView, ShowsSpace, FollowsSpace, step_met}
 
 -- a call of `Sim::step`: the step, the result, and the space of the code afterwards
@@ -48,7 +48,8 @@ abbrev pub sights : World → SpaceView → List Call → (ℕ → Bool) → Lis
 sights w old [] choice = []
 sights w old (k ∷ ks) choice =
     cond (is_taken k.result)
-    (seen w (at_first (steps_of k.space ks) choice) (step_met old.early k.step) k.result
+    (observed_in_step w (choice_at_start (steps_of k.space ks) choice) (step_met old.early k.step)
+    k.result
     ++ sights (happens w (step_met old.early k.step)) k.space ks choice)
     (sights w k.space ks choice)
 

@@ -9,7 +9,7 @@ use Rattle.model.specs.declared.step.Step.{Step}
 use Rattle.model.specs.World.{World, run, outcomes}
 use Rattle.laws.specs.Strategy.{now, next_steps, play}
 use Rattle.laws.specs.Progress.{current_cycle, IsSwept, IsGone, saves}
-use Rattle.laws.specs.Bounds.{cycle_moves, both_moves, next_work, HasRoom}
+use Rattle.laws.specs.Bounds.{both_moves, cycle_room, both_room, HasRoom}
 use Rattle.world.specs.Spaces.{SpaceView, ShowsSpace}
 
 -- Only the code fails for lack of memory, or because an image is too large.
@@ -57,11 +57,11 @@ PlaysUntil (Err e) n cycle w new = StopsShort n cycle e w new
 -- No link runs out of numbers before the cycle is swept; nor before the next one is, if there is
 -- one.
 abbrev pub CanFinish : ℕ → World → Type 0
-CanFinish n w = HasRoom (cycle_moves n (now w) + n) (now w)
+CanFinish n w = HasRoom (cycle_room n (now w)) (now w)
 
 pub record CanCollect (n : ℕ) (w : World) : Type 0 where
   pub cycle : current_cycle w < GREATEST_CYCLE
-  pub room : HasRoom (both_moves n (now w) + next_work n (now w) + 3 * n) (now w)
+  pub room : HasRoom (both_room n (now w)) (now w)
 
 -- Once each node is saved after these moves, none has an object that was old garbage before them,
 -- in any choice of current and saved states.

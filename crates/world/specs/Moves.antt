@@ -5,7 +5,7 @@ use Rattle.model.specs.declared.step.Step.TheVariants as step
 use Rattle.model.specs.State.{LocalState, got_from}
 use Rattle.model.specs.Shading.{is_calm}
 use Rattle.model.specs.View.{link_to, used}
-use Rattle.laws.specs.Strategy.{Move, Bring, Do, first, is_collectors}
+use Rattle.laws.specs.Strategy.{Move, Bring, Do, least, is_collectors}
 use Rattle.world.specs.declared.collecting.Sign.{Sign}
 use Rattle.world.specs.declared.collecting.Sign.TheVariants as sign
 use Rattle.world.specs.declared.collecting.Next.{Next}
@@ -22,7 +22,7 @@ awaits sites from to =
     nat_lt (got_from (local_at sites to) from) (used (link_to (site_at sites from).current to))
 
 abbrev pub has_awaiting : List SiteView → ℕ → Bool
-has_awaiting sites from = nat_lt (first (length sites) (awaits sites from)) (length sites)
+has_awaiting sites from = nat_lt (least (length sites) (awaits sites from)) (length sites)
 
 abbrev pub has_sign : Sign → LocalState → Bool
 has_sign sign.Grey p = not (is_calm p.heap)
@@ -30,7 +30,7 @@ has_sign sign.Token p = is_some p.ring.token
 has_sign (sign.Unswept cycle) p = not (p.phases.swept == cycle)
 
 abbrev pub first_with : List SiteView → Sign → ℕ
-first_with sites s = first (length sites) (λ i. has_sign s (local_at sites i))
+first_with sites s = least (length sites) (λ i. has_sign s (local_at sites i))
 
 -- the move of the definitions
 abbrev pub move_of : Next → Move

@@ -1,5 +1,7 @@
 -- The frames of one node's messages to another.
-use Rattle.std.specs.Prelude.{◌≡◌, ◌≢◌, ℕ, ◌+◌, ◌-◌, ◌<◌, ◌≤◌, cond, nat_lt, List, [], take, length, Option, Some, None, slice_get, slice_index_or}
+use Rattle.std.specs.Prelude.{◌≡◌, ◌≢◌, ℕ, ◌+◌, ◌-◌, ◌<◌, ◌≤◌, cond, nat_lt, List, [], take, length, Option, Some, None, Result, OnOk, IfErr, slice_get, slice_index_or}
+use Rattle.ids.specs.declared.refusal.Refusal.{Refusal}
+use Rattle.ids.specs.declared.refusal.Refusal.TheVariants.{Memory}
 use Rattle.msg.specs.Frames.{data_frame}
 use Rattle.frames.specs.Grammar.{Fits, spelling}
 use Rattle.msg.specs.declared.body.Message.{Message}
@@ -45,6 +47,13 @@ pub record AreStaged (n : NodeView) (to : ℕ) (before after : List (List ℕ)) 
 pub record IsStaged (n : NodeView) (to : ℕ) (before after : List (List ℕ)) : Type 0 where
   pub frames : AreStaged n to before after
   pub all : used (link_to n to) ≤ length after
+
+-- The frames of all messages to this node are made, or memory ran out. None is released.
+pub record Stages (n : NodeView) (to : ℕ) (old new : OutboxView) (result : Result Unit Refusal)
+    : Type 0 where
+  pub released : released_frames new ≡ released_frames old
+  pub staged : OnOk result (IsStaged n to (released_frames old) new.frames)
+  pub refused : IfErr result (λ e. e ≡ Memory)
 
 -- ---- the outboxes of a node, one to each node of the space
 

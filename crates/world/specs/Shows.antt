@@ -34,10 +34,10 @@ frame_at sites from to number = numbered_bytes (frames_to (site_at sites from) t
 -- what the saved node `to` acknowledges to the node `from`, and `from` accepts it as addressed to
 -- it
 pub record IsAckOf (sites : List SiteView) (from to : ℕ) (a : Ack) : Type 0 where
-  pub sender : a.from ≡ to
-  pub receiver : a.to ≡ from
+  pub by : a.by ≡ to
+  pub of : a.of ≡ from
   pub number : a.number ≡ slice_index_or (site_at sites to).saved.acks from 0
-  pub addressed : IsTrue (is_addressed (site_at sites from).current.local a.from a.to)
+  pub addressed : IsTrue (is_addressed (site_at sites from).current.local a.by a.of)
 
 -- The node, current or saved, shows the state. Its saved state says how many messages it counts as
 -- released, and what it acknowledges. It has dropped no message above the number acknowledged to

@@ -59,7 +59,7 @@ bases_to all to number = slice_set all to (max number (slice_index_or all to 0))
 
 abbrev pub bases_acked : List ℕ → Option Ack → List ℕ
 bases_acked all None = all
-bases_acked all (Some a) = bases_to all a.from a.number
+bases_acked all (Some a) = bases_to all a.by a.number
 
 -- the answer of the current node to an event, and the site after it
 pub record Acted (result : Result Answer Refusal) (old new : SiteView) (e : Event) : Type 0 where

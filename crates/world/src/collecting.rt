@@ -7,7 +7,7 @@ ghost use Rattle.model.specs.State.{got_from};
 ghost use Rattle.model.specs.World.{World, new_world, run};
 ghost use Rattle.model.specs.declared.step.Step.{Step};
 ghost use Rattle.model.specs.declared.step.Step.TheVariants as step;
-ghost use Rattle.laws.specs.Strategy.{Do, now, first, next_move, next_steps, own_move, is_collectors};
+ghost use Rattle.laws.specs.Strategy.{Do, now, least, next_move, next_steps, own_move, is_collectors};
 ghost use Rattle.laws.specs.Progress.{IsSwept, current_cycle};
 ghost use Rattle.laws.specs.Bounds.{cycle_moves};
 ghost use Rattle.world.specs.Shows.{site_at};
@@ -92,7 +92,7 @@ impl Sim {
     // number of nodes.
     fn receiver(&self, from: u8) -> u8
         requires { from < length self.now.sites }
-        ensures { result ≡ first (length self.now.sites) (awaits self.now.sites from) }
+        ensures { result ≡ least (length self.now.sites) (awaits self.now.sites from) }
     {
         let count = self.count();
         for to in 0..count {
@@ -106,7 +106,7 @@ impl Sim {
     // The first node from which a message is in flight. If nothing is in flight, the number of
     // nodes.
     fn sender(&self) -> u8
-        ensures { result ≡ first (length self.now.sites) (has_awaiting self.now.sites) }
+        ensures { result ≡ least (length self.now.sites) (has_awaiting self.now.sites) }
     {
         let count = self.count();
         for from in 0..count {

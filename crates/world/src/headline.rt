@@ -1,7 +1,7 @@
 //! The theorems over all runs, as the contract of one function that does nothing. The statements
 //! are in `laws/specs`, and docs/PROOF.md explains their terms.
 ghost use Rattle.laws.specs.Sights.{CollectorIsUnseen};
-ghost use Rattle.laws.specs.Statements.{OnlyEventsChange, CutsExtend, ReachIsLive, SweepsFreeNoneReachable, NodesAgree, BalancesAddUp, OldGarbageGoes, TargetsAreLive, NetGrows, NoneRefusedInTurn, NoneBeyond, AcknowledgementsGoThrough, HandsGoThrough, AcknowledgedIsTakenIn};
+ghost use Rattle.laws.specs.Statements.{OfEveryRun, OfSpaces, OnlyEventsChange, CutsExtend, ReachIsLive, SweepsFreeNoneReachable, NodesAgree, BalancesAddUp, OldGarbageGoes, TargetsAreLive, NetGrows, NoneRefusedInTurn, NoneBeyond, AcknowledgementsGoThrough, HandsGoThrough, AcknowledgedIsTakenIn};
 ghost use Rattle.laws.specs.Progress.{MarkingCanEnd, CycleCanEnd, GarbageCanGo, EndIsFoundSoon};
 ghost use Rattle.world.specs.Answered.{AnswersAreUnseen};
 ghost use Rattle.world.specs.Played.{PlayedIsAnswered};
@@ -56,53 +56,53 @@ pub fn laws()
     ensures events { OnlyEventsChange }
     // Take any moment of a run, and any choice of current and saved states later in that run. This
     // choice is one of that moment's choices, followed by steps without saves and restarts.
-    ensures cuts_extend { CutsExtend }
+    ensures cuts_extend { OfEveryRun CutsExtend }
     // In each such choice, every reference that is reachable from a register, a letter or a message
     // in flight names an object that its owner still has.
-    ensures live { ReachIsLive }
+    ensures live { OfEveryRun ReachIsLive }
     // In each such choice with the current state of a sweeping node, that node's reachable objects
     // are there before the sweep, and the same after it.
-    ensures frees_none_reachable { SweepsFreeNoneReachable }
+    ensures frees_none_reachable { OfEveryRun SweepsFreeNoneReachable }
     // In each such choice, if a node counts a cycle's marking as ended, so does node 0, and so does
     // every node in a later cycle. All nodes have joined the cycle, no node in it has a grey
     // object, and no message that it counts is in flight.
-    ensures agreement { NodesAgree }
+    ensures agreement { OfEveryRun NodesAgree }
     // In each such choice, the balances add up to the number of messages in flight that node 0's
     // cycle counts.
-    ensures balances { BalancesAddUp }
+    ensures balances { OfEveryRun BalancesAddUp }
     // Take an object that a node had saved before a cycle began, and that was reachable in no
     // choice then. In any later choice in which the node has swept that cycle, it no longer has the
     // object.
-    ensures old_garbage { OldGarbageGoes }
+    ensures old_garbage { OfEveryRun OldGarbageGoes }
     // A Mark, Put or Get that is received finds the object that it is about: it is the receiver's,
     // and live.
-    ensures targets { TargetsAreLive }
+    ensures targets { OfEveryRun TargetsAreLive }
     // A frame that was released, a message or an acknowledgement, may be delivered at any later
     // time.
-    ensures net { NetGrows }
+    ensures net { OfEveryRun NetGrows }
     // No released message is refused as one for another node or space. It is refused only before
     // its turn, or if a message that it makes the receiver send would need a number above the
     // greatest.
-    ensures in_turn { NoneRefusedInTurn }
+    ensures in_turn { OfEveryRun NoneRefusedInTurn }
     // No acknowledgement covers more than was released, and its receiver accepts it at any time. So
     // the acknowledgement that is handed over is never refused.
-    ensures within { NoneBeyond }
-    ensures acknowledgements { AcknowledgementsGoThrough }
-    ensures hands { HandsGoThrough }
+    ensures within { OfEveryRun NoneBeyond }
+    ensures acknowledgements { OfEveryRun AcknowledgementsGoThrough }
+    ensures hands { OfEveryRun HandsGoThrough }
     // Whatever a node has acknowledged, its current state has received.
-    ensures taken_in { AcknowledgedIsTakenIn }
+    ensures taken_in { OfEveryRun AcknowledgedIsTakenIn }
     // Take the moves that the strategy plays after any run. Within a bound that the current states
     // determine, node 0 counts the cycle's marking as ended. No step of the moves is refused, if no
     // link runs out of numbers.
-    ensures marking { MarkingCanEnd }
+    ensures marking { OfSpaces MarkingCanEnd }
     // Within another bound, each node has swept the cycle, and node 0 was told so.
-    ensures cycle { CycleCanEnd }
+    ensures cycle { OfSpaces CycleCanEnd }
     // Within a third one, each node has swept the next cycle too. Once each is saved after that,
     // none has an object that was old garbage at the start, rings of objects across nodes included.
-    ensures garbage { GarbageCanGo }
+    ensures garbage { OfSpaces GarbageCanGo }
     // If marking has terminated, node 0 finds that within three rounds of the token and the moves
     // that messages in flight need.
-    ensures soon { EndIsFoundSoon }
+    ensures soon { OfSpaces EndIsFoundSoon }
     // The calls of `Sim::step` for these moves all succeed, unless one fails with `Memory` or
     // `ImageTooLarge`. The space then shows what the moves lead to.
     ensures played { PlayedIsAnswered }

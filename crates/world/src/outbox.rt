@@ -7,7 +7,7 @@ ghost use Rattle.msg.specs.Frames.{plain};
 ghost use Rattle.frames.specs.Grammar.{Fits, spelling};
 ghost use Rattle.model.specs.View.{link_to, is_other};
 ghost use Rattle.node.specs.Invariant.{IsNode};
-ghost use Rattle.world.specs.Outboxes.{no_outbox, released_frames, all_released, numbered_bytes, IsStaged, HasFrames, AreStagedTo, Releases};
+ghost use Rattle.world.specs.Outboxes.{no_outbox, released_frames, all_released, numbered_bytes, IsStaged, Stages, HasFrames, AreStagedTo, Releases};
 
 use crate::packed::Frames;
 use codec::Piece;
@@ -68,10 +68,7 @@ impl Outbox {
     pub fn stage(&mut self, node: &Core, to: u8) -> Result<(), Refusal>
         requires other { IsTrue (is_other node.now.local to) }
         requires kept { (link_to node.now to).base ≤ length (released_frames self.old) }
-        ensures released { released_frames self.new ≡ released_frames self.old }
-        ensures staged { OnOk result
-            (IsStaged node.now to (released_frames self.old) self.new.frames) }
-        ensures refused { IfErr result (λ e. e ≡ Memory) }
+        ensures { Stages node.now to self.old self.new result }
     {
         // Most often there is no new message, nor a frame of a save that was refused.
         if self.released as u64 >= node.appended(to) && self.frames.len() == self.released {
@@ -84,10 +81,7 @@ impl Outbox {
     fn stage_new(&mut self, node: &Core, to: u8) -> Result<(), Refusal>
         requires other { IsTrue (is_other node.now.local to) }
         requires kept { (link_to node.now to).base ≤ length (released_frames self.old) }
-        ensures released { released_frames self.new ≡ released_frames self.old }
-        ensures staged { OnOk result
-            (IsStaged node.now to (released_frames self.old) self.new.frames) }
-        ensures refused { IfErr result (λ e. e ≡ Memory) }
+        ensures { Stages node.now to self.old self.new result }
     {
         self.frames.truncate(self.released);
         stage_frames(&mut self.frames, node, to)

@@ -94,7 +94,6 @@ impl Site {
 
     /// Gives the current node an event, and fails with whatever the node refuses. If it fails, the
     /// site is as before, except that an early message may have left its place.
-    #[tactic(auto, using(crate::proofs::SiteLemmas::site_acted))]
     #[inline(always)]
     pub fn act(&mut self, event: Event) -> Result<Answer, Refusal>
         ensures { ActedKeeping result self.old self.new event }
@@ -145,8 +144,8 @@ impl Site {
     /// What the saved node acknowledges to another node of its space. The current node knows it.
     pub fn acknowledgement(&self, from: u8) -> Ack
         requires { IsTrue (is_other self.now.site.current.local from) }
-        ensures from { result.from ≡ self.now.site.current.local.own }
-        ensures to { result.to ≡ from }
+        ensures by { result.by ≡ self.now.site.current.local.own }
+        ensures of { result.of ≡ from }
         ensures number { result.number ≡ slice_index_or self.now.site.saved.acks from 0 }
     {
         match self.current.ack_for(from) {

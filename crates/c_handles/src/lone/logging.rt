@@ -5,7 +5,7 @@ ghost use Rattle.node_log.specs.Noted.{Noted};
 ghost use Rattle.c_handles.specs.Logs.{logging};
 ghost use Rattle.c_handles.specs.Lone.{Acknowledged, Given};
 
-use super::{LoneNode, is_counted};
+use super::LoneNode;
 use c_values::Fault;
 use model::{Answer, Event};
 use msg::Ack;
@@ -41,7 +41,7 @@ impl LoneNode {
     {
         let meant = meant(&self.node, event);
         let answer = self.node.act(event)?;
-        if is_counted(&answer) {
+        if answer.is_change() {
             let _lost = self.log.note(&meant);
             self.is_changed = true;
             self.is_unsaved = true;
@@ -54,7 +54,7 @@ impl LoneNode {
     pub(super) fn acknowledge_noting(&mut self, ack: Ack) -> Result<Answer, Fault>
         ensures { Acknowledged self.old self.new ack result }
     {
-        let is_old = self.is_acknowledged(ack.from, ack.number);
+        let is_old = self.is_acknowledged(ack.by, ack.number);
         let answer = self.node.act(Event::Ack(ack))?;
         if !is_old {
             let _lost = self.log.note(&Event::Ack(ack));

@@ -15,27 +15,27 @@ use Rattle.model.specs.Shading.{is_open}
 use Rattle.model.specs.Cuts.{Cut, taken, IsInFlight}
 use Rattle.laws.proofs.Flights.{flight-inside}
 use Rattle.laws.proofs.Invariant.{phases_of, Marking, Base, Spot, place_of_spot, at_node, on_way, IsAt, is_held, is_sent, Inv}
-use Rattle.laws.specs.Strategy.{first, Move, Bring, Do, is_waiting, has_waiting, is_grey, has_token, is_unswept, mark_move, next_move}
+use Rattle.laws.specs.Strategy.{least, Move, Bring, Do, is_waiting, has_waiting, is_grey, has_token, is_unswept, mark_move, next_move}
 
 -- ---- the least number that passes
 
 pub number-at : (n k : ℕ) → k < n → get_or (range_with_len 0 n) k 0 ≡ k
 number-at n k below = omega (arith, get_or-range_with_len 0 n k 0 below)
 
-pub first-passes : (n : ℕ) (f : ℕ → Bool) → ltb (first n f) n ≡ true
-    → (first n f < n) × (f (first n f) ≡ true)
+pub first-passes : (n : ℕ) (f : ℕ → Bool) → ltb (least n f) n ≡ true
+    → (least n f < n) × (f (least n f) ≡ true)
 first-passes n f found =
-    let below = ltb-true (first n f) n found in
+    let below = ltb-true (least n f) n found in
     let many = length-range_with_len 0 n in (
       below,
-      ap f (sym (number-at n (first n f) below))
+      ap f (sym (number-at n (least n f) below))
           ∙ passes_at_first f (range_with_len 0 n) 0 (omega (arith, below, many)),
     )
 
-pub first-none : (n : ℕ) (f : ℕ → Bool) → ltb (first n f) n ≡ false → (k : ℕ) → k < n
+pub first-none : (n : ℕ) (f : ℕ → Bool) → ltb (least n f) n ≡ false → (k : ℕ) → k < n
     → f k ≡ false
 first-none n f none k below =
-    let all = ltb-false (first n f) n none in
+    let all = ltb-false (least n f) n none in
     ap f (sym (number-at n k below))
     ∙ fails_before_first f (range_with_len 0 n) k 0 (omega (arith, all, below))
 
@@ -89,36 +89,36 @@ module _ {shape : Shaped} {c : Cut} (inv : Inv shape c) where
   abbrev n : ℕ
   n = shape.nodes
 
-  marks : Still n c → is_open (c 0).local ≡ true → Chosen n c (mark_move n c (first n (is_grey c)))
+  marks : Still n c → is_open (c 0).local ≡ true → Chosen n c (mark_move n c (least n (is_grey c)))
   marks still opened =
-      cond_both (ltb (first n (is_grey c)) n) _ _ (Chosen n c)
+      cond_both (ltb (least n (is_grey c)) n) _ _ (Chosen n c)
       (λ some.
       let found = first-passes n (is_grey c) some in
-      scans (first n (is_grey c)) found.0 opened found.1)
+      scans (least n (is_grey c)) found.0 opened found.1)
       (λ none.
-      ⊎_elim {C = Chosen n c (Do (first n (has_token c)) event.Pass)}
+      ⊎_elim {C = Chosen n c (Do (least n (has_token c)) event.Pass)}
       (λ held.
       let found = first-passes n (has_token c) held in
-      passes (first n (has_token c)) found.0 still opened (first-none n (is_grey c) none) found.1)
+      passes (least n (has_token c)) found.0 still opened (first-none n (is_grey c) none) found.1)
       (λ lost. absurd (token-held inv still opened (first-none n (has_token c) lost)))
-      (cases_Bool (ltb (first n (has_token c)) n)))
+      (cases_Bool (ltb (least n (has_token c)) n)))
 
   pub chosen : Chosen n c (next_move n c)
   chosen =
-      cond_both (ltb (first n (has_waiting n c)) n) _ _ (Chosen n c)
+      cond_both (ltb (least n (has_waiting n c)) n) _ _ (Chosen n c)
       (λ some.
-      let from : ℕ = first n (has_waiting n c) in
+      let from : ℕ = least n (has_waiting n c) in
       let found = first-passes n (has_waiting n c) some in
       let there = first-passes n (is_waiting c from) found.1 in
-      brings from (first n (is_waiting c from)) found.0 there.0 there.1)
+      brings from (least n (is_waiting c from)) found.0 there.0 there.1)
       (λ none.
       let still : Still n c =
       λ from to f t.
       first-none n (is_waiting c from) (first-none n (has_waiting n c) none from f) to t in
       cond_both (is_open (c 0).local) _ _ (Chosen n c) (marks still)
       (λ shut.
-      cond_both (ltb (first n (is_unswept c)) n) _ _ (Chosen n c)
+      cond_both (ltb (least n (is_unswept c)) n) _ _ (Chosen n c)
       (λ unswept.
       let found = first-passes n (is_unswept c) unswept in
-      sweeps (first n (is_unswept c)) found.0 still shut found.1)
+      sweeps (least n (is_unswept c)) found.0 still shut found.1)
       (λ all. begins still shut (first-none n (is_unswept c) all))))

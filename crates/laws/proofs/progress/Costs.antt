@@ -20,7 +20,7 @@ use Rattle.model.proofs.Joining.{join-phases}
 use Rattle.model.proofs.Walk.{join-walks}
 use Rattle.model.proofs.Leaving.{stands-walks}
 use Rattle.laws.proofs.Flights.{load_sent}
-use Rattle.laws.specs.Bounds.{cost_of, weight, heap_work, root_work, held_work, node_work, kept_work, slot_work, grey_work}
+use Rattle.laws.specs.Bounds.{cost_of, weight, heap_work, root_work, held_work, node_work, whole_node_work, slot_work, grey_work}
 use Rattle.laws.proofs.progress.HeapWork.{SameWork, same-refl, grey-all, rewritten-same}
 use Rattle.std.proofs.lemmas.List.Sums.{sum_by-cons, sum_by_more}
 use Rattle.model.specs.Collecting.{places_in, scan, scanned, is_garbage, vacated_slot, generation_in, Sweeping, sweep_one, sweep_some, sweeping, looked_at, after_sweep}
@@ -87,7 +87,7 @@ filled-few (Some r ∷ os) = omega (arith, filled-few os)
 -- to what the next cycle may have to do.
 pub record Pays (cycle more held : ℕ) (p : LocalState) (w : Work) : Type 0 where
   pub work : node_work cycle w.local + cost_sent w.sends ≤ node_work cycle p + more
-  pub kept : kept_work w.local ≤ kept_work p + held
+  pub kept : whole_node_work w.local ≤ whole_node_work p + held
 
 pub pays-then : {cycle a b k l : ℕ} {p : LocalState} {w : Work} (f : LocalState → Work)
     → Pays cycle a k p w → Pays cycle b l w.local (f w.local)
@@ -160,7 +160,7 @@ sees-most cycle due rs p timed =
 pub join-pays : (cycle : ℕ) (p : LocalState) → p.phases.cycle ≢ cycle
     → (node_work cycle (join p cycle).local + cost_sent (join p cycle).sends + 1
     ≤ node_work cycle p)
-    × (kept_work (join p cycle).local ≤ kept_work p)
+    × (whole_node_work (join p cycle).local ≤ whole_node_work p)
 unfolding join enter
 join-pays cycle p apart =
     let q : LocalState = enter p cycle in
@@ -281,8 +281,8 @@ pub record Receives (cycle stamp : ℕ) (b : Body) (p : LocalState) : Type 0 whe
 pub record Spends (cycle : ℕ) (b : Body) (p q : LocalState) (ms : List (ℕ × Message)) : Type 0
   where
     pub work : node_work cycle q + cost_sent ms + 1 ≤ node_work cycle p + cost_of b
-    pub both : node_work cycle q + kept_work q + cost_sent ms + 1
-        ≤ node_work cycle p + kept_work p + cost_of b
+    pub both : node_work cycle q + whole_node_work q + cost_sent ms + 1
+        ≤ node_work cycle p + whole_node_work p + cost_of b
 
 joins-pays : (from number stamp : ℕ) (b : Body) (p : LocalState)
     → IfAny (λ (r : Ref). r.node ≡ p.own) (target_of b) → p.phases.cycle < stamp
@@ -339,7 +339,7 @@ without-last f xs some =
 
 pub scan-pays : (cycle : ℕ) (p : LocalState) → is_calm p.heap ≡ false → IsTimed cycle p
     → (node_work cycle (scanned p).local + cost_sent (scanned p).sends + 1 ≤ node_work cycle p)
-    × (kept_work (scanned p).local ≤ kept_work p)
+    × (whole_node_work (scanned p).local ≤ whole_node_work p)
 unfolding scanned scan
 scan-pays cycle p grey timed =
     let q : LocalState = record p { heap = without_last_grey p.heap } in
@@ -400,7 +400,7 @@ sweep-some cycle c k (suc n) s =
 -- if nothing is grey
 pub sweep-frees : (cycle : ℕ) (p : LocalState) (count : ℕ) → p.heap.grey ≡ []
     → (node_work cycle (after_sweep p count) ≤ node_work cycle p)
-    × (kept_work (after_sweep p count) ≤ kept_work p)
+    × (whole_node_work (after_sweep p count) ≤ whole_node_work p)
 sweep-frees cycle p count calm =
     let s : Sweeping = record { heap = p.heap; freed = 0 } in
     let f : Freed cycle p.heap (sweeping p count).heap =
@@ -411,7 +411,7 @@ sweep-frees cycle p count calm =
         → sum_by (slot_work cycle) g.slots ≤ sum_by (slot_work cycle) p.heap.slots
         → sum_by held_work g.slots ≤ sum_by held_work p.heap.slots
         → (node_work cycle (record p { heap = g }) ≤ node_work cycle p)
-        × (kept_work (record p { heap = g }) ≤ kept_work p)
+        × (whole_node_work (record p { heap = g }) ≤ whole_node_work p)
     by g rest work held =
         let none : sum_by (grey_work g) g.grey ≡ 0 =
         ap (λ (z : List ℕ). sum_by (grey_work g) z) (ap (λ (z : Heap). z.grey) rest ∙ calm) in

@@ -11,7 +11,7 @@ use Rattle.laws.proofs.Flights.{load_sent}
 use Rattle.laws.proofs.Inner.{marking-open}
 use Rattle.laws.proofs.Invariant.{phases_of, cycle_of, Marking, Inv}
 use Rattle.laws.specs.Strategy.{Move, Do, now, is_grey, next_move, next_steps}
-use Rattle.laws.specs.Bounds.{weight, HasRoom, work_left, kept, rounds}
+use Rattle.laws.specs.Bounds.{weight, HasRoom, work_left, whole_work, rounds}
 use Rattle.laws.proofs.progress.Flights.{room-after, room-less, numbers-fit}
 use Rattle.laws.proofs.progress.Paths.{Onward, Reaches, searched}
 use Rattle.laws.proofs.progress.Choices.{Chosen, brings, scans, passes, sweeps, begins, chosen}
@@ -208,7 +208,7 @@ pub record Aim : Type 0 where
 -- the work that is left, and with it what the next cycle may have to do
 pub record Works (a : Aim) (extra : ℕ) (w : World) : Type 0 where
   pub few : work_left a.shape.nodes (now w) ≤ a.work + extra
-  pub both : work_left a.shape.nodes (now w) + kept a.shape.nodes (now w) ≤ a.both + extra
+  pub both : work_left a.shape.nodes (now w) + whole_work a.shape.nodes (now w) ≤ a.both + extra
 
 -- each unit of work may cost three rounds of the token
 abbrev pub marks : Aim → Hunt

@@ -9,7 +9,7 @@ use Rattle.model.specs.Collecting.{is_swept_everywhere, probe, begun, conclude, 
 use Rattle.model.specs.Steps.{act, receive, count_in, take_body, settled, taken_in}
 use Rattle.model.specs.World.{World, new_world, run, take_step}
 use Rattle.laws.specs.Strategy.{now, play}
-use Rattle.laws.specs.Bounds.{moves, cycle_moves}
+use Rattle.laws.specs.Bounds.{marking_moves, cycle_moves}
 
 abbrev start : World
 start =
@@ -19,7 +19,7 @@ start =
 abbrev ended_after : ℕ → Bool
 ended_after k = (now (play 2 k start) 0).local.phases.ended == 1
 
-moves_bound : moves 2 (now start) ≡ 60
+moves_bound : marking_moves 2 (now start) ≡ 60
 unfolding take_step act append announce join enter see_to probe begun
 moves_bound = refl
 

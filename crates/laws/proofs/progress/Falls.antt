@@ -24,7 +24,7 @@ use Rattle.laws.proofs.Flights.{load_sent, load-takes, flight-inside}
 use Rattle.laws.proofs.Invariant.{cycle_of, Inv}
 use Rattle.laws.proofs.Inner.{open-joined}
 use Rattle.laws.proofs.Deliveries.{target-own}
-use Rattle.laws.specs.Bounds.{sum_to, weight, flight, node_work, kept_work, work_left, kept}
+use Rattle.laws.specs.Bounds.{sum_to, weight, flight, node_work, whole_node_work, work_left, whole_work}
 use Rattle.laws.proofs.progress.Flights.{sum-one, total-sums, flight-sends}
 use Rattle.laws.proofs.progress.Hearing.{Took, fit, stamp-latest, got-it, took-cycle}
 use Rattle.laws.proofs.progress.Costs.{cost_sent, is_token, Receives, taken-pays, scan-pays}
@@ -44,7 +44,7 @@ nodes-turn {c = c} {d = d} {i = i} {q = q} n f inside turn =
 pub record Falls (n : ℕ) (c d : Cut) (ms : List (ℕ × Message)) : Type 0 where
   pub cycle : cycle_of d 0 ≡ cycle_of c 0
   pub work : work_left n d + length ms + 1 ≤ work_left n c
-  pub both : work_left n d + kept n d ≤ work_left n c + kept n c
+  pub both : work_left n d + whole_work n d ≤ work_left n c + whole_work n c
 
 -- the work in terms of a cycle that the first node is in
 abbrev work_in : ℕ → ℕ → Cut → ℕ
@@ -57,7 +57,7 @@ pub record Change (n : ℕ) (c d : Cut) (p q : LocalState) (ms : List (ℕ × Me
   pub flown : flight n d + paid ≤ flight n c + load_sent weight ms
   pub nodes : sum_to n (λ j. node_work (cycle_of c 0) (d j).local) + node_work (cycle_of c 0) p
       ≡ sum_to n (λ j. node_work (cycle_of c 0) (c j).local) + node_work (cycle_of c 0) q
-  pub held : kept n d + kept_work p ≡ kept n c + kept_work q
+  pub held : whole_work n d + whole_node_work p ≡ whole_work n c + whole_node_work q
 
 pub change-work : {n : ℕ} {c d : Cut} {p q : LocalState} {ms : List (ℕ × Message)} {paid : ℕ}
     → Change n c d p q ms paid
@@ -70,8 +70,8 @@ change-work {n = n} {c = c} {d = d} {p = p} h =
 pub falls-by : {n : ℕ} {c d : Cut} {p q : LocalState} {ms : List (ℕ × Message)} {paid : ℕ}
     → Change n c d p q ms paid
     → node_work (cycle_of c 0) q + cost_sent ms + 1 ≤ node_work (cycle_of c 0) p + paid
-    → node_work (cycle_of c 0) q + kept_work q + cost_sent ms + 1
-    ≤ node_work (cycle_of c 0) p + kept_work p + paid
+    → node_work (cycle_of c 0) q + whole_node_work q + cost_sent ms + 1
+    ≤ node_work (cycle_of c 0) p + whole_node_work p + paid
     → Falls n c d ms
 falls-by h work both = record {
   cycle = h.cycle;
@@ -87,7 +87,7 @@ event-change {c = c} n inside turn got cycle = record {
   cycle = at_turn (λ j s. s.local.phases.cycle ≡ cycle_of c j) turn cycle (λ j _. refl) 0;
   flown = omega (arith, flight-sends n inside turn got);
   nodes = nodes-turn n (node_work (cycle_of c 0)) inside turn;
-  held = nodes-turn n kept_work inside turn;
+  held = nodes-turn n whole_node_work inside turn;
 }
 
 -- ---- a receipt
@@ -138,7 +138,7 @@ module _ {shape : Shaped} {c d : Cut} {from to : ℕ} {x : Message} (h : Took sh
       cycle = took-cycle h;
       flown = flight-takes;
       nodes = nodes-turn n (node_work (cycle_of c 0)) h.inside h.turn;
-      held = nodes-turn n kept_work h.inside h.turn;
+      held = nodes-turn n whole_node_work h.inside h.turn;
     }
 
     receives : Receives (cycle_of c 0) x.stamp x.body (c to).local

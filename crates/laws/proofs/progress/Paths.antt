@@ -121,7 +121,7 @@ comes most w (here m w0 p) = record {
   moves = 0;
   few = omega arith;
   played = record { collectors = tt; answered = tt; few = omega arith };
-  then = p;
+  holds = p;
 }
 comes {n = n} {P = P} most w (more m w0 g r) =
     let ss : List Step = next_steps n w in
@@ -140,5 +140,5 @@ comes {n = n} {P = P} most w (more m w0 g r) =
             (let l : length (ss ++ ts) ≡ length ss + length ts = length-append ss ts in
             omega (arith, steps-few (now w) (next_move n (now w)), c.played.few, l));
       };
-      then = subst P (sym (run-append w ss ts)) c.then;
+      holds = subst P (sym (run-append w ss ts)) c.holds;
     }

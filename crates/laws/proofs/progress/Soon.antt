@@ -105,6 +105,19 @@ pub record Quiet (b : Body) (p q : LocalState) (ms : List (ℕ × Message)) : Ty
   pub sends : cost_sent ms + 1 ≤ cost_of b
   pub uncounted : AllByRecursion (λ m. is_counted p.phases.cycle m.1 ≡ false) ms
 
+-- nothing is sent, and the ring stays
+idle-quiet : {b : Body} {p q : LocalState} → q.heap.grey ≡ p.heap.grey
+    → q.phases.cycle ≡ p.phases.cycle → q.ring ≡ p.ring → 1 ≤ cost_of b → Quiet b p q []
+idle-quiet grey cycle ring pays = record {
+  grey = grey;
+  cycle = cycle;
+  colour = ap (λ (z : Ring). z.colour) ring;
+  owes = ap (λ (z : Ring). z.earlier) ring;
+  token = ap (λ (z : Ring). z.token) ring;
+  sends = omega (arith, pays);
+  uncounted = tt;
+}
+
 reference-now : (cycle : ℕ) → reference_balance cycle cycle ≡ Recent
 reference-now cycle = cond-false (ltb cycle cycle) Earlier Recent (le-ltb cycle cycle (omega arith))
 
@@ -185,15 +198,7 @@ body-quiet from (body.Token t) p is h reads = absurd cc
 body-quiet from (body.Mark target) p is h reads = absurd cc
 body-quiet from body.Ended p is h reads = absurd cc
 body-quiet from body.Swept p is h reads = absurd cc
-body-quiet from b p is h reads = record {
-  grey = refl;
-  cycle = refl;
-  colour = refl;
-  owes = refl;
-  token = refl;
-  sends = omega arith;
-  uncounted = tt;
-}
+body-quiet from b p is h reads = idle-quiet refl refl refl (omega arith)
 
 pub reference-quiet : (from number : ℕ) (b : Body) (p : LocalState) → is_reference b ≡ true
     → Finds p b
@@ -231,15 +236,7 @@ begin-quiet p from number stamp here =
     (counted from number stamp body.Begin (then z (take_body from stamp body.Begin))).local
     (counted from number stamp body.Begin (then z (take_body from stamp body.Begin))).sends)
     (sym (see_to-none (ltb stamp p.phases.cycle) p))
-    (record {
-      grey = refl;
-      cycle = refl;
-      colour = refl;
-      owes = refl;
-      token = refl;
-      sends = omega arith;
-      uncounted = tt;
-    }))
+    (idle-quiet refl refl refl (omega arith)))
 
 -- ---- marking has terminated
 

@@ -22,6 +22,7 @@ use Rattle.model.proofs.Checks.{guarded-pass, passed-both}
 use Rattle.laws.proofs.KeepsSent.{run-count, new-keeps-sent}
 use Rattle.laws.proofs.Cuts.{run-keeps-sent, shown}
 use Rattle.laws.proofs.Deliveries.{Arrival, taken-whole}
+use Rattle.laws.proofs.KeepsSent.{node-count}
 use Rattle.laws.proofs.Net.{hands-go-through}
 use Rattle.laws.proofs.Base.{between-nodes, own-heard, taken-heard}
 use Rattle.laws.proofs.Flights.{flight-inside}
@@ -306,10 +307,12 @@ module _ {shape : Shaped} {w : World} {from to : ℕ} (h : Link shape w from to)
   handed : take_step w2 (step.Hand from to) ≡ Ok (w2, outcome.Handed (acknowledged w2 from to))
   handed =
       let r = reached-more (step.Save from ∷ step.Save to ∷ []) h.reached in
+      let count = node-count shape r.steps in
       subst (λ (z : World). take_step z (step.Hand from to)
       ≡ Ok (z, outcome.Handed (acknowledged z from to)))
       (r.is ∙ saves.to)
-      (hands-go-through shape r.limits r.steps from to h.sender h.inside link-apart)
+      (hands-go-through shape r.limits r.steps from to (omega (arith, count, h.sender))
+      (omega (arith, count, h.inside)) link-apart)
 
   there : released w2 from to number ≡ Some message_of
   there =

@@ -21,7 +21,7 @@ use Rattle.laws.proofs.Inner.{resting-joined}
 use Rattle.laws.proofs.Invariant.{phases_of, cycle_of, Resting, on_way, is_sent, Inv}
 use Rattle.laws.proofs.Live.{Whole}
 use Rattle.laws.specs.Strategy.{Move, Do, now, is_unswept, next_move, next_steps}
-use Rattle.laws.specs.Bounds.{sum_to, weight, work_left, kept, HasRoom}
+use Rattle.laws.specs.Bounds.{sum_to, weight, work_left, whole_work, HasRoom}
 use Rattle.laws.specs.Progress.{IsSwept}
 use Rattle.laws.proofs.progress.Flights.{sum-same, sum-le, sum-at, sum-const, room-after, room-less, numbers-fit}
 use Rattle.laws.proofs.progress.Paths.{Onward, Searches, Reaches, searched}
@@ -54,14 +54,14 @@ pub record Cleared (a : Aim) (w : World) : Type 0 where
   pub resting : Resting (phases_of (now w) 0)
   pub swept : IsSwept a.shape.nodes a.cycle (now w)
   pub room : HasRoom a.spare (now w)
-  pub both : work_left a.shape.nodes (now w) + kept a.shape.nodes (now w) ≤ a.both
+  pub both : work_left a.shape.nodes (now w) + whole_work a.shape.nodes (now w) ≤ a.both
 
 pub record Clearing (a : Aim) (w : World) (budget : ℕ) : Type 0 where
   pub reached : Reached a.shape w
   pub cycle : cycle_of (now w) 0 ≡ a.cycle
   pub ended : (phases_of (now w) 0).ended ≡ a.cycle
   pub room : HasRoom (budget + a.spare) (now w)
-  pub both : work_left a.shape.nodes (now w) + kept a.shape.nodes (now w)
+  pub both : work_left a.shape.nodes (now w) + whole_work a.shape.nodes (now w)
       + unswept_count a.shape.nodes a.cycle (now w) ≤ a.both
   pub enough : work_left a.shape.nodes (now w)
       + 3 * unswept_count a.shape.nodes a.cycle (now w) ≤ budget
@@ -192,7 +192,7 @@ module _ {a : Aim} {w : World} {budget : ℕ} (g : Clearing a w budget) where
       let change = event-change n inside moved.turn refl refl in
       let work : work_left n (now v) ≤ work_left n c + 1 =
       omega (arith, change-work change, frees.0, one.1) in
-      let keeps : kept n (now v) ≤ kept n c = omega (arith, change.held, frees.1) in
+      let keeps : whole_work n (now v) ≤ whole_work n c = omega (arith, change.held, frees.1) in
       let counts : unswept_count n a.cycle (now v) + 1 ≡ unswept_count n a.cycle c =
       omega (arith, nodes-turn n (unswept_one a.cycle) inside moved.turn, was, is_now) in
       let rest : ℕ = work_left n (now v) + 3 * unswept_count n a.cycle (now v) in

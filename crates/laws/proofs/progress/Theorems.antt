@@ -18,8 +18,9 @@ use Rattle.laws.proofs.Flights.{load_sent}
 use Rattle.model.proofs.Joining.{join-phases}
 use Rattle.model.proofs.Walk.{join-walks}
 use Rattle.laws.proofs.Invariant.{cycle_of, Inv}
+use Rattle.laws.specs.Statements.{OfSpaces}
 use Rattle.laws.specs.Strategy.{now, next_steps, played}
-use Rattle.laws.specs.Bounds.{sum_to, weight, scan_work, slot_work, held_work, grey_work, heap_work, root_work, node_work, kept_work, work_left, kept, HasRoom, flight, rounds, moves, cycle_moves, next_work, both_moves}
+use Rattle.laws.specs.Bounds.{sum_to, weight, scan_work, slot_work, held_work, grey_work, heap_work, root_work, node_work, whole_node_work, work_left, whole_work, HasRoom, flight, rounds, marking_moves, cycle_moves, next_work, both_moves}
 use Rattle.laws.proofs.progress.Flights.{sum-le, sum-at, sum-add, sum-const, flight-sends, room-after, room-less, numbers-fit}
 use Rattle.laws.proofs.progress.Paths.{Goes, run-append, Reaches, more, reaches-later, reaches-then, reaches-as, comes}
 use Rattle.laws.proofs.progress.Spaces.{Reached, reached-whole, do-moved, Moved, reached-more, reached-count, reached-saved, save-step}
@@ -56,13 +57,13 @@ slot-held cycle (Occupied g o) =
 slot-held cycle Retired = omega arith
 
 -- a node that hasn't joined the cycle, and has nothing grey
-node-held : (cycle : ℕ) (p : LocalState) → p.heap.grey ≡ [] → node_work cycle p ≤ 1 + kept_work p
+node-held : (cycle : ℕ) (p : LocalState) → p.heap.grey ≡ [] → node_work cycle p ≤ 1 + whole_node_work p
 node-held cycle p calm =
     let slots = sum-by_le (slot_work cycle) held_work p.heap.slots (slot-held cycle) in
     let greys : sum_by (grey_work p.heap) p.heap.grey ≡ 0 =
     ap (λ (z : List ℕ). sum_by (grey_work p.heap) z) calm in
     cond_both (p.phases.cycle == cycle) 0 (1 + root_work p.heap)
-    (λ z. z + heap_work cycle p.heap ≤ 1 + kept_work p)
+    (λ z. z + heap_work cycle p.heap ≤ 1 + whole_node_work p)
     (λ _. omega (arith, slots, greys)) (λ _. omega (arith, slots, greys))
 
 -- ---- the event
@@ -99,7 +100,7 @@ next_aim a v work spare = record {
   shape = a.shape;
   cycle = a.cycle + 1;
   work = work;
-  both = work_left a.shape.nodes (now v) + kept a.shape.nodes (now v);
+  both = work_left a.shape.nodes (now v) + whole_work a.shape.nodes (now v);
   spare = spare;
 }
 
@@ -123,11 +124,11 @@ begins-next a w work h below enough spare =
     let first : 0 < n = omega (arith, h.reached.limits.least_nodes) in
     let nodes : p.shape.nodes ≡ n = ap (λ (z : Shaped). z.nodes) (inv.base.shapes 0 first) in
     let costs = begun-costs p in
-    let all : sum_to n (λ j. node_work (p.phases.cycle + 1) (c j).local) ≤ n + kept n c =
+    let all : sum_to n (λ j. node_work (p.phases.cycle + 1) (c j).local) ≤ n + whole_work n c =
     (let k = sum-le n (λ j. node_work (p.phases.cycle + 1) (c j).local)
-    (λ j. 1 + kept_work (c j).local)
+    (λ j. 1 + whole_node_work (c j).local)
     (λ j _. node-held (p.phases.cycle + 1) (c j).local (inv.rested.grey j h.resting)) in
-    let s = sum-add n (λ _. 1) (λ j. kept_work (c j).local) in
+    let s = sum-add n (λ _. 1) (λ j. whole_node_work (c j).local) in
     omega (arith, k, s, sum-const n 1)) in
     let one = sum-at n (λ j. node_work (p.phases.cycle + 1) (c j).local) 0 first in
     let long : length (begun p).sends ≤ work + n + 1 =
@@ -173,7 +174,7 @@ aim_at shape w spare = record {
   shape = shape;
   cycle = current_cycle w;
   work = work_left shape.nodes (now w);
-  both = work_left shape.nodes (now w) + kept shape.nodes (now w);
+  both = work_left shape.nodes (now w) + whole_work shape.nodes (now w);
   spare = spare;
 }
 
@@ -188,16 +189,16 @@ known-now shape w spare r =
 
 -- ---- the end of marking, and of the cycle
 
-pub marking-can-end : MarkingCanEnd
+pub marking-can-end : OfSpaces MarkingCanEnd
 marking-can-end shape limits steps room =
     let w : World = run (new_world shape) steps in
     let n : ℕ = shape.nodes in
-    comes (moves n (now w)) w
-    (reaches-as (moves n (now w)) w
+    comes (marking_moves n (now w)) w
+    (reaches-as (marking_moves n (now w)) w
     (λ v (o : Over (marks (aim_at shape w 0)) v).
     record { current = o.known.cycle; ended = o.ended })
     (marking-ends (aim_at shape w 0) w (known-now shape w 0 (reached-now shape limits steps))
-    (room-less (now w) (moves n (now w) + n) (moves n (now w) + n + 0) (omega arith) room)))
+    (room-less (now w) (marking_moves n (now w) + n) (marking_moves n (now w) + n + 0) (omega arith) room)))
 
 cycle-ends : (shape : Shaped) (w : World) (spare : ℕ) → Reached shape w
     → HasRoom (cycle_moves shape.nodes (now w) + shape.nodes + spare) (now w)
@@ -208,14 +209,14 @@ cycle-ends shape w spare r room =
     let n : ℕ = shape.nodes in
     let left : ℕ = work_left n (now w) in
     let a : Aim = aim_at shape w (left + 4 * n + spare) in
-    reaches-later (moves n (now w) + (left + 4 * n)) (cycle_moves n (now w)) w (omega arith)
-    (reaches-then (moves n (now w)) (left + 4 * n) w
+    reaches-later (marking_moves n (now w) + (left + 4 * n)) (cycle_moves n (now w)) w (omega arith)
+    (reaches-then (marking_moves n (now w)) (left + 4 * n) w
     (marking-ends a w (known-now shape w (left + 4 * n + spare) r)
     (room-less (now w) (cycle_moves n (now w) + n + spare)
-    (moves n (now w) + n + (left + 4 * n + spare)) (omega arith) room))
+    (marking_moves n (now w) + n + (left + 4 * n + spare)) (omega arith) room))
     (λ v o. clearing-ends a spare v (omega arith) o))
 
-pub cycle-can-end : CycleCanEnd
+pub cycle-can-end : OfSpaces CycleCanEnd
 cycle-can-end shape limits steps room =
     let w : World = run (new_world shape) steps in
     let n : ℕ = shape.nodes in
@@ -337,7 +338,7 @@ gone shape limits steps later cycle before swept r old choice live =
     (omega (arith, done)))
     (subst (λ (z : World). IsLive (cut z choice) r) (sym same) live)
 
-pub garbage-can-go : GarbageCanGo
+pub garbage-can-go : OfSpaces GarbageCanGo
 garbage-can-go shape limits steps below room =
     let w : World = run (new_world shape) steps in
     let n : ℕ = shape.nodes in
@@ -348,15 +349,15 @@ garbage-can-go shape limits steps below room =
       moves = c.moves;
       few = c.few;
       played = c.played;
-      then = (
-        c.then,
-        gone shape limits steps (played n c.moves w) (current_cycle w + 1) (omega arith) c.then,
+      holds = (
+        c.holds,
+        gone shape limits steps (played n c.moves w) (current_cycle w + 1) (omega arith) c.holds,
       );
     }
 
 -- ---- the end of marking is found
 
-pub end-is-found-soon : EndIsFoundSoon
+pub end-is-found-soon : OfSpaces EndIsFoundSoon
 end-is-found-soon shape limits steps terminated room =
     let w : World = run (new_world shape) steps in
     let n : ℕ = shape.nodes in

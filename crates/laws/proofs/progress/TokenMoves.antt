@@ -26,7 +26,7 @@ use Rattle.laws.proofs.Rounds.{some-of}
 use Rattle.laws.proofs.Unwrapping.{unwrapped}
 use Rattle.laws.proofs.Live.{Whole, several}
 use Rattle.laws.specs.Strategy.{now, Do, is_grey, has_token, next_move, next_steps}
-use Rattle.laws.specs.Bounds.{weight, flight, node_work, kept_work, work_left, kept, HasRoom}
+use Rattle.laws.specs.Bounds.{weight, flight, node_work, whole_node_work, work_left, whole_work, HasRoom}
 use Rattle.laws.proofs.progress.Flights.{taken-same, room-less, numbers-fit}
 use Rattle.model.proofs.References.{all-append}
 use Rattle.laws.proofs.progress.Choices.{Still}
@@ -44,7 +44,7 @@ pub record Idles (shape : Shaped) (w : World) (i : ℕ) (q : LocalState) (ms : L
       ≡ (now w j).local.heap.grey
   pub work : work_left shape.nodes (now (run w (next_steps shape.nodes w)))
       ≤ work_left shape.nodes (now w) + load_sent weight ms
-  pub held : kept shape.nodes (now (run w (next_steps shape.nodes w))) ≡ kept shape.nodes (now w)
+  pub held : whole_work shape.nodes (now (run w (next_steps shape.nodes w))) ≡ whole_work shape.nodes (now w)
   pub flown : flight shape.nodes (now (run w (next_steps shape.nodes w)))
       ≤ flight shape.nodes (now w) + load_sent weight ms
   pub uncounted : (cycle : ℕ) → AllByRecursion (λ m. is_counted cycle m.1 ≡ false) ms
@@ -72,8 +72,8 @@ idles-by {w = w} {i = i} {q = q} moved change cycle heap uncounted =
     let work : node_work first q ≡ node_work first p =
     ap (λ (z : ℕ). node_work first (record q { phases = record q.phases { cycle = z } })) cycle
     ∙ ap (λ (z : Heap). node_work first (record p { heap = z })) heap in
-    let same : kept_work q ≡ kept_work p =
-    ap (λ (z : Heap). kept_work (record p { heap = z })) heap in
+    let same : whole_node_work q ≡ whole_node_work p =
+    ap (λ (z : Heap). whole_node_work (record p { heap = z })) heap in
     record {
       moved = moved;
       cycle = at_turn (λ j s. s.local.phases.cycle ≡ cycle_of (now w) j) moved.turn cycle

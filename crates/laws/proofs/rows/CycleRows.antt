@@ -11,7 +11,7 @@ use Rattle.model.specs.Steps.{act, receive, count_in, take_body, settled, taken_
 use Rattle.model.specs.World.{take_step, new_world}
 use Rattle.laws.proofs.rows.Rows.{object, space, alloc, drop_register, give, accept, made, sent, letter, received, done, refused}
 use Rattle.laws.proofs.rows.ObjectRows.{store}
-use Rattle.laws.proofs.rows.Words.{begin_cycle, scan_grey, pass_token, sweep_slots, save, deliver, ok, began, scanned_grey, probe_again, ended, freed_done, Row, ◌gives◌, Prints, mark_of, after, passes_on}
+use Rattle.laws.proofs.rows.Words.{begin_cycle, scan_grey, pass_token, save, deliver, ok, began, scanned_grey, probe_again, ended, Row, ◌gives◌, Prints, mark_of, after, passes_on, both_sweep}
 
 -- Two nodes mark nothing until this cycle ends. Node 1 was black when it joined, so the token goes
 -- around twice. It comes to node 1 as this message of node 0, and back as this message of node 1.
@@ -28,15 +28,13 @@ two_probes cycle out back =
     ++ pass_token 0 gives ended cycle
     ∷ []
 
--- Both find nothing to free, and the next cycle begins.
-abbrev pub swept_by_both : List Row
-swept_by_both =
-    sweep_slots 0 16 gives freed_done 0
-    ∷ save 0 gives done
-    ∷ deliver 0 1 4 gives received
-    ∷ sweep_slots 1 16 gives freed_done 0
-    ∷ save 1 gives done
-    ∷ deliver 1 0 3 gives received
+-- Both find nothing to free, and the next cycle begins. Node 1 is told of the end by this message of
+-- node 0, and reports its sweep by this message.
+abbrev pub swept_by_both : ℕ → ℕ → List Row
+swept_by_both out back =
+    both_sweep 0 out 0
+    ++ save 1 gives done
+    ∷ deliver 1 0 back gives received
     ∷ begin_cycle 0 gives began 2
     ∷ []
 
@@ -45,7 +43,7 @@ abbrev empty_space : List Row
 empty_space =
     begin_cycle 0 gives began 1
     ∷ two_probes 1 1 1
-    ++ swept_by_both
+    ++ swept_by_both 4 3
 
 pub empty-space-prints : Prints (space 2 4 16) empty_space
 unfolding int_wrap take_step act receive append announce see_to make_grey enter join begun probe
@@ -78,11 +76,7 @@ abbrev pub ring_swept : List Row
 ring_swept =
     begin_cycle 0 gives began 1
     ∷ two_probes 1 2 2
-    ++ sweep_slots 0 16 gives freed_done 1
-    ∷ save 0 gives done
-    ∷ deliver 0 1 5 gives received
-    ∷ sweep_slots 1 16 gives freed_done 1
-    ∷ []
+    ++ both_sweep 1 5 1
 
 -- that register is emptied, and both go
 abbrev ring_freed : List Row
@@ -116,11 +110,7 @@ ring_kept =
     ∷ deliver 0 1 6 gives received
     ∷ passes_on 1 (pos 0) White 5
     ++ pass_token 0 gives ended 1
-    ∷ sweep_slots 0 16 gives freed_done 0
-    ∷ save 0 gives done
-    ∷ deliver 0 1 7 gives received
-    ∷ sweep_slots 1 16 gives freed_done 0
-    ∷ []
+    ∷ both_sweep 0 7 0
 
 pub ring-kept-prints : Prints (space 2 4 16) ring_kept
 unfolding int_wrap take_step act receive append announce see_to make_grey enter join begun probe

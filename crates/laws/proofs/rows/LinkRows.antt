@@ -116,16 +116,16 @@ abbrev full : NodeView
 full = record (new_view (space 2 4 16) 0) { links = no_link ∷ link ∷ [] }
 
 abbrev one : Ack
-one = record { from = 1; to = 0; number = 1; fits = refl }
+one = record { by = 1; of = 0; number = 1; fits = refl }
 
 abbrev none : Ack
-none = record { from = 1; to = 0; number = 0; fits = refl }
+none = record { by = 1; of = 0; number = 0; fits = refl }
 
 abbrev beyond : Ack
-beyond = record { from = 1; to = 0; number = 34; fits = refl }
+beyond = record { by = 1; of = 0; number = 34; fits = refl }
 
 abbrev astray : Ack
-astray = record { from = 0; to = 1; number = 34; fits = refl }
+astray = record { by = 0; of = 1; number = 34; fits = refl }
 
 abbrev view_of : Result (NodeView × Answer) Refusal → NodeView
 view_of (Ok x) = x.0

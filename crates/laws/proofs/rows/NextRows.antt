@@ -2,14 +2,14 @@
 use Rattle.std.proofs.Common.{pos, false, List, [], ◌∷◌, ◌++◌, refl}
 use Rattle.std.specs.Int.{int_wrap}
 use Rattle.ids.specs.declared.refusal.Refusal.TheVariants.{NotDirector, CycleRunning}
-use Rattle.msg.specs.declared.body.Colour.TheVariants.{White, Black}
+use Rattle.msg.specs.declared.body.Colour.TheVariants.{White}
 use Rattle.model.specs.Counting.{append, announce}
 use Rattle.model.specs.Shading.{make_grey, see_to, enter, join}
 use Rattle.model.specs.Collecting.{probe, begun, scan, scanned, conclude, passed, sweep_one, swept_slots}
 use Rattle.model.specs.Steps.{act, receive, count_in, take_body, settled, taken_in}
 use Rattle.model.specs.World.{take_step}
 use Rattle.laws.proofs.rows.Rows.{object, space, alloc, drop_register, made, received, done, no_frame, refused}
-use Rattle.laws.proofs.rows.Words.{begin_cycle, scan_grey, pass_token, sweep_slots, save, restart, deliver, ok, began, scanned_grey, probe_again, ended, freed_done, state, Row, ◌gives◌, ◌shows◌, Prints, passes_on, first_token}
+use Rattle.laws.proofs.rows.Words.{begin_cycle, scan_grey, pass_token, sweep_slots, save, restart, deliver, ok, began, scanned_grey, ended, freed_done, state, Row, ◌gives◌, ◌shows◌, Prints, two_rounds}
 use Rattle.laws.proofs.rows.CycleRows.{two_probes, swept_by_both}
 
 -- What becomes garbage while a cycle runs stays in that cycle, and goes in the next.
@@ -20,7 +20,7 @@ next_cycle =
     ∷ drop_register 0 0 gives ok
     ∷ scan_grey 0 gives scanned_grey (object 0 0 1)
     ∷ two_probes 1 1 1
-    ++ swept_by_both
+    ++ swept_by_both 4 3
     ++ two_probes 2 5 4
     ++ sweep_slots 0 16 gives freed_done 1
     ∷ []
@@ -36,14 +36,7 @@ all_reported =
     begin_cycle 1 gives refused NotDirector
     ∷ begin_cycle 0 gives began 1
     ∷ begin_cycle 0 gives refused CycleRunning
-    ∷ first_token
-    ++ passes_on 1 (pos 0) Black 1
-    ++ pass_token 0 gives probe_again
-    ∷ save 0 gives done
-    ∷ deliver 0 2 2 gives received
-    ∷ deliver 0 2 3 gives received
-    ∷ passes_on 2 (pos 0) White 2
-    ++ passes_on 1 (pos 0) White 2
+    ∷ two_rounds 0
     ++ pass_token 0 gives ended 1
     ∷ begin_cycle 0 gives refused CycleRunning
     ∷ save 0 gives done

@@ -10,7 +10,7 @@ use Rattle.model.specs.Collecting.{probe, begun, scan, scanned, conclude, passed
 use Rattle.model.specs.Steps.{act, receive, count_in, take_body, settled, taken_in}
 use Rattle.model.specs.World.{take_step}
 use Rattle.laws.proofs.rows.Rows.{object, space, alloc, drop_register, give, accept, made, sent, letter, received, done, no_frame, refused}
-use Rattle.laws.proofs.rows.Words.{begin_cycle, scan_grey, pass_token, sweep_slots, save, deliver, ok, began, scanned_grey, passed_token, probe_again, ended, freed_done, state, Row, ◌gives◌, ◌shows◌, Prints, passes_on, first_token, comes_over}
+use Rattle.laws.proofs.rows.Words.{begin_cycle, scan_grey, pass_token, sweep_slots, save, deliver, ok, began, scanned_grey, passed_token, probe_again, ended, freed_done, state, Row, ◌gives◌, ◌shows◌, Prints, passes_on, first_token, two_rounds, comes_over, handed_over}
 
 -- A reference that was sent before joining is held back over three probes, none of which may
 -- conclude.
@@ -21,14 +21,7 @@ held_back =
     ∷ drop_register 1 0 gives ok
     ∷ save 1 gives done
     ∷ begin_cycle 0 gives began 1
-    ∷ first_token
-    ++ passes_on 1 (pos 1) Black 1
-    ++ pass_token 0 gives probe_again
-    ∷ save 0 gives done
-    ∷ deliver 0 2 2 gives received
-    ∷ deliver 0 2 3 gives received
-    ∷ passes_on 2 (pos 0) White 2
-    ++ passes_on 1 (pos 1) White 2
+    ∷ two_rounds 1
     ++ pass_token 0 gives probe_again
     ∷ save 0 gives done
     ∷ deliver 0 2 4 gives received
@@ -85,13 +78,8 @@ same-cycle-prints = refl
 -- A reference of the same cycle to an unmarked object of the receiver comes before the Mark for it.
 abbrev overtakes_mark : List Row
 overtakes_mark =
-    alloc 2 0 0 gives made (object 2 0 1)
-    ∷ give 2 1 1 0 gives sent 1
-    ∷ drop_register 2 0 gives ok
-    ∷ save 2 gives done
-    ∷ deliver 2 1 1 gives received
-    ∷ accept 1 0 gives letter 2 1 (object 2 0 1)
-    ∷ begin_cycle 0 gives began 1
+    handed_over 2 1 0 1 0
+    ++ begin_cycle 0 gives began 1
     ∷ save 0 gives done
     ∷ deliver 0 2 1 gives received
     ∷ passes_on 2 (pos 1) Black 2
@@ -124,13 +112,8 @@ overtakes-mark-prints = refl
 -- 0, but a Mark from node 0 to node 1 hasn't arrived.
 abbrev own_balance : List Row
 own_balance =
-    alloc 1 0 0 gives made (object 1 0 1)
-    ∷ give 1 0 1 0 gives sent 1
-    ∷ drop_register 1 0 gives ok
-    ∷ save 1 gives done
-    ∷ deliver 1 0 1 gives received
-    ∷ accept 0 0 gives letter 1 1 (object 1 0 1)
-    ∷ give 0 1 2 1 gives sent 1
+    handed_over 1 0 0 1 0
+    ++ give 0 1 2 1 gives sent 1
     ∷ save 0 gives done
     ∷ deliver 0 1 1 gives received
     ∷ begin_cycle 0 gives began 1

@@ -1,6 +1,7 @@
 -- Worked examples of the order in which references are shaded, and of what shading keeps, computed.
 use Rattle.std.proofs.Common.{ℕ, ◌+◌, pos, neg_ℤ, true, false, List, [], ◌∷◌, ◌++◌, Some, refl}
 use Rattle.std.specs.Int.{int_wrap}
+use Rattle.ids.specs.declared.names.Ref.{Ref}
 use Rattle.ids.specs.declared.refusal.Refusal.TheVariants.{NothingToDo}
 use Rattle.msg.specs.declared.body.Colour.TheVariants.{White, Black}
 use Rattle.model.specs.Counting.{append, announce}
@@ -10,7 +11,23 @@ use Rattle.model.specs.Steps.{act, receive, count_in, take_body, settled, taken_
 use Rattle.model.specs.World.{take_step}
 use Rattle.laws.proofs.rows.Rows.{object, space, alloc, drop_register, give, accept, made, sent, letter, received, done, no_frame, refused}
 use Rattle.laws.proofs.rows.ObjectRows.{copy, load, store, put, get, value}
-use Rattle.laws.proofs.rows.Words.{begin_cycle, scan_grey, pass_token, sweep_slots, save, deliver, ok, began, scanned_grey, probe_again, ended, freed_done, state, Row, ◌gives◌, ◌shows◌, Prints, passes_on, first_token, comes_over}
+use Rattle.laws.proofs.rows.Words.{begin_cycle, scan_grey, pass_token, save, deliver, ok, began, scanned_grey, probe_again, ended, state, Row, ◌gives◌, ◌shows◌, Prints, passes_on, first_token, comes_over, handed_over}
+use Rattle.laws.proofs.rows.CycleRows.{swept_by_both}
+
+-- The letters 1 and 2 bring node 0 references of these two registers of node 1, which name objects in
+-- the slots of the same numbers. They end up in this register of node 0 and the next one.
+abbrev two_given : (first second register : ℕ) → List Row
+two_given first second register =
+    give 1 0 1 first gives sent 1
+    ∷ give 1 0 2 second gives sent 2
+    ∷ drop_register 1 first gives ok
+    ∷ drop_register 1 second gives ok
+    ∷ save 1 gives done
+    ∷ deliver 1 0 1 gives received
+    ∷ deliver 1 0 2 gives received
+    ∷ accept 0 register gives letter 1 1 (object 1 first 1)
+    ∷ accept 0 (register + 1) gives letter 1 2 (object 1 second 1)
+    ∷ []
 
 -- A node that joins shades its registers in order, and then its letters, oldest first. The object
 -- that turned grey last is scanned first.
@@ -20,16 +37,8 @@ roots_in_order =
     ∷ alloc 1 1 0 gives made (object 1 1 1)
     ∷ alloc 1 2 0 gives made (object 1 2 1)
     ∷ alloc 1 3 0 gives made (object 1 3 1)
-    ∷ give 1 0 1 3 gives sent 1
-    ∷ give 1 0 2 2 gives sent 2
-    ∷ drop_register 1 2 gives ok
-    ∷ drop_register 1 3 gives ok
-    ∷ save 1 gives done
-    ∷ deliver 1 0 1 gives received
-    ∷ deliver 1 0 2 gives received
-    ∷ accept 0 0 gives letter 1 1 (object 1 3 1)
-    ∷ accept 0 1 gives letter 1 2 (object 1 2 1)
-    ∷ give 0 1 3 0 gives sent 1
+    ∷ two_given 3 2 0
+    ++ give 0 1 3 0 gives sent 1
     ∷ give 0 1 4 1 gives sent 2
     ∷ drop_register 0 0 gives ok
     ∷ drop_register 0 1 gives ok
@@ -56,6 +65,15 @@ unfolding take_step act receive append announce see_to make_grey enter join begu
     count_in take_body settled taken_in
 roots-in-order-prints = refl
 
+-- Only this object of register 0 still names what was in registers 1 and 2, and it is scanned.
+abbrev scanned_alone : Ref → List Row
+scanned_alone r =
+    drop_register 0 1 gives ok
+    ∷ drop_register 0 2 gives ok
+    ∷ begin_cycle 0 gives began 1
+    ∷ scan_grey 0 gives scanned_grey r
+    ∷ []
+
 -- The places of an object are shaded in order.
 abbrev places_in_order : List Row
 places_in_order =
@@ -64,11 +82,8 @@ places_in_order =
     ∷ alloc 0 0 3 gives made (object 0 2 1)
     ∷ store 0 0 0 2 gives ok
     ∷ store 0 0 2 1 gives ok
-    ∷ drop_register 0 1 gives ok
-    ∷ drop_register 0 2 gives ok
-    ∷ begin_cycle 0 gives began 1
-    ∷ scan_grey 0 gives scanned_grey (object 0 2 1)
-    ∷ scan_grey 0 gives scanned_grey (object 0 0 1)
+    ∷ scanned_alone (object 0 2 1)
+    ++ scan_grey 0 gives scanned_grey (object 0 0 1)
     ∷ scan_grey 0 gives scanned_grey (object 0 1 1)
     ∷ scan_grey 0 gives refused NothingToDo
     ∷ []
@@ -83,16 +98,7 @@ abbrev two_come_over : ℕ → ℕ → List Row
 two_come_over places register =
     alloc 1 0 places gives made (object 1 0 1)
     ∷ alloc 1 1 0 gives made (object 1 1 1)
-    ∷ give 1 0 1 0 gives sent 1
-    ∷ give 1 0 2 1 gives sent 2
-    ∷ drop_register 1 0 gives ok
-    ∷ drop_register 1 1 gives ok
-    ∷ save 1 gives done
-    ∷ deliver 1 0 1 gives received
-    ∷ deliver 1 0 2 gives received
-    ∷ accept 0 register gives letter 1 1 (object 1 0 1)
-    ∷ accept 0 (register + 1) gives letter 1 2 (object 1 1 1)
-    ∷ []
+    ∷ two_given 0 1 register
 
 -- Marks are sent in the order of the places, one for each object. The second place names the same
 -- object as the first.
@@ -103,11 +109,8 @@ marks_in_order =
     ∷ store 0 0 0 2 gives ok
     ∷ store 0 0 1 2 gives ok
     ∷ store 0 0 2 1 gives ok
-    ∷ drop_register 0 1 gives ok
-    ∷ drop_register 0 2 gives ok
-    ∷ begin_cycle 0 gives began 1
-    ∷ scan_grey 0 gives scanned_grey (object 0 0 1)
-    ∷ 0 shows state 1 0 0 White (pos 0) (pos 0) 0 1 false 0
+    ∷ scanned_alone (object 0 0 1)
+    ++ 0 shows state 1 0 0 White (pos 0) (pos 0) 0 1 false 0
     ∷ save 0 gives done
     ∷ deliver 0 1 1 gives received
     ∷ deliver 0 1 2 gives received
@@ -145,23 +148,29 @@ unfolding int_wrap take_step act receive append announce see_to make_grey enter 
     scan scanned conclude passed count_in take_body settled taken_in
 target-first-prints = refl
 
+-- Node 0 gets an object whose place names what is in register 1 of node 1, and asks for that. A cycle
+-- begins before node 1 hears of it. The object ends up in this register, and is dropped.
+abbrev asked_before : ℕ → List Row
+asked_before register =
+    store 1 0 0 1 gives ok
+    ∷ give 1 0 (register + 1) 0 gives sent 1
+    ∷ drop_register 1 0 gives ok
+    ∷ drop_register 1 1 gives ok
+    ∷ save 1 gives done
+    ∷ deliver 1 0 1 gives received
+    ∷ accept 0 register gives letter 1 (register + 1) (object 1 0 1)
+    ∷ get 0 register 0 (register + 2) gives sent (register + 1)
+    ∷ drop_register 0 register gives ok
+    ∷ begin_cycle 0 gives began 1
+    ∷ first_token
+
 -- What a Get asks for is shaded before it is sent back. If it names an object of the node that
 -- asked, the Mark comes before the Give.
 abbrev mark_before_answer : List Row
 mark_before_answer =
     comes_over 0 1 1
     ++ alloc 1 0 1 gives made (object 1 0 1)
-    ∷ store 1 0 0 1 gives ok
-    ∷ give 1 0 2 0 gives sent 1
-    ∷ drop_register 1 0 gives ok
-    ∷ drop_register 1 1 gives ok
-    ∷ save 1 gives done
-    ∷ deliver 1 0 1 gives received
-    ∷ accept 0 1 gives letter 1 2 (object 1 0 1)
-    ∷ get 0 1 0 3 gives sent 2
-    ∷ drop_register 0 1 gives ok
-    ∷ begin_cycle 0 gives began 1
-    ∷ first_token
+    ∷ asked_before 1
     ++ 1 shows state 1 0 0 Black (pos 0) (pos 0) 0 1 true 0
     ∷ deliver 0 1 2 gives received
     ∷ 1 shows state 1 0 0 Black (pos 0) (pos 1) 1 1 true 0
@@ -183,17 +192,7 @@ abbrev value_shaded : List Row
 value_shaded =
     alloc 1 0 1 gives made (object 1 0 1)
     ∷ alloc 1 1 0 gives made (object 1 1 1)
-    ∷ store 1 0 0 1 gives ok
-    ∷ give 1 0 1 0 gives sent 1
-    ∷ drop_register 1 0 gives ok
-    ∷ drop_register 1 1 gives ok
-    ∷ save 1 gives done
-    ∷ deliver 1 0 1 gives received
-    ∷ accept 0 0 gives letter 1 1 (object 1 0 1)
-    ∷ get 0 0 0 2 gives sent 1
-    ∷ drop_register 0 0 gives ok
-    ∷ begin_cycle 0 gives began 1
-    ∷ first_token
+    ∷ asked_before 0
     ++ deliver 0 1 1 gives received
     ∷ 1 shows state 1 0 0 Black (pos 0) (pos 1) 2 2 true 0
     ∷ scan_grey 1 gives scanned_grey (object 1 1 1)
@@ -229,13 +228,8 @@ vouched-once-prints = refl
 -- What was asked for in one cycle is asked for again in the next.
 abbrev asked_again : List Row
 asked_again =
-    alloc 1 0 0 gives made (object 1 0 1)
-    ∷ give 1 0 1 0 gives sent 1
-    ∷ drop_register 1 0 gives ok
-    ∷ save 1 gives done
-    ∷ deliver 1 0 1 gives received
-    ∷ accept 0 0 gives letter 1 1 (object 1 0 1)
-    ∷ begin_cycle 0 gives began 1
+    handed_over 1 0 0 1 0
+    ++ begin_cycle 0 gives began 1
     ∷ save 0 gives done
     ∷ deliver 0 1 1 gives received
     ∷ deliver 0 1 2 gives received
@@ -248,14 +242,8 @@ asked_again =
     ∷ deliver 0 1 4 gives received
     ∷ passes_on 1 (pos 0) White 3
     ++ pass_token 0 gives ended 1
-    ∷ sweep_slots 0 16 gives freed_done 0
-    ∷ save 0 gives done
-    ∷ deliver 0 1 5 gives received
-    ∷ sweep_slots 1 16 gives freed_done 0
-    ∷ save 1 gives done
-    ∷ deliver 1 0 4 gives received
-    ∷ begin_cycle 0 gives began 2
-    ∷ 0 shows state 2 1 1 White (pos 1) (pos 0) 0 0 false 0
+    ∷ swept_by_both 5 4
+    ++ 0 shows state 2 1 1 White (pos 1) (pos 0) 0 0 false 0
     ∷ save 0 gives done
     ∷ deliver 0 1 6 gives received
     ∷ 1 shows state 2 1 1 Black (neg_ℤ (pos 1)) (pos 0) 1 1 false 0

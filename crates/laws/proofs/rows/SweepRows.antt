@@ -13,15 +13,20 @@ use Rattle.laws.proofs.rows.ObjectRows.{load, store, clear, value}
 use Rattle.laws.proofs.rows.Words.{begin_cycle, scan_grey, sweep_slots, save, deliver, ok, began, scanned_grey, freed_done, freed_more, state, Row, ◌gives◌, ◌shows◌, Prints}
 use Rattle.laws.proofs.rows.CycleRows.{two_probes}
 
--- A slot is used again as soon as it is freed, while the sweep goes on.
-abbrev slots_again : List Row
-slots_again =
+-- Two objects that nothing names, at the end of marking.
+abbrev two_unmarked : List Row
+two_unmarked =
     alloc 0 0 0 gives made (object 0 0 1)
     ∷ alloc 0 1 0 gives made (object 0 1 1)
     ∷ drop_register 0 0 gives ok
     ∷ drop_register 0 1 gives ok
     ∷ begin_cycle 0 gives began 1
     ∷ two_probes 1 1 1
+
+-- A slot is used again as soon as it is freed, while the sweep goes on.
+abbrev slots_again : List Row
+slots_again =
+    two_unmarked
     ++ sweep_slots 0 1 gives freed_more 1
     ∷ alloc 0 2 0 gives made (object 0 0 2)
     ∷ sweep_slots 0 1 gives freed_done 1
@@ -37,12 +42,7 @@ slots-again-prints = refl
 -- Of the slots that one sweep frees, the last one is used first.
 abbrev freed_last_first : List Row
 freed_last_first =
-    alloc 0 0 0 gives made (object 0 0 1)
-    ∷ alloc 0 1 0 gives made (object 0 1 1)
-    ∷ drop_register 0 0 gives ok
-    ∷ drop_register 0 1 gives ok
-    ∷ begin_cycle 0 gives began 1
-    ∷ two_probes 1 1 1
+    two_unmarked
     ++ sweep_slots 0 16 gives freed_done 2
     ∷ alloc 0 2 0 gives made (object 0 1 2)
     ∷ alloc 0 3 0 gives made (object 0 0 2)

@@ -1,12 +1,12 @@
 -- Words for tables of steps and states: the events of a cycle, their outcomes, and a node in
 -- numbers. A run of a new space is a table, with a row for each step and its outcome, and now and
 -- then a node as it is at that point.
-use Rattle.std.specs.Prelude.{◌≡◌, ℕ, ◌-◌, ℤ, pos, Bool, true, false, List, [], ◌∷◌, length, count_by, is_some, Result, Ok}
+use Rattle.std.specs.Prelude.{◌≡◌, ℕ, ◌-◌, ℤ, pos, Bool, true, false, List, [], ◌∷◌, ◌++◌, length, count_by, is_some, Result, Ok}
 use Rattle.ids.specs.Limits.{Shaped}
 use Rattle.ids.specs.declared.names.Ref.{Ref}
 use Rattle.ids.specs.declared.refusal.Refusal.{Refusal}
 use Rattle.msg.specs.declared.body.Colour.{Colour}
-use Rattle.msg.specs.declared.body.Colour.TheVariants.{Black}
+use Rattle.msg.specs.declared.body.Colour.TheVariants.{White, Black}
 use Rattle.model.specs.declared.event.Event.TheVariants as event
 use Rattle.model.specs.declared.event.Answer.TheVariants as answer
 use Rattle.model.specs.declared.step.Step.{Step}
@@ -15,7 +15,7 @@ use Rattle.model.specs.declared.step.Outcome.{Outcome}
 use Rattle.model.specs.declared.step.Outcome.TheVariants as outcome
 use Rattle.model.specs.State.{Slot, Free, Occupied, Retired, LocalState, node_at}
 use Rattle.model.specs.World.{World, new_world, take_step, happens, outcome_of}
-use Rattle.laws.proofs.rows.Rows.{object, alloc, give, accept, made, sent, letter, received, done, dropped_now}
+use Rattle.laws.proofs.rows.Rows.{object, alloc, drop_register, give, accept, made, sent, letter, received, done, dropped_now}
 
 -- ---- steps; the node comes first
 
@@ -158,6 +158,39 @@ comes_over from to register =
     ∷ save from gives done
     ∷ deliver from to 1 gives received
     ∷ accept to register gives letter from 1 (object from 0 1)
+    ∷ []
+
+-- The same with this many places and this label, and the first node then names the object no more.
+abbrev pub handed_over : (from to places label register : ℕ) → List Row
+handed_over from to places label register =
+    alloc from 0 places gives made (object from 0 1)
+    ∷ give from to label 0 gives sent 1
+    ∷ drop_register from 0 gives ok
+    ∷ save from gives done
+    ∷ deliver from to 1 gives received
+    ∷ accept to register gives letter from label (object from 0 1)
+    ∷ []
+
+-- Of three nodes, all join by the first round of the token. It goes around again, and comes to node
+-- 0 as a white one. This many messages that node 1 sent are in flight.
+abbrev pub two_rounds : ℕ → List Row
+two_rounds owed =
+    first_token
+    ++ passes_on 1 (pos owed) Black 1
+    ++ pass_token 0 gives probe_again
+    ∷ save 0 gives done
+    ∷ deliver 0 2 2 gives received
+    ∷ deliver 0 2 3 gives received
+    ∷ passes_on 2 (pos 0) White 2
+    ++ passes_on 1 (pos owed) White 2
+
+-- Of two nodes, both sweep, and free this many objects. Node 1 is told of the end by this message.
+abbrev pub both_sweep : (freed number freed_there : ℕ) → List Row
+both_sweep freed number freed_there =
+    sweep_slots 0 16 gives freed_done freed
+    ∷ save 0 gives done
+    ∷ deliver 0 1 number gives received
+    ∷ sweep_slots 1 16 gives freed_done freed_there
     ∷ []
 
 -- the cycle that marked the object in a slot; 0 if the slot has no object

@@ -157,10 +157,10 @@ impl Core {
             (view_act self.old (event.Ack ack)) }
         ensures memory_free { IfErr result (λ e. e ≢ Memory) }
     {
-        if !self.is_addressed(ack.from, ack.to) {
+        if !self.is_addressed(ack.by, ack.of) {
             return Err(Refusal::WrongNode);
         }
-        self.links.trim(ack.from, ack.number)?;
+        self.links.trim(ack.by, ack.number)?;
         Ok(Answer::Done)
     }
 }

@@ -1,7 +1,7 @@
 use Rattle.cell.proofs.Blank.{blank-new}
 use Rattle.cell.proofs.AlikeCuts.{alike-reach}
 use Rattle.cell.proofs.Applied.{balances-add-up, nodes-agree, old-garbage-goes, reach-is-live}
-use Rattle.cell.proofs.Composed.{none-refused-in-turn, sweeps-free-none-reachable}
+use Rattle.cell.proofs.Composed.{cells-free-none-reachable, cells-refuse-none-in-turn}
 use Rattle.cell.proofs.Dues.{next-taken-in}
 use Rattle.cell.proofs.Left.{left-opened, restarted-reached}
 use Rattle.cell.proofs.OneAge.{begin-of-one-age, left-is-of-one-age, reopened-is-reached}
@@ -12,10 +12,10 @@ pub returns-clause-new : goal.returns-clause-new
 returns-clause-new c = new-reached
 
 pub returns-clause-frees_none_reachable : goal.returns-clause-frees_none_reachable
-returns-clause-frees_none_reachable c = sweeps-free-none-reachable
+returns-clause-frees_none_reachable c = cells-free-none-reachable
 
 pub returns-clause-in_turn : goal.returns-clause-in_turn
-returns-clause-in_turn c = none-refused-in-turn
+returns-clause-in_turn c = cells-refuse-none-in-turn
 
 pub returns-clause-next : goal.returns-clause-next
 returns-clause-next c = next-taken-in

@@ -1,13 +1,14 @@
-use Rattle.std.proofs.Common.{◌≡◌, ◌∙◌, ap, subst, sym, true}
+use Rattle.std.proofs.Common.{◌≡◌, ◌∙◌, ap, subst, sym, false}
+use Rattle.model.specs.Effects.{is_change}
 use Rattle.model.specs.View.{view_act}
 use Rattle.node.specs.Keeping.{met}
-use Rattle.node_store.specs.Logs.{IsDone, Logged, is_quiet}
+use Rattle.node_store.specs.Logs.{IsDone, Logged}
 use Rattle.node_store.proofs.Quiet.{quiet-same}
 use Rattle.node_store.proofs.Ends.{logged_more}
 use Rattle.node_store.proofs.acting.act_noting.Goals as goal
 
-pub returns-then-not-is_quiet-clause-logged : goal.returns-then-not-is_quiet-clause-logged
-returns-then-not-is_quiet-clause-logged c first logged bytes is =
+pub returns-then-answer-clause-logged : goal.returns-then-answer-clause-logged
+returns-then-answer-clause-logged c first logged bytes is =
     let old = c.args.node.now in
     let new = c.act.new.self in
     let e = c.meant-meant.result in
@@ -15,17 +16,17 @@ returns-then-not-is_quiet-clause-logged c first logged bytes is =
     let done : IsDone old.core e new.core = record {
       answer = c.in_ok-answer.answer;
       acts = ap (view_act old.core) c.meant-meant.ensures ∙ c.in_ok-answer.ensures.performs;
-      now = sym c.is_quiet.ensures ∙ c.if-not-is_quiet.true;
+      now = sym c.is_change.ensures ∙ c.if-answer.true;
     } in
     subst (λ l. Logged l first new.core) (sym more.1.2)
     (logged_more e more.0 done (logged more.1.0 more.1.1))
 
-pub returns-else-not-is_quiet-clause-logged : goal.returns-else-not-is_quiet-clause-logged
-returns-else-not-is_quiet-clause-logged c first logged bytes is =
+pub returns-else-answer-clause-logged : goal.returns-else-answer-clause-logged
+returns-else-answer-clause-logged c first logged bytes is =
     let old = c.args.node.now in
     let new = c.act.new.self in
-    let early : is_quiet c.in_ok-answer.answer ≡ true =
-    sym c.is_quiet.ensures ∙ c.if-not-is_quiet.false in
+    let early : is_change c.in_ok-answer.answer ≡ false =
+    sym c.is_change.ensures ∙ c.if-answer.false in
     subst (Logged bytes first)
     (sym (quiet-same old.core new.core (met old.early c.args.event) c.in_ok-answer.answer
     c.in_ok-answer.ensures.performs early)) (logged bytes is)

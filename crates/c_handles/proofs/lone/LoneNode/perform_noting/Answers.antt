@@ -1,21 +1,21 @@
 use Rattle.std.proofs.Common.{◌≡◌, ◌∙◌, ap, refl, subst, sym, true, false}
 use Rattle.std.proofs.lemmas.Bool.{true≢false}
 use Rattle.std.proofs.lemmas.Result.{err_from_is_err_and}
+use Rattle.model.specs.Effects.{is_change}
 use Rattle.model.specs.View.{view_act}
 use Rattle.node.specs.Keeping.{met}
 use Rattle.node_store.proofs.Quiet.{quiet-same}
 use Rattle.c_handles.specs.Logs.{Led}
-use Rattle.c_handles.specs.Lone.{is_counted}
-use Rattle.c_handles.proofs.Logs.{after_counted, after_uncounted, counted_now, if_kept, led_noted, uncounted_quiet}
+use Rattle.c_handles.proofs.Logs.{after_counted, after_uncounted, if_kept, led_noted}
 use Rattle.c_handles.proofs.lone.LoneNode.perform_noting.Goals as goal
 
-pub returns-then-is_counted : goal.returns-then-is_counted
-returns-then-is_counted c =
+pub returns-then-answer : goal.returns-then-answer
+returns-then-answer c =
     let old = c.args.self.now in
     let new = c.act.new.self in
     let acts = c.in_ok-answer.ensures.performs in
-    let counts : is_counted c.in_ok-answer.answer ≡ true =
-    sym c.is_counted.ensures ∙ c.if-is_counted.true in
+    let counts : is_change c.in_ok-answer.answer ≡ true =
+    sym c.is_change.ensures ∙ c.if-answer.true in
     record {
       acts = record {
         performs = c.in_ok-answer.ensures.performs;
@@ -26,26 +26,25 @@ returns-then-is_counted c =
         early = c.in_ok-answer.ensures.early;
         turn = c.in_ok-answer.ensures.turn;
       };
-      stays = after_counted old new c.note-lost.new.self (is_counted c.in_ok-answer.answer) counts;
+      stays = after_counted old new c.note-lost.new.self (is_change c.in_ok-answer.answer) counts;
       logs = λ first.
           if_kept old.logs old.log c.note-lost.new.self
           (led_noted first old.node.core new.core old.counts c.meant-meant.result
           c.in_ok-answer.answer old.log c.note-lost.new.self
           (ap (view_act old.node.core) c.meant-meant.ensures ∙ acts)
-          (counted_now c.in_ok-answer.answer counts) c.note-lost.ensures.noted);
+          counts c.note-lost.ensures.noted);
       quiet = λ none. absurd (true≢false (sym counts ∙ none));
     }
 
-pub returns-else-is_counted : goal.returns-else-is_counted
-returns-else-is_counted c =
+pub returns-else-answer : goal.returns-else-answer
+returns-else-answer c =
     let old = c.args.self.now in
     let new = c.act.new.self in
     let acts = c.in_ok-answer.ensures.performs in
-    let counts : is_counted c.in_ok-answer.answer ≡ false =
-    sym c.is_counted.ensures ∙ c.if-is_counted.false in
+    let counts : is_change c.in_ok-answer.answer ≡ false =
+    sym c.is_change.ensures ∙ c.if-answer.false in
     let same : new.core ≡ old.node.core =
-    quiet-same old.node.core new.core (met old.node.early c.args.event) c.in_ok-answer.answer acts
-    (uncounted_quiet c.in_ok-answer.answer counts) in
+    quiet-same old.node.core new.core (met old.node.early c.args.event) c.in_ok-answer.answer acts counts in
     record {
       acts = record {
         performs = c.in_ok-answer.ensures.performs;
@@ -56,7 +55,7 @@ returns-else-is_counted c =
         early = c.in_ok-answer.ensures.early;
         turn = c.in_ok-answer.ensures.turn;
       };
-      stays = after_uncounted old new (is_counted c.in_ok-answer.answer) counts;
+      stays = after_uncounted old new (is_change c.in_ok-answer.answer) counts;
       logs = λ first led bytes is.
           subst (λ n. Led bytes first n old.counts) (sym same) (led bytes is);
       quiet = λ none. refl;

@@ -1,14 +1,15 @@
 use Rattle.std.proofs.Common.{◌≡◌, ◌∙◌, Ok, ap, refl, subst, sym, true, false}
 use Rattle.std.proofs.lemmas.Bool.{true≢false}
 use Rattle.std.proofs.lemmas.Result.{err_from_is_err_and}
+use Rattle.model.specs.Effects.{is_change}
 use Rattle.model.specs.View.{view_act}
 use Rattle.node.specs.Keeping.{met}
 use Rattle.node_store.specs.Logs.{is_turn}
 use Rattle.node_store.proofs.Quiet.{quiet-same}
 use Rattle.node_store.proofs.Turns.{met_same}
 use Rattle.c_handles.specs.Logs.{Led}
-use Rattle.c_handles.specs.Lone.{Gave, is_counted}
-use Rattle.c_handles.proofs.Logs.{after_counted, after_uncounted, counted_now, if_kept, if_none, led_noted, other_than, uncounted_quiet}
+use Rattle.c_handles.specs.Lone.{Gave}
+use Rattle.c_handles.proofs.Logs.{after_counted, after_uncounted, if_kept, if_none, led_noted, other_than}
 use Rattle.c_handles.proofs.lone.LoneNode.perform_plain.Goals as goal
 
 pub returns-then-self : goal.returns-then-self
@@ -19,7 +20,7 @@ returns-then-self c =
     let a = c.in_ok-answer.answer in
     let log = c.note.new.self.log in
     let acts = c.in_ok-answer.ensures.performs in
-    let counts : is_counted a ≡ true = sym c.is_counted.ensures ∙ c.if-is_counted.true in
+    let counts : is_change a ≡ true = sym c.is_change.ensures ∙ c.if-answer.true in
     let same : met old.node.early e ≡ e =
     met_same old.node.early e (other_than (is_turn e) old.logs c.requires c.if-self.true) in
     subst (λ n. Gave old n e (Ok a)) (sym c.note.ensures.stays) (record {
@@ -32,25 +33,24 @@ returns-then-self c =
         early = c.in_ok-answer.ensures.early;
         turn = c.in_ok-answer.ensures.turn;
       };
-      stays = after_counted old new log (is_counted a) counts;
+      stays = after_counted old new log (is_change a) counts;
       logs = λ first.
           if_kept old.logs old.log log
           (led_noted first old.node.core new.core old.counts e a old.log log
-          (ap (view_act old.node.core) (sym same) ∙ acts) (counted_now a counts)
+          (ap (view_act old.node.core) (sym same) ∙ acts) counts
           c.note.ensures.noted);
       quiet = λ none. absurd (true≢false (sym counts ∙ none));
     })
 
-pub returns-else-is_counted : goal.returns-else-is_counted
-returns-else-is_counted c =
+pub returns-else-answer : goal.returns-else-answer
+returns-else-answer c =
     let old = c.args.self.now in
     let new = c.act.new.self in
     let acts = c.in_ok-answer.ensures.performs in
-    let counts : is_counted c.in_ok-answer.answer ≡ false =
-    sym c.is_counted.ensures ∙ c.if-is_counted.false in
+    let counts : is_change c.in_ok-answer.answer ≡ false =
+    sym c.is_change.ensures ∙ c.if-answer.false in
     let same : new.core ≡ old.node.core =
-    quiet-same old.node.core new.core (met old.node.early c.args.event) c.in_ok-answer.answer acts
-    (uncounted_quiet c.in_ok-answer.answer counts) in
+    quiet-same old.node.core new.core (met old.node.early c.args.event) c.in_ok-answer.answer acts counts in
     record {
       acts = record {
         performs = c.in_ok-answer.ensures.performs;
@@ -61,7 +61,7 @@ returns-else-is_counted c =
         early = c.in_ok-answer.ensures.early;
         turn = c.in_ok-answer.ensures.turn;
       };
-      stays = after_uncounted old new (is_counted c.in_ok-answer.answer) counts;
+      stays = after_uncounted old new (is_change c.in_ok-answer.answer) counts;
       logs = λ first led bytes is.
           subst (λ n. Led bytes first n old.counts) (sym same) (led bytes is);
       quiet = λ none. refl;
@@ -93,7 +93,7 @@ returns-else-self c =
     let old = c.args.self.now in
     let a = c.in_ok-answer.answer in
     let said = c.in_ok-answer.ensures in
-    let counts : is_counted a ≡ true = sym c.is_counted.ensures ∙ c.if-is_counted.true in
+    let counts : is_change a ≡ true = sym c.is_change.ensures ∙ c.if-answer.true in
     record {
       acts = record {
         performs = said.performs;
@@ -104,7 +104,7 @@ returns-else-self c =
         early = said.early;
         turn = said.turn;
       };
-      stays = after_counted old c.act.new.self old.log (is_counted a) counts;
+      stays = after_counted old c.act.new.self old.log (is_change a) counts;
       logs = λ first led. if_none old.logs old.log c.if-self.false;
       quiet = λ none. refl;
     }

@@ -10,7 +10,8 @@ use Rattle.model.specs.State.{NodeState}
 use Rattle.model.specs.Steps.{act, is_memory_free}
 use Rattle.model.specs.View.{NodeView}
 use Rattle.node.specs.Keeping.{met}
-use Rattle.wire.specs.Entering.{is_counted, known_after, pair_by, state_of}
+use Rattle.model.specs.Effects.{is_change}
+use Rattle.wire.specs.Entering.{known_after, pair_by, state_of}
 use Rattle.wire.specs.Plays.{Happens}
 use Rattle.wire.specs.Views.{Known, Pair, ticks}
 use Rattle.wire.specs.Readers.{known}
@@ -53,10 +54,10 @@ invariant_of-self-inside-then-enter c =
     let pair = v.pair in
     let a = c.in_ok-answer.answer in
     let e = met desk.node.early c.args.event in
-    let counts : is_counted a ≡ true = sym c.enter.ensures.counted ∙ c.if-enter.true in
+    let counts : is_change a ≡ true = sym c.enter.ensures.counted ∙ c.if-enter.true in
     let known_is : known c.enter.new.seat ≡ ticks c.args.step (pair_by c.args.meant.now pair) v =
     c.enter.ensures.known
-    ∙ cond-true (is_counted a) (ticks c.args.step (pair_by c.args.meant.now pair) v) v counts in
+    ∙ cond-true (is_change a) (ticks c.args.step (pair_by c.args.meant.now pair) v) v counts in
     let found = c.in_ok-answer.ensures.states pair.current desk.stands.shows in
     let after : Pair = record { current = found.0; saved = pair.saved } in
     let pair_is : (known c.enter.new.seat).pair ≡ after =
@@ -104,10 +105,10 @@ invariant_of-self-inside-else-enter c =
     let pair = v.pair in
     let a = c.in_ok-answer.answer in
     let e = met desk.node.early c.args.event in
-    let quiet : is_counted a ≡ false = sym c.enter.ensures.counted ∙ c.if-enter.false in
+    let quiet : is_change a ≡ false = sym c.enter.ensures.counted ∙ c.if-enter.false in
     let known_is : known c.enter.new.seat ≡ v =
     c.enter.ensures.known
-    ∙ cond-false (is_counted a) (ticks c.args.step (pair_by c.args.meant.now pair) v) v quiet in
+    ∙ cond-false (is_change a) (ticks c.args.step (pair_by c.args.meant.now pair) v) v quiet in
     let found = c.in_ok-answer.ensures.states pair.current desk.stands.shows in
     let kept = steps-on desk c.enter.new.seat c.enter.ensures.same
     (ap (λ (w : Known). w.pair) known_is) in (
@@ -209,7 +210,7 @@ returns-then-enter c =
                 (rw (← c.self.view_is) at c.requires.due) from d next (meant ∙ is);
           };
       memory_free = λ _. tt;
-      unsaved = sym (cond-true (is_counted a) true desk.is_unsaved
+      unsaved = sym (cond-true (is_change a) true desk.is_unsaved
           (sym c.enter.ensures.counted ∙ c.if-enter.true));
       same = c.enter.ensures.same;
       stays = refl;
@@ -241,7 +242,7 @@ returns-else-enter c =
                 (rw (← c.self.view_is) at c.requires.due) from d next (meant ∙ is);
           };
       memory_free = λ _. tt;
-      unsaved = sym (cond-false (is_counted a) true desk.is_unsaved
+      unsaved = sym (cond-false (is_change a) true desk.is_unsaved
           (sym c.enter.ensures.counted ∙ c.if-enter.false));
       same = c.enter.ensures.same;
       stays = refl;

@@ -1,5 +1,6 @@
 use Rattle.std.proofs.Common.{refl, sym, ◌∙◌, arith}
 use Rattle.std.proofs.lemmas.Result.{err_from_is_err_and}
+use Rattle.model.specs.Checks.{by_memory}
 use Rattle.heap.proofs.Allocation.{heap_alloc-stored}
 use Rattle.heap.proofs.heap.Heap.alloc.Goals as goal
 
@@ -13,7 +14,7 @@ returns-in_err-object-clause-refused c =
     (omega arith) room in
     let p = err_from_is_err_and c.from_residual.result c.from_residual.ensures.1 in
     rw (p.1, p.2, c.in_err-object.ensures.refused, ← c.self.view_is)
-    (λ other. absurd (other refl), λ _. rw done refl)
+    (by_memory refl (rw done refl))
 
 pub returns-clause-done : goal.returns-clause-done
 returns-clause-done c =

@@ -4,6 +4,5 @@ use Rattle.node.proofs.node.Node.handle.Goals as goal
 pub invariant_of-self : goal.invariant_of-self
 invariant_of-self c =
     handled-kept _ _ c.args.other c.perform.result
-    (other-handled c.self.inside.core c.perform.new.self c.self.inside.early.items c.args.other
-    c.perform.result c.self.invariant c.requires.waits c.requires.comes
+    (other-handled c.args.other c.self.invariant c.requires.waits c.requires.comes
     c.perform.ensures.performed c.perform.ensures.memory_free)

@@ -10,9 +10,7 @@ invariant_of-self c =
     sym (ap (λ (es : Rings). waiting es c.args.from) c.deref.ensures.value)
     ∙ sym c.front.ensures ∙ c.in-Some.is in
     handled-kept _ _ (event.Next c.args.from) (Ok c.in-Ok.answer)
-    (next-handled c.self.inside.core c.take_in.new.self c.self.inside.early.items
-    c.shift.new.early.items c.args.from (Some c.in-Some.frame) (Ok c.in-Ok.answer)
-    c.self.invariant one c.in-Ok.ensures.performed c.in-Ok.ensures.memory_free
+    (next-handled c.self.invariant one c.in-Ok.ensures.performed c.in-Ok.ensures.memory_free
     c.shift.ensures)
 
 pub invariant_of-self-in-Err : goal.invariant_of-self-in-Err

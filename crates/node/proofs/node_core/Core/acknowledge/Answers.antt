@@ -12,7 +12,7 @@ invariant_of-self-2 c =
     let left = c.in_ok-trim.ensures in
     let addressed = sym c.is_addressed.ensures ∙ c.if-not-is_addressed.false in
     record {
-      node = rw left.done (node-trimmed (view_of c.self.inside) c.args.ack.from c.args.ack.to
+      node = rw left.done (node-trimmed (view_of c.self.inside) c.args.ack.by c.args.ack.of
           c.args.ack.number c.self.invariant.node (rw (← c.self.view_is) at addressed)
           (rw left.done at left.sound));
       limit = c.self.invariant.limit;

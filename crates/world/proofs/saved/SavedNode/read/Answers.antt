@@ -5,7 +5,7 @@ use Rattle.ids.specs.declared.refusal.Refusal.TheVariants.{BadImage, Memory}
 use Rattle.model.specs.View.{NodeView}
 use Rattle.image.specs.Nodes.{IsImageOf}
 use Rattle.image.proofs.Spelled.{image_of_one}
-use Rattle.world.proofs.Refusals.{memory-alone}
+use Rattle.model.proofs.Refusals.{memory-alone}
 use Rattle.world.proofs.saved.SavedNode.read.Goals as goal
 
 -- bytes spell at most one node

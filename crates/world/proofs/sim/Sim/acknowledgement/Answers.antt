@@ -18,13 +18,13 @@ returns c =
     let there = site-read-in c.self.inside.sites.items c.self.view_is c.from.ensures c.requires.to
     c.index.ensures in
     let sim = subst (λ (n : SpaceView). IsSim n.sites) c.self.view_is c.self.invariant in
-    let sender = c.acknowledgement.ensures.from ∙ ap (λ (q : SiteView). q.current.local.own) there
+    let by = c.acknowledgement.ensures.by ∙ ap (λ (q : SiteView). q.current.local.own) there
     ∙ (sim.current c.args.to c.requires.to).own in
     record {
-      sender = sender;
-      receiver = c.acknowledgement.ensures.to;
+      by = by;
+      of = c.acknowledgement.ensures.of;
       number = c.acknowledgement.ensures.number
           ∙ ap (λ (q : SiteView). get_or q.saved.acks c.args.from 0) there;
-      addressed = rw (sender, c.acknowledgement.ensures.to)
+      addressed = rw (by, c.acknowledgement.ensures.of)
           (addressed-to sim c.requires.from c.requires.to c.requires.apart);
     }

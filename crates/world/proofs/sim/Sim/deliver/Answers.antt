@@ -5,18 +5,13 @@ use Rattle.std.proofs.lemmas.Result.{err_from_is_err_and}
 use Rattle.msg.specs.Frames.{plain_ack}
 use Rattle.world.proofs.Deliveries.{deliver-to-itself, deliver-missing, deliver-never}
 use Rattle.world.proofs.Held.{delivered-space, given-sim, given-space, same-space}
-use Rattle.world.proofs.Steps.{no-node}
+use Rattle.world.proofs.Steps.{no-node, past-either}
 use Rattle.world.proofs.sim.Sim.deliver.Goals as goal
 
 pub returns-then-from-count : goal.returns-then-from-count
 returns-then-from-count c =
     same-space refl (λ w shown. refl)
-    (no-node _ _
-    (elim c.then-from-count.either [
-      | inl e ↦ inl (omega (arith, c.count-count.ensures.value))
-      | inr e ↦ inr
-          (omega (arith, c.count-count.ensures.value))
-    ]))
+    (no-node _ _ (past-either c.count-count.ensures.value c.then-from-count.either))
 
 pub returns-then-from-to : goal.returns-then-from-to
 returns-then-from-to c =

@@ -4,18 +4,13 @@ use Rattle.world.specs.Spaces.{SpaceView}
 use Rattle.std.proofs.lemmas.Result.{err_from_is_err_and}
 use Rattle.world.proofs.Acks.{hand-to-itself}
 use Rattle.world.proofs.Held.{given-sim, given-space, handed-space, same-space}
-use Rattle.world.proofs.Steps.{no-node}
+use Rattle.world.proofs.Steps.{no-node, past-either}
 use Rattle.world.proofs.sim.Sim.hand.Goals as goal
 
 pub returns-then-from-count : goal.returns-then-from-count
 returns-then-from-count c =
     same-space refl (λ w shown. refl)
-    (no-node _ _
-    (elim c.then-from-count.either [
-      | inl e ↦ inl (omega (arith, c.count-count.ensures.value))
-      | inr e ↦ inr
-          (omega (arith, c.count-count.ensures.value))
-    ]))
+    (no-node _ _ (past-either c.count-count.ensures.value c.then-from-count.either))
 
 pub returns-then-from-to : goal.returns-then-from-to
 returns-then-from-to c =

@@ -1,17 +1,20 @@
 use Rattle.std.proofs.Common.{map}
 use Rattle.node.specs.Keeping.{met}
 use Rattle.world.specs.Outboxes.{released_frames}
-use Rattle.world.proofs.SiteLemmas.{acts}
+use Rattle.world.proofs.SiteLemmas.{acts, site_acted}
 use Rattle.world.proofs.site.Site.act.Goals as goal
+
+pub invariant_of-self : goal.invariant_of-self
+invariant_of-self c =
+    site_acted c.self.invariant c.act.ensures.leaves
+    (record { performs = c.act.ensures.performs; unchanged = c.act.ensures.unchanged })
 
 pub returns : goal.returns
 returns c =
     rw (← c.self.view_is)
     (record {
-      acted = acts c.self.inside.current.core c.self.inside.saved c.act.new.self.core
-          (map released_frames c.self.inside.outboxes.items)
-          (met c.self.inside.current.early c.args.event) c.act.result c.self.invariant
-          c.act.ensures.leaves c.act.ensures.performs c.act.ensures.unchanged
+      acted = acts c.self.invariant c.act.ensures.leaves
+          (record { performs = c.act.ensures.performs; unchanged = c.act.ensures.unchanged })
           c.act.ensures.memory_free;
       early = c.act.ensures.early;
       turn = c.act.ensures.turn;
