@@ -1,9 +1,9 @@
 -- Why opening a node from its disk fails.
-use Rattle.std.proofs.Common.{◌≡◌, ◌≢◌, ◌⊎◌, ◌≤◌, ◌<◌, ℕ, List, [], length, Some, slice_get, Result, Ok, Err, refl, sym, ap, subst, ⊎_elim, arith}
+use Rattle.std.proofs.Common.{◌≡◌, ◌≢◌, ◌⊎◌, ◌≤◌, ◌<◌, ℕ, List, length, Some, slice_get, Result, Ok, Err, refl, sym, ap, subst, ⊎_elim, arith}
 use Rattle.ids.specs.Limits.{Shaped}
 use Rattle.ids.specs.declared.refusal.Refusal.{Refusal}
 use Rattle.ids.specs.declared.refusal.Refusal.TheVariants.{BadImage, Closed, Disk, ImageTooLarge, Memory}
-use Rattle.disk.specs.Areas.{Areas}
+use Rattle.disk.specs.Areas.{Areas, IsBlank}
 use Rattle.disk.specs.Crashes.{Grew}
 use Rattle.ids.specs.declared.limits.TheConstants.{GREATEST_IMAGE}
 use Rattle.image.specs.Wholes.{whole_image}
@@ -72,7 +72,7 @@ memory-no-disk is = absurd cc
 
 -- for a node that is read
 pub reading-cause : {D : Type 0} (seen : D → Areas) (moment faults : D → ℕ) (shape : Shaped)
-    (own : ℕ) (disk after : D) (e : Refusal) → (seen disk).select ≢ []
+    (own : ℕ) (disk after : D) (e : Refusal) → (IsBlank (seen disk) → ⊥)
     → (e ≡ BadImage → (n : WholeNode) → OpensToNode n (seen disk) → ⊥)
     → moment disk ≤ moment after → (e ≡ Disk → Grew (faults disk) (faults after))
     → (e ≡ Memory) ⊎ ((e ≡ BadImage) ⊎ (e ≡ Disk)) → e ≢ Memory
@@ -89,7 +89,7 @@ reading-cause seen moment faults shape own disk after e written none later faile
 -- for a new node that is created
 pub creating-cause : {D : Type 0} (seen : D → Areas) (moment faults : D → ℕ) (n : WholeNode)
     (disk after : D) (e : Refusal)
-    → ((seen disk).select ≡ []) × (n ≡ new_whole n.core.local.shape n.core.local.own)
+    → IsBlank (seen disk) × (n ≡ new_whole n.core.local.shape n.core.local.own)
     → moment disk ≤ moment after → (e ≡ Disk → Grew (faults disk) (faults after))
     → (e ≡ ImageTooLarge → GREATEST_IMAGE < length (whole_image n))
     → (e ≡ Memory) ⊎ ((e ≡ ImageTooLarge) ⊎ (e ≡ Disk)) → e ≢ Memory

@@ -14,4 +14,5 @@ mod undo;
 
 pub use device::{Area, Disk, DiskFault};
 pub use file::FileDisk;
-pub use memory::MemoryDisk;
+pub use memory::{MemoryDisk, OverMemory};
+pub use plan::Plan;

@@ -14,8 +14,8 @@ returns-in-Err-clause-cause g c =
     creating-cause g.D.Disk.seen g.D.Disk.moment g.D.Disk.faults c.args.node.now c.args.disk
     c.in-Err._disk c.in-Err.refusal
     (c.requires.0 (g.D.Disk.seen c.args.disk) (g.met.D.Disk.reads_left c.args.disk), c.requires.1)
-    c.in-Err.ensures.later c.in-Err.ensures.disk c.in-Err.ensures.too_large.0
-    c.in-Err.ensures.others
+    c.in-Err.ensures.later c.in-Err.ensures.refused.failed c.in-Err.ensures.refused.too_large.0
+    c.in-Err.ensures.refused.others
 
 pub returns-in-Ok-clause-logs : goal.returns-in-Ok-clause-logs
 returns-in-Ok-clause-logs g c =

@@ -9,9 +9,9 @@ returns-in-Err-clause-why g c =
     c.args.disk.now c.in-Err.refusal _ c.failed.ensures
     (reading-cause g.D.Disk.seen g.D.Disk.moment g.D.Disk.faults c.args.shape c.args.own.number
     c.args.disk.now c.read_node.new.disk c.in-Err.refusal c.requires
-    (λ is. c.in-Err.ensures.bad (ap Err is))
+    c.in-Err.ensures.refused.bad
     c.in-Err.ensures.quiet.any_moment.later (λ is. c.in-Err.ensures.cause.failed (ap Err is))
-    c.in-Err.ensures.others)
+    c.in-Err.ensures.refused.others)
 
 pub returns-else-is_node_of-clause-why : goal.returns-else-is_node_of-clause-why
 returns-else-is_node_of-clause-why g c = (

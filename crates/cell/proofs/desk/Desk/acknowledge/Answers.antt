@@ -12,8 +12,8 @@ invariant_of-self-inside c =
       desk.at,
       (
         stands-acknowledged desk.own desk.nodes pair desk.node.core c.act.new.node.core c.args.ack
-            c.act.result desk.stands c.act.ensures.leaves
-            (c.act.ensures.states pair.current desk.stands.shows) c.act.ensures.unchanged,
+            c.act.result desk.stands c.act.ensures.acts.leaves
+            (c.act.ensures.acts.states pair.current desk.stands.shows) c.act.ensures.acts.unchanged,
         (
           desk.was,
           (
@@ -21,8 +21,8 @@ invariant_of-self-inside c =
             (
               desk.unsaved,
               (
-                subst (AreTaken (known desk.seat).taken) (sym c.act.ensures.early) desk.taken,
-                (∥∥₁_map desk.logged (c.act.ensures.logged desk.saved.value), tt),
+                subst (AreTaken (known desk.seat).taken) (sym c.act.ensures.acts.early) desk.taken,
+                (∥∥₁_map desk.logged (c.act.ensures.notes.logged desk.saved.value), tt),
               ),
             ),
           ),

@@ -28,7 +28,7 @@ invariant_of-self-inside c =
       desk.at,
       (
         subst (λ (m : NodeView). StandsAt desk.own desk.nodes (known desk.seat).pair m)
-            (sym c.in_err-answer.ensures.unchanged) desk.stands,
+            (sym c.in_err-answer.ensures.acts.unchanged) desk.stands,
         (
           desk.was,
           (
@@ -36,10 +36,10 @@ invariant_of-self-inside c =
             (
               desk.unsaved,
               (
-                subst (AreTaken (known desk.seat).taken) (sym c.in_err-answer.ensures.early)
+                subst (AreTaken (known desk.seat).taken) (sym c.in_err-answer.ensures.acts.early)
                     (taken-after (known desk.seat).taken desk.node.core.local desk.node.early c.args.event _
                     desk.taken (rw (← c.self.view_is) at c.requires.taken)),
-                (∥∥₁_map desk.logged (c.in_err-answer.ensures.logged desk.saved.value), tt),
+                (∥∥₁_map desk.logged (c.in_err-answer.ensures.notes.logged desk.saved.value), tt),
               ),
             ),
           ),
@@ -58,7 +58,7 @@ invariant_of-self-inside-then-enter c =
     let known_is : known c.enter.new.seat ≡ ticks c.args.step (pair_by c.args.meant.now pair) v =
     c.enter.ensures.known
     ∙ cond-true (is_change a) (ticks c.args.step (pair_by c.args.meant.now pair) v) v counts in
-    let found = c.in_ok-answer.ensures.states pair.current desk.stands.shows in
+    let found = c.in_ok-answer.ensures.acts.states pair.current desk.stands.shows in
     let after : Pair = record { current = found.0; saved = pair.saved } in
     let pair_is : (known c.enter.new.seat).pair ≡ after =
     ap (λ (w : Known). w.pair) known_is
@@ -74,7 +74,7 @@ invariant_of-self-inside-then-enter c =
         subst (λ (p : Pair). StandsAt desk.own desk.nodes p c.act.new.node.core)
             (sym pair_is)
             (stands-moved desk.own desk.nodes pair found.0 desk.node.core c.act.new.node.core e
-            desk.stands c.in_ok-answer.ensures.leaves found.2
+            desk.stands c.in_ok-answer.ensures.acts.leaves found.2
             (behind-acted pair.saved pair.current e found.0 a desk.stands.behind found.1)),
         (
           subst (λ (p : Pair). IsSavedNode desk.own desk.nodes p.saved desk.saved.value)
@@ -87,10 +87,10 @@ invariant_of-self-inside-then-enter c =
               (
                 subst (λ (ts : List Plain). AreTaken ts c.act.new.node.early)
                     (sym (ap (λ (w : Known). w.taken) known_is))
-                    (subst (AreTaken v.taken) (sym c.in_ok-answer.ensures.early)
+                    (subst (AreTaken v.taken) (sym c.in_ok-answer.ensures.acts.early)
                     (taken-after v.taken desk.node.core.local desk.node.early c.args.event
                     (Ok a) desk.taken (rw (← c.self.view_is) at c.requires.taken))),
-                (∥∥₁_map desk.logged (c.in_ok-answer.ensures.logged desk.saved.value), tt),
+                (∥∥₁_map desk.logged (c.in_ok-answer.ensures.notes.logged desk.saved.value), tt),
               ),
             ),
           ),
@@ -109,7 +109,7 @@ invariant_of-self-inside-else-enter c =
     let known_is : known c.enter.new.seat ≡ v =
     c.enter.ensures.known
     ∙ cond-false (is_change a) (ticks c.args.step (pair_by c.args.meant.now pair) v) v quiet in
-    let found = c.in_ok-answer.ensures.states pair.current desk.stands.shows in
+    let found = c.in_ok-answer.ensures.acts.states pair.current desk.stands.shows in
     let kept = steps-on desk c.enter.new.seat c.enter.ensures.same
     (ap (λ (w : Known). w.pair) known_is) in (
       kept.at,
@@ -117,7 +117,7 @@ invariant_of-self-inside-else-enter c =
         subst (λ (p : Pair). StandsAt desk.own desk.nodes p c.act.new.node.core)
             (sym (ap (λ (w : Known). w.pair) known_is))
             (stands-quiet desk.own desk.nodes pair found.0 desk.node.core c.act.new.node.core e
-            desk.stands c.in_ok-answer.ensures.leaves found.2
+            desk.stands c.in_ok-answer.ensures.acts.leaves found.2
             ((rw (← c.self.view_is) at c.requires.may).quiet found.0 a
             (ap (act pair.current) (rw (← c.self.view_is) at c.requires.met) ∙ found.1) quiet)),
         (
@@ -129,10 +129,10 @@ invariant_of-self-inside-else-enter c =
               (
                 subst (λ (ts : List Plain). AreTaken ts c.act.new.node.early)
                     (sym (ap (λ (w : Known). w.taken) known_is))
-                    (subst (AreTaken v.taken) (sym c.in_ok-answer.ensures.early)
+                    (subst (AreTaken v.taken) (sym c.in_ok-answer.ensures.acts.early)
                     (taken-after v.taken desk.node.core.local desk.node.early c.args.event
                     (Ok a) desk.taken (rw (← c.self.view_is) at c.requires.taken))),
-                (∥∥₁_map desk.logged (c.in_ok-answer.ensures.logged desk.saved.value), tt),
+                (∥∥₁_map desk.logged (c.in_ok-answer.ensures.notes.logged desk.saved.value), tt),
               ),
             ),
           ),
@@ -143,7 +143,7 @@ invariant_of-self-inside-else-enter c =
 pub enter-requires-clause-event : goal.enter-requires-clause-event
 enter-requires-clause-event c counts =
     let v = known c.self.inside.seat in
-    let found = c.in_ok-answer.ensures.states v.pair.current c.self.inside.stands.shows in
+    let found = c.in_ok-answer.ensures.acts.states v.pair.current c.self.inside.stands.shows in
     let answered : act v.pair.current c.args.meant.now ≡ Ok (found.0, c.in_ok-answer.answer) =
     ap (act v.pair.current) (rw (← c.self.view_is) at c.requires.met) ∙ found.1 in
     subst (Happens v c.args.step)
@@ -159,7 +159,7 @@ returns-in_err-answer c =
     let desk = c.self.inside in
     let v = known desk.seat in
     let e = c.in_err-answer.field-0.0 in
-    let said = c.in_err-answer.ensures in
+    let said = c.in_err-answer.ensures.acts in
     let meant = rw (← c.self.view_is) at c.requires.met in
     rw (p.1, p.2, ← c.self.view_is) (record {
       given = subst (λ (m : Event).
@@ -189,7 +189,7 @@ returns-then-enter c =
     let desk = c.self.inside in
     let v = known desk.seat in
     let a = c.in_ok-answer.answer in
-    let said = c.in_ok-answer.ensures in
+    let said = c.in_ok-answer.ensures.acts in
     let meant = rw (← c.self.view_is) at c.requires.met in
     rw (← c.self.view_is) (record {
       given = subst (λ (m : Event).
@@ -221,7 +221,7 @@ returns-else-enter c =
     let desk = c.self.inside in
     let v = known desk.seat in
     let a = c.in_ok-answer.answer in
-    let said = c.in_ok-answer.ensures in
+    let said = c.in_ok-answer.ensures.acts in
     let meant = rw (← c.self.view_is) at c.requires.met in
     rw (← c.self.view_is) (record {
       given = subst (λ (m : Event).

@@ -10,7 +10,7 @@ invariant_of-self-inside c =
         cell.saved_dropped,
         told-to-fail _ _ cell.desk.saved cell.desk.node.core _ _
             (ap (λ a. a.state) c.fail_once.ensures.account)
-            c.fail_once.ensures.ready c.fail_once.ensures.logs cell.while_open cell.left
+            c.fail_once.ensures.same.0 c.fail_once.ensures.same.1 cell.while_open cell.left
             cell.imaged,
       ),
     )
