@@ -21,8 +21,8 @@ for own, node in enumerate(nodes):
     node.give(to=1 - own, label=7, register=0)
     turn(own)
 for node in nodes:
-    node.accept(1)  # Register 1 gets the other node's object,
-    node.store(object=0, place=0, register=1)  # and the own object refers to it.
+    node.accept(1)  # Register 1 gets the other node's object.
+    node.store(object=0, place=0, register=1)
     node.drop(0)
     node.drop(1)
 nodes[0].begin()
