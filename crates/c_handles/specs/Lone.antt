@@ -100,22 +100,23 @@ pub record Acts (old new : WholeNode) (e : Event) (r : Result Answer Refusal) : 
   pub early : new.early ≡ early_after old.core.local old.early e r
   pub turn : met old.early e ≢ e → IfOk r (λ a. a ≡ answer.Received)
 
-abbrev pub counted : Result Answer Refusal → Bool
-counted (Ok a) = is_change a
-counted (Err e) = false
+-- whether the event changed the node
+abbrev pub has_changed : Result Answer Refusal → Bool
+has_changed (Ok a) = is_change a
+has_changed (Err e) = false
 
--- The event was given to the node, which is changed if the event was answered and counts. The log,
--- if there is one, leads to the node still; or it is lost, but only by an event that counts.
+-- The event was given to the node, which is changed if the answer says so. The log, if there is one,
+-- leads to the node still; or it is lost, but only by a change.
 pub record Gave (old new : LoneNode) (e : Event) (r : Result Answer Refusal) : Type 0 where
   pub acts : Acts old.node new.node e r
   pub stays : new ≡ record old {
     node = new.node;
-    is_changed = old.is_changed || counted r;
-    is_unsaved = old.is_unsaved || counted r;
+    is_changed = old.is_changed || has_changed r;
+    is_unsaved = old.is_unsaved || has_changed r;
     log = new.log;
   }
   pub logs : KeepsLog old new
-  pub quiet : counted r ≡ false → new.log ≡ old.log
+  pub quiet : has_changed r ≡ false → new.log ≡ old.log
 
 -- The node was given the event, or the link is congested.
 abbrev pub Given : Bool → LoneNode → LoneNode → Event → Result Answer Fault → Type 0

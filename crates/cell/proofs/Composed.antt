@@ -104,8 +104,8 @@ in-turn w reached from to number stamp body e there refused =
     given-like w end from to number x y reached.by (heard-end reached) there found.1 in
     subst (λ (p : LocalState). IsSpentOrEarly p from number e)
     (sym (reached.by.current.each to).local)
-    (deliveries.none-refused-in-turn reached.shape reached.limits reached.steps from to number stamp
-    body e found.1
+    (deliveries.none-refused-in-turn reached.shape reached.limits reached.steps from to number
+    y.stamp y.body e found.1
     (other-refusal (acknowledged end to) _ _ e like refused))
 
 pub received : (s : NodeState) (d : Data) (e : Refusal) → act s (event.Data d) ≡ Err e

@@ -15,6 +15,7 @@ use Rattle.model.specs.declared.step.Outcome.{Outcome}
 use Rattle.model.specs.declared.step.Outcome.TheVariants as outcome
 use Rattle.model.specs.State.{NodeState, no_node, node_at}
 use Rattle.model.specs.Steps.{act, receive, is_own}
+use Rattle.model.specs.Effects.{is_change}
 use Rattle.model.specs.World.{World, KeepsSent, released, moved, delivery, take_step, world_after, outcome_of, happens, run, is_eventful, is_event, IsInNet}
 use Rattle.model.proofs.Runs.{run-append, run-push}
 use Rattle.laws.proofs.Onward.{Compares, Behind, run-behind, run-saved}
@@ -23,7 +24,7 @@ use Rattle.laws.proofs.Cuts.{run-keeps-sent}
 use Rattle.laws.proofs.Net.{heard-onward, net-onward}
 use Rattle.wire.specs.Views.{Pair, Known, pair_at}
 use Rattle.wire.specs.Rule.{nodes_of, ended_of, IsOpening, node_of, events_of, AreEvents}
-use Rattle.wire.specs.Plays.{IsEventful, Happens}
+use Rattle.wire.specs.Plays.{Happens}
 use Rattle.wire.proofs.Ages.{older-onward}
 
 -- ---- One more event

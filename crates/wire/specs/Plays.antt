@@ -8,9 +8,10 @@ use Rattle.model.specs.declared.event.Answer.{Answer}
 use Rattle.model.specs.declared.step.Step as model
 use Rattle.model.specs.declared.step.Step.TheVariants as step
 use Rattle.model.specs.declared.step.Outcome.TheVariants as outcome
+use Rattle.model.specs.Effects.{is_change}
 use Rattle.model.specs.State.{NodeState, got_from, sent_to}
 use Rattle.model.specs.Steps.{act, receive, is_own}
-use Rattle.model.specs.World.{World, run, is_eventful, numbered, IsInNet}
+use Rattle.model.specs.World.{World, run, numbered, IsInNet}
 use Rattle.wire.specs.Views.{Pair, Known, pair_at, notes, claims, takes_in, posts, clears, ticks, raises, marks, learns}
 use Rattle.wire.specs.Lists.{has, found, Continues}
 use Rattle.wire.specs.Rule.{IsOpening, AreEvents, events_of, ended_of, sender, receiver, Spells}

@@ -36,7 +36,7 @@ impl Wire {
             ≡ known_after event.now step (Ok answer.now) (known seat.old) }
         ensures entered { is_change answer.now ≡ true
             → Entered step (known seat.old) (known seat.new) }
-        ensures counted { result ≡ is_change answer.now }
+        ensures changed { result ≡ is_change answer.now }
     {
         if answer.is_change() {
             enter_step(self, seat, step, event);

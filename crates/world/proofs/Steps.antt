@@ -135,10 +135,10 @@ no-node n s past =
     (λ e. absurd cc) (none-saved n s past) (λ w h free e. absurd cc)
 
 -- the same for a step between two nodes, of which one isn't there
-pub past-either : {n count from to : ℕ} → count ≡ n → (count ≤ from) ⊎ (count ≤ to)
-    → (n ≤ from) ⊎ (n ≤ to)
+pub past-either : {n count from to : ℕ} → count ≡ n
+    → (count ≤ from) ⊎ ((from < count) × (count ≤ to)) → (n ≤ from) ⊎ (n ≤ to)
 past-either is (inl past) = inl (omega (arith, is, past))
-past-either is (inr past) = inr (omega (arith, is, past))
+past-either is (inr past) = inr (omega (arith, is, past.1))
 
 -- a refusal that never occurs, since no space could be shown
 pub never : (n : List SiteView) (s : Step) (e : Refusal) → e ≢ ImageTooLarge

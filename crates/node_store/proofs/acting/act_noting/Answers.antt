@@ -7,15 +7,15 @@ use Rattle.node_store.proofs.Quiet.{quiet-same}
 use Rattle.node_store.proofs.Ends.{logged_more}
 use Rattle.node_store.proofs.acting.act_noting.Goals as goal
 
-pub returns-then-answer-clause-notes : goal.returns-then-answer-clause-notes
-returns-then-answer-clause-notes c =
+pub returns-then-is_change-clause-notes : goal.returns-then-is_change-clause-notes
+returns-then-is_change-clause-notes c =
     let old = c.args.node.now in
     let new = c.act.new.self in
     let e = c.meant-meant.result in
     let done : IsDone old.core e new.core = record {
       answer = c.in_ok-answer.answer;
       acts = ap (view_act old.core) c.meant-meant.ensures ∙ c.in_ok-answer.ensures.performs;
-      now = sym c.is_change.ensures ∙ c.if-answer.true;
+      now = sym c.is_change.ensures ∙ c.if-is_change.true;
     } in
     record {
       logged = λ first logged bytes is.
@@ -25,12 +25,12 @@ returns-then-answer-clause-notes c =
       still = tt;
     }
 
-pub returns-else-answer-clause-notes : goal.returns-else-answer-clause-notes
-returns-else-answer-clause-notes c =
+pub returns-else-is_change-clause-notes : goal.returns-else-is_change-clause-notes
+returns-else-is_change-clause-notes c =
     let old = c.args.node.now in
     let new = c.act.new.self in
     let early : is_change c.in_ok-answer.answer ≡ false =
-    sym c.is_change.ensures ∙ c.if-answer.false in
+    sym c.is_change.ensures ∙ c.if-is_change.false in
     record {
       logged = λ first logged bytes is. subst (Logged bytes first)
           (sym (quiet-same old.core new.core (met old.early c.args.event) c.in_ok-answer.answer

@@ -25,22 +25,22 @@ returns-in-Err c =
       );
     }
 
-pub returns-then-is_quiet : goal.returns-then-is_quiet
-returns-then-is_quiet c =
+pub returns-then-not-is_change : goal.returns-then-not-is_change
+returns-then-not-is_change c =
     record {
       done = tt;
       alone = tt;
       refused = λ _. (
         refl,
         λ m. quiet-not-done (met-same c.args.event c.requires) c.in-Ok.ensures.performs
-            (sym c.is_quiet.ensures ∙ c.if-is_quiet.true),
+            (sym c.is_change.ensures ∙ c.if-not-is_change.true),
       );
     }
 
 pub returns : goal.returns
 returns c =
     let said = c.in-Ok.ensures in
-    let now = sym c.is_quiet.ensures ∙ c.if-is_quiet.false in
+    let now = sym c.is_change.ensures ∙ c.if-not-is_change.false in
     record {
       done = done-alone c.args.event c.in-Ok.answer c.requires said.performs now;
       alone = alone-after c.args.event c.in-Ok.answer c.requires said.early

@@ -9,13 +9,13 @@ use Rattle.c_handles.specs.Logs.{Led}
 use Rattle.c_handles.proofs.Logs.{after_counted, after_uncounted, if_kept, led_noted}
 use Rattle.c_handles.proofs.lone.LoneNode.perform_noting.Goals as goal
 
-pub returns-then-answer : goal.returns-then-answer
-returns-then-answer c =
+pub returns-then-is_change : goal.returns-then-is_change
+returns-then-is_change c =
     let old = c.args.self.now in
     let new = c.act.new.self in
     let acts = c.in_ok-answer.ensures.performs in
     let counts : is_change c.in_ok-answer.answer ≡ true =
-    sym c.is_change.ensures ∙ c.if-answer.true in
+    sym c.is_change.ensures ∙ c.if-is_change.true in
     record {
       acts = record {
         performs = c.in_ok-answer.ensures.performs;
@@ -36,13 +36,13 @@ returns-then-answer c =
       quiet = λ none. absurd (true≢false (sym counts ∙ none));
     }
 
-pub returns-else-answer : goal.returns-else-answer
-returns-else-answer c =
+pub returns-else-is_change : goal.returns-else-is_change
+returns-else-is_change c =
     let old = c.args.self.now in
     let new = c.act.new.self in
     let acts = c.in_ok-answer.ensures.performs in
     let counts : is_change c.in_ok-answer.answer ≡ false =
-    sym c.is_change.ensures ∙ c.if-answer.false in
+    sym c.is_change.ensures ∙ c.if-is_change.false in
     let same : new.core ≡ old.node.core =
     quiet-same old.node.core new.core (met old.node.early c.args.event) c.in_ok-answer.answer acts counts in
     record {

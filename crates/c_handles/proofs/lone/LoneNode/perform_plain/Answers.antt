@@ -20,7 +20,7 @@ returns-then-self c =
     let a = c.in_ok-answer.answer in
     let log = c.note.new.self.log in
     let acts = c.in_ok-answer.ensures.performs in
-    let counts : is_change a ≡ true = sym c.is_change.ensures ∙ c.if-answer.true in
+    let counts : is_change a ≡ true = sym c.is_change.ensures ∙ c.if-is_change.true in
     let same : met old.node.early e ≡ e =
     met_same old.node.early e (other_than (is_turn e) old.logs c.requires c.if-self.true) in
     subst (λ n. Gave old n e (Ok a)) (sym c.note.ensures.stays) (record {
@@ -42,13 +42,13 @@ returns-then-self c =
       quiet = λ none. absurd (true≢false (sym counts ∙ none));
     })
 
-pub returns-else-answer : goal.returns-else-answer
-returns-else-answer c =
+pub returns-else-is_change : goal.returns-else-is_change
+returns-else-is_change c =
     let old = c.args.self.now in
     let new = c.act.new.self in
     let acts = c.in_ok-answer.ensures.performs in
     let counts : is_change c.in_ok-answer.answer ≡ false =
-    sym c.is_change.ensures ∙ c.if-answer.false in
+    sym c.is_change.ensures ∙ c.if-is_change.false in
     let same : new.core ≡ old.node.core =
     quiet-same old.node.core new.core (met old.node.early c.args.event) c.in_ok-answer.answer acts counts in
     record {
@@ -93,7 +93,7 @@ returns-else-self c =
     let old = c.args.self.now in
     let a = c.in_ok-answer.answer in
     let said = c.in_ok-answer.ensures in
-    let counts : is_change a ≡ true = sym c.is_change.ensures ∙ c.if-answer.true in
+    let counts : is_change a ≡ true = sym c.is_change.ensures ∙ c.if-is_change.true in
     record {
       acts = record {
         performs = said.performs;

@@ -54,7 +54,7 @@ invariant_of-self-inside-then-enter c =
     let pair = v.pair in
     let a = c.in_ok-answer.answer in
     let e = met desk.node.early c.args.event in
-    let counts : is_change a ≡ true = sym c.enter.ensures.counted ∙ c.if-enter.true in
+    let counts : is_change a ≡ true = sym c.enter.ensures.changed ∙ c.if-enter.true in
     let known_is : known c.enter.new.seat ≡ ticks c.args.step (pair_by c.args.meant.now pair) v =
     c.enter.ensures.known
     ∙ cond-true (is_change a) (ticks c.args.step (pair_by c.args.meant.now pair) v) v counts in
@@ -105,7 +105,7 @@ invariant_of-self-inside-else-enter c =
     let pair = v.pair in
     let a = c.in_ok-answer.answer in
     let e = met desk.node.early c.args.event in
-    let quiet : is_change a ≡ false = sym c.enter.ensures.counted ∙ c.if-enter.false in
+    let quiet : is_change a ≡ false = sym c.enter.ensures.changed ∙ c.if-enter.false in
     let known_is : known c.enter.new.seat ≡ v =
     c.enter.ensures.known
     ∙ cond-false (is_change a) (ticks c.args.step (pair_by c.args.meant.now pair) v) v quiet in
@@ -211,7 +211,7 @@ returns-then-enter c =
           };
       memory_free = λ _. tt;
       unsaved = sym (cond-true (is_change a) true desk.is_unsaved
-          (sym c.enter.ensures.counted ∙ c.if-enter.true));
+          (sym c.enter.ensures.changed ∙ c.if-enter.true));
       same = c.enter.ensures.same;
       stays = refl;
     })
@@ -243,7 +243,7 @@ returns-else-enter c =
           };
       memory_free = λ _. tt;
       unsaved = sym (cond-false (is_change a) true desk.is_unsaved
-          (sym c.enter.ensures.counted ∙ c.if-enter.false));
+          (sym c.enter.ensures.changed ∙ c.if-enter.false));
       same = c.enter.ensures.same;
       stays = refl;
     })
