@@ -11,10 +11,11 @@ use Rattle.wire.proofs.Places.{mapped-from, mapped-there, pushed-at, some_at}
 use Rattle.wire.proofs.Places.{same-there}
 
 -- one more element of the second list
-pub beside-next : {X Y : Type 0} (Is : X → Y → Type 0) (xs : List X) (ys zs : List Y) (place : ℕ)
-    (x : X) (y : Y) → AreBeside (λ k. Is) xs ys → length ys ≡ place → slice_get xs place ≡ Some x
-    → Is x y → zs ≡ ys ++ y ∷ [] → AreBeside (λ k. Is) xs zs
-beside-next Is xs ys zs place x y h count there is more = λ k u v at also.
+pub beside-next : {X Y : Type 0} {zs : List Y} {place : ℕ} {x : X} {y : Y} (Is : X → Y → Type 0)
+    (xs : List X) (ys : List Y) → AreBeside (λ k. Is) xs ys → length ys ≡ place
+    → slice_get xs place ≡ Some x → Is x y → zs ≡ ys ++ y ∷ [] → AreBeside (λ k. Is) xs zs
+beside-next {place = place} {x} {y} Is xs ys h count there is more =
+    λ k u v at also.
     ⊎_elim (λ old. h k u v at old)
     (λ last.
     let here : k ≡ place = last.0 ∙ count in

@@ -29,7 +29,7 @@ use Rattle.cell.specs.Laws.{NoneRefusedInTurn, SweepsFreeNoneReachable}
 use Rattle.cell.specs.Reached.{IsReached}
 use Rattle.cell.proofs.Alike.{act-like, other-answer, other-refusal}
 use Rattle.cell.proofs.AlikeCuts.{reached-too}
-use Rattle.cell.proofs.AlikeRuns.{also-released, given-like}
+use Rattle.cell.proofs.AlikeRuns.{AreReleased, also-released, given-like}
 use Rattle.cell.proofs.Applied.{cuts-end}
 use Rattle.cell.proofs.Reaches.{end_of, heard-end, stays-reached}
 
@@ -114,8 +114,9 @@ in-turn w reached from to number stamp body e there refused =
     let x : Message = record { stamp = stamp; body = body } in
     let found = also-released w end from to number x reached.by there in
     let y : Message = found.0 in
-    let like =
-    given-like w end from to number x y reached.by (heard-end reached) there found.1 in
+    let both : AreReleased w end from to number x y =
+    record { alike = reached.by; there = there; other = found.1 } in
+    let like = given-like both (heard-end reached) in
     subst
     (λ (k : ℕ). (e ≡ LinkSpent) ⊎ ((e ≡ OutOfOrder) × (k + WINDOW < number)))
     (sym (ap (λ (p : LocalState). got_from p from) (reached.by.current.each to).local))

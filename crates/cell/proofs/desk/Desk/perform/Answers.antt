@@ -1,9 +1,8 @@
-use Rattle.std.proofs.Common.{◌≡◌, true, false, IsTrue, List, Ok, Err, refl, sym, ap, ◌∙◌, subst, Result}
+use Rattle.std.proofs.Common.{◌≡◌, true, false, IsTrue, Ok, Err, refl, sym, ap, ◌∙◌, subst, Result}
 use Rattle.std.proofs.Math.Logic.{∥∥₁_map}
 use Rattle.std.proofs.lemmas.Bool.{cond-true, cond-false, false≢true}
 use Rattle.std.proofs.lemmas.Result.{err_from_is_err_and}
 use Rattle.ids.specs.declared.refusal.Refusal.{Refusal}
-use Rattle.msg.specs.Frames.{Plain}
 use Rattle.model.specs.declared.event.Answer.{Answer}
 use Rattle.model.specs.declared.event.Event.{Event}
 use Rattle.model.specs.State.{NodeState}
@@ -16,35 +15,22 @@ use Rattle.wire.specs.Views.{Known, Pair, ticks}
 use Rattle.wire.specs.Readers.{known}
 use Rattle.cell.specs.Desks.{AreTaken, IsSavedNode, StandsAt}
 use Rattle.cell.specs.Events.{Given}
-use Rattle.cell.proofs.Seats.{steps-on}
+use Rattle.cell.proofs.Seats.{facts, steps-on}
 use Rattle.cell.proofs.Standing.{behind-acted, stands-moved, stands-quiet}
-use Rattle.cell.proofs.Waiting.{taken-after}
+use Rattle.cell.proofs.Waiting.{acted-taken, taken-after}
 use Rattle.cell.proofs.desk.Desk.perform.Goals as goal
 
 pub invariant_of-self-inside : goal.invariant_of-self-inside
 invariant_of-self-inside c =
-    let desk = c.self.inside in (
-      desk.at,
-      (
-        subst (λ (m : NodeView). StandsAt desk.own desk.nodes (known desk.seat).pair m)
-            (sym c.in_err-answer.ensures.unchanged) desk.stands,
-        (
-          desk.was,
-          (
-            desk.ended_is,
-            (
-              desk.unsaved,
-              (
-                subst (AreTaken (known desk.seat).taken) (sym c.in_err-answer.ensures.early)
-                    (taken-after (known desk.seat).taken desk.node.core.local desk.node.early c.args.event _
-                    desk.taken (rw (← c.self.view_is) at c.requires.taken)),
-                (∥∥₁_map desk.logged (c.in_err-answer.ensures.logged desk.saved.value), tt),
-              ),
-            ),
-          ),
-        ),
-      ),
-    )
+    let desk = c.self.inside in
+    facts desk.at
+    (subst (λ (m : NodeView). StandsAt desk.own desk.nodes (known desk.seat).pair m)
+    (sym c.in_err-answer.ensures.unchanged) desk.stands)
+    desk.was desk.ended_is desk.unsaved
+    (subst (AreTaken (known desk.seat).taken) (sym c.in_err-answer.ensures.early)
+    (taken-after (known desk.seat).taken desk.node.core.local desk.node.early c.args.event _
+    desk.taken (rw (← c.self.view_is) at c.requires.taken)))
+    (∥∥₁_map desk.logged (c.in_err-answer.ensures.logged desk.saved.value))
 
 pub invariant_of-self-inside-then-enter : goal.invariant_of-self-inside-then-enter
 invariant_of-self-inside-then-enter c =
@@ -52,7 +38,6 @@ invariant_of-self-inside-then-enter c =
     let v = known desk.seat in
     let pair = v.pair in
     let a = c.in_ok-answer.answer in
-    let e = met desk.node.early c.args.event in
     let counts : is_counted a ≡ true = sym c.enter.ensures.counted ∙ c.if-enter.true in
     let known_is : known c.enter.new.seat ≡ ticks c.args.step (pair_by c.args.meant.now pair) v =
     c.enter.ensures.known
@@ -64,80 +49,45 @@ invariant_of-self-inside-then-enter c =
     ∙ ap (λ (x : Event). pair_by x pair) (rw (← c.self.view_is) at c.requires.met)
     ∙ ap (λ (r : Result (NodeState × Answer) Refusal).
     let q : Pair = record { current = state_of pair.current r; saved = pair.saved } in q)
-    found.1 in (
-      record {
-        own = c.enter.ensures.same.2 ∙ desk.at.own;
-        nodes = c.enter.ensures.same.3 ∙ desk.at.nodes;
-      },
-      (
-        subst (λ (p : Pair). StandsAt desk.own desk.nodes p c.act.new.node.core)
-            (sym pair_is)
-            (stands-moved desk.own desk.nodes pair found.0 desk.node.core c.act.new.node.core e
-            desk.stands c.in_ok-answer.ensures.leaves found.2
-            (behind-acted pair.saved pair.current e found.0 a desk.stands.behind found.1)),
-        (
-          subst (λ (p : Pair). IsSavedNode desk.own desk.nodes p.saved desk.saved.value)
-              (sym pair_is) desk.was,
-          (
-            desk.ended_is
-                ∙ sym (ap (λ (p : Pair). p.saved.local.phases.ended) pair_is),
-            (
-              λ never. absurd (false≢true (sym never)),
-              (
-                subst (λ (ts : List Plain). AreTaken ts c.act.new.node.early)
-                    (sym (ap (λ (w : Known). w.taken) known_is))
-                    (subst (AreTaken v.taken) (sym c.in_ok-answer.ensures.early)
-                    (taken-after v.taken desk.node.core.local desk.node.early c.args.event
-                    (Ok a) desk.taken (rw (← c.self.view_is) at c.requires.taken))),
-                (∥∥₁_map desk.logged (c.in_ok-answer.ensures.logged desk.saved.value), tt),
-              ),
-            ),
-          ),
-        ),
-      ),
-    )
+    found.1 in
+    facts
+    (record {
+      own = c.enter.ensures.same.2 ∙ desk.at.own;
+      nodes = c.enter.ensures.same.3 ∙ desk.at.nodes;
+    })
+    (subst (λ (p : Pair). StandsAt desk.own desk.nodes p c.act.new.node.core) (sym pair_is)
+    (stands-moved found.0 desk.stands c.in_ok-answer.ensures.leaves found.2
+    (behind-acted pair.saved pair.current (met desk.node.early c.args.event) found.0 a
+    desk.stands.behind found.1)))
+    (subst (λ (p : Pair). IsSavedNode desk.own desk.nodes p.saved desk.saved.value) (sym pair_is)
+    desk.was)
+    (desk.ended_is ∙ sym (ap (λ (p : Pair). p.saved.local.phases.ended) pair_is))
+    (λ never. absurd (false≢true (sym never)))
+    (acted-taken desk.node.core.local c.args.event (Ok a) desk.taken
+    (rw (← c.self.view_is) at c.requires.taken) c.in_ok-answer.ensures.early (ap (λ (w : Known). w.taken) known_is))
+    (∥∥₁_map desk.logged (c.in_ok-answer.ensures.logged desk.saved.value))
 
 pub invariant_of-self-inside-else-enter : goal.invariant_of-self-inside-else-enter
 invariant_of-self-inside-else-enter c =
     let desk = c.self.inside in
     let v = known desk.seat in
-    let pair = v.pair in
     let a = c.in_ok-answer.answer in
-    let e = met desk.node.early c.args.event in
     let quiet : is_counted a ≡ false = sym c.enter.ensures.counted ∙ c.if-enter.false in
     let known_is : known c.enter.new.seat ≡ v =
     c.enter.ensures.known
-    ∙ cond-false (is_counted a) (ticks c.args.step (pair_by c.args.meant.now pair) v) v quiet in
-    let found = c.in_ok-answer.ensures.states pair.current desk.stands.shows in
+    ∙ cond-false (is_counted a) (ticks c.args.step (pair_by c.args.meant.now v.pair) v) v quiet in
+    let found = c.in_ok-answer.ensures.states v.pair.current desk.stands.shows in
     let kept = steps-on desk c.enter.new.seat c.enter.ensures.same
-    (ap (λ (w : Known). w.pair) known_is) in (
-      kept.at,
-      (
-        subst (λ (p : Pair). StandsAt desk.own desk.nodes p c.act.new.node.core)
-            (sym (ap (λ (w : Known). w.pair) known_is))
-            (stands-quiet desk.own desk.nodes pair found.0 desk.node.core c.act.new.node.core e
-            desk.stands c.in_ok-answer.ensures.leaves found.2
-            ((rw (← c.self.view_is) at c.requires.may).quiet found.0 a
-            (ap (act pair.current) (rw (← c.self.view_is) at c.requires.met) ∙ found.1) quiet)),
-        (
-          kept.was,
-          (
-            kept.ended_is,
-            (
-              kept.unsaved,
-              (
-                subst (λ (ts : List Plain). AreTaken ts c.act.new.node.early)
-                    (sym (ap (λ (w : Known). w.taken) known_is))
-                    (subst (AreTaken v.taken) (sym c.in_ok-answer.ensures.early)
-                    (taken-after v.taken desk.node.core.local desk.node.early c.args.event
-                    (Ok a) desk.taken (rw (← c.self.view_is) at c.requires.taken))),
-                (∥∥₁_map desk.logged (c.in_ok-answer.ensures.logged desk.saved.value), tt),
-              ),
-            ),
-          ),
-        ),
-      ),
-    )
+    (ap (λ (w : Known). w.pair) known_is) in
+    facts kept.at
+    (subst (λ (w : Known). StandsAt desk.own desk.nodes w.pair c.act.new.node.core) (sym known_is)
+    (stands-quiet found.0 desk.stands c.in_ok-answer.ensures.leaves found.2
+    ((rw (← c.self.view_is) at c.requires.may).quiet found.0 a
+    (ap (act v.pair.current) (rw (← c.self.view_is) at c.requires.met) ∙ found.1) quiet)))
+    kept.was kept.ended_is kept.unsaved
+    (acted-taken desk.node.core.local c.args.event (Ok a) desk.taken
+    (rw (← c.self.view_is) at c.requires.taken) c.in_ok-answer.ensures.early (ap (λ (w : Known). w.taken) known_is))
+    (∥∥₁_map desk.logged (c.in_ok-answer.ensures.logged desk.saved.value))
 
 pub enter-requires-clause-event : goal.enter-requires-clause-event
 enter-requires-clause-event c counts =

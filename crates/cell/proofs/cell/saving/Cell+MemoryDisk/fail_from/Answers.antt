@@ -8,7 +8,7 @@ invariant_of-self-inside c =
       cell.dropped,
       (
         cell.saved_dropped,
-        told-to-fail _ _ cell.desk.saved cell.desk.node.core _ _
+        told-to-fail cell.desk.saved cell.desk.node.core
             (ap (λ a. a.state) c.fail_from.ensures.account)
             c.fail_from.ensures.ready c.fail_from.ensures.logs cell.while_open cell.left
             cell.imaged,
