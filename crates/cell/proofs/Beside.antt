@@ -50,10 +50,6 @@ pub new-logs : (saves : Saves) (logs : Bool) → (saves ≡ Events → logs ≡ 
 new-logs Events logs events images = events refl
 new-logs Images logs events images = images refl
 
-pub new-chosen : (saves : Saves) (seen : Areas) → IsChosen saves seen (logs_at saves None)
-new-chosen Events seen = record { events = λ _. refl; images = λ never. absurd cc }
-new-chosen Images seen = record { events = λ never. absurd cc; images = λ _ _. refl }
-
 pub chosen-as : (saves : Saves) (seen : Areas) (place : Option Place) (logs : Bool)
     → IsChosen saves seen (logs_at saves place) → logs ≡ logs_at saves place
     → IsChosen saves seen logs

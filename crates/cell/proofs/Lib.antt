@@ -16,6 +16,7 @@ pub mod AlikeRuns
 pub mod Dues
 pub mod Dropping
 pub mod Still
+pub mod Entered
 pub mod OnShelves
 pub mod Causes
 pub mod Looking

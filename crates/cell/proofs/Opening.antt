@@ -106,6 +106,10 @@ stays-left {logs = logs} may_leave same still opens left imaged = (
   ),
 )
 
+-- the facts of the type `Cell`, in their order: first what its nodes dropped, then its disk
+pub cell-facts : {A B C : Type 0} → A → B → C → A × (B × C)
+cell-facts dropped saved disk = (dropped, (saved, disk))
+
 -- what a cell guarantees whose disk in memory was given a plan of failures
 pub told-to-fail : {logs logged ready was : Bool} {old new : State} (saved n : NodeView)
     → new ≡ old → ready ≡ was → logs ≡ logged → (IsTrue was → HoldsSaved (leaves old) saved)

@@ -118,8 +118,3 @@ pub own-brings : (taken : List Plain) (e : Event) → is_own e ≡ true
 own-brings taken e own d is =
     let never : is_own (event.Data d) ≡ true = subst (λ (x : Event). is_own x ≡ true) is own in
     absurd cc
-
--- the waiting message, if there is one
-pub some-waits : (o : Option Data) → is_some o ≡ true → (d : Data) × (o ≡ Some d)
-some-waits None waits = absurd cc
-some-waits (Some d) waits = (d, refl)

@@ -26,27 +26,25 @@ returns-then-len-from g c = record {
   one_age = tt;
 }
 
-pub returns-in_err-nodes : goal.returns-in_err-nodes
-returns-in_err-nodes g c =
+pub returns-in_err-nodes-clause-disks : goal.returns-in_err-nodes-clause-disks
+returns-in_err-nodes-clause-disks g c = λ other.
+    absurd (other (sym c.len.ensures ∙ c.if-len-from.false ∙ c.from.ensures
+    ∙ c.nodes.ensures.value))
+
+pub returns-in_err-nodes-clause-why : goal.returns-in_err-nodes-clause-why
+returns-in_err-nodes-clause-why g c =
     let p = err_from_is_err_and c.from_residual.result c.from_residual.ensures.1 in
-    let same = sym c.len.ensures ∙ c.if-len-from.false ∙ c.from.ensures ∙ c.nodes.ensures.value in
+    rw (p.1, p.2) (subst (λ l. IsWhy g.D.Disk.seen g.D.Disk.moment g.D.Disk.faults c.args.shape l
+    c.in_err-nodes.field-0.0) c.as_mut_slice.ensures.value c.in_err-nodes.ensures.why)
+
+pub returns-in_err-nodes-clause-untouched : goal.returns-in_err-nodes-clause-untouched
+returns-in_err-nodes-clause-untouched g c =
+    let p = err_from_is_err_and c.from_residual.result c.from_residual.ensures.1 in
     let quiet = subst
     (λ l. AreUnmoved g.D.Disk.seen g.D.Disk.may_leave g.D.Disk.moment g.D.Disk.left_since l
     c.look_at_all.new.disks) c.as_mut_slice.ensures.value c.in_err-nodes.ensures.untouched in
-    rw (p.1, p.2) (record {
-      disks = λ other. absurd (other same);
-      why = subst (λ l. IsWhy g.D.Disk.seen g.D.Disk.moment g.D.Disk.faults c.args.shape l
-          c.in_err-nodes.field-0.0) c.as_mut_slice.ensures.value c.in_err-nodes.ensures.why;
-      untouched = λ _. rw (with_items_is c.args.disks.now c.look_at_all.new.disks
-          (quiet.count ∙ sym c.args.disks.now.ok.0)) quiet;
-      taken = tt;
-      count = tt;
-      found = tt;
-      logs = tt;
-      read = tt;
-      all = tt;
-      one_age = tt;
-    })
+    rw (p.1, p.2) (λ _. rw (with_items_is c.args.disks.now c.look_at_all.new.disks
+    (quiet.count ∙ sym c.args.disks.now.ok.0)) quiet)
 
 pub returns-in-Some : goal.returns-in-Some
 returns-in-Some g c =
@@ -92,8 +90,13 @@ put_all_on-requires-clause-on g c =
     (λ l. AreOn g.D.Disk.seen g.D.Disk.may_leave c.args.shape new c.in_ok-nodes.nodes.items l)
     (sym c.as_slice-3.ensures.value) (all-on read)))
 
-pub returns-in_err-stores : goal.returns-in_err-stores
-returns-in_err-stores g c =
+pub returns-in_err-stores-clause-disks : goal.returns-in_err-stores-clause-disks
+returns-in_err-stores-clause-disks g c = λ other.
+    absurd (other (sym c.len.ensures ∙ c.if-len-from.false ∙ c.from.ensures
+    ∙ c.nodes.ensures.value))
+
+pub returns-in_err-stores-clause-why : goal.returns-in_err-stores-clause-why
+returns-in_err-stores-clause-why g c =
     let p = err_from_is_err_and c.from_residual-in_err-stores.result
     c.from_residual-in_err-stores.ensures.1 in
     let same = sym c.len.ensures ∙ c.if-len-from.false ∙ c.from.ensures ∙ c.nodes.ensures.value in
@@ -103,20 +106,15 @@ returns-in_err-stores g c =
     ap (λ v. v.items) c.replace-found.ensures.value
     ∙ with_items_is c.args.disks.now c.look_at_all.new.disks
     (read.quiet.count ∙ sym c.args.disks.now.ok.0) in
-    rw (p.1, p.2) (record {
-      disks = λ other. absurd (other same);
-      why = why-before read _ c.in_err-stores.ensures.all_read
-          (subst (λ l. IsWhy g.D.Disk.seen g.D.Disk.moment g.D.Disk.faults c.args.shape l
-          c.in_err-stores.field-0.0) items c.in_err-stores.ensures.why);
-      untouched = λ reading. absurd (c.in_err-stores.ensures.all_read reading);
-      taken = tt;
-      count = tt;
-      found = tt;
-      logs = tt;
-      read = tt;
-      all = tt;
-      one_age = tt;
-    })
+    rw (p.1, p.2) (why-before read _ c.in_err-stores.ensures.all_read
+    (subst (λ l. IsWhy g.D.Disk.seen g.D.Disk.moment g.D.Disk.faults c.args.shape l
+    c.in_err-stores.field-0.0) items c.in_err-stores.ensures.why))
+
+pub returns-in_err-stores-clause-untouched : goal.returns-in_err-stores-clause-untouched
+returns-in_err-stores-clause-untouched g c =
+    let p = err_from_is_err_and c.from_residual-in_err-stores.result
+    c.from_residual-in_err-stores.ensures.1 in
+    rw (p.1, p.2) (λ reading. absurd (c.in_err-stores.ensures.all_read reading))
 
 pub returns : goal.returns
 returns g c =

@@ -3,6 +3,8 @@ use Rattle.std.proofs.lemmas.Result.{err_from_is_err_and}
 use Rattle.msg.specs.Frames.{Plain}
 use Rattle.model.specs.View.{NodeView}
 use Rattle.wire.specs.Readers.{known, outbox}
+use Rattle.wire.specs.Views.{Known}
+use Rattle.cell.specs.declared.desk.Desk.TheInside.{Inside}
 use Rattle.wire.specs.Rule.{Spells}
 use Rattle.wire.specs.Plays.{Releases}
 use Rattle.wire.specs.Sending.{IsSent, frame_due, next_place, places_after}
@@ -15,6 +17,16 @@ placed : {is : Bool} {i j next : ℕ} (n : NodeView) (to : ℕ) (places : List �
     → j ≡ to → next ≡ next_place n to (slice_index_or places i 0)
     → slice_set places j next ≡ places_after is n to places
 placed n to places sent from at follows = rw (sent, follows, from, at) refl
+
+-- the frame that is due, by the place that was read
+sent-by : (desk : Inside) (to : ℕ) {place : ℕ} (is : Bool) (w : Known) → place ≡ to
+    → IsSent (outbox desk.seat to) (frame_due desk.node.core to (slice_index_or desk.places place 0))
+    is (known desk.seat) w
+    → IsSent (outbox desk.seat to) (frame_due desk.node.core to (slice_index_or desk.places to 0))
+    is (known desk.seat) w
+sent-by desk to is w same sent =
+    subst (λ (i : ℕ). IsSent (outbox desk.seat to)
+    (frame_due desk.node.core to (slice_index_or desk.places i 0)) is (known desk.seat) w) same sent
 
 unplaced : (is : Bool) (n : NodeView) (to : ℕ) (places : List ℕ) → is ≡ false
     → places ≡ places_after is n to places
@@ -72,10 +84,7 @@ returns-then-is_sent c =
     let desk = c.self.inside in
     rw (← c.self.view_is) (record {
       same = c.send-is_sent.ensures.same;
-      sent = subst (λ (i : ℕ). IsSent (outbox desk.seat c.args.to)
-          (frame_due desk.node.core c.args.to (slice_index_or desk.places i 0))
-          c.send-is_sent.result (known desk.seat) (known c.send-is_sent.new.seat))
-          c.from.ensures c.send-is_sent.ensures.sent;
+      sent = sent-by desk c.args.to _ _ c.from.ensures c.send-is_sent.ensures.sent;
       places = placed desk.node.core c.args.to desk.places c.if-is_sent.true c.from.ensures
           c.from-then-is_sent.ensures c.due-frame.ensures.next;
       refused = tt;
@@ -87,10 +96,7 @@ returns-else-is_sent c =
     let desk = c.self.inside in
     rw (← c.self.view_is) (record {
       same = c.send-is_sent.ensures.same;
-      sent = subst (λ (i : ℕ). IsSent (outbox desk.seat c.args.to)
-          (frame_due desk.node.core c.args.to (slice_index_or desk.places i 0))
-          c.send-is_sent.result (known desk.seat) (known c.send-is_sent.new.seat))
-          c.from.ensures c.send-is_sent.ensures.sent;
+      sent = sent-by desk c.args.to _ _ c.from.ensures c.send-is_sent.ensures.sent;
       places = unplaced _ desk.node.core c.args.to desk.places c.if-is_sent.false;
       refused = tt;
       stays = refl;
