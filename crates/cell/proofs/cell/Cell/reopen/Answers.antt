@@ -59,7 +59,7 @@ invariant_of-self-inside g c =
     let w = known desk.seat in
     let took = took-same v w (ap (λ u. u.me) said.known) (ap (λ u. u.taken) said.known) in
     let first = cell.first.value in
-    let kept = dropped-found first v w cell.desk.node.core cell.desk.saved found.core took
+    let kept = dropped-found found.core took
     (which-found cell.desk.saved cell.desk.node.core found.core was_seen there
     (cell.left was_seen (g.met.D.Disk.reads_left (disk_of cell.store))))
     cell.dropped cell.saved_dropped in

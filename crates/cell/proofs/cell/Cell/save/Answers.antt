@@ -41,7 +41,7 @@ invariant_of-self-inside-in-Err g c =
     absurd (closed-no-disk (sym closed ∙ is))) (cases_Bool (is_ready_in cell.store)) in (
       λ ready. absurd (false≢true
           (sym (said.after.failed (ap (λ (r : Refusal). Err r) is)).1 ∙ ready)),
-      failed-left g.D.Disk.may_leave g.D.Disk.moment g.D.Disk.left_since old new saved n
+      failed-left g.D.Disk.may_leave saved n
           (g.met.D.Disk.counts_now new)
           (saved-by (cell.while_open was_open (g.D.Disk.seen old) (g.met.D.Disk.reads_left old))
           c.log.ensures
