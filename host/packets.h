@@ -1,5 +1,5 @@
-// What travels between hosts, and between a host and its programs, as bytes. docs/PROCESSES.md
-// ("Bytes") has the tables. Each kind begins with four bytes that name it and its version.
+// What travels between hosts, and between a host and its programs, as bytes. docs/FORMATS.md
+// ("Packets") has the tables. Each kind begins with four bytes that name it and its version.
 #ifndef HOST_PACKETS_H
 #define HOST_PACKETS_H
 

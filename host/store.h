@@ -3,7 +3,7 @@
 // counts, and behind its entries. The slot that counts is the whole one whose last save has the
 // higher number; whether a value or an entry is whole is shown by a checksum of 64 bits. What a
 // crash leaves of an entry that was being added isn't one, unless all of it is there.
-// docs/PROCESSES.md ("The folder") has the bytes.
+// docs/FORMATS.md ("Folders of processes") has the bytes.
 //
 // Nothing here waits for another process, starts a thread or reads a clock. All system calls go
 // through a table, so a test can put its own file system in their place.

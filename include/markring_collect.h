@@ -1,7 +1,7 @@
 // A collection in a space whose cells are all in the hands of one thread, as while a runtime has
 // stopped its programs. C11, or C++. It uses the calls of markring.h alone: nothing is to be linked.
 //
-// It plays the strategy of docs/RULES.md ("Progress"): what is in flight is received; grey objects
+// It plays the strategy of docs/PROOF.md ("Progress"): what is in flight is received; grey objects
 // are scanned; the token is passed; each node sweeps; a cycle begins. That this ends, and within
 // which number of moves, is proved of a space in one thread. Over cells it is tested.
 #ifndef MARKRING_COLLECT_H

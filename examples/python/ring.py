@@ -1,16 +1,17 @@
-"""Two objects on two nodes refer to each other. Once no program holds either, a cycle frees both."""
+"""A ring of two objects on two nodes. Once no program holds it, one cycle frees both."""
 from markring import Node, errors
+
 nodes = [Node(nodes=2, registers=4, slots=16, own=own) for own in range(2)]
 
 def turn(own):
-    """Does what the collector has for a node, saves it, and moves its frames to the other one."""
+    """Collects, saves the node, and moves its frames to the other one."""
     node, peer = nodes[own], nodes[1 - own]
     for step in (node.scan, node.pass_token, lambda: node.sweep(16)):
         try:
             print(f"node {own}: {step()}")
         except errors.NothingToDo:
             pass
-    node.kept(node.image().mark)  # A real program stores the image before.
+    node.kept(node.image().mark)  # A real program stores the image first.
     for _, frame in node.frames(to=1 - own):
         peer.take(frame)
     node.take(peer.ack_for(own))
@@ -20,7 +21,7 @@ for own, node in enumerate(nodes):
     node.give(to=1 - own, label=7, register=0)
     turn(own)
 for node in nodes:
-    node.accept(1)
+    node.accept(1)  # Register 1 gets the other node's object.
     node.store(object=0, place=0, register=1)
     node.drop(0)
     node.drop(1)

@@ -1,5 +1,5 @@
 // Collection never gets stuck. In random spaces of 2 to 64 nodes, at a random moment, the programs
-// stop, and the collector plays its strategy (docs/RULES.md, "Progress"): receive what is in flight;
+// stop, and the collector plays its strategy (docs/PROOF.md, "Progress"): receive what is in flight;
 // scan grey objects; pass the token; sweep; begin. No move may be refused. The marking has to end,
 // then each node has to sweep the cycle, and then the next one, each within a bound that is computed
 // from the images of the nodes at that moment. What was garbage then has to be gone at the end.

@@ -1,6 +1,6 @@
 // Programs of random events on all nodes of a space, over a net that loses, repeats and reorders
 // frames, with cycles of the collector, and with crashes after which a node continues from its last
-// stored image. Every answer is compared with a space without a collector (docs/RULES.md), which is
+// stored image. Every answer is compared with a space without a collector (docs/PROOF.md), which is
 // written here from the rules. At checkpoints the programs stop, everything is received and saved,
 // and one whole cycle has to free the garbage: each node then has exactly the objects that the model
 // reaches.

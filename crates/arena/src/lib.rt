@@ -1,4 +1,5 @@
-//! Values under keys that are never reused.
+//! Values under keys that are never reused. What one slot holds, and how it lies in memory, is in
+//! the crate `arena_slot`.
 //!
 //! An [`Arena`] keeps values of one type in numbered slots. A slot whose value was removed is
 //! reused under the next generation, so a key that names an older generation finds nothing.
@@ -14,8 +15,6 @@
 //!     |
 //! block             Block, Title: raw memory, the six functions that follow a pointer
 //! ```
-//!
-//! What one slot holds, and how it lies in memory, is in the crate `arena_slot`.
 //!
 //! Items are stored in chunks of 1,024, each in a block that never moves. If all chunks are full, a
 //! push allocates another one. The block with the pointers to the chunks doubles when it is full,

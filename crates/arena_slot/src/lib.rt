@@ -1,4 +1,5 @@
-//! One slot of an arena: what it holds, and how it lies in memory.
+//! One slot of an arena: what it holds, and how it lies in memory; the slots together, with their
+//! free list, are in `arena`.
 //!
 //! A [`Slot`] is what an arena shows. An [`Entry`] is the slot in memory. A free one names the free
 //! slot to be used after it, in the place that a value would take. So the free list needs no memory

@@ -114,10 +114,10 @@ module _ (n : LoneNode) (bytes : List ℕ) where
       (λ long none. absurd cc) is
 
 -- what was stored, with a batch behind it
-pub stored_more : (n : LoneNode) (bytes image batches : List ℕ) (first : WholeNode)
+pub stored_more : (n : LoneNode) {bytes image batches : List ℕ} {first : WholeNode}
     → batch_of n ≡ Some bytes → begins_logged image ≡ true → IsStored image batches first
     → LogsFrom first.core n → IsStored image (batches ++ record_of bytes) (saved_whole n.node)
-stored_more n bytes image batches first is logged stored logs =
+stored_more n {bytes} {image} {batches} {first} is logged stored logs =
     let found = batch_log n bytes n.is_kept (log_of n) is in
     let led = logs bytes found.0 in
     let leads : LeadsWhole bytes first (saved_whole n.node) = (
@@ -172,13 +172,6 @@ pub record IsLeft (batches : List ℕ) (first : WholeNode) (rest : List ℕ) (no
     pub ahead : (last : WholeNode) → LogLeads batches first last → LogLeads rest now last
     pub back : (last : WholeNode) → LogLeads rest now last → LogLeads batches first last
 
-pub left_all : (batches : List ℕ) (first : WholeNode) → IsLeft batches first batches first
-left_all batches first = record { ahead = λ last led. led; back = λ last led. led }
-
-pub left_end : {batches rest : List ℕ} {first now : WholeNode} → IsLeft batches first rest now
-    → rest ≡ [] → LogLeads batches first now
-left_end {now = now} left none = left.back now ([], none, refl)
-
 -- there is no batch
 pub left_bad : {batches rest : List ℕ} {first now : WholeNode} → IsLeft batches first rest now
     → 1 ≤ length rest → recorded rest ≡ None → (last : WholeNode) → LogLeads batches first last → ⊥
@@ -226,7 +219,7 @@ module _ {batches rest batch : List ℕ} {first now : WholeNode} (left : IsLeft 
 -- ---- a batch that is given
 
 -- what is kept for its mark
-pub gave_batch : (old new : LoneNode) (mark : ℕ) (bytes : List ℕ) (counts : Vec Counts)
+pub gave_batch : {old new : LoneNode} {mark : ℕ} {bytes : List ℕ} (counts : Vec Counts)
     → batch_of old ≡ Some bytes → counts.items ≡ counts_of old.node.core → IsNode old.node.core
     → mark ≡ (old.mark + 1) % 2 ^ 64 → new ≡ record old {
       counts = Some counts;
@@ -235,12 +228,12 @@ pub gave_batch : (old new : LoneNode) (mark : ℕ) (bytes : List ℕ) (counts : 
       log = Some [];
       is_kept = false;
     } → GaveBatch old new mark bytes
-gave_batch old new mark bytes counts is counted node next stays = record {
+gave_batch {old = old} counts is counted node next stays = record {
   counts = counts;
   counted = counted;
   stays = stays;
   next = next;
-  stored = λ image batches first. stored_more old bytes image batches first is;
+  stored = λ image batches first. stored_more old is;
   logs = subst (LogsFrom (kept_view old.node.core)) (sym stays) (begin_at old.logs);
 }
   where

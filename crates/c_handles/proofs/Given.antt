@@ -30,9 +30,6 @@ use Rattle.wire.proofs.Places.{mapped-from, mapped-there, some_at}
 use Rattle.c_values.specs.declared.fault.Fault.TheVariants as fault
 use Rattle.c_handles.specs.Opening.{AreOfTwoAges, Begins, EachOf, HasPlace, HoldsNoImage, HoldsOther, Image, IsShort, IsTooLarge, IsWhy, areas_in, fault_of}
 
-some-is : {A : Type 0} (x y : A) → Some x ≡ Some y → x ≡ y
-some-is x y e = cc
-
 drop-none : {A : Type 0} (n : ℕ) → drop {A = A} n [] ≡ []
 drop-none zero = refl
 drop-none (suc n) = refl
@@ -143,10 +140,6 @@ large-in : (shape : Shaped) (k : ℕ) (i : Image) → cells.IsTooLarge shape k (
 large-in shape k None h = h.large
 large-in shape k (Some v) h = let blank = h.blank in absurd cc
 
-long-in : (i : Image) → (IsShort i → ⊥) → HoldsNoImage i
-long-in None long = long tt
-long-in (Some v) long = λ n fits whole. long fits
-
 -- what a property of a disk means for the image
 moved : {P : MemoryDisk → Type 0} {Q : ℕ → Image → Type 0} {images : List Image}
     {disks : List MemoryDisk} (k : ℕ) → AreDisksOf images disks
@@ -168,17 +161,8 @@ wrong-disks shape images disks k are =
     moved k are (λ d i short is h.
     other-in shape k i short (subst (λ (c : Areas). HoldsAnother shape k c) is h))
 
-pub too-long : (images : List Image) → HasPlace (λ k i. IsShort i → ⊥) images
-    → HasPlace (λ k i. HoldsNoImage i) images
-too-long images h = record {
-  place = h.place;
-  value = h.value;
-  there = h.there;
-  is = long-in h.value h.is;
-}
-
-module _ (moment faults : MemoryDisk → ℕ) (shape : Shaped) (images : List Image)
-    (disks : List MemoryDisk) (are : AreDisksOf images disks) where
+module _ (moment faults : MemoryDisk → ℕ) (shape : Shaped) {images : List Image}
+    {disks : List MemoryDisk} (are : AreDisksOf images disks) where
   pub why-refused : (k : ℕ) (e : Refusal)
       → HasAt k (λ d. IsCause held_by moment faults shape k d e) disks
       → IsWhy shape images (fault.Refused e)

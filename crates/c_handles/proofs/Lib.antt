@@ -3,6 +3,7 @@ pub mod Behind
 pub mod Crossing
 pub mod Filling
 pub mod Logs
+pub mod Exits
 pub mod Names
 pub mod Packs
 pub mod Parts

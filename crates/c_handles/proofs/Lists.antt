@@ -17,11 +17,13 @@ later-of P (y ∷ ys) rest h is = subst (EachOf P) (sym is) (λ k x there. h (su
 below-or : (k n : ℕ) → k < n + 1 → (k < n) ⊎ (k ≡ n)
 below-or k n below = grind (arith, below)
 
+-- this holds of the elements before a place
+abbrev pub EachBefore : {X : Type 0} → (X → Type 0) → List X → ℕ → Type 0
+EachBefore {X} P xs place = (k : ℕ) (x : X) → k < place → slice_get xs k ≡ Some x → P x
+
 -- what holds of the first elements holds of one more
 pub each-more : {X : Type 0} (P : X → Type 0) (xs : List X) (place : ℕ) (x : X)
-    → get_or xs place x ≡ x
-    → ((k : ℕ) (y : X) → k < place → slice_get xs k ≡ Some y → P y) → P x
-    → (k : ℕ) (y : X) → k < place + 1 → slice_get xs k ≡ Some y → P y
+    → get_or xs place x ≡ x → EachBefore P xs place → P x → EachBefore P xs (place + 1)
 each-more P xs place x here first p k y below there =
     ⊎_elim (λ less. first k y less there)
     (λ same. subst P

@@ -6,14 +6,9 @@ use Rattle.std.proofs.Math.ListN.{get_or-map}
 use Rattle.model.specs.declared.event.Event.{Event}
 use Rattle.model.specs.declared.event.Answer.{Answer}
 use Rattle.model.specs.declared.event.Answer.TheVariants as answer
-use Rattle.model.specs.declared.event.Event.TheVariants as event
-use Rattle.ids.specs.declared.refusal.Refusal.{Refusal}
-use Rattle.ids.specs.declared.refusal.Refusal.TheVariants.{AckBeyond, LinkSpent, WrongNode}
+use Rattle.model.specs.declared.event.Event.TheVariants as events
 use Rattle.msg.specs.declared.frame.Ack.{Ack}
-use Rattle.model.specs.Checks.{guarded}
 use Rattle.model.specs.Effects.{is_change}
-use Rattle.model.specs.Steps.{is_addressed}
-use Rattle.model.proofs.Checks.{guarded-ok}
 use Rattle.model.proofs.Shown.{ack-answer}
 use Rattle.std.proofs.Common.{Result, Err, OnOk, replicate, drop, take}
 use Rattle.std.specs.Prelude.{nat_le, ◌||◌, ◌&&◌, ◌-◌}
@@ -60,20 +55,26 @@ saved_still : (counts : Option (Vec Counts)) (n m : NodeView)
 saved_still None n m same saved = tt
 saved_still (Some counts) n m same saved = λ peer. omega (arith, same peer, saved peer)
 
--- an event is done and noted
-pub led_noted : (first n new : NodeView) (counts : Option (Vec Counts)) (e : Event) (a : Answer)
-    (log log' : Option (List ℕ)) → view_act n e ≡ Ok (new, a) → is_change a ≡ true
-    → Noted log log' e → LedIf log first n counts → LedIf log' first new counts
-led_noted first n new counts e a log log' acts now noted led bytes is =
-    let more = noted.more bytes is in
+-- an event changed the node, and was noted
+pub record WasNoted (n new : NodeView) (log log' : Option (List ℕ)) : Type 0 where
+  pub event : Event
+  pub answer : Answer
+  pub acts : view_act n event ≡ Ok (new, answer)
+  pub now : is_change answer ≡ true
+  pub noted : Noted log log' event
+
+pub led_noted : {first n new : NodeView} {counts : Option (Vec Counts)} {log log' : Option (List ℕ)}
+    → WasNoted n new log log' → LedIf log first n counts → LedIf log' first new counts
+led_noted {first} {n} {new} {counts} event led bytes is =
+    let more = event.noted.more bytes is in
     let was = led more.1.0 more.1.1 in
-    let next = also n new was.last e a was.behind acts in
-    let done : IsDone was.last e next.after =
-    record { answer = a; acts = next.acts; now = now } in
+    let next = also n new was.last event.event event.answer was.behind event.acts in
+    let done : IsDone was.last event.event next.after =
+    record { answer = event.answer; acts = next.acts; now = event.now } in
     record {
       last = next.after;
       logged = subst (λ l. Logged l first next.after) (sym more.1.2)
-          (logged_more e more.0 done was.logged);
+          (logged_more event.event more.0 done was.logged);
       behind = next.behind;
       saved = saved_still counts was.last next.after next.kept was.saved;
     }
@@ -117,7 +118,7 @@ after_uncounted n node b is =
     ∙ ap (λ (c : Bool). after n node n.log n.is_changed c) (or-false n.is_unsaved))
 
 -- an acknowledgement that is answered counts as a change, since the links may change by it
-pub ack_now : (n new : NodeView) (a : Ack) (x : Answer) → view_act n (event.Ack a) ≡ Ok (new, x)
+pub ack_now : (n new : NodeView) (a : Ack) (x : Answer) → view_act n (events.Ack a) ≡ Ok (new, x)
     → is_change x ≡ true
 ack_now n new a x h = ap is_change (ack-answer n new a x h)
 
@@ -248,7 +249,7 @@ pub within_sent : (n : NodeView) → IsNode n → (i : ℕ) → (link_to n i).ke
 within_sent n is i = (is.links.links.links i).kept
 
 -- what is kept for the mark of an image
-pub took : (old new : LoneNode) (mark : ℕ) (counts : Vec Counts)
+pub took : {old new : LoneNode} {mark : ℕ} (counts : Vec Counts)
     → counts.items ≡ counts_of old.node.core → IsNode old.node.core
     → IsAnyWholeOf (image_in old) (saved_whole old.node) → mark ≡ (old.mark + 1) % 2 ^ 64
     → new ≡ record old {
@@ -258,7 +259,7 @@ pub took : (old new : LoneNode) (mark : ℕ) (counts : Vec Counts)
       log = begun old.logs;
       is_kept = false;
     } → Took old new mark
-took old new mark counts counted is read next stays = record {
+took {old = old} counts counted is read next stays = record {
   counts = counts;
   counted = counted;
   stays = stays;

@@ -14,7 +14,7 @@ use Rattle.image.specs.Images.{image_of}
 use Rattle.image.specs.Wholes.{IsWholeOf}
 use Rattle.disk.specs.Crashes.{Grew}
 use Rattle.disk.specs.Memory.{held_by, left_by}
-use Rattle.disk_shelf.specs.Shelf.{IsReadAs, opened as image_in}
+use Rattle.disk_shelf.specs.Shelf.{OpensAs}
 use Rattle.node_store.specs.Plain.{StaysPlain}
 use Rattle.wire.specs.Readers.{known, outbox, seat_node, IsSame}
 use Rattle.wire.specs.Views.{raises}
@@ -188,7 +188,7 @@ Saved mark old new r = SavedBy (may_save mark old) old new r
 
 -- What `Cell::reopen` ensures.
 pub record ReopenedAs (old new : SeatedCell) (r : Result (Unit {0}) Refusal) : Type 0 where
-  pub opened : OnOk r (IsReadAs IsWholeOf (image_in (held_by old.cell.disk)) new.cell.node)
+  pub opened : OnOk r (OpensAs IsWholeOf new.cell.node (held_by old.cell.disk))
   pub done : OnOk r (new.cell ≡ record old.cell {
     node = new.cell.node;
     saved = new.cell.node.core;

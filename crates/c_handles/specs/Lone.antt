@@ -10,14 +10,14 @@ use Rattle.msg.specs.declared.frame.Ack.{Ack}
 use Rattle.msg.specs.declared.frame.Frame.{Frame}
 use Rattle.msg.specs.declared.frame.Frame.TheVariants as frame
 use Rattle.model.specs.Effects.{is_change}
-use Rattle.model.specs.State.{LocalState, NodeState}
-use Rattle.model.specs.Steps.{act, is_memory_free, is_shading}
-use Rattle.model.specs.View.{NodeView, Shows, Follows, Performs, Leaves, link_to, view_act}
+use Rattle.model.specs.State.{LocalState}
+use Rattle.model.specs.View.{NodeView, link_to}
 use Rattle.model.specs.declared.event.Answer.{Answer}
 use Rattle.model.specs.declared.event.Answer.TheVariants as answer
 use Rattle.model.specs.declared.event.Event.{Event}
 use Rattle.model.specs.declared.event.Event.TheVariants as event
-use Rattle.node.specs.Keeping.{WholeNode, alone, early_after, met, new_whole}
+use Rattle.node.specs.Keeping.{WholeNode, alone, new_whole}
+use Rattle.node_store.specs.Acting.{Acts}
 use Rattle.image.specs.Nodes.{IsImageOf}
 use Rattle.c_values.specs.declared.fault.Fault.{Fault}
 use Rattle.c_values.specs.declared.fault.Fault.TheVariants as fault
@@ -85,20 +85,6 @@ is_congested n e =
     cond (n.limit == 0) false (is_full n.limit n.node.core (receiver_of n.node.core.local e))
 
 -- ---- Events
-
--- What an event is to the node. An answer and the node afterwards are what the definitions say,
--- also of each state that the node shows; a refusal is the first that applies, and changes nothing.
-pub record Acts (old new : WholeNode) (e : Event) (r : Result Answer Refusal) : Type 0 where
-  pub performs : Performs (is_shading (met old.early e)) r new.core
-      (view_act old.core (met old.early e))
-  pub states : (s : NodeState) → Shows old.core s
-      → Follows (met old.early e) r new.core (act s (met old.early e))
-  pub unchanged : OnErr r (new.core ≡ old.core)
-  pub leaves : Leaves old.core new.core (met old.early e)
-  pub memory_free : IsTrue (is_memory_free old.core.local (met old.early e))
-      → IfErr r (λ f. f ≢ Memory)
-  pub early : new.early ≡ early_after old.core.local old.early e r
-  pub turn : met old.early e ≢ e → IfOk r (λ a. a ≡ answer.Received)
 
 -- whether the event changed the node
 abbrev pub has_changed : Result Answer Refusal → Bool

@@ -100,12 +100,12 @@ pub record StepsAlike (w v : World) (r q : Result (World × Outcome) Refusal) : 
 refused-like : (w v : World) (e : Refusal) → AreAlike w v → StepsAlike w v (Err e) (Err e)
 refused-like w v e h = record { outcome = refl; worlds = h }
 
-cond-like : {w v : World} (b c : Bool) (r q s t : Result (World × Outcome) Refusal) → b ≡ c
+cond-like : {w v : World} (b c : Bool) {r q s t : Result (World × Outcome) Refusal} → b ≡ c
     → StepsAlike w v r q → StepsAlike w v s t → StepsAlike w v (cond b r s) (cond c q t)
-cond-like true true r q s t same first second = first
-cond-like true false r q s t same first second = absurd cc
-cond-like false true r q s t same first second = absurd cc
-cond-like false false r q s t same first second = second
+cond-like true true same first second = first
+cond-like true false same first second = absurd cc
+cond-like false true same first second = absurd cc
+cond-like false false same first second = second
 
 moved-like : (w v : World) (i : ℕ) (r q : Result (NodeState × Answer) Refusal) → AreAlike w v
     → AnsweredAlike (acknowledged v i) r q → StepsAlike w v (moved w i r) (moved v i q)
@@ -161,71 +161,83 @@ also-released w v from to number x h there =
     x (sent-like w v from to h) found.2 in
     (other.0, released-from v from to number other.0 found.0 found.1 other.1)
 
+-- what two such worlds have released under one number
+pub record AreReleased (w v : World) (from to number : ℕ) (x y : Message) : Type 0 where
+  pub alike : AreAlike w v
+  pub there : released w from to number ≡ Some x
+  pub other : released v from to number ≡ Some y
+
 -- the content is the same unless the message is acknowledged
-same-content : (w v : World) (from to number : ℕ) (x y : Message) → AreAlike w v
-    → released w from to number ≡ Some x → released v from to number ≡ Some y
-    → acknowledged v from to < number → x ≡ y
-same-content w v from to number x y h there other later =
-    let first = (released-there w from to number x there).2 in
-    let second = (released-there v from to number y other).2 in
+same-content : {w v : World} {from to number : ℕ} {x y : Message}
+    → AreReleased w v from to number x y → acknowledged v from to < number → x ≡ y
+same-content {w} {v} {from} {to} {number} {x} {y} h later =
+    let first = (released-there w from to number x h.there).2 in
+    let second = (released-there v from to number y h.other).2 in
     let after : acknowledged v from to ≤ number - 1 = omega (arith, later) in
     let both : ◌≡◌ {A = Option Message} (Some x) (Some y) =
     sym first
     ∙ get-later (sent_to (node_at w.saved from) to) (sent_to (node_at v.saved from) to)
-    (acknowledged v from to) (number - 1) after ((h.saved.each from).later to)
+    (acknowledged v from to) (number - 1) after ((h.alike.saved.each from).later to)
     ∙ second in
     cc
 
 -- An acknowledged message is a repeat, whose answer doesn't depend on its content.
-same-answer : (w v : World) (from to number : ℕ) (x y : Message) → AreAlike w v
-    → Behind HeardMore v → released w from to number ≡ Some x
-    → released v from to number ≡ Some y
+same-answer : {w v : World} {from to number : ℕ} {x y : Message}
+    → AreReleased w v from to number x y → Behind HeardMore v
     → receive (node_at v.current to) from to number x.stamp x.body
     ≡ receive (node_at v.current to) from to number y.stamp y.body
-same-answer w v from to number x y h heard there other =
+same-answer {v = v} {from} {to} {number} {x} {y} h heard =
     ⊎_elim
     (λ again.
     let fewer : number ≤ acknowledged v from to = leb-true number _ again in
     again-same (node_at v.current to) from to number x y
     (le-leb number _ (le_trans fewer (heard to from))))
     (λ first.
-    let same : x ≡ y =
-    same-content w v from to number x y h there other (leb-false number _ first) in
+    let same : x ≡ y = same-content h (leb-false number _ first) in
     ap (λ (z : Message). receive (node_at v.current to) from to number z.stamp z.body) same)
     (cases_Bool (leb number (acknowledged v from to)))
 
 -- so both answer it alike
-pub given-like : (w v : World) (from to number : ℕ) (x y : Message) → AreAlike w v
-    → Behind HeardMore v → released w from to number ≡ Some x
-    → released v from to number ≡ Some y
+pub given-like : {w v : World} {from to number : ℕ} {x y : Message}
+    → AreReleased w v from to number x y → Behind HeardMore v
     → AnsweredAlike (acknowledged v to)
     (receive (node_at w.current to) from to number x.stamp x.body)
     (receive (node_at v.current to) from to number y.stamp y.body)
-given-like w v from to number x y h heard there other =
+given-like {w} {v} {from} {to} {number} {x} h heard =
     subst
     (AnsweredAlike (acknowledged v to)
     (receive (node_at w.current to) from to number x.stamp x.body))
-    (same-answer w v from to number x y h heard there other)
+    (same-answer h heard)
     (receive-like (acknowledged v to) (node_at w.current to) (node_at v.current to) from to number x
-    (h.current.each to))
+    (h.alike.current.each to))
 
-delivery-like : (w v : World) (from to number : ℕ) (o p : Option Message) → AreAlike w v
-    → Behind HeardMore v → released w from to number ≡ o → released v from to number ≡ p
+-- what a world has released under a number, if anything
+record IsReleasedAs (w : World) (from to number : ℕ) (o : Option Message) : Type 0 where
+  is : released w from to number ≡ o
+
+as-released : (w : World) (from to number : ℕ)
+    → IsReleasedAs w from to number (released w from to number)
+as-released w from to number = record { is = refl }
+
+delivery-like : {w v : World} {from to number : ℕ} (o p : Option Message) → AreAlike w v
+    → Behind HeardMore v → IsReleasedAs w from to number o → IsReleasedAs v from to number p
     → StepsAlike w v (delivery w from to number o) (delivery v from to number p)
-delivery-like w v from to number None None h heard there other =
+delivery-like None None h heard there other =
     record { outcome = refl; worlds = h }
-delivery-like w v from to number None (Some y) h heard there other =
-    let found = also-released v w from to number y (alike-sym w v h) other in
-    let never : ◌≡◌ {A = Option Message} (Some found.0) None = sym found.1 ∙ there in
+delivery-like {w} {v} {from} {to} {number} None (Some y) h heard there other =
+    let found = also-released v w from to number y (alike-sym w v h) other.is in
+    let never : ◌≡◌ {A = Option Message} (Some found.0) None = sym found.1 ∙ there.is in
     absurd cc
-delivery-like w v from to number (Some x) None h heard there other =
-    let found = also-released w v from to number x h there in
-    let never : ◌≡◌ {A = Option Message} (Some found.0) None = sym found.1 ∙ other in
+delivery-like {w} {v} {from} {to} {number} (Some x) None h heard there other =
+    let found = also-released w v from to number x h there.is in
+    let never : ◌≡◌ {A = Option Message} (Some found.0) None = sym found.1 ∙ other.is in
     absurd cc
-delivery-like w v from to number (Some x) (Some y) h heard there other =
+delivery-like {w} {v} {from} {to} {number} (Some x) (Some y) h heard there other =
     moved-like w v to (receive (node_at w.current to) from to number x.stamp x.body)
     (receive (node_at v.current to) from to number y.stamp y.body) h
-    (given-like w v from to number x y h heard there other)
+    (let both : AreReleased w v from to number x y =
+    record { alike = h; there = there.is; other = other.is } in
+    given-like both heard)
 
 -- ---- Saves and restarts
 
@@ -284,8 +296,8 @@ handed-like w v from to h =
     let counts = sent-like w v from to h in
     let fewer : leb (acknowledged w from to) (release_count w from to)
     ≡ leb (acknowledged v from to) (release_count v from to) = λ i. leb (acks i) (counts i) in
-    cond-like _ _ _ _ _ _ addressed
-    (cond-like _ _ _ _ _ _ fewer
+    cond-like _ _ addressed
+    (cond-like _ _ fewer
     (record { outcome = ap (λ (a : ℕ). Ok (outcome.Handed a)) acks; worlds = h })
     (refused-like w v AckBeyond h))
     (refused-like w v WrongNode h)
@@ -294,30 +306,29 @@ pub step-like : (w v : World) (s : Step) → AreAlike w v → Behind HeardMore v
     → StepsAlike w v (take_step w s) (take_step v s)
 unfolding take_step
 step-like w v (step.Act i e) h heard =
-    cond-like _ _ _ _ _ _ (node-like w v i h)
-    (cond-like _ _ _ _ _ _ refl
+    cond-like _ _ (node-like w v i h)
+    (cond-like _ _ refl
     (moved-like w v i (act (node_at w.current i) e) (act (node_at v.current i) e) h
     (act-like (acknowledged v i) (node_at w.current i) (node_at v.current i) e
     (h.current.each i)))
     (refused-like w v WrongNode h))
     (refused-like w v NoNode h)
 step-like w v (step.Save i) h heard =
-    cond-like _ _ _ _ _ _ (node-like w v i h)
+    cond-like _ _ (node-like w v i h)
     (record { outcome = refl; worlds = saved-like w v i h heard })
     (refused-like w v NoNode h)
 step-like w v (step.Restart i) h heard =
-    cond-like _ _ _ _ _ _ (node-like w v i h)
+    cond-like _ _ (node-like w v i h)
     (record { outcome = refl; worlds = restarted-like w v i h })
     (refused-like w v NoNode h)
 step-like w v (step.Deliver from to number) h heard =
-    cond-like _ _ _ _ _ _ (both-nodes w v from to h)
-    (delivery-like w v from to number (released w from to number) (released v from to number) h
-    heard refl refl)
+    cond-like _ _ (both-nodes w v from to h)
+    (delivery-like (released w from to number) (released v from to number) h heard
+    (as-released w from to number) (as-released v from to number))
     (refused-like w v NoNode h)
 step-like w v (step.Hand from to) h heard =
-    cond-like _ _ _ _ _ _ (both-nodes w v from to h)
-    (cond-like (from == to) (from == to) (Ok (w, outcome.NoFrame)) (Ok (v, outcome.NoFrame))
-    (handing w from to) (handing v from to) refl (record { outcome = refl; worlds = h })
+    cond-like _ _ (both-nodes w v from to h)
+    (cond-like (from == to) (from == to) refl (record { outcome = refl; worlds = h })
     (handed-like w v from to h))
     (refused-like w v NoNode h)
 

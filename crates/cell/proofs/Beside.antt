@@ -11,10 +11,11 @@ use Rattle.wire.proofs.Places.{mapped-from, mapped-there, pushed-at, some_at}
 use Rattle.wire.proofs.Places.{same-there}
 
 -- one more element of the second list
-pub beside-next : {X Y : Type 0} (Is : X → Y → Type 0) (xs : List X) (ys zs : List Y) (place : ℕ)
-    (x : X) (y : Y) → AreBeside (λ k. Is) xs ys → length ys ≡ place → slice_get xs place ≡ Some x
-    → Is x y → zs ≡ ys ++ y ∷ [] → AreBeside (λ k. Is) xs zs
-beside-next Is xs ys zs place x y h count there is more = λ k u v at also.
+pub beside-next : {X Y : Type 0} {zs : List Y} {place : ℕ} {x : X} {y : Y} (Is : X → Y → Type 0)
+    (xs : List X) (ys : List Y) → AreBeside (λ k. Is) xs ys → length ys ≡ place
+    → slice_get xs place ≡ Some x → Is x y → zs ≡ ys ++ y ∷ [] → AreBeside (λ k. Is) xs zs
+beside-next {place = place} {x} {y} Is xs ys h count there is more =
+    λ k u v at also.
     ⊎_elim (λ old. h k u v at old)
     (λ last.
     let here : k ≡ place = last.0 ∙ count in
@@ -48,10 +49,6 @@ pub new-logs : (saves : Saves) (logs : Bool) → (saves ≡ Events → logs ≡ 
     → (saves ≡ Images → logs ≡ false) → logs ≡ logs_at saves None
 new-logs Events logs events images = events refl
 new-logs Images logs events images = images refl
-
-pub new-chosen : (saves : Saves) (seen : Areas) → IsChosen saves seen (logs_at saves None)
-new-chosen Events seen = record { events = λ _. refl; images = λ never. absurd cc }
-new-chosen Images seen = record { events = λ never. absurd cc; images = λ _ _. refl }
 
 pub chosen-as : (saves : Saves) (seen : Areas) (place : Option Place) (logs : Bool)
     → IsChosen saves seen (logs_at saves place) → logs ≡ logs_at saves place

@@ -1,53 +1,37 @@
 -- Why opening a node from its disk fails.
-use Rattle.std.proofs.Common.{◌≡◌, ◌≢◌, ◌⊎◌, ◌≤◌, ◌<◌, ℕ, List, [], length, Some, slice_get, Result, Ok, Err, refl, sym, ap, subst, ⊎_elim, arith}
+use Rattle.std.proofs.Common.{◌≡◌, ◌≢◌, ◌⊎◌, ℕ, List, Result, Ok, Err, sym, ap, subst, ⊎_elim, arith}
 use Rattle.ids.specs.Limits.{Shaped}
 use Rattle.ids.specs.declared.refusal.Refusal.{Refusal}
 use Rattle.ids.specs.declared.refusal.Refusal.TheVariants.{BadImage, Closed, Disk, ImageTooLarge, Memory}
+use Rattle.model.specs.View.{NodeView}
 use Rattle.disk.specs.Areas.{Areas}
-use Rattle.disk.specs.Crashes.{Grew}
-use Rattle.ids.specs.declared.limits.TheConstants.{GREATEST_IMAGE}
-use Rattle.image.specs.Wholes.{whole_image}
-use Rattle.node.specs.Keeping.{WholeNode, new_whole}
-use Rattle.cell.specs.Disks.{OpensToNode}
+use Rattle.disk.specs.Crashes.{Grew, Unmoved}
 use Rattle.cell.specs.Ages.{IsWhy}
-use Rattle.cell.specs.Looking.{IsOfReading}
-use Rattle.cell.specs.Opened.{HoldsNone, IsCause, IsTooLarge, IsWhyNot}
+use Rattle.cell.specs.Opened.{HasAt, HoldsNone, IsCause, IsNodeOf, IsTooLarge, IsWhyNot}
 use Rattle.cell.specs.declared.fault.Unopened.{Unopened}
 use Rattle.cell.specs.declared.fault.Unopened.TheVariants as fault
 
 module _ {D : Type 0} (seen : D → Areas) (moment faults : D → ℕ) (shape : Shaped) where
   -- a cause for one node is a cause for the list
-  pub why-there : (disks : List D) (k : ℕ) (d : D) → slice_get disks k ≡ Some d → (e : Unopened)
-      → IsWhyNot seen moment faults shape k d e → IsWhy seen moment faults shape disks e
-  why-there disks k d there fault.Disks why = absurd why
-  why-there disks k d there (fault.Another node) why =
-      subst (λ (i : ℕ). IsWhy seen moment faults shape disks (fault.Another i)) (sym why.0)
-      (record { value = d; there = there; is = why.1 })
-  why-there disks k d there (fault.Ages sender receiver) why = absurd why
-  why-there disks k d there (fault.Failed node e) why =
-      subst (λ (i : ℕ). IsWhy seen moment faults shape disks (fault.Failed i e)) (sym why.0)
-      (record { value = d; there = there; is = why.1 })
-  why-there disks k d there fault.Memory why = tt
+  pub why-there : (disks : List D) (k : ℕ) (e : Unopened)
+      → HasAt k (λ d. IsWhyNot seen moment faults shape k d e) disks
+      → IsWhy seen moment faults shape disks e
+  why-there disks k fault.Disks why = absurd why.is
+  why-there disks k (fault.Another node) why =
+      subst (λ (i : ℕ). IsWhy seen moment faults shape disks (fault.Another i)) (sym why.is.0)
+      (record { value = why.value; there = why.there; is = why.is.1 })
+  why-there disks k (fault.Ages sender receiver) why = absurd why.is
+  why-there disks k (fault.Failed node e) why =
+      subst (λ (i : ℕ). IsWhy seen moment faults shape disks (fault.Failed i e)) (sym why.is.0)
+      (record { value = why.value; there = why.there; is = why.is.1 })
+  why-there disks k fault.Memory why = tt
 
-  -- of a node whose disk failed with this refusal
-  pub why-failed : (k : ℕ) (d : D) (r : Refusal) (e : Unopened)
-      → ((r ≡ Memory) × (e ≡ fault.Memory)) ⊎ ((r ≢ Memory) × (e ≡ fault.Failed k r))
-      → (r ≢ Memory → IsCause seen moment faults shape k d r)
-      → IsWhyNot seen moment faults shape k d e
-  why-failed k d r e which cause =
-      ⊎_elim
-      (λ memory. subst (IsWhyNot seen moment faults shape k d) (sym memory.1) tt)
-      (λ other. subst (IsWhyNot seen moment faults shape k d) (sym other.1)
-      (refl, cause other.0))
-      which
-
--- a node that wasn't created, when all disks had been read
-pub all-read-then : (k : ℕ) (r : Refusal) (e : Unopened)
+-- what holds of the fault of a node that wasn't read or created because of this refusal
+pub by-refusal : (P : Unopened → Type 0) (k : ℕ) (r : Refusal) (e : Unopened)
     → ((r ≡ Memory) × (e ≡ fault.Memory)) ⊎ ((r ≢ Memory) × (e ≡ fault.Failed k r))
-    → r ≢ BadImage → IsOfReading e → ⊥
-all-read-then k r e which good reading =
-    ⊎_elim (λ memory. subst IsOfReading memory.1 reading)
-    (λ other. good (subst IsOfReading other.1 reading)) which
+    → P fault.Memory → (r ≢ Memory → P (fault.Failed k r)) → P e
+by-refusal P k r e which memory failed =
+    ⊎_elim (λ is. subst P (sym is.1) memory) (λ other. subst P (sym other.1) (failed other.0)) which
 
 -- the same refusal, of another call
 pub same-error : {A B E : Type 0} (e f : E) → ◌≡◌ {A = Result A E} (Err e) (Err f)
@@ -70,56 +54,31 @@ large-no-disk is = absurd cc
 pub memory-no-disk : Memory ≡ Disk → ⊥
 memory-no-disk is = absurd cc
 
--- for a node that is read
-pub reading-cause : {D : Type 0} (seen : D → Areas) (moment faults : D → ℕ) (shape : Shaped)
-    (own : ℕ) (disk after : D) (e : Refusal) → (seen disk).select ≢ []
-    → (e ≡ BadImage → (n : WholeNode) → OpensToNode n (seen disk) → ⊥)
-    → moment disk ≤ moment after → (e ≡ Disk → Grew (faults disk) (faults after))
-    → (e ≡ Memory) ⊎ ((e ≡ BadImage) ⊎ (e ≡ Disk)) → e ≢ Memory
-    → IsCause seen moment faults shape own disk e
-reading-cause seen moment faults shape own disk after e written none later failed which other =
+-- what holds of a refusal that isn't for lack of memory: it is this one, or the disk failed
+pub by-cause : (P : Refusal → Type 0) (x e : Refusal)
+    → (e ≡ Memory) ⊎ ((e ≡ x) ⊎ (e ≡ Disk)) → e ≢ Memory → (e ≡ x → P x) → (e ≡ Disk → P Disk)
+    → P e
+by-cause P x e which other its disk =
     ⊎_elim (λ is. absurd (other is))
-    (⊎_elim
-    (λ is. subst (IsCause seen moment faults shape own disk) (sym is)
-    record { written = written; none = none is })
-    (λ is. subst (IsCause seen moment faults shape own disk) (sym is)
-    record { after = after; later = later; failed = failed is }))
-    which
-
--- for a new node that is created
-pub creating-cause : {D : Type 0} (seen : D → Areas) (moment faults : D → ℕ) (n : WholeNode)
-    (disk after : D) (e : Refusal)
-    → ((seen disk).select ≡ []) × (n ≡ new_whole n.core.local.shape n.core.local.own)
-    → moment disk ≤ moment after → (e ≡ Disk → Grew (faults disk) (faults after))
-    → (e ≡ ImageTooLarge → GREATEST_IMAGE < length (whole_image n))
-    → (e ≡ Memory) ⊎ ((e ≡ ImageTooLarge) ⊎ (e ≡ Disk)) → e ≢ Memory
-    → IsCause seen moment faults n.core.local.shape n.core.local.own disk e
-creating-cause seen moment faults n disk after e new later failed large which other =
-    let shape = n.core.local.shape in
-    let own = n.core.local.own in
-    ⊎_elim (λ is. absurd (other is))
-    (⊎_elim
-    (λ is. subst (IsCause seen moment faults shape own disk) (sym is)
-    record {
-      blank = new.0;
-      large = subst (λ (m : WholeNode). GREATEST_IMAGE < length (whole_image m)) new.1 (large is);
-    })
-    (λ is. subst (IsCause seen moment faults shape own disk) (sym is)
-    record { after = after; later = later; failed = failed is }))
-    which
+    (⊎_elim (λ is. subst P (sym is) (its is)) (λ is. subst P (sym is) (disk is))) which
 
 -- for a disk on which no call failed before
-pub earlier-cause : {D : Type 0} (seen : D → Areas) (moment faults : D → ℕ) (shape : Shaped)
-    (own : ℕ) (old new : D) (e : Refusal) → seen new ≡ seen old → moment old ≤ moment new
-    → faults new ≡ faults old → IsCause seen moment faults shape own new e
-    → IsCause seen moment faults shape own old e
-earlier-cause seen moment faults shape own old new Disk same later fine is = record {
+pub earlier-cause : {D : Type 0} {seen : D → Areas} {may_leave : D → Areas → Type 0} {moment : D → ℕ}
+    {left_since : D → ℕ → Areas → Type 0} {old new : D} (faults : D → ℕ) (shape : Shaped) (own : ℕ)
+    (e : Refusal) → Unmoved seen may_leave moment left_since old new → faults new ≡ faults old
+    → IsCause seen moment faults shape own new e → IsCause seen moment faults shape own old e
+earlier-cause faults shape own Disk quiet fine is = record {
   after = is.after;
-  later = omega (arith, later, is.later);
+  later = omega (arith, quiet.any_moment.later, is.later);
   failed = subst (λ (n : ℕ). Grew n (faults is.after)) fine is.failed;
 }
-earlier-cause seen moment faults shape own old new BadImage same later fine is =
-    subst HoldsNone same is
-earlier-cause seen moment faults shape own old new ImageTooLarge same later fine is =
-    subst (IsTooLarge shape own) same is
-earlier-cause seen moment faults shape own old new e same later fine is = is
+earlier-cause faults shape own BadImage quiet fine is = subst HoldsNone quiet.same is
+earlier-cause faults shape own ImageTooLarge quiet fine is =
+    subst (IsTooLarge shape own) quiet.same is
+earlier-cause faults shape own e quiet fine is = is
+
+-- what holds of the node of its own shape and number
+pub as-node : (P : Shaped → ℕ → Type 0) {shape : Shaped} {own : ℕ} {n : NodeView}
+    → IsNodeOf shape own n → P n.local.shape n.local.own → P shape own
+as-node P {shape = shape} {n = n} is h =
+    subst (P shape) is.numbered (subst (λ (s : Shaped). P s n.local.own) is.shaped h)

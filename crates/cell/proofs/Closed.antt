@@ -26,7 +26,7 @@ use Rattle.cell.specs.Closing.{AreClosed, AreOfOneMoment, ClosedIsLeft, ClosedIs
 use Rattle.cell.specs.Desks.{IsSavedNode}
 use Rattle.cell.specs.Laws.{restarted, IsLeft}
 use Rattle.cell.specs.Moments.{EachCell}
-use Rattle.cell.specs.Opened.{AreBeside, IsReadFrom, cores, state_of, world_of}
+use Rattle.cell.specs.Opened.{cores, state_of, world_of}
 use Rattle.cell.specs.Reached.{AreHeld, BeginReached, IsReached}
 use Rattle.cell.specs.Theorems.{AreLeft}
 use Rattle.cell.specs.declared.fault.Unopened.{Unopened}
@@ -39,8 +39,8 @@ use Rattle.wire.proofs.Places.{mapped-there, some_at}
 use Rattle.cell.proofs.Reaches.{end_of, heard-end, stays-reached, world-of-reached}
 use Rattle.cell.proofs.Together.{pair-there}
 
-module _ {D : Type 0} (may_leave : D → Areas → Type 0) (shape : Shaped) (opening : World)
-    (cells : List (CellView D)) (nodes : List WholeNode)
+module _ {D : Type 0} {may_leave : D → Areas → Type 0} {shape : Shaped} {opening : World}
+    {cells : List (CellView D)} {nodes : List WholeNode}
     (h : AreClosed may_leave shape opening cells nodes) where
   -- the cell of node k
   cell-of : (k : ℕ) (n : WholeNode) → slice_get nodes k ≡ Some n
@@ -126,10 +126,10 @@ module _ {D : Type 0} (may_leave : D → Areas → Type 0) (shape : Shaped) (ope
       (begun to (subst (λ (o : World). to < nodes_of o) (sym last.of.began) inside)))
 
   -- no message was dropped that was for a node that isn't there
-  none-held : (k to : ℕ) (c : CellView D) (s : NodeState) → k < shape.nodes → shape.nodes ≤ to
+  none-held : (k to : ℕ) (c : CellView D) {s : NodeState} → k < shape.nodes → shape.nodes ≤ to
       → s ≡ node_at (run opening h.once.log).saved k → Shows c.saved s
       → (link_to c.saved to).base ≤ 0
-  none-held k to c s inside past is shows =
+  none-held k to c {s} inside past is shows =
       let w : World = run opening h.once.log in
       let r = stays-reached opening h.once.log h.reached in
       let count = node-count w r in
@@ -141,14 +141,14 @@ module _ {D : Type 0} (may_leave : D → Areas → Type 0) (shape : Shaped) (ope
       ap (λ (t : NodeState). length (sent_to t to)) is in
       omega (arith, within, same, none)
 
-  still-held : (k to : ℕ) (c : CellView D) (n : NodeView) → slice_get cells k ≡ Some c
+  still-held : (k to : ℕ) (c : CellView D) → slice_get cells k ≡ Some c
       → HasBegun c → k < shape.nodes → Shows c.saved (node_at (run opening h.once.log).saved k)
       → (link_to c.saved to).base ≤ acknowledged (run opening h.once.log) k to
-  still-held k to c n there begun inside shows =
+  still-held k to c there begun inside shows =
       ⊎_elim
       (λ below. was-held k to c there (first-held k to c there begun below))
       (λ past.
-      let none = none-held k to c (node_at (run opening h.once.log).saved k) inside
+      let none = none-held k to c inside
       (let width = h.width in omega (arith, width, past)) refl shows in
       omega (arith, none))
       (cases_lt to (nodes_of opening))
@@ -164,82 +164,77 @@ module _ {D : Type 0} (may_leave : D → Areas → Type 0) (shape : Shaped) (ope
       read.2 in
       subst (λ (m : NodeView). (link_to m to).base ≤ acknowledged (run opening h.once.log) k to)
       (sym is)
-      (still-held k to c.0 c.0.saved c.1 (begun k c.0 c.1)
+      (still-held k to c.0 c.1 (begun k c.0 c.1)
       (let inside = slice_get_within nodes k n there in
       let found = h.found in omega (arith, inside, found))
       left.saved.shows)
 
 pub closed-is-left : {D : Type 0} (may_leave : D → Areas → Type 0) → ClosedIsLeft may_leave
-closed-is-left may_leave shape opening cells nodes h =
-    are-left may_leave shape opening cells nodes h
+closed-is-left may_leave shape opening cells nodes h = are-left h
 
 pub closed-is-reached : {D : Type 0} (may_leave : D → Areas → Type 0) → ClosedIsReached may_leave
 closed-is-reached may_leave shape opening cells nodes h begun =
-    let left = are-left may_leave shape opening cells nodes h in
+    let left = are-left h in
     let w : World = run opening h.once.log in
     world-of-reached shape (restarted w) nodes (restarted-reached w left.reached)
     (left-opened shape w nodes left.width left.count left.each)
-    (are-held may_leave shape opening cells nodes h begun)
+    (are-held h begun)
 
 -- ---- Nodes that are read from such disks
 
-module _ {D : Type 0} (seen : D → Areas) (may_leave : D → Areas → Type 0)
-    (left : (d : D) → may_leave d (seen d)) (shape : Shaped) (opening : World) (disks : List D)
-    (nodes : List WholeNode) (reached : IsReached opening)
-    (width : nodes_of opening ≡ shape.nodes) (once : AreOfOneMoment may_leave opening disks)
-    (count : length nodes ≡ shape.nodes)
-    (read : AreBeside (λ k d n. IsReadFrom shape k (seen d) n) disks nodes) where
-  closed-again : AreClosed may_leave shape opening once.cells nodes
-  closed-again = record {
-    reached = reached;
-    width = width;
-    count = once.count ∙ width;
-    found = count;
-    each = subst (λ (n : ℕ). EachCell (IsLast may_leave opening n) once.cells) width once.each;
-    once = once.once;
+-- the disks of a space whose wire began in this world, which a run reaches
+pub record AreFromReached {D : Type 0} (may_leave : D → Areas → Type 0) (shape : Shaped)
+    (opening : World) (disks : List D) : Type 0 where
+  pub reached : IsReached opening
+  pub width : nodes_of opening ≡ shape.nodes
+  pub once : AreOfOneMoment may_leave opening disks
+
+module _ {D : Type 0} {may_leave : D → Areas → Type 0} {shape : Shaped} {opening : World}
+    {disks : List D} (from : AreFromReached may_leave shape opening disks) (seen : D → Areas)
+    (left : (d : D) → may_leave d (seen d)) where
+  closed-again : {Are : List WholeNode → Type 0} (h : AreRead seen shape disks Are)
+      → AreClosed may_leave shape opening from.once.cells h.nodes
+  closed-again h = record {
+    reached = from.reached;
+    width = from.width;
+    count = from.once.count ∙ from.width;
+    found = h.count ∙ ap length (sym from.once.same)
+        ∙ length-map from.once.cells (λ (c : CellView D). c.disk) ∙ from.once.count ∙ from.width;
+    each = subst (λ (n : ℕ). EachCell (IsLast may_leave opening n) from.once.cells) from.width
+        from.once.each;
+    once = from.once.once;
     read = λ k c n there found. (
       seen c.disk,
       left c.disk,
-      read k c.disk n
-          (ap (λ (l : List D). slice_get l k) (sym once.same)
-          ∙ mapped-there (λ (x : CellView D). x.disk) once.cells k c there)
+      h.read k c.disk n
+          (ap (λ (l : List D). slice_get l k) (sym from.once.same)
+          ∙ mapped-there (λ (x : CellView D). x.disk) from.once.cells k c there)
           found,
     );
   }
 
   -- a run reaches the world in which they begin
-  pub opened-again : BeginReached nodes
-  opened-again =
-      closed-is-reached may_leave shape opening once.cells nodes closed-again once.begun
+  pub opened-again : {Are : List WholeNode → Type 0} (h : AreRead seen shape disks Are)
+      → BeginReached h.nodes
+  opened-again h =
+      closed-is-reached may_leave shape opening from.once.cells h.nodes (closed-again h)
+      from.once.begun
 
--- they are of one age, so an opening never refuses them because of their ages
-pub never-apart : {D : Type 0} (seen : D → Areas) (may_leave : D → Areas → Type 0)
-    → ((d : D) → may_leave d (seen d)) → (shape : Shaped) (opening : World) (disks : List D)
-    → IsReached opening → nodes_of opening ≡ shape.nodes
-    → AreOfOneMoment may_leave opening disks → (sender receiver : ℕ)
-    → AreRead seen shape disks (λ ns. AreApart ns sender receiver) → ⊥
-never-apart seen may_leave left shape opening disks reached width once sender receiver h =
-    let many : length disks ≡ shape.nodes =
-    ap length (sym once.same) ∙ length-map once.cells (λ c. c.disk) ∙ once.count ∙ width in
-    let begins = opened-again seen may_leave left shape opening disks h.nodes reached width once
-    (h.count ∙ many) h.read in
-    let ages = begin-of-one-age h.nodes begins in
-    h.are.apart
-    (ages.each sender receiver h.are.sender h.are.receiver h.are.first h.are.second)
+  -- they are of one age, so an opening never refuses them because of their ages
+  never-apart : (sender receiver : ℕ)
+      → AreRead seen shape disks (λ ns. AreApart ns sender receiver) → ⊥
+  never-apart sender receiver h =
+      let ages = begin-of-one-age h.nodes (opened-again h) in
+      h.are.apart
+      (ages.each sender receiver h.are.sender h.are.receiver h.are.first h.are.second)
 
-pub never-ages : {D : Type 0} (seen : D → Areas) (may_leave : D → Areas → Type 0)
-    → ((d : D) → may_leave d (seen d)) → (shape : Shaped) (opening : World) (disks : List D)
-    → IsReached opening → nodes_of opening ≡ shape.nodes
-    → AreOfOneMoment may_leave opening disks → (moment faults : D → ℕ) (e : Unopened)
-    → IsWhy seen moment faults shape disks e → IfAges (λ sender receiver. ⊥) e
-never-ages seen may_leave left shape opening disks reached width once moment faults (Ages i j) h =
-    never-apart seen may_leave left shape opening disks reached width once i j h
-never-ages seen may_leave left shape opening disks reached width once moment faults Disks h = tt
-never-ages seen may_leave left shape opening disks reached width once moment faults (Another k) h =
-    tt
-never-ages seen may_leave left shape opening disks reached width once moment faults (Failed k r)
-    h = tt
-never-ages seen may_leave left shape opening disks reached width once moment faults Memory h = tt
+  pub never-ages : (moment faults : D → ℕ) (e : Unopened)
+      → IsWhy seen moment faults shape disks e → IfAges (λ sender receiver. ⊥) e
+  never-ages moment faults (Ages i j) h = never-apart i j h
+  never-ages moment faults Disks h = tt
+  never-ages moment faults (Another k) h = tt
+  never-ages moment faults (Failed k r) h = tt
+  never-ages moment faults Memory h = tt
 
 -- ---- Cells that were just opened
 

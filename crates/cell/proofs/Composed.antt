@@ -32,7 +32,7 @@ use Rattle.cell.specs.Theorems.{OfEveryReached}
 use Rattle.cell.specs.Reached.{IsReached}
 use Rattle.cell.proofs.Alike.{act-like, other-answer, other-refusal}
 use Rattle.cell.proofs.AlikeCuts.{reached-too}
-use Rattle.cell.proofs.AlikeRuns.{also-released, given-like}
+use Rattle.cell.proofs.AlikeRuns.{AreReleased, also-released, given-like}
 use Rattle.cell.proofs.Applied.{cuts-end}
 use Rattle.cell.proofs.Reaches.{end_of, heard-end, stays-reached}
 
@@ -100,8 +100,9 @@ in-turn w reached from to number stamp body e there refused =
     let x : Message = record { stamp = stamp; body = body } in
     let found = also-released w end from to number x reached.by there in
     let y : Message = found.0 in
-    let like =
-    given-like w end from to number x y reached.by (heard-end reached) there found.1 in
+    let both : AreReleased w end from to number x y =
+    record { alike = reached.by; there = there; other = found.1 } in
+    let like = given-like both (heard-end reached) in
     subst (λ (p : LocalState). IsSpentOrEarly p from number e)
     (sym (reached.by.current.each to).local)
     (deliveries.none-refused-in-turn reached.shape reached.limits reached.steps from to number

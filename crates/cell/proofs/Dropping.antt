@@ -5,7 +5,7 @@ use Rattle.std.proofs.Math.Logic.{∥∥₁_map}
 use Rattle.std.proofs.lemmas.Bool.{cases_Bool, cases_lt, cond_both}
 use Rattle.ids.specs.declared.refusal.Refusal.{Refusal}
 use Rattle.ids.specs.declared.refusal.Refusal.TheVariants.{Memory}
-use Rattle.msg.specs.Frames.{Plain, ack_frame, plain, plain_ack}
+use Rattle.msg.specs.Frames.{Plain, ack_frame, plain}
 use Rattle.msg.specs.declared.body.Message.{Message}
 use Rattle.msg.specs.declared.frame.Ack.{Ack}
 use Rattle.msg.specs.declared.frame.Data.{Data}
@@ -96,9 +96,9 @@ pub took-same : (v w : Known) → w.me ≡ v.me → w.taken ≡ v.taken → Took
 took-same v w me same =
     record { me = me; taken = ([], same ∙ sym (append-nil v.taken)) }
 
-still-dropped : (first : ℕ) (v w : Known) (to less base : ℕ) → TookMore v w → less ≤ base
+still-dropped : {v w : Known} (first to less base : ℕ) → TookMore v w → less ≤ base
     → IsDropped first v to base → IsDropped first w to less
-still-dropped first v w to less base more below h =
+still-dropped {v = v} first to less base more below h =
     ∥∥₁_map h (⊎_elim
     (λ old. inl (le_trans below old))
     (λ f. inr (
@@ -114,7 +114,7 @@ pub dropped-less : (first : NodeView) (v w : Known) (n m : NodeView) → TookMor
     → map base_of m.links ≡ map base_of n.links → HasDropped first v n → HasDropped first w m
 dropped-less first v w n m more same h = record {
   each = λ to.
-      still-dropped (link_to first to).base v w to (link_to m to).base (link_to n to).base more
+      still-dropped (link_to first to).base to (link_to m to).base (link_to n to).base more
       (subst (λ (b : ℕ). (link_to m to).base ≤ b) (base-at m.links n.links to same) (le_refl _))
       (h.each to);
 }
@@ -141,10 +141,10 @@ dropped-kept first v w n more h =
     dropped-less first v w n (kept_view n) more (kept-bases n.links) h
 
 -- the node that a reopening found
-pub dropped-found : (first : NodeView) (v w : Known) (n saved found : NodeView) → TookMore v w
-    → (is_same_node found saved ≡ false → found ≡ kept_view n)
+pub dropped-found : {first : NodeView} {v w : Known} {n saved : NodeView} (found : NodeView)
+    → TookMore v w → (is_same_node found saved ≡ false → found ≡ kept_view n)
     → HasDropped first v n → HasDropped first v saved → HasDropped first w found
-dropped-found first v w n saved found more which now before =
+dropped-found {first} {v} {w} {n} {saved} found more which now before =
     ⊎_elim
     (λ same. dropped-as first v w saved found more (same-true found saved same) before)
     (λ other. subst (HasDropped first w) (sym (which other)) (dropped-kept first v w n more now))
@@ -152,19 +152,19 @@ dropped-found first v w n saved found more which now before =
 
 -- ---- Events
 
--- the seat took this acknowledgement
-pub record IsAcked (w : Known) (a : Ack) : Type 0 where
-  pub taken : ∥ ((k : ℕ) × (slice_get w.taken k ≡ Some (plain_ack a))) ∥₁
-  pub receiver : a.of ≡ w.me
+-- the seat took this frame, which is for its node
+pub record IsTakenFrame (w : Known) (f : Frame) : Type 0 where
+  pub taken : ∥ ((k : ℕ) × (slice_get w.taken k ≡ Some (plain f))) ∥₁
+  pub receiver : receiver (plain f) ≡ w.me
 
 -- the performed event: either no acknowledgement, or one that the seat took
-dropped-acked : (first : NodeView) (v w : Known) (n m : NodeView) (a : Ack) (x : Answer)
-    → TookMore v w → IsAcked w a → view_act n (event.Ack a) ≡ Ok (m, x) → HasDropped first v n
-    → HasDropped first w m
-dropped-acked first v w n m a x more acked done h = record {
+dropped-acked : {first : NodeView} {v w : Known} {n : NodeView} {a : Ack} (m : NodeView) (x : Answer)
+    → TookMore v w → IsTakenFrame w (frame.Ack a) → view_act n (event.Ack a) ≡ Ok (m, x)
+    → HasDropped first v n → HasDropped first w m
+dropped-acked {first} {n = n} {a = a} m x more acked done h = record {
   each = λ to. ⊎_elim
       (λ less.
-      still-dropped (link_to first to).base v w to (link_to m to).base (link_to n to).base more less
+      still-dropped (link_to first to).base to (link_to m to).base (link_to n to).base more less
       (h.each to))
       (λ its. ∥∥₁_map acked.taken (λ at. inr (
         at.0,
@@ -175,13 +175,13 @@ dropped-acked first v w n m a x more acked done h = record {
       (ack-drops n m a x to done);
 }
 
-pub ack-dropped : (first : NodeView) (v w : Known) (n m : NodeView) (a : Ack)
-    (r : Result Answer Refusal) → TookMore v w → IsAcked w a
+ack-dropped : {first : NodeView} {v w : Known} {n : NodeView} {a : Ack} (m : NodeView)
+    (r : Result Answer Refusal) → TookMore v w → IsTakenFrame w (frame.Ack a)
     → Performs false r m (view_act n (event.Ack a)) → OnErr r (m ≡ n) → HasDropped first v n
     → HasDropped first w m
-ack-dropped first v w n m a (Ok x) more acked performs same h =
-    dropped-acked first v w n m a x more acked performs h
-ack-dropped first v w n m a (Err e) more acked performs same h =
+ack-dropped m (Ok x) more acked performs same h =
+    dropped-acked m x more acked performs h
+ack-dropped {first} {v} {w} {n} m (Err e) more acked performs same h =
     dropped-as first v w n m more same h
 
 after-took : (e : Event) (s : Step) (r : Result Answer Refusal) (v : Known)
@@ -192,20 +192,19 @@ after-took e s (Ok a) v =
     (λ _. took-same v v refl refl)
 after-took e s (Err f) v = took-same v v refl refl
 
-pub given-dropped : (first : NodeView) (e is : Event) (s : Step) (r : Result Answer Refusal)
-    (old new : WholeNode) (v w : Known) → Given e is s r old new v w → ack_of is ≡ None
+pub given-took : {e is : Event} {s : Step} {r : Result Answer Refusal} {old new : WholeNode}
+    {v w : Known} → Given e is s r old new v w → TookMore v w
+given-took {is = is} {s = s} {r = r} {v = v} given =
+    subst (TookMore v) (sym given.acted.known) (after-took is s r v)
+
+pub given-dropped : {first : NodeView} {e is : Event} {s : Step} {r : Result Answer Refusal}
+    {old new : WholeNode} {v w : Known} → Given e is s r old new v w → ack_of is ≡ None
     → HasDropped first v old.core → HasDropped first w new.core
-given-dropped first e is s r old new v w given none h =
-    dropped-less first v w old.core new.core
-    (subst (TookMore v) (sym given.acted.known) (after-took is s r v))
+given-dropped {first} {is = is} {r = r} {old = old} {new = new} {v = v} {w = w} given none h =
+    dropped-less first v w old.core new.core (given-took given)
     ((act-leaves old.core new.core is r
     (record { performs = given.acted.performs; unchanged = given.acted.unchanged })).bases none)
     h
-
-pub given-took : (e is : Event) (s : Step) (r : Result Answer Refusal) (old new : WholeNode)
-    (v w : Known) → Given e is s r old new v w → TookMore v w
-given-took e is s r old new v w given =
-    subst (TookMore v) (sym given.acted.known) (after-took is s r v)
 
 next-none : (from : ℕ) (o : Option Data) → ack_of (next_event from o) ≡ None
 next-none from None = refl
@@ -217,21 +216,19 @@ own-none es (event.Next from) own = next-none from (waiting es from)
 own-none es (event.Ack a) own = absurd cc
 own-none es e own = refl
 
-pub handled-dropped : (first : NodeView) (f : Frame) (r : Result Answer Refusal)
-    (old new : WholeNode) (v w : Known) → Handled f r old new v w
-    → ∥ ((k : ℕ) × (slice_get v.taken k ≡ Some (plain f))) ∥₁ → receiver (plain f) ≡ v.me
+pub handled-dropped : {first : NodeView} {v : Known} (f : Frame) (r : Result Answer Refusal)
+    (old new : WholeNode) (w : Known) → Handled f r old new v w → IsTakenFrame v f
     → HasDropped first v old.core → HasDropped first w new.core
-handled-dropped first (frame.Data d) r old new v w handled taken to h =
-    given-dropped first (event.Data d) (event.Data d) _ r old new v w handled refl h
-handled-dropped first (frame.Ack a) r old new v w handled taken to h =
+handled-dropped (frame.Data d) r old new w handled taken h =
+    given-dropped handled refl h
+handled-dropped {first} {v} (frame.Ack a) r old new w handled taken h =
     subst (λ (u : Known). HasDropped first u new.core) (sym handled.known)
-    (ack-dropped first v v old.core new.core a r (took-same v v refl refl)
-    (record { taken = taken; receiver = to }) handled.performs handled.unchanged h)
+    (ack-dropped new.core r (took-same v v refl refl) taken handled.performs handled.unchanged h)
 
 pub handled-took : (f : Frame) (r : Result Answer Refusal) (old new : WholeNode) (v w : Known)
     → Handled f r old new v w → TookMore v w
 handled-took (frame.Data d) r old new v w handled =
-    given-took (event.Data d) (event.Data d) _ r old new v w handled
+    given-took handled
 handled-took (frame.Ack a) r old new v w handled =
     subst (TookMore v) (sym handled.known) (took-same v v refl refl)
 

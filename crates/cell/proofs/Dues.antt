@@ -18,10 +18,10 @@ use Rattle.cell.specs.Reached.{IsReached}
 use Rattle.cell.proofs.Composed.{in-turn, received}
 use Rattle.cell.proofs.Reaches.{stays-reached}
 
-due-taken : (v : Known) (p : LocalState) (d : Data) (e : Refusal) → IsReached v.opening
+due-taken : {v : Known} {p : LocalState} {d : Data} (e : Refusal) → IsReached v.opening
     → p ≡ v.pair.current.local → IsDue v p d → Arrives v (plain_data d)
     → receive v.pair.current d.from d.to d.number d.stamp d.body ≡ Err e → e ≡ LinkSpent
-due-taken v p d e reached shows due arrives refused =
+due-taken {v} {p} {d} e reached shows due arrives refused =
     let here : node_at (run v.opening arrives.log).current d.to ≡ v.pair.current =
     ap (λ (i : ℕ). node_at (run v.opening arrives.log).current i) due.receiver
     ∙ ap (λ (q : Pair). q.current) arrives.pair in
@@ -41,4 +41,4 @@ next-taken-in from d s e old new v w reached shows given plenty =
     let due = given.due from d refl refl in
     let refused = received v.pair.current d e (refused-as (given.acted.states tt) plenty) in
     ∥∥₁_elim due.arrives (hlevel props)
-    (λ arrives. due-taken v old.core.local d e reached shows.local due arrives refused)
+    (λ arrives. due-taken e reached shows.local due arrives refused)

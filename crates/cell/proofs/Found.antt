@@ -69,25 +69,25 @@ found-read me width s n own nodes shows kept = record {
   saved = saved-read me width s n own nodes shows kept;
 }
 
-found-by : (me width : ℕ) (p : Pair) (n was found : NodeView) (same : Bool)
+found-by : {me width : ℕ} {p : Pair} {n was : NodeView} (found : NodeView) (same : Bool)
     → is_same_node found was ≡ same → StandsAt me width p n → IsSavedNode me width p.saved was
     → kept_view found ≡ found → (same ≡ false → found ≡ kept_view n)
     → IsFound me width (found_pair same p) found
-found-by me width p n was found true same stands saved kept which =
+found-by {me} {width} {p} {n} {was} found true same stands saved kept which =
     let is : found ≡ was = same-true found was same in
     found-read me width p.saved found (ap (λ (m : NodeView). m.local.own) is ∙ saved.own)
     (ap (λ (m : NodeView). m.local.shape.nodes) is ∙ saved.nodes)
     (subst (λ (m : NodeView). Shows m p.saved) (sym is) saved.shows) kept
-found-by me width p n was found false same stands saved kept which =
+found-by {me} {width} {p} {n} found false same stands saved kept which =
     let is : found ≡ kept_view n = which refl in
     found-read me width p.current found (ap (λ (m : NodeView). m.local.own) is ∙ stands.own)
     (ap (λ (m : NodeView). m.local.shape.nodes) is ∙ stands.nodes)
     (subst (λ (m : NodeView). Shows m p.current) (sym is)
     (shows-kept n p.current stands.shows)) kept
 
-pub is-found : (me width : ℕ) (p : Pair) (n was found : NodeView) → StandsAt me width p n
-    → IsSavedNode me width p.saved was → kept_view found ≡ found
+pub is-found : {me width : ℕ} {p : Pair} {n was : NodeView} (found : NodeView)
+    → StandsAt me width p n → IsSavedNode me width p.saved was → kept_view found ≡ found
     → (is_same_node found was ≡ false → found ≡ kept_view n)
     → IsFound me width (found_pair (is_same_node found was) p) found
-is-found me width p n was found stands saved kept which =
-    found-by me width p n was found (is_same_node found was) refl stands saved kept which
+is-found {was = was} found stands saved kept which =
+    found-by found (is_same_node found was) refl stands saved kept which

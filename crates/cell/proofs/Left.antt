@@ -1,5 +1,5 @@
 -- What a space left on its disks is the world in which it continues.
-use Rattle.std.proofs.Common.{◌≡◌, ◌≢◌, ℕ, zero, suc, true, Bool, List, [], ◌∷◌, ◌++◌, Ok, Err, append_assoc, length, length-append, set, refl, sym, ap, ◌∙◌, subst, arith}
+use Rattle.std.proofs.Common.{◌≡◌, ℕ, zero, suc, true, Bool, List, [], ◌∷◌, ◌++◌, Ok, Err, append_assoc, length, length-append, set, refl, sym, ap, ◌∙◌, subst, arith}
 use Rattle.std.specs.Prelude.{cond}
 use Rattle.std.proofs.Math.Logic.{∥∥₁_elim}
 use Rattle.std.proofs.Math.Seq.{get_or-append_seam, set-append_seam}
@@ -17,7 +17,7 @@ use Rattle.model.specs.declared.step.Step.TheVariants as step
 use Rattle.model.proofs.Runs.{run-append}
 use Rattle.laws.proofs.Cuts.{run-keeps-sent}
 use Rattle.laws.proofs.KeepsSent.{new-keeps-sent}
-use Rattle.disk.specs.Areas.{Areas}
+use Rattle.disk.specs.Areas.{Areas, IsBlank}
 use Rattle.node_store.proofs.Stores.{keeps_some}
 use Rattle.wire.specs.Readers.{IsSavedAs}
 use Rattle.cell.specs.Disks.{OpensTo}
@@ -96,7 +96,7 @@ restarted-reached w r =
 
 -- ---- What is read from what was left
 
-not-blank : (n : NodeView) (c : Areas) → OpensTo n c → c.select ≢ []
+not-blank : (n : NodeView) (c : Areas) → OpensTo n c → IsBlank c → ⊥
 not-blank n c opens = keeps_some (alone n) c opens
 
 -- the node that is read is the one that was left

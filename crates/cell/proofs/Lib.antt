@@ -15,6 +15,8 @@ pub mod Alike
 pub mod AlikeRuns
 pub mod Dues
 pub mod Dropping
+pub mod Still
+pub mod Entered
 pub mod OnShelves
 pub mod Causes
 pub mod Looking

@@ -10,11 +10,12 @@ use Rattle.model.specs.Effects.{is_change}
 use Rattle.wire.specs.Entering.{known_after, pair_by}
 use Rattle.cell.specs.Events.{unsaved_after, IsMarked}
 
-pub marked-after : (e : Event) (s : Step) (r : Result Answer Refusal) (v w : Known) (was is : Bool)
-    → w ≡ known_after e s r v → is ≡ unsaved_after r was → IsMarked v w was is
-marked-after e s (Err x) v w was is known says =
+pub marked-after : {w : Known} {is : Bool} (e : Event) (s : Step) (r : Result Answer Refusal)
+    (v : Known) (was : Bool) → w ≡ known_after e s r v → is ≡ unsaved_after r was
+    → IsMarked v w was is
+marked-after e s (Err x) v was known says =
     (λ _. says, λ differs. absurd (differs (ap (λ (u : Known). u.events) known)))
-marked-after e s (Ok a) v w was is known says =
+marked-after {w} e s (Ok a) v was known says =
     ⊎_elim
     (λ yes.
     let grew : w.events ≡ v.events ++ s ∷ [] =

@@ -16,22 +16,6 @@ use Rattle.wire.proofs.NewWires.{new-at}
 use Rattle.cell.specs.Desks.{IsAtSeat}
 use Rattle.cell.specs.Disks.{OpensToNode}
 
--- a new node is at its own seat, as the wire was made
-pub at-seat : (shape : Shaped) (own : ℕ) (wire : Wire) (s : NodeSeat)
-    → opened_with wire ≡ new_world shape → wire.nodes ≡ shape.nodes → own < shape.nodes
-    → IsSeated wire own s → IsAtSeat (new_view shape own) s
-at-seat shape own wire s opening width inside seated =
-    let pair : (known s).pair ≡ pair_at (new_world shape) own =
-    ap (λ (v : Known). v.pair) seated.known ∙ ap (λ (w : World). pair_at w own) opening in
-    let current : (known s).pair.current ≡ new_node shape own =
-    ap (λ (p : Pair). p.current) pair ∙ new-at shape own inside in
-    record {
-      own = sym seated.node;
-      nodes = sym width ∙ sym seated.of.1;
-      shows = subst (Shows (new_view shape own)) (sym current) (new-shown shape own);
-      saved = ap (λ (p : Pair). p.saved) pair ∙ sym (ap (λ (p : Pair). p.current) pair);
-    }
-
 -- the disk on which the node was created opens to it
 pub opens-new : (shape : Shaped) (own : ℕ) (n : WholeNode) (c : Areas) → n ≡ new_whole shape own
     → OpensToNode (saved_whole n) c → OpensToNode n c

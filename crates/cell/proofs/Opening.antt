@@ -106,14 +106,18 @@ stays-left {logs = logs} may_leave same still opens left imaged = (
   ),
 )
 
+-- the facts of the type `Cell`, in their order: first what its nodes dropped, then its disk
+pub cell-facts : {A B C : Type 0} → A → B → C → A × (B × C)
+cell-facts dropped saved disk = (dropped, (saved, disk))
+
 -- what a cell guarantees whose disk in memory was given a plan of failures
-pub told-to-fail : {logs logged : Bool} (ready was : Bool) (saved n : NodeView) (old new : State)
+pub told-to-fail : {logs logged ready was : Bool} {old new : State} (saved n : NodeView)
     → new ≡ old → ready ≡ was → logs ≡ logged → (IsTrue was → HoldsSaved (leaves old) saved)
     → ((x : Areas) → leaves old x → ∥ OpensToEither saved n x ∥₁) → IsImaged logged saved
     → (IsTrue ready → HoldsSaved (leaves new) saved)
     × (((x : Areas) → leaves new x → ∥ OpensToEither saved n x ∥₁)
     × (IsImaged logs saved × Unit {0}))
-told-to-fail ready was saved n old new same as_before logs opens left imaged = (
+told-to-fail {new = new} saved n same as_before logs opens left imaged = (
   λ is x may. opens (sym as_before ∙ is) x (subst (λ (s : State). leaves s x) same may),
   (
     λ x may. left x (subst (λ (s : State). leaves s x) same may),
@@ -122,12 +126,12 @@ told-to-fail ready was saved n old new same as_before logs opens left imaged = (
 )
 
 -- what a crash leaves after a save in which the disk failed
-pub failed-left : {D : Type 0} (may_leave : D → Areas → Type 0) (moment : D → ℕ)
-    (left_since : D → ℕ → Areas → Type 0) (old new : D) (saved n : NodeView)
+pub failed-left : {D : Type 0} {moment : D → ℕ} {left_since : D → ℕ → Areas → Type 0}
+    {old new : D} (may_leave : D → Areas → Type 0) (saved n : NodeView)
     → ((t : ℕ) (c : Areas) → t ≤ moment new → may_leave new c → left_since new t c)
     → ∥ LeavesOnly moment left_since old new (KeepsEither (alone saved) (alone (kept_view n))) ∥₁
     → (c : Areas) → may_leave new c → ∥ OpensToEither saved n c ∥₁
-failed-left may_leave moment left_since old new saved n counts only c may =
+failed-left {moment = moment} {old = old} may_leave saved n counts only c may =
     ∥∥₁_map only (λ o. o.each c (counts (moment old) c o.later may))
 
 -- the premises of a save: the disk opens to the last saved node, and the log leads on from there

@@ -13,7 +13,7 @@ use Rattle.model.proofs.Lookups.{get_or-replicate_any, maps_agree}
 use Rattle.model.proofs.Runs.{run-append}
 use Rattle.laws.proofs.Net.{HeardMore, run-heard}
 use Rattle.laws.proofs.Onward.{Behind}
-use Rattle.disk.specs.Areas.{Areas}
+use Rattle.disk.specs.Areas.{Areas, IsBlank}
 use Rattle.node.specs.Keeping.{WholeNode}
 use Rattle.wire.specs.Readers.{AreOpened, IsSavedAs}
 use Rattle.wire.proofs.NewWires.{new-at, new-saved, new-width}
@@ -144,7 +144,7 @@ new-base shape own to n shows =
 
 -- a node that was read from a disk that is blank, or on which a cell left a new node
 fresh-saved : (shape : Shaped) (k : ℕ) (n : WholeNode) (c : Areas)
-    → (c.select ≡ []) ⊎ IsLeft k shape.nodes (new_node shape k) c → IsReadFrom shape k c n
+    → IsBlank c ⊎ IsLeft k shape.nodes (new_node shape k) c → IsReadFrom shape k c n
     → IsSavedAs n.core (new_node shape k)
 fresh-saved shape k n c (inl blank) read =
     subst (λ (m : NodeView). IsSavedAs m (new_node shape k))

@@ -85,11 +85,12 @@ opened shape nodes count kept =
 
 -- ---- Their seats
 
-at-seat : {shape : Shaped} (nodes : List WholeNode) {w : World} (k : ℕ) (n : WholeNode) (wire : Wire)
-    (seat : NodeSeat) → AreOpened shape (cores nodes) w → slice_get nodes k ≡ Some n → IsNodeOf shape k n.core
+at-seat : {shape : Shaped} {w : World} {k : ℕ} {wire : Wire} {seat : NodeSeat}
+    (nodes : List WholeNode) (n : WholeNode) → AreOpened shape (cores nodes) w
+    → slice_get nodes k ≡ Some n → IsNodeOf shape k n.core
     → (opened_with wire ≡ w) × (wire.nodes ≡ length w.current) → IsSeated wire k seat
     → IsAtSeat n.core seat
-at-seat nodes {w = w} k n wire seat opens there is made seated =
+at-seat {w = w} {k = k} {seat = seat} nodes n opens there is made seated =
     let pair : (known seat).pair ≡ pair_at w k =
     ap (λ (v : Known). v.pair) seated.known ∙ ap (λ (o : World). pair_at o k) made.0 in
     let current : (known seat).pair.current ≡ node_at w.current k =
@@ -116,7 +117,7 @@ made-ready {nodes = nodes} {wire = wire} opens h made = record {
   each = λ k n s seat there shelf sat.
       let found = h.each k n s there shelf in
       record {
-        stands = at-seat nodes k n wire seat opens there found.0 (made.opening, made.nodes)
+        stands = at-seat nodes n opens there found.0 (made.opening, made.nodes)
             (made.each_seat k seat sat);
         lies = found.1;
       };
@@ -163,27 +164,36 @@ handed-on done left all were none =
     sym (append-nil done) ∙ ap (λ l. done ++ l) (sym (nil_from_length left none)) ∙ were
 
 -- what was passed on, and what is left
-pub shifted-by : {A B C : Type 0} (f : A → C) (h : B → C) (done : List A) (left : List B)
-    (all : List C) (now : List A) (last : A) (first : B) (rest : List B)
-    → map f done ++ map h left ≡ all → now ≡ done ++ last ∷ [] → f last ≡ h first
-    → first ≡ get_or left 0 first → 0 < length left → rest ≡ drop 1 left
-    → map f now ++ map h rest ≡ all
-shifted-by f h done [] all now last first rest were is same front some left = absurd (omega arith)
-shifted-by f h done (b ∷ bs) all now last first rest were is same front some left =
-    ap (λ l. map f l ++ map h rest) is
+pub record IsShifted {A B : Type 0} (done now : List A) (last : A) (left rest : List B) (first : B)
+    : Type 0 where
+  pub is : now ≡ done ++ last ∷ []
+  pub front : first ≡ get_or left 0 first
+  pub some : 0 < length left
+  pub after : rest ≡ drop 1 left
+
+pub shift : {A B : Type 0} {now : List A} {rest : List B} {first : B} (done : List A) (last : A)
+    (left : List B) → now ≡ done ++ last ∷ [] → first ≡ get_or left 0 first → 0 < length left
+    → rest ≡ drop 1 left → IsShifted done now last left rest first
+shift done last left is front some after =
+    record { is = is; front = front; some = some; after = after }
+
+pub shifted-by : {A B C : Type 0} {done now : List A} {last : A} {left rest : List B} {first : B}
+    {all : List C} (f : A → C) (h : B → C) → IsShifted done now last left rest first
+    → f last ≡ h first → map f done ++ map h left ≡ all → map f now ++ map h rest ≡ all
+shifted-by {left = []} f h s same were = (let some = s.some in absurd (omega (arith, some)))
+shifted-by {done = done} {last = last} {left = b ∷ bs} {rest = rest} f h s same were =
+    ap (λ l. map f l ++ map h rest) s.is
     ∙ ap (λ l. l ++ map h rest) (map-append f done (last ∷ []))
     ∙ append_assoc (map f done) (f last ∷ []) (map h rest)
-    ∙ (λ i. map f done ++ (same ∙ ap h front) i ∷ map h (left i))
+    ∙ (λ i. map f done ++ (same ∙ ap h s.front) i ∷ map h (s.after i))
     ∙ were
 
-pub shifted : {A B : Type 0} (f : A → B) (done : List A) (left : List B) (all : List B)
-    (now : List A) (last : A) (first : B) (rest : List B) → map f done ++ left ≡ all
-    → now ≡ done ++ last ∷ [] → f last ≡ first → first ≡ get_or left 0 first → 0 < length left
-    → rest ≡ drop 1 left → map f now ++ rest ≡ all
-shifted f done left all now last first rest were is same front some after =
+pub shifted : {A B : Type 0} {done now : List A} {last : A} {left rest : List B} {first : B}
+    {all : List B} (f : A → B) → IsShifted done now last left rest first → f last ≡ first
+    → map f done ++ left ≡ all → map f now ++ rest ≡ all
+shifted {done = done} {now = now} {left = left} {rest = rest} f s same were =
     ap (λ l. map f now ++ l) (sym (map-id rest))
-    ∙ shifted-by f (λ b. b) done left all now last first rest
-    (ap (λ l. map f done ++ l) (map-id left) ∙ were) is same front some after
+    ∙ shifted-by f (λ b. b) s same (ap (λ l. map f done ++ l) (map-id left) ∙ were)
 
 -- a cell that was made in this way is new
 pub made-new : {D : Type 0} (c : CellView D) (n : WholeNode) (seat : NodeSeat) (disk : D)

@@ -1,5 +1,5 @@
 -- No node refuses an event with `Closed`.
-use Rattle.std.proofs.Common.{◌≡◌, ℕ, Bool, List, Option, Some, None, Result, Ok, Err, refl, subst, true, false}
+use Rattle.std.proofs.Common.{◌≡◌, ℕ, Bool, Option, Some, None, Result, Ok, Err, refl, subst, true, false}
 use Rattle.ids.specs.declared.refusal.Refusal.{Refusal}
 use Rattle.ids.specs.declared.refusal.Refusal.TheVariants.{Closed}
 use Rattle.model.specs.declared.event.Event.{Event}
@@ -9,7 +9,6 @@ use Rattle.msg.specs.Frames.{plain}
 use Rattle.msg.specs.declared.frame.Data.{Data}
 use Rattle.msg.specs.declared.frame.Frame.{Frame}
 use Rattle.msg.specs.declared.frame.Frame.TheVariants as frame
-use Rattle.cell.specs.declared.trace.TraceLine.{TraceLine}
 use Rattle.node.specs.Keeping.{WholeNode, waiting}
 use Rattle.wire.specs.Readers.{inbox, known}
 use Rattle.wire.specs.Views.{Known}
@@ -35,20 +34,22 @@ handled-not-closed (frame.Data d) old new v w h =
 handled-not-closed (frame.Ack a) old new v w h =
     never-closed false (event.Ack a) old.core new.core (Err Closed) h.performs refl
 
-by-not-closed : (o : Option Data) (box from : ℕ) (r : Result Inbound Refusal)
-    (old new : WholeNode) (v w : Known) (before after : List TraceLine)
-    → PumpedBy o box from r old new v w before after → r ≡ Err Closed → ⊥
-by-not-closed o box from (Ok i) old new v w before after took closed = absurd cc
-by-not-closed (Some d) box from (Err e) old new v w before after took closed =
-    never-closed true (event.Data d) old.core new.core (Err e) took.given.acted.performs cc
-by-not-closed None box from (Err e) old new v w before after took closed =
+by-not-closed : {D : Type 0} (o : Option Data) (from : ℕ) (r : Result Inbound Refusal)
+    (old new : CellView D)
+    → PumpedBy o (inbox old.seat from) from r old.node new.node (known old.seat) (known new.seat)
+    old.trace new.trace → r ≡ Err Closed → ⊥
+by-not-closed o from (Ok i) old new took closed = absurd cc
+by-not-closed (Some d) from (Err e) old new took closed =
+    never-closed true (event.Data d) old.node.core new.node.core (Err e)
+    took.given.acted.performs cc
+by-not-closed None from (Err e) old new took closed =
     let is : e ≡ Closed = cc in
-    let seen : Known = emptied box took.taken took.cleared (plain took.frame) v in
-    handled-not-closed took.frame old new seen w
-    (subst (λ (r : Refusal). Handled took.frame (Err r) old new seen w) is took.handled)
+    let seen : Known =
+    emptied (inbox old.seat from) took.taken took.cleared (plain took.frame) (known old.seat) in
+    handled-not-closed took.frame old.node new.node seen (known new.seat)
+    (subst (λ (r : Refusal). Handled took.frame (Err r) old.node new.node seen (known new.seat)) is
+    took.handled)
 
 pub pumped-not-closed : {D : Type 0} (from : ℕ) (r : Result Inbound Refusal) (old new : CellView D)
     → PumpedIn from r old new → r ≡ Err Closed → ⊥
-pumped-not-closed from r old new =
-    by-not-closed (waiting old.node.early from) (inbox old.seat from) from r old.node new.node
-    (known old.seat) (known new.seat) old.trace new.trace
+pumped-not-closed from r old new = by-not-closed (waiting old.node.early from) from r old new

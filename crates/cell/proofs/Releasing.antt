@@ -59,10 +59,10 @@ numbered-in sent k number x is there =
     ∙ there
 
 -- the saved state sent such a message
-saved-place : (me width : ℕ) (p : Pair) (n : NodeView) (to place : ℕ) (x : Message)
+saved-place : {me width : ℕ} {p : Pair} {n : NodeView} (to place : ℕ) (x : Message)
     → StandsAt me width p n → released_at (link_to n to) place ≡ Some x
     → slice_get (sent_to p.saved to) ((link_to n to).base + place) ≡ Some x
-saved-place me width p n to place x h found =
+saved-place {p = p} {n = n} to place x h found =
     let l = link_to n to in
     let at = in-place l place x found in
     let few = length (sent_to p.saved to) in
@@ -76,32 +76,32 @@ saved-place me width p n to place x h found =
     ∙ ap (λ (xs : List Message). slice_get xs place) (sym (h.shows.links to).unacknowledged)
     ∙ at.there
 
-due-by : (me width : ℕ) (p : Pair) (n : NodeView) (to place : ℕ) (o : Option Message)
+due-by : {me width : ℕ} {p : Pair} {n : NodeView} (to place : ℕ) (o : Option Message)
     → StandsAt me width p n → is_other n.local to ≡ true → released_at (link_to n to) place ≡ o
     → Releases me p.saved
     (frame_or_ack n to
     (option_map (frame_of n.local.own to ((link_to n to).base + 1 + place)) o))
-due-by me width p n to place None h other found = (
+due-by {p = p} {n = n} to place None h other found = (
   h.own,
   (λ same. apart n.local to other (same ∙ sym h.own)),
   (let same : slice_index_or n.acks to 0 ≡ got_from p.saved.local to =
       ap (λ (got : List ℕ). slice_index_or got to 0) h.acks in
       omega (arith, same)),
 )
-due-by me width p n to place (Some x) h other found = (
+due-by {p = p} {n = n} to place (Some x) h other found = (
   h.own,
   (λ same. apart n.local to other (same ∙ sym h.own)),
   numbered-in (sent_to p.saved to) ((link_to n to).base + place)
       ((link_to n to).base + 1 + place) x (omega arith)
-      (saved-place me width p n to place x h found),
+      (saved-place to place x h found),
 )
 
-pub due-releases : (me width : ℕ) (p : Pair) (n : NodeView) (to place : ℕ)
+pub due-releases : {me width : ℕ} {p : Pair} {n : NodeView} (to place : ℕ)
     → StandsAt me width p n → is_other n.local to ≡ true
     → Releases me p.saved (frame_due n to place)
-due-releases me width p n to place h other =
+due-releases {me} {p = p} {n = n} to place h other =
     subst (λ (o : Option Plain). Releases me p.saved (frame_or_ack n to o))
     (sym (cond-true (is_other n.local to)
     (option_map (frame_of n.local.own to ((link_to n to).base + 1 + place))
     (released_at (link_to n to) place)) None other))
-    (due-by me width p n to place (released_at (link_to n to) place) h other refl)
+    (due-by to place (released_at (link_to n to) place) h other refl)

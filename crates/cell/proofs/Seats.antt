@@ -1,12 +1,14 @@
 -- A desk whose seat took a step on a mailbox: the seat is the same, and knows the same about its
 -- node.
-use Rattle.std.proofs.Common.{◌≡◌, ◌≢◌, ℕ, ◌<◌, true, sym, ap, ◌∙◌, subst}
+use Rattle.std.proofs.Common.{◌≡◌, ◌≢◌, ℕ, ◌<◌, List, true, sym, ap, ◌∙◌, subst}
+use Rattle.msg.specs.Frames.{Plain}
 use Rattle.model.specs.View.{is_other}
 use Rattle.wire.specs.Views.{Pair}
 use Rattle.wire.specs.Readers.{known, seat_node, IsSame, IsSeatOf}
 use Rattle.wire.specs.declared.seats.NodeSeat.{NodeSeat}
 use Rattle.wire.specs.declared.seats.Wire.{Wire}
-use Rattle.cell.specs.Desks.{IsSavedNode, IsSeatAt, IsUnsaved, StandsAt}
+use Rattle.node_store.specs.Noted.{IsLogged}
+use Rattle.cell.specs.Desks.{AreTaken, IsSavedNode, IsSeatAt, IsUnsaved, StandsAt}
 use Rattle.cell.specs.declared.desk.Desk.TheInside.{Inside}
 use Rattle.cell.proofs.Releasing.{apart, inside}
 
@@ -38,3 +40,35 @@ steps-on desk t same pair = record {
   ended_is = desk.ended_is ∙ sym (ap (λ (p : Pair). p.saved.local.phases.ended) pair);
   unsaved = subst (IsUnsaved desk.is_unsaved) (sym pair) desk.unsaved;
 }
+
+-- the facts of the type `Desk`, in their order
+pub facts : {A B C D E F G : Type 0} → A → B → C → D → E → F → G
+    → A × (B × (C × (D × (E × (F × (G × Unit {0}))))))
+facts at stands was ended unsaved taken logged =
+    (at, (stands, (was, (ended, (unsaved, (taken, (logged, tt)))))))
+
+abbrev pub Facts : Inside → NodeSeat → Type 0
+Facts desk t =
+    IsSeatAt desk.own desk.nodes t
+    × (StandsAt desk.own desk.nodes (known t).pair desk.node.core
+    × (IsSavedNode desk.own desk.nodes (known t).pair.saved desk.saved.value
+    × ((desk.ended.number ≡ (known t).pair.saved.local.phases.ended)
+    × (IsUnsaved desk.is_unsaved (known t).pair
+    × (AreTaken (known t).taken desk.node.early
+    × (∥ IsLogged desk.log desk.saved.value desk.node.core ∥₁ × Unit {0}))))))
+
+-- they still hold if only what the seat took from the wire has changed
+pub still-facts : (desk : Inside) (t : NodeSeat) → IsSame desk.seat t
+    → (known t).pair ≡ (known desk.seat).pair → AreTaken (known t).taken desk.node.early
+    → Facts desk t
+still-facts desk t same pair taken =
+    let kept = steps-on desk t same pair in
+    facts kept.at kept.stands kept.was kept.ended_is kept.unsaved taken desk.logged
+
+-- or not even that
+pub same-facts : (desk : Inside) (t : NodeSeat) → IsSame desk.seat t
+    → (known t).pair ≡ (known desk.seat).pair → (known t).taken ≡ (known desk.seat).taken
+    → Facts desk t
+same-facts desk t same pair taken =
+    still-facts desk t same pair
+    (subst (λ (ts : List Plain). AreTaken ts desk.node.early) (sym taken) desk.taken)

@@ -39,10 +39,10 @@ behind-itself s j =
     ∙ take-append_seam (sent_to s j) []
 
 -- the node performed an event, and shows the state after it
-pub stands-moved : (me width : ℕ) (p : Pair) (t : NodeState) (n m : NodeView) (e : Event)
+pub stands-moved : {me width : ℕ} {p : Pair} {n m : NodeView} {e : Event} (t : NodeState)
     → StandsAt me width p n → Leaves n m e → Shows m t → IsBehind p.saved t
     → StandsAt me width (record { current = t; saved = p.saved }) m
-stands-moved me width p t n m e h leaves shows behind = record {
+stands-moved {n = n} {m} t h leaves shows behind = record {
   own = leaves.own ∙ h.own;
   nodes = ap (λ s. s.nodes) leaves.shape ∙ h.nodes;
   shows = shows;
@@ -56,18 +56,17 @@ stands-moved me width p t n m e h leaves shows behind = record {
 }
 
 -- it performed one that changes no state
-pub stands-quiet : (me width : ℕ) (p : Pair) (t : NodeState) (n m : NodeView) (e : Event)
+pub stands-quiet : {me width : ℕ} {p : Pair} {n m : NodeView} {e : Event} (t : NodeState)
     → StandsAt me width p n → Leaves n m e → Shows m t → t ≡ p.current → StandsAt me width p m
-stands-quiet me width p t n m e h leaves shows same =
-    stands-moved me width p p.current n m e h leaves (subst (Shows m) same shows) h.behind
+stands-quiet {p = p} {m = m} t h leaves shows same =
+    stands-moved p.current h leaves (subst (Shows m) same shows) h.behind
 
 -- it was given an acknowledgement, whatever the outcome
-pub stands-acknowledged : (me width : ℕ) (p : Pair) (n m : NodeView) (x : Ack)
+pub stands-acknowledged : {me width : ℕ} {p : Pair} {n m : NodeView} (x : Ack)
     (r : Result Answer Refusal) → StandsAt me width p n → Leaves n m (event.Ack x)
     → Follows (event.Ack x) r m (act p.current (event.Ack x)) → OnErr r (m ≡ n)
     → StandsAt me width p m
-stands-acknowledged me width p n m x (Ok a) h leaves found unchanged =
-    stands-quiet me width p found.0 n m (event.Ack x) h leaves found.2
-    (quiet-ack p.current x found.0 a found.1)
-stands-acknowledged me width p n m x (Err e) h leaves found unchanged =
+stands-acknowledged {p = p} x (Ok a) h leaves found unchanged =
+    stands-quiet found.0 h leaves found.2 (quiet-ack p.current x found.0 a found.1)
+stands-acknowledged {me} {width} {p} x (Err e) h leaves found unchanged =
     subst (StandsAt me width p) (sym unchanged) h

@@ -42,6 +42,15 @@ pub taken-after : (taken : List Plain) (p : LocalState) (es : Rings) (e : Event)
 taken-after taken p es e r h new =
     record { each = after-all (λ from d. IsTaken taken d) p es e r h.each new }
 
+-- the same of the node that answered an event, and of its seat, which took nothing then
+pub acted-taken : {taken now : List Plain} {es new : Rings} (p : LocalState) (e : Event)
+    (r : Result Answer Refusal) → AreTaken taken es
+    → ((d : Data) → e ≡ event.Data d → IsTaken taken d) → new ≡ early_after p es e r → now ≡ taken
+    → AreTaken now new
+acted-taken {taken} {es = es} {new} p e r h its early same =
+    subst (λ (ts : List Plain). AreTaken ts new) (sym same)
+    (subst (AreTaken taken) (sym early) (taken-after taken p es e r h its))
+
 -- ---- As an event
 
 -- a node at its seat, with messages that the seat took
@@ -109,8 +118,3 @@ pub own-brings : (taken : List Plain) (e : Event) → is_own e ≡ true
 own-brings taken e own d is =
     let never : is_own (event.Data d) ≡ true = subst (λ (x : Event). is_own x ≡ true) is own in
     absurd cc
-
--- the waiting message, if there is one
-pub some-waits : (o : Option Data) → is_some o ≡ true → (d : Data) × (o ≡ Some d)
-some-waits None waits = absurd cc
-some-waits (Some d) waits = (d, refl)

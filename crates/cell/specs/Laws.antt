@@ -20,7 +20,7 @@ use Rattle.model.specs.World.{World, new_world, run}
 use Rattle.laws.specs.Statements.{IsSpentOrEarly, KeepsReachable}
 use Rattle.cell.specs.declared.trace.TraceLine.{TraceLine}
 use Rattle.node.specs.Keeping.{WholeNode}
-use Rattle.disk.specs.Areas.{Areas}
+use Rattle.disk.specs.Areas.{Areas, IsBlank}
 use Rattle.wire.specs.Readers.{AreOpened}
 use Rattle.wire.specs.Rule.{AreEvents}
 use Rattle.wire.specs.Views.{Known, pair_at}
@@ -57,7 +57,7 @@ LeftIsOpened =
 abbrev pub BlankIsNew : Type 0
 BlankIsNew =
     (shape : Shaped) (nodes : List WholeNode) → length nodes ≡ shape.nodes
-    → ((k : ℕ) (n : WholeNode) → slice_get nodes k ≡ Some n → (c : Areas) × (c.select ≡ [])
+    → ((k : ℕ) (n : WholeNode) → slice_get nodes k ≡ Some n → (c : Areas) × IsBlank c
     × IsReadFrom shape k c n)
     → world_of (cores nodes) ≡ new_world shape
 

@@ -1,11 +1,11 @@
 -- Disks that are read before anything is created on them.
-use Rattle.std.specs.Prelude.{◌≡◌, ◌≤◌, ℕ, Bool, true, false, List, [], Option, Some, None, length, slice_get}
+use Rattle.std.specs.Prelude.{◌≡◌, ◌≤◌, ℕ, Bool, true, false, List, Option, Some, None, length, slice_get}
 use Rattle.ids.specs.Limits.{Shaped}
 use Rattle.ids.specs.declared.refusal.Refusal.TheVariants.{BadImage}
 use Rattle.ids.specs.declared.saves.Saves.{Saves}
 use Rattle.ids.specs.declared.saves.Saves.TheVariants.{Events, Images}
 use Rattle.disk.specs.Areas.{Areas}
-use Rattle.disk.specs.Crashes.{Unmoved}
+use Rattle.disk.specs.Crashes.{Unmoved, StaysBlank}
 use Rattle.node_store.specs.Stores.{LiesAt, is_logged_at}
 use Rattle.node_store.specs.declared.place.Place.{Place}
 use Rattle.node.specs.Keeping.{WholeNode, new_whole}
@@ -26,8 +26,7 @@ pub record AreUnmoved {D : Type 0} (seen : D → Areas) (may_leave : D → Areas
 abbrev pub HoldsNode : {D : Type 0} → (D → Areas) → (D → Areas → Type 0) → D → WholeNode
     → Option Place → Type 0
 HoldsNode seen may_leave disk n None =
-    ((c : Areas) → may_leave disk c → c.select ≡ [])
-    × (n ≡ new_whole n.core.local.shape n.core.local.own)
+    StaysBlank (may_leave disk) × (n ≡ new_whole n.core.local.shape n.core.local.own)
 HoldsNode seen may_leave disk n (Some place) =
     LiesAt seen may_leave disk place × OpensToNode n (seen disk)
 

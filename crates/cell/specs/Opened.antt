@@ -1,5 +1,5 @@
 -- Nodes in their stores, and a wire between them.
-use Rattle.std.specs.Prelude.{◌≡◌, ◌≢◌, ◌<◌, ℕ, Bool, true, false, [], List, ◌++◌, length, map, replicate, Some, slice_get}
+use Rattle.std.specs.Prelude.{◌≡◌, ◌<◌, ℕ, Bool, true, false, List, ◌++◌, length, map, replicate, Some, slice_get}
 use Rattle.ids.specs.Limits.{Shaped}
 use Rattle.ids.specs.declared.limits.TheConstants.{GREATEST_IMAGE}
 use Rattle.ids.specs.declared.refusal.Refusal.{Refusal}
@@ -12,7 +12,7 @@ use Rattle.model.specs.State.{NodeState}
 use Rattle.model.specs.View.{Link, NodeView}
 use Rattle.model.specs.World.{World}
 use Rattle.wire.specs.declared.seats.NodeSeat.{NodeSeat}
-use Rattle.disk.specs.Areas.{Areas}
+use Rattle.disk.specs.Areas.{Areas, IsBlank}
 use Rattle.disk.specs.Crashes.{HasFailed}
 use Rattle.node.specs.Keeping.{WholeNode, new_whole}
 use Rattle.image.specs.Wholes.{whole_image}
@@ -34,8 +34,8 @@ pub record IsNodeOf (shape : Shaped) (own : ℕ) (n : NodeView) : Type 0 where
 -- the node of this number, from a disk that reads as `seen`: a new one if nothing was ever created
 -- there, else the one that the disk opens to
 pub record IsReadFrom (shape : Shaped) (own : ℕ) (seen : Areas) (n : WholeNode) : Type 0 where
-  pub blank : seen.select ≡ [] → n ≡ new_whole shape own
-  pub held : seen.select ≢ [] → OpensToNode n seen
+  pub blank : IsBlank seen → n ≡ new_whole shape own
+  pub held : (IsBlank seen → ⊥) → OpensToNode n seen
 
 -- a disk that reads as `seen` holds the node of another space, or one with another number
 pub record HoldsAnother (shape : Shaped) (own : ℕ) (seen : Areas) : Type 0 where
@@ -45,13 +45,13 @@ pub record HoldsAnother (shape : Shaped) (own : ℕ) (seen : Areas) : Type 0 whe
 
 -- something was created on a disk that reads as `seen`, and it opens to no node
 pub record HoldsNone (seen : Areas) : Type 0 where
-  pub written : seen.select ≢ []
+  pub written : IsBlank seen → ⊥
   pub none : (n : WholeNode) → OpensToNode n seen → ⊥
 
 -- nothing was created on a disk that reads as `seen`, and the new node's image is longer than an
 -- image may be
 pub record IsTooLarge (shape : Shaped) (own : ℕ) (seen : Areas) : Type 0 where
-  pub blank : seen.select ≡ []
+  pub blank : IsBlank seen
   pub large : GREATEST_IMAGE < length (whole_image (new_whole shape own))
 
 -- why opening the node of this number from a disk fails, other than for lack of memory

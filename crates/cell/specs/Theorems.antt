@@ -1,11 +1,11 @@
 -- The theorems on runs, of each world that a run reaches, except perhaps for messages that are
 -- acknowledged. So they hold of spaces that were opened from used disks.
-use Rattle.std.specs.Prelude.{◌≡◌, ◌⊎◌, ℕ, List, [], Some, length, slice_get}
+use Rattle.std.specs.Prelude.{◌≡◌, ◌⊎◌, ℕ, List, Some, length, slice_get}
 use Rattle.ids.specs.Limits.{Shaped, IsShape}
 use Rattle.model.specs.declared.step.Step.{Step}
 use Rattle.model.specs.State.{new_node, node_at}
 use Rattle.model.specs.World.{World, run}
-use Rattle.disk.specs.Areas.{Areas}
+use Rattle.disk.specs.Areas.{Areas, IsBlank}
 use Rattle.node.specs.Keeping.{WholeNode}
 use Rattle.wire.specs.OneAge.{AreOfOneAge}
 use Rattle.cell.specs.Laws.{restarted, IsLeft}
@@ -17,7 +17,7 @@ abbrev pub FreshIsReached : Type 0
 FreshIsReached =
     (shape : Shaped) (nodes : List WholeNode) → IsShape shape → length nodes ≡ shape.nodes
     → ((k : ℕ) (n : WholeNode) → slice_get nodes k ≡ Some n → (c : Areas)
-    × ((c.select ≡ []) ⊎ IsLeft k shape.nodes (new_node shape k) c) × IsReadFrom shape k c n)
+    × (IsBlank c ⊎ IsLeft k shape.nodes (new_node shape k) c) × IsReadFrom shape k c n)
     → BeginReached nodes
 
 -- Whatever happens in a world that a run reaches, a run reaches the world afterwards.

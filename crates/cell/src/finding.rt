@@ -18,6 +18,7 @@
 ghost use Rattle.std.specs.Prelude.{◌≡◌, ◌≢◌, ◌⊎◌, ◌++◌, [], ◌∷◌, false, true, IfErr, IfOk, IsErrOf, IsTrue, OnOk};
 ghost use Rattle.std.specs.Prelude.{◌<◌, length, vec_len};
 ghost use Rattle.ids.specs.declared.refusal.Refusal.TheVariants.{BadImage, Memory};
+ghost use Rattle.disk.specs.Areas.{IsBlank};
 ghost use Rattle.disk.specs.Crashes.{Unmoved};
 ghost use Rattle.wire.specs.OneAge.{AreOfOneAge};
 ghost use Rattle.cell.specs.Ages.{IsWhy};
@@ -83,7 +84,7 @@ fn read_node<D: Disk>(
     disk: &mut D,
     saves: Saves,
 ) -> Result<(Node, Option<Place>), Unopened>
-    requires { (D.seen disk.old).select ≢ [] }
+    requires { IsBlank (D.seen disk.old) → ⊥ }
     ensures node { IfOk result (λ r. IsNodeOf shape own.number r.0.core) }
     ensures holds { IfOk result (λ r. HoldsNode D.seen D.may_leave disk.new r.0 r.1) }
     ensures chosen { IfOk result (λ r. IsChosen saves (D.seen disk.old) (logs_at saves r.1)) }

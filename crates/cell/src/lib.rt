@@ -1,6 +1,6 @@
-//! A node at its seat on a wire, with the disk that it is saved on. Each call is at most one event
-//! of the space. So what the threads of all nodes do with their cells is one run of the space, and
-//! every theorem about runs applies to it.
+//! A node at its seat on a wire, with the disk that it is saved on, but without a thread. Each call
+//! is at most one event of the space. So what the threads of all nodes do with their cells is one
+//! run of the space, and every theorem about runs applies to it.
 //!
 //! ```text
 //! call       what enters the history

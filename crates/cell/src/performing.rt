@@ -1,6 +1,6 @@
 //! Events of the node at a desk. An event that counts enters the history in the same call. What
 //! changes nothing, such as a repeat or the reading of a word, doesn't enter it.
-ghost use Rattle.std.specs.Prelude.{◌≡◌, ◌≢◌, ℕ, true, IfErr, IsTrue};
+ghost use Rattle.std.specs.Prelude.{◌≡◌, ◌≢◌, ℕ, cond, true, IfErr, IsTrue};
 ghost use Rattle.ids.specs.declared.refusal.Refusal.TheVariants.{Memory};
 ghost use Rattle.model.specs.Steps.{is_memory_free, is_own};
 ghost use Rattle.model.specs.declared.event.Event.TheVariants as events;
@@ -17,6 +17,14 @@ use model::{Answer, Event, Step};
 use msg::Ack;
 use node_store::act;
 use wire::Wire;
+
+// Whether something is unsaved after an event, which may count.
+#[inline(always)]
+fn is_unsaved_after(counts: bool, was: bool) -> bool
+    ensures { result ≡ cond counts true was }
+{
+    counts || was
+}
 
 impl Desk {
     // What an event of the node's own is to its core, and which step of the space it is. `Next` of
@@ -87,9 +95,8 @@ impl Desk {
         ensures stays { GoesOnAt self.old self.new }
     {
         let answer = act(&mut self.node, &mut self.log, event)?;
-        if wire.enter(&mut self.seat, step, meant, &answer) {
-            self.is_unsaved = true;
-        }
+        let counts = wire.enter(&mut self.seat, step, meant, &answer);
+        self.is_unsaved = is_unsaved_after(counts, self.is_unsaved);
         Ok(answer)
     }
 

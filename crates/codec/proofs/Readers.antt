@@ -271,5 +271,3 @@ module _ {A : Type 0} (F : Format A) (bytes : List ℕ) (a b : Reader) (x : A) w
   pub no_whole : left a ≡ Some bytes → Reads F a b x → is_whole b ≡ false
       → whole_at F.read bytes ≡ None
   no_whole all took = not_all_read F.read bytes a b (Some x) all (record { is = took.is })
-
-pub ruleset whole_read = (whole_is, no_whole)

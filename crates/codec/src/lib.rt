@@ -1,5 +1,6 @@
-//! Values as bytes: each kind of value has a format, which says how it is spelled. No spelling of a
-//! format is a prefix of another one.
+//! Values as bytes: each kind of value has a format, which says how it is spelled; those of
+//! messages, images and events are in the crates above. No spelling of a format is a prefix of
+//! another one.
 //!
 //! `specs/Formats.antt` defines the formats of numbers, and of values that are composed of others:
 //! a sequence, an optional value, one of several kinds after a tag, a list. A [`Reader`] takes

@@ -56,9 +56,6 @@ module _ (text : List ℕ) (k : ℕ) (h : IsFirstByte (is_byte 10) text (Some k)
   newline : get_or text k 0 ≡ 10
   newline = eqb-true (get_or text k 0) 10 h.1
 
-  pub before_end : IsCharBoundary text k
-  before_end = IsCharBoundary-before_ascii text k h.0.high (omega (arith, newline))
-
   pub after_end : IsUtf8 text → IsCharBoundary text (k + 1)
   after_end utf8 = IsCharBoundary-after_ascii text k utf8 h.0.high (omega (arith, newline))
 

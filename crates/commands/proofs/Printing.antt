@@ -197,12 +197,3 @@ flushed_replies script status old mid new prints kept = record {
   worst = prints.worst;
   appended = Appends-kept old mid new (printed 1 prints.replies) prints.appended kept;
 }
-
-pub flushed_unread : (why : Unread) (status : ℕ) (old mid new : Option (List ℕ))
-    → PrintsUnread why status old mid → Keeps mid new → PrintsUnread why status old new
-flushed_unread why status old mid new prints kept = record {
-  memory = λ is.
-      (let one = prints.memory is in (one.0, Appends-kept old mid new _ one.1 kept));
-  other = λ not.
-      (let one = prints.other not in (one.0, Appends-kept old mid new _ one.1 kept));
-}

@@ -1,6 +1,6 @@
-//! What the program `markring` does on one thread: it runs scripts on a space, and prints frames
-//! that words spell. The output is exactly what the definitions answer. The contracts state that
-//! for every writer whose contents are known.
+//! What the program `markring` does on one thread, with no disk: it runs scripts on a space, and
+//! prints frames that words spell. The output is exactly what the definitions answer. The contracts
+//! state that for every writer whose contents are known.
 #![tactic(auto)]
 
 mod decoding;

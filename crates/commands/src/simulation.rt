@@ -144,60 +144,26 @@ fn run_line<W: Write>(
     match state {
         State::Unopened => print_no_command(out, number),
         State::Refused(refusal) => print_refusal(out, *refusal),
-        State::Open { space, freed } => run_step(space, freed, printer, step, out),
+        State::Open { space, freed } => match step {
+            Step::Act(node, event) => {
+                let swept = sweeper(*node, event);
+                match &space.act(*node, *event) {
+                    Ok(answer) => {
+                        note(space, freed, swept, freed_by(answer));
+                        printer.put_answer(answer);
+                        print_line(printer, out)
+                    }
+                    Err(refusal) => print_refusal(out, *refusal),
+                }
+            }
+            _ => run_move(space, printer, step, out),
+        },
     }
 }
 
-/// Takes a step, and prints the outcome.
-#[inline(always)]
-fn run_step<W: Write>(
-    space: &mut Sim,
-    freed: &mut Freed,
-    printer: &mut Printer,
-    step: &Step,
-    out: &mut W,
-) -> Result<u8, Lost>
-    requires own { IsTrue (is_own_step step.now) }
-    ensures { (number : ℕ) → IfOk result (PrintsReply
-        (λ h r later. TakesStep h step.now r later) number
-        (state.Open space.old freed.old) (state.Open space.new freed.new)
-        (W.contents out.old) (W.contents out.new)) }
-{
-    match step {
-        Step::Act(node, event) => run_event(space, freed, printer, *node, *event, out),
-        _ => run_move(space, printer, step, out),
-    }
-}
-
-/// Gives a node an event, and prints the answer.
-#[inline(always)]
-fn run_event<W: Write>(
-    space: &mut Sim,
-    freed: &mut Freed,
-    printer: &mut Printer,
-    node: u8,
-    event: Event,
-    out: &mut W,
-) -> Result<u8, Lost>
-    requires own { IsTrue (is_own event) }
-    ensures { (number : ℕ) → IfOk result (PrintsReply
-        (λ h r later. TakesStep h (steps.Act node event) r later) number
-        (state.Open space.old freed.old) (state.Open space.new freed.new)
-        (W.contents out.old) (W.contents out.new)) }
-{
-    let swept = sweeper(node, &event);
-    match &space.act(node, event) {
-        Ok(answer) => {
-            note(space, freed, swept, freed_by(answer));
-            printer.put_answer(answer);
-            print_line(printer, out)
-        }
-        Err(refusal) => print_refusal(out, *refusal),
-    }
-}
-
-/// Takes a step that isn't an event, and prints the outcome. (Not inlined, so that events don't
-/// pay for it.)
+/// Takes a step that isn't an event, and prints the outcome. What each kind of step returns is put
+/// on the line at once, because an outcome is large. (Not inlined, so that events don't pay for
+/// it.)
 #[inline(never)]
 fn run_move<W: Write>(
     space: &mut Sim,
@@ -211,26 +177,16 @@ fn run_move<W: Write>(
         (state.Open space.old f) (state.Open space.new f)
         (W.contents out.old) (W.contents out.new)) }
 {
-    match take_move(space, printer, step) {
-        Ok(()) => print_line(printer, out),
-        Err(refusal) => print_refusal(out, refusal),
-    }
-}
-
-/// Takes a step that isn't an event, and puts its outcome on the line. (What each kind of step
-/// returns is put there at once, because an outcome is large.)
-#[inline(always)]
-fn take_move(space: &mut Sim, printer: &mut Printer, step: &Step) -> Result<(), Refusal>
-    requires other { (node : ℕ) (event : Event) → step.now ≢ steps.Act node event }
-    ensures { (f : Freed) → StepDone step.now result
-        (state.Open space.old f) (state.Open space.new f) printer.new }
-{
-    match step {
+    let taken = match step {
         Step::Act(..) => unreachable!(),
         Step::Save(node) => save(space, printer, *node),
         Step::Restart(node) => restart(space, printer, *node),
         Step::Deliver { from, to, number } => deliver(space, printer, *from, *to, *number),
         Step::Hand { from, to } => hand(space, printer, *from, *to),
+    };
+    match taken {
+        Ok(()) => print_line(printer, out),
+        Err(refusal) => print_refusal(out, refusal),
     }
 }
 

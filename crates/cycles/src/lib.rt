@@ -1,6 +1,6 @@
 #![tactic(auto)]
-//! A node's part in controlling the collection cycles: its [`Ring`] finds the end of marking, and
-//! its [`Phases`] say how far the node is.
+//! A node's part in controlling the collection cycles, without the marking and sweeping themselves:
+//! its [`Ring`] finds the end of marking, and its [`Phases`] say how far the node is.
 //!
 //! # The ring
 //!

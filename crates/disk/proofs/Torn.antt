@@ -3,14 +3,15 @@ use Rattle.std.specs.declared.alloc.Global.{Global}
 use Rattle.std.proofs.Common.{Vec, ◌≡◌, ◌⊎◌, ◌↔◌, inl, inr, ⊎_elim, ℕ, ◌+◌, ◌-◌, ◌≤◌, List, [], ◌∷◌}
 use Rattle.std.proofs.Common.{◌++◌, length, take, drop, replicate, refl, sym, ◌∙◌, ap, subst, arith}
 use Rattle.std.proofs.Common.{◌<◌, suc, get_or, add-one, drop-cons}
-use Rattle.std.proofs.Common.{Bool, cond, length-append, length-drop, append_assoc}
+use Rattle.std.proofs.Common.{Bool, cond, length-append, length-drop, append_assoc, Result}
 use Rattle.std.proofs.lemmas.List.{take_at, drop_at, drop-drop, drop_all, length-take-le}
 use Rattle.std.proofs.lemmas.List.{length-replicate}
 use Rattle.std.proofs.lemmas.Bool.Decides.{leb_tells}
+use Rattle.std.proofs.lemmas.Result.{on_err_weaker, on_ok_weaker}
 use Rattle.disk.specs.Areas.{Areas, part, with_part, Changes, Holds, Torn, pasted}
 use Rattle.disk.specs.Crashes.{Follows, Only, Reaches}
 use Rattle.disk.specs.Record.{areas_of, synced, reads_left, torn_in, torn_by, at_risk, leaves}
-use Rattle.disk.specs.Record.{filled_in, filled_by, filled, IsUnsynced, Loaded}
+use Rattle.disk.specs.Record.{filled_in, filled_by, filled, IsUnsynced, Loaded, Risks}
 use Rattle.disk.specs.declared.device.Area.{Area}
 use Rattle.disk.specs.declared.device.Area.TheVariants.{Select, A, B}
 use Rattle.disk.specs.declared.state.Contents.{Contents}
@@ -230,30 +231,25 @@ pub alike_leaves : (s s' : State) → Alike s s' → (c : Areas) → leaves s' c
 alike_leaves s s' alike c =
     (alike_left s s' alike c, alike_left s' s (alike_back s s' alike) c)
 
--- also after a change that leaves the outcomes of a crash as they were
-pub alike_both : (s mid : State) (new : Areas → Type 0) → Alike s mid → (c : Areas) →
-    new c ↔ leaves mid c → new c ↔ leaves s c
-alike_both s mid new alike c same = (
-  λ now. (alike_leaves s mid alike c).0 (same.0 now),
-  λ was. same.1 ((alike_leaves s mid alike c).1 was),
-)
-
 pub follows_alike : (area : Area) (at n : ℕ) (s s' : State) → Alike s s' →
     Follows (Changes area (Torn at n)) (leaves s) (leaves s')
 follows_alike area at n s s' alike c left =
     let none = unchanged area (Torn at n) c (torn_same at n (part area c)) in
     (c, (alike_leaves s s' alike c).0 left, none)
 
--- a step from one of them is one from the other
-pub follows_from : (step : Areas → Areas → Type 0) (s s' : State) (new : Areas → Type 0) →
-    Alike s s' → Follows step (leaves s') new → Follows step (leaves s) new
-follows_from step s s' new alike follows c left =
-    let from = follows c left in (from.0, (alike_leaves s s' alike from.0).0 from.1, from.2)
-
-pub reaches_from : (step : Areas → Areas → Type 0) (s s' : State) (new : Areas → Type 0) →
-    Alike s s' → Reaches step (leaves s') new → Reaches step (leaves s) new
-reaches_from step s s' new alike reaches d c left =
-    reaches d c ((alike_leaves s s' alike d).1 left)
+-- a range that is recorded from one of them is recorded from the other
+pub risks_from : {T E : Type 0} {area : Area} {at n : ℕ} {s mid new : State} {r : Result T E} →
+    Alike s mid → Risks area at n mid new r → Risks area at n s new r
+risks_from {s = s} {mid} {r = r} alike risks = record {
+  crash = λ c left.
+      let from = risks.crash c left in (from.0, (alike_leaves s mid alike from.0).0 from.1, from.2);
+  torn = on_ok_weaker r
+      (λ reaches d c left. reaches d c ((alike_leaves s mid alike d).1 left)) risks.torn;
+  refused = on_err_weaker r (λ same c. (
+    λ now. (alike_leaves s mid alike c).0 ((same c).0 now),
+    λ was. (same c).1 ((alike_leaves s mid alike c).1 was),
+  )) risks.refused;
+}
 
 -- nothing was written
 pub changed_none : (area : Area) (at n : ℕ) (d d' : Areas) → d' ≡ d → Changes area (Torn at n) d d'

@@ -1,5 +1,5 @@
 -- The three areas of a disk, and what reads and writes do to one.
-use Rattle.std.specs.Prelude.{◌≡◌, ℕ, ◌+◌, ◌-◌, ◌≤◌, min, max, List, ◌++◌, length, take, drop}
+use Rattle.std.specs.Prelude.{◌≡◌, ℕ, ◌+◌, ◌-◌, ◌≤◌, min, max, List, [], ◌++◌, length, take, drop}
 use Rattle.disk.specs.declared.device.Area.{Area}
 use Rattle.disk.specs.declared.device.Area.TheVariants.{Select, A, B}
 
@@ -8,6 +8,10 @@ pub record Areas : Type 0 where
   pub select : List ℕ
   pub a : List ℕ
   pub b : List ℕ
+
+-- nothing was ever created on a disk: its selector is empty
+abbrev pub IsBlank : Areas → Type 0
+IsBlank d = d.select ≡ []
 
 -- the bytes of one area
 abbrev pub part : Area → Areas → List ℕ

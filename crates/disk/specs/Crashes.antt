@@ -1,6 +1,6 @@
 -- What a crash may leave, as time passes.
 use Rattle.std.specs.Prelude.{◌≡◌, ◌⊎◌, ℕ, ◌+◌, ◌^◌, ◌<◌, ◌≤◌}
-use Rattle.disk.specs.Areas.{Areas}
+use Rattle.disk.specs.Areas.{Areas, IsBlank}
 
 -- each outcome of a crash that is possible now is one step from one that was possible before
 abbrev pub Follows : (Areas → Areas → Type 0) → (Areas → Type 0) → (Areas → Type 0) → Type 0
@@ -13,6 +13,10 @@ Reaches step old new = (d c : Areas) → old d → step d c → new c
 -- a crash leaves this and nothing else
 abbrev pub Only : Areas → (Areas → Type 0) → Type 0
 Only here outcomes = (c : Areas) → outcomes c → c ≡ here
+
+-- a crash leaves only disks on which nothing was ever created
+abbrev pub StaysBlank : (Areas → Type 0) → Type 0
+StaysBlank outcomes = (c : Areas) → outcomes c → IsBlank c
 
 -- Time passes: a crash since t may have left what it may have left before, or what it may leave
 -- now.
@@ -47,6 +51,13 @@ pub record HasCause (before now : ℕ) (fault : Type 0) : Type 0 where
   pub later : before ≤ now
   pub failed : fault → Grew before now
   pub fine : (fault → ⊥) → now ≡ before
+
+-- calls that only read a disk: nothing of it changes but the count of failures, if this is one
+pub record OnlyRead {D : Type 0} (seen : D → Areas) (may_leave : D → Areas → Type 0)
+    (moment : D → ℕ) (left_since : D → ℕ → Areas → Type 0) (faults : D → ℕ) (fault : Type 0)
+    (old new : D) : Type 0 where
+  pub quiet : Unmoved seen may_leave moment left_since old new
+  pub cause : HasCause (faults old) (faults new) fault
 
 -- a call of this disk has failed since, as its count at a later moment shows
 pub record HasFailed {D : Type 0} (moment faults : D → ℕ) (disk : D) : Type 0 where

@@ -1,6 +1,6 @@
 -- Which calls of a disk in memory fail: none, all after this many more, or one after this many
 -- more.
-use Rattle.std.specs.Prelude.{◌≡◌, ◌==◌, ◌-◌, ℕ, Bool, false, IsTrue, if◌then◌else◌}
+use Rattle.std.specs.Prelude.{◌≡◌, ◌↔◌, ◌==◌, ◌-◌, ℕ, Bool, false, IsTrue, if◌then◌else◌}
 use Rattle.disk.specs.declared.plan.Plan.{Plan}
 use Rattle.disk.specs.declared.plan.Plan.TheVariants.{Never, From, Once}
 
@@ -27,4 +27,9 @@ one_less (Once good) = if good == 0 then Never else Once (good - 1)
 -- a call fails if it is due, and counts as one
 pub record AsPlanned (before after : Plan) (fault : Type 0) : Type 0 where
   pub fails : IsTrue (is_due before) → fault
+  pub next : after ≡ one_less before
+
+-- a call fails if and only if it is due, and counts as one
+pub record OnlyAsPlanned (before after : Plan) (fault : Type 0) : Type 0 where
+  pub fails : IsTrue (is_due before) ↔ fault
   pub next : after ≡ one_less before

@@ -1,10 +1,11 @@
 -- What the record of a disk in memory says: its current state, and the states of the past moments.
-use Rattle.std.specs.Prelude.{◌≡◌, ◌⊎◌, ℕ, ◌+◌, ◌≤◌, List, [], ◌∷◌, length, replicate, vec_capacity}
-use Rattle.std.specs.Prelude.{if◌then◌else◌, refl, ⊤}
+use Rattle.std.specs.Prelude.{◌≡◌, ◌⊎◌, ◌↔◌, ℕ, ◌+◌, ◌≤◌, List, [], ◌∷◌, length, replicate}
+use Rattle.std.specs.Prelude.{if◌then◌else◌, OnErr, OnOk, refl, Result, ⊤, vec_capacity}
 use Rattle.std.proofs.Common.{inl, inr, arith}
 use Rattle.std.specs.Prelude.{leb}
 use Rattle.disk.specs.Areas.{Areas, NoLonger, part, with_part, Changes, Torn, pasted}
-use Rattle.disk.specs.Crashes.{Elapses, Reaches}
+use Rattle.disk.specs.Crashes.{Elapses, Follows, Reaches}
+use Rattle.disk.specs.declared.account.Account.{Account}
 use Rattle.disk.specs.declared.device.Area.{Area}
 use Rattle.disk.specs.declared.device.Area.TheVariants.{Select, A, B}
 use Rattle.disk.specs.declared.state.Contents.{Contents}
@@ -45,6 +46,14 @@ at_risk s c = torn_by s.ranges.items (λ x. x ≡ synced s) c
 unfoldable pub leaves : State → Areas → Type 0
 leaves s c = (c ≡ areas_of s.held) ⊎ at_risk s c
 
+-- From now on a crash may leave any bytes in a range, if that was recorded. If it wasn't, a crash
+-- leaves what it left.
+pub record Risks {T E : Type 0} (area : Area) (at len : ℕ) (old new : State) (result : Result T E)
+    : Type 0 where
+  pub crash : Follows (Changes area (Torn at len)) (leaves old) (leaves new)
+  pub torn : OnOk result (Reaches (Changes area (Torn at len)) (leaves old) (at_risk new))
+  pub refused : OnErr result ((c : Areas) → leaves new c ↔ leaves old c)
+
 -- a crash may leave any bytes, as many as the areas hold or fewer
 abbrev pub IsUnsynced : State → Type 0
 IsUnsynced s = (c : Areas) → NoLonger (areas_of s.held) c → leaves s c
@@ -80,6 +89,12 @@ abbrev pub HasPassed : Past → State → Past → Type 0
 HasPassed past s later = (s' : State) →
     Elapses (moments past) (moments later) (left_since past s) (left_since later s') (leaves s')
 
+-- time passes between what a disk knows of itself at one moment and at a later one
+abbrev pub Passes : Account → Account → Type 0
+Passes old new =
+    Elapses (moments old.past.value) (moments new.past.value)
+    (left_since old.past.value old.state) (left_since new.past.value new.state) (leaves new.state)
+
 -- what a crash leaves if each byte of a range became this one
 abbrev pub filled_in : ℕ → Range → Areas → Areas
 filled_in fill r m =
@@ -101,9 +116,9 @@ pub reads_left : (s : State) → leaves s (areas_of s.held)
 unfolding leaves
 reads_left s = inl refl
 
-pub counts_now : (past : Past) (s : State) (t : ℕ) (c : Areas) →
-    t ≤ moments past → leaves s c → left_since past s t c
-counts_now past s t c le now = inr now
+pub counts_now : (a : Account) (t : ℕ) (c : Areas) →
+    t ≤ moments a.past.value → leaves a.state c → left_since a.past.value a.state t c
+counts_now a t c le now = inr now
 
 none_later : (past : Past) (t : ℕ) (c : Areas) → moments past ≤ t → left_before past t c → ⊥
 none_later Start t c le left = left
@@ -111,7 +126,8 @@ none_later (Then' m before state) t c le (inl earlier) =
     none_later before t c (omega (arith, le)) earlier
 none_later (Then' m before state) t c le (inr last) = absurd (omega (arith, le, last.0))
 
-pub only_now : (past : Past) (s : State) (c : Areas) →
-    left_since past s (moments past) c → leaves s c
-only_now past s c (inl earlier) = absurd (none_later past (moments past) c (omega arith) earlier)
-only_now past s c (inr now) = now
+pub only_now : (a : Account) (c : Areas) →
+    left_since a.past.value a.state (moments a.past.value) c → leaves a.state c
+only_now a c (inl earlier) =
+    absurd (none_later a.past.value (moments a.past.value) c (omega arith) earlier)
+only_now a c (inr now) = now

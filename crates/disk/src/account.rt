@@ -3,8 +3,7 @@
 ghost use Rattle.std.specs.Prelude.{◌≡◌, ◌≤◌, ◌+◌, ◌↔◌, length, IfErr, IsErr, OnErr, OnOk, ⊤};
 ghost use Rattle.disk.specs.Areas.{Areas, Changes, Torn, part, pasted, with_part};
 ghost use Rattle.disk.specs.Crashes.{Elapses, Follows, HasCause, Only, Reaches};
-ghost use Rattle.disk.specs.Record.{areas_of, at_risk, leaves, left_since, moments, room, synced};
-ghost use Rattle.disk.specs.Record.{HasPassed, IsThen};
+ghost use Rattle.disk.specs.Record.{areas_of, HasPassed, IsThen, leaves, Passes, Risks, room, synced};
 
 use crate::state::{Contents, Past, State, start, tick};
 use crate::{Area, DiskFault};
@@ -65,12 +64,7 @@ impl Account {
     pub(crate) fn risk(&mut self, area: Area, at: usize, len: usize) -> Result<(), DiskFault>
         ensures held { self.new.state.held ≡ self.old.state.held }
         ensures synced { synced self.new.state ≡ synced self.old.state }
-        ensures crash { Follows (Changes area (Torn at len))
-            (leaves self.old.state) (leaves self.new.state) }
-        ensures torn { OnOk result (Reaches (Changes area (Torn at len))
-            (leaves self.old.state) (at_risk self.new.state)) }
-        ensures refused { OnErr result
-            ((c : Areas) → leaves self.new.state c ↔ leaves self.old.state c) }
+        ensures risks { Risks area at len self.old.state self.new.state result }
         ensures memory { IfErr result (λ e. e ≡ DiskFault.Memory) }
         ensures time { IsThen self.old.past.value self.old.state self.new.past.value }
         ensures cause { HasCause self.old.failures self.new.failures (IsErr result) }
@@ -90,19 +84,11 @@ impl Account {
         ensures held { areas_of self.new.state.held ≡ areas_of self.old.state.held }
         ensures synced { synced self.new.state ≡ synced self.old.state }
         ensures room { OnOk result (at + len ≤ room area self.new.state.held) }
-        ensures crash { Follows (Changes area (Torn at len))
-            (leaves self.old.state) (leaves self.new.state) }
-        ensures torn { OnOk result (Reaches (Changes area (Torn at len))
-            (leaves self.old.state) (at_risk self.new.state)) }
-        ensures refused { OnErr result
-            ((c : Areas) → leaves self.new.state c ↔ leaves self.old.state c) }
+        ensures risks { Risks area at len self.old.state self.new.state result }
         ensures memory { IfErr result (λ e. e ≡ DiskFault.Memory) }
         ensures gone { OnOk result
             (HasPassed self.old.past.value self.old.state self.new.past.value) }
-        ensures time { OnErr result
-            (Elapses (moments self.old.past.value) (moments self.new.past.value)
-            (left_since self.old.past.value self.old.state)
-            (left_since self.new.past.value self.new.state) (leaves self.new.state)) }
+        ensures time { OnErr result (Passes self.old self.new) }
         ensures cause { HasCause self.old.failures self.new.failures (IsErr result) }
     {
         if self.state.reserve(area, at, len).is_err() {

@@ -463,7 +463,7 @@ impl<F: FileExt + OpenFile> Disk for FileDisk<F> {
 
     ghost reads_left = { λ d. reads_left d.account.state };
 
-    ghost counts_now = { λ d t c le now. counts_now d.account.past.value d.account.state t c le now };
+    ghost counts_now = { λ d. counts_now d.account };
 
-    ghost only_now = { λ d c left. only_now d.account.past.value d.account.state c left };
+    ghost only_now = { λ d. only_now d.account };
 }

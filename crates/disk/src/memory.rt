@@ -3,10 +3,10 @@
 ghost use Rattle.std.specs.Prelude.{◌≡◌, ◌≤◌, ◌↔◌, length, IfOk, IfErr, IsErr, IsErrOf, OnOk};
 ghost use Rattle.std.specs.Prelude.{IsTrue, OnErr};
 ghost use Rattle.disk.specs.Areas.{Areas, Changes, Holds, Reads, Torn, part};
-ghost use Rattle.disk.specs.Crashes.{Elapses, Follows, HasCause, Only, Reaches};
-ghost use Rattle.disk.specs.Record.{areas_of, leaves, moments, left_since, synced};
+ghost use Rattle.disk.specs.Crashes.{Follows, HasCause, Only, Reaches};
+ghost use Rattle.disk.specs.Record.{areas_of, leaves, left_since, moments, Passes, synced};
 ghost use Rattle.disk.specs.Record.{reads_left, counts_now, only_now};
-ghost use Rattle.disk.specs.Plan.{AsPlanned, fails_from, fails_once, is_due};
+ghost use Rattle.disk.specs.Plan.{AsPlanned, fails_from, fails_once, OnlyAsPlanned};
 ghost use Rattle.disk.specs.Undo.{undone, IsUndone};
 
 use crate::account::Account;
@@ -42,7 +42,7 @@ impl Drop for MemoryDisk {
 }
 
 impl MemoryDisk {
-    ghost use Rattle.disk.specs.Memory.{blank, held_by, left_by, filled_by_crash, IsFaultless};
+    ghost use Rattle.disk.specs.Memory.{AfterCrash, blank, held_by, IsFaultless, left_by};
 
     /// A disk that holds nothing, and a crash leaves it so.
     pub fn new(alloc: Global) -> MemoryDisk
@@ -76,15 +76,21 @@ impl MemoryDisk {
         }
     }
 
+    /// From now on, the disk's calls fail as this plan says.
+    pub fn follow(&mut self, plan: Plan)
+        ensures plan { self.new.plan ≡ plan }
+        ensures account { self.new.account ≡ self.old.account }
+    {
+        self.plan = plan;
+    }
+
     /// From now on, the `k`-th read, write or sync and all later ones fail; 0 means the same as 1:
     /// all fail.
     pub fn fail_from(&mut self, k: u64)
         ensures plan { self.new.plan ≡ fails_from k }
         ensures account { self.new.account ≡ self.old.account }
     {
-        self.plan = Plan::From {
-            good: k.saturating_sub(1),
-        };
+        self.follow(Plan::from_call(k));
     }
 
     /// The `k`-th read, write or sync from now on fails, and no later one; 0 means the same as 1:
@@ -93,9 +99,7 @@ impl MemoryDisk {
         ensures plan { self.new.plan ≡ fails_once k }
         ensures account { self.new.account ≡ self.old.account }
     {
-        self.plan = Plan::Once {
-            good: k.saturating_sub(1),
-        };
+        self.follow(Plan::at_call(k));
     }
 
     // What the disk knows of itself.
@@ -142,16 +146,56 @@ impl MemoryDisk {
     /// `fill`. None of its calls fail, and a crash leaves it as it is. Fails with `Memory` if an
     /// allocation fails.
     pub fn after_crash(&self, fill: u8) -> Result<MemoryDisk, Refusal>
-        ensures filled { IfOk result (λ d. held_by d ≡ filled_by_crash fill self.now) }
-        ensures left { IfOk result (λ d. left_by self.now (held_by d)) }
-        ensures durable { IfOk result (λ d. Only (held_by d) (left_by d)) }
-        ensures faultless { IfOk result IsFaultless }
+        ensures left { IfOk result (AfterCrash fill self.now) }
         ensures memory { IfErr result (λ e. e ≡ Refusal.Memory) }
     {
         let alloc = self.account.alloc;
         let last = self.last_synced()?;
         let left = self.account.state.filled(alloc, last, fill)?;
         Ok(MemoryDisk::holding(alloc, left))
+    }
+}
+
+/// What has a disk in memory, which tests make fail and crash: a store over such a disk.
+pub trait OverMemory {
+    ghost use Rattle.disk.specs.Memory.{AfterCrash};
+    ghost use Rattle.disk.specs.declared.memory.MemoryDisk.{MemoryDisk};
+
+    /// The disk.
+    ghost disk: { Self → MemoryDisk };
+
+    /// All that isn't on the disk is the same.
+    ghost same: { Self → Self → Type 0 };
+
+    /// From now on, the disk's calls fail as this plan says.
+    fn follow(&mut self, plan: Plan)
+        ensures plan { (disk self.new).plan ≡ plan }
+        ensures account { (disk self.new).account ≡ (disk self.old).account }
+        ensures same { same self.old self.new };
+
+    /// The disk that a crash now leaves; see [`MemoryDisk::after_crash`].
+    fn after_crash(&self, fill: u8) -> Result<MemoryDisk, Refusal>
+        ensures left { IfOk result (AfterCrash fill (disk self.now)) }
+        ensures memory { IfErr result (λ e. e ≡ Refusal.Memory) };
+
+    /// From now on, the `k`-th call of the disk and all later ones fail; see
+    /// [`MemoryDisk::fail_from`].
+    fn fail_from(&mut self, k: u64)
+        ensures plan { (disk self.new).plan ≡ fails_from k }
+        ensures account { (disk self.new).account ≡ (disk self.old).account }
+        ensures same { same self.old self.new }
+    {
+        self.follow(Plan::from_call(k));
+    }
+
+    /// The `k`-th call of the disk from now on fails, and no later one; see
+    /// [`MemoryDisk::fail_once`].
+    fn fail_once(&mut self, k: u64)
+        ensures plan { (disk self.new).plan ≡ fails_once k }
+        ensures account { (disk self.new).account ≡ (disk self.old).account }
+        ensures same { same self.old self.new }
+    {
+        self.follow(Plan::at_call(k));
     }
 }
 
@@ -174,8 +218,7 @@ impl Disk for MemoryDisk {
         ensures past { self.new.account.past ≡ self.old.account.past }
         ensures cause { HasCause self.old.account.failures self.new.account.failures
             (IsErr result) }
-        ensures plan { AsPlanned self.old.plan self.new.plan (IsErr result) }
-        ensures only_planned { IsErr result → IsTrue (is_due self.old.plan) }
+        ensures plan { OnlyAsPlanned self.old.plan self.new.plan (IsErr result) }
     {
         if falters(&mut self.plan) {
             return Err(self.account.fault(DiskFault::Device));
@@ -203,11 +246,7 @@ impl Disk for MemoryDisk {
         ensures refused { IsErrOf result DiskFault.Memory →
             (areas_of self.new.account.state.held ≡ areas_of self.old.account.state.held)
             × ((c : Areas) → leaves self.new.account.state c ↔ leaves self.old.account.state c) }
-        ensures time { Elapses
-            (moments self.old.account.past.value) (moments self.new.account.past.value)
-            (left_since self.old.account.past.value self.old.account.state)
-            (left_since self.new.account.past.value self.new.account.state)
-            (leaves self.new.account.state) }
+        ensures time { Passes self.old.account self.new.account }
         ensures cause { HasCause self.old.account.failures self.new.account.failures
             (IsErr result) }
         ensures plan { AsPlanned self.old.plan self.new.plan (IsErr result) }
@@ -233,15 +272,10 @@ impl Disk for MemoryDisk {
             leaves self.new.account.state c → leaves self.old.account.state c }
         ensures kept { OnErr result ((c : Areas) →
             leaves self.old.account.state c → leaves self.new.account.state c) }
-        ensures time { Elapses
-            (moments self.old.account.past.value) (moments self.new.account.past.value)
-            (left_since self.old.account.past.value self.old.account.state)
-            (left_since self.new.account.past.value self.new.account.state)
-            (leaves self.new.account.state) }
+        ensures time { Passes self.old.account self.new.account }
         ensures cause { HasCause self.old.account.failures self.new.account.failures
             (IsErr result) }
-        ensures plan { AsPlanned self.old.plan self.new.plan (IsErr result) }
-        ensures only_planned { IsErr result → IsTrue (is_due self.old.plan) }
+        ensures plan { OnlyAsPlanned self.old.plan self.new.plan (IsErr result) }
     {
         if falters(&mut self.plan) {
             return Err(self.account.fault(DiskFault::Device));
@@ -257,7 +291,7 @@ impl Disk for MemoryDisk {
 
     ghost reads_left = { λ d. reads_left d.account.state };
 
-    ghost counts_now = { λ d t c le now. counts_now d.account.past.value d.account.state t c le now };
+    ghost counts_now = { λ d. counts_now d.account };
 
-    ghost only_now = { λ d c left. only_now d.account.past.value d.account.state c left };
+    ghost only_now = { λ d. only_now d.account };
 }

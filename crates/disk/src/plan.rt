@@ -1,7 +1,7 @@
 //! Which calls of a disk in memory fail: all from one on, or a single one. So a test can make a
 //! device fail at each of its calls.
 ghost use Rattle.std.specs.Prelude.{◌≡◌};
-ghost use Rattle.disk.specs.Plan.{is_due, one_less};
+ghost use Rattle.disk.specs.Plan.{fails_from, fails_once, is_due, one_less};
 
 /// Which calls of a disk fail.
 #[derive(Clone, Copy)]
@@ -11,6 +11,26 @@ pub enum Plan {
     From { good: u64 },
     /// One, after `good` ones that succeed.
     Once { good: u64 },
+}
+
+impl Plan {
+    /// The `k`-th call from now on and all later ones fail; 0 means the same as 1: all fail.
+    pub fn from_call(k: u64) -> Plan
+        ensures { result ≡ fails_from k }
+    {
+        Plan::From {
+            good: k.saturating_sub(1),
+        }
+    }
+
+    /// The `k`-th call from now on fails, and no later one; 0 means the same as 1: the next one.
+    pub fn at_call(k: u64) -> Plan
+        ensures { result ≡ fails_once k }
+    {
+        Plan::Once {
+            good: k.saturating_sub(1),
+        }
+    }
 }
 
 /// Whether this call fails.

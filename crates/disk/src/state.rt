@@ -160,7 +160,7 @@ impl Contents {
 }
 
 impl State {
-    ghost use Rattle.disk.specs.Record.{areas_of, at_risk, filled, leaves, room, synced};
+    ghost use Rattle.disk.specs.Record.{areas_of, filled, Risks, room, synced};
 
     /// A disk that holds this, all of it synced.
     pub(crate) fn new(alloc: Global, held: Contents) -> State
@@ -211,10 +211,7 @@ impl State {
     pub(crate) fn note(&mut self, area: Area, at: usize, len: usize) -> Result<(), AllocError>
         ensures held { self.new.held ≡ self.old.held }
         ensures synced { synced self.new ≡ synced self.old }
-        ensures crash { Follows (Changes area (Torn at len)) (leaves self.old) (leaves self.new) }
-        ensures torn { OnOk result
-            (Reaches (Changes area (Torn at len)) (leaves self.old) (at_risk self.new)) }
-        ensures refused { OnErr result ((c : Areas) → leaves self.new c ↔ leaves self.old c) }
+        ensures risks { Risks area at len self.old self.new result }
     {
         let before = Snapshot::of(&self.held);
         self.ranges.push(Range {

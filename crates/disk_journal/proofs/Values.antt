@@ -7,6 +7,8 @@ use Rattle.disk.specs.Areas.{Areas, part}
 use Rattle.disk_shelf.specs.Logs.{EndsAt, IsBehind, IsKept, IsLoggedIf, IsLoggedTo, LeadAll, OldOrWhole}
 use Rattle.disk_shelf.specs.Logs.{Opens, OpensIf, Restores}
 use Rattle.disk_shelf.specs.Shelf.{half, image_at, opened, recorded, side}
+use Rattle.disk.specs.Crashes.{LeavesOnly}
+use Rattle.disk_shelf.proofs.Moments.{weaker}
 use Rattle.disk_shelf.proofs.Quiet.{same_some, some_no_none}
 use Rattle.disk_shelf.proofs.Logs.{one_meaning, selected_if}
 use Rattle.disk_shelf.proofs.Sides.{image_on}
@@ -146,13 +148,25 @@ module _ {V : Type 0} {logs : List ℕ → Bool} {reads : List ℕ → V → Typ
   }
 
   -- the log stayed, or an image took its place
-  pub restores_turned : {image : List ℕ} {old new : V} {d c : Areas}
+  restores_turned : {image : List ℕ} {old new : V} {d c : Areas}
       (r : Restores logs reads leads old d) → logs image ≡ true → reads image new →
       OldOrWhole (logs r.image) r.image r.batches image c →
       RestoresEither logs reads leads old new c
   restores_turned r logged read =
       ⊎_elim (λ stays. inl (restores_still r stays))
       (λ opens. inr (restores_image logged read opens))
+
+  -- at any moment of that write, of an image that is spelled so
+  pub turned_leaves : {D : Type 0} {moment : D → ℕ} {left_since : D → ℕ → Areas → Type 0}
+      {before after : D} {image spelled : List ℕ} {old new : V} {d : Areas} →
+      logs image ≡ true → reads image new → spelled ≡ image → (r : Restores logs reads leads old d) →
+      LeavesOnly moment left_since before after
+      (OldOrWhole (logs r.image) r.image r.batches spelled) →
+      LeavesOnly moment left_since before after (RestoresEither logs reads leads old new)
+  turned_leaves {moment = moment} {left_since} {before} {after} logged read same r run =
+      weaker (subst (λ l. LeavesOnly moment left_since before after
+      (OldOrWhole (logs r.image) r.image r.batches l)) same run)
+      (λ c. restores_turned r logged read)
 
 -- ---- where the log of a journal ends
 

@@ -1,18 +1,19 @@
 //! A crash-consistent store of one value, kept as an image and a log of what happened since. A
 //! batch of the log costs its own bytes and two syncs, however large the image of the value is. A
 //! crash leaves the value that was there or the new one.
-ghost use Rattle.std.specs.Prelude.{◌≡◌, ◌≢◌, ◌⊎◌, ◌↔◌, ◌<◌, ◌≤◌, ◌++◌, ◌-◌, List, ℕ, Bool, [], ◌∷◌};
+ghost use Rattle.std.specs.Prelude.{◌≡◌, ◌≢◌, ◌↔◌, ◌<◌, ◌≤◌, ◌++◌, ◌-◌, List, ℕ, Bool, [], ◌∷◌};
 ghost use Rattle.std.specs.Prelude.{length, take, drop, IfErr, IfOk, IfSome, IsErr, IsErrOf, IsTrue};
-ghost use Rattle.std.specs.Prelude.{MatchResult, None, OnErr, OnOk, Some, true, false};
+ghost use Rattle.std.specs.Prelude.{MatchResult, None, OnOk, Some, true, false};
 ghost use Rattle.ids.specs.declared.limits.TheConstants.{GREATEST_IMAGE};
 ghost use Rattle.disk.specs.Areas.{Areas};
-ghost use Rattle.disk.specs.Crashes.{Grew, HasCause, LeavesOnly, Only, Unmoved};
+ghost use Rattle.disk.specs.Crashes.{HasCause, LeavesOnly, OnlyRead, StaysBlank, Unmoved};
 ghost use Rattle.disk_shelf.specs.Logs.{IsKept, OldOrNewLog, Opens, Restores};
-ghost use Rattle.disk_shelf.specs.Shelf.{SelectsLength, record_of};
+ghost use Rattle.disk_shelf.specs.Refusals.{AfterSave, IsHandedBack, IsUnread, IsUnwritten};
+ghost use Rattle.disk_shelf.specs.Shelf.{record_of};
 ghost use Rattle.disk_journal.specs.Journal.{RestoresEither, RestoresNone};
 ghost use Rattle.disk_journal.specs.Tails.{place_for};
 
-use disk::{Disk, MemoryDisk};
+use disk::{Disk, MemoryDisk, OverMemory, Plan};
 use disk_shelf::log::{begin, extend, replay_log, shut, turn};
 use disk_shelf::{HEAD, Persist, Replay, recall_image, record, spelled};
 use ids::{GREATEST_IMAGE, Refusal};
@@ -98,9 +99,7 @@ fn spelled_shut<P: Persist>(alloc: Global, value: &P::Value) -> Result<Vec<u8>, 
     ensures bytes { IfOk result (λ v. v.items ≡ record_of (P.image value.now) ++ 0 ∷ []) }
     ensures readable { OnOk result (P.reads (P.image value.now) (P.saved value.now)) }
     ensures within { OnOk result (length (P.image value.now) ≤ GREATEST_IMAGE) }
-    ensures too_large { IfErr result (λ e.
-        e ≡ Refusal.ImageTooLarge ↔ GREATEST_IMAGE < length (P.image value.now)) }
-    ensures others { IfErr result (λ e. (e ≡ Refusal.Memory) ⊎ (e ≡ Refusal.ImageTooLarge)) }
+    ensures refused { IfErr result (IsUnwritten (P.image value.now)) }
 {
     let bytes = spelled::<P>(alloc, value)?;
     Ok(shut(bytes)?)
@@ -128,13 +127,9 @@ where
     ensures value { IfOk result (λ r. Restores P.logs P.reads P.leads r.1 (D.seen disk.old)) }
     ensures kept { IfOk result (λ r.
         IsKept D.seen D.may_leave P.logs disk.new r.0.in_b r.0.end) }
-    ensures bad { IfErr result (λ e. e ≡ Refusal.BadImage → (value : P.Value)
-        → Restores P.logs P.reads P.leads value (D.seen disk.old) → ⊥) }
-    ensures memory { IfErr result (λ e. e ≡ Refusal.Memory → SelectsLength (D.seen disk.old)) }
+    ensures refused { IfErr result (IsUnread (Restores P.logs P.reads P.leads) (D.seen disk.old)) }
     ensures quiet { Unmoved D.seen D.may_leave D.moment D.left_since disk.old disk.new }
     ensures cause { HasCause (D.faults disk.old) (D.faults disk.new) (IsErrOf result Refusal.Disk) }
-    ensures others { IfErr result (λ e. (e ≡ Refusal.Memory)
-        ⊎ ((e ≡ Refusal.BadImage) ⊎ (e ≡ Refusal.Disk))) }
 {
     let (in_b, image) = recall_image(alloc, disk)?;
     let mut value = P::from_bytes(alloc, &image)?;
@@ -176,7 +171,7 @@ impl<D: Disk, P: Replay> Journal<D, P> {
         mut disk: D,
         value: &P::Value,
     ) -> Result<Journal<D, P>, (D, Refusal)>
-        requires { (c : Areas) → D.may_leave disk c → c.select ≡ [] }
+        requires { StaysBlank (D.may_leave disk) }
 
         ensures created { IfOk result (λ j.
             Restores P.logs P.reads P.leads (P.saved value.now) (D.seen j.disk)) }
@@ -186,14 +181,8 @@ impl<D: Disk, P: Replay> Journal<D, P> {
             (RestoresNone P.logs P.reads P.leads (P.saved value.now)))
             (λ e. LeavesOnly D.moment D.left_since disk e.0
             (RestoresNone P.logs P.reads P.leads (P.saved value.now))) }
-        ensures disk { IfErr result (λ e.
-            e.1 ≡ Refusal.Disk → Grew (D.faults disk) (D.faults e.0)) }
-        ensures too_large { MatchResult result
-            (λ _. length (P.image value.now) ≤ GREATEST_IMAGE)
-            (λ e. e.1 ≡ Refusal.ImageTooLarge ↔ GREATEST_IMAGE < length (P.image value.now)) }
-        ensures unchanged { IfErr result (λ e. e.1 ≢ Refusal.Disk → e.0 ≡ disk) }
-        ensures others { IfErr result (λ e. (e.1 ≡ Refusal.Memory)
-            ⊎ ((e.1 ≡ Refusal.ImageTooLarge) ⊎ (e.1 ≡ Refusal.Disk))) }
+        ensures within { OnOk result (length (P.image value.now) ≤ GREATEST_IMAGE) }
+        ensures refused { IfErr result (IsHandedBack D.faults (P.image value.now) disk) }
     {
         let bytes = match spelled_shut::<P>(alloc, value) {
             Ok(bytes) => bytes,
@@ -229,21 +218,14 @@ impl<D: Disk, P: Replay> Journal<D, P> {
         P::Value: Drop,
         ensures opened { IfOk result (λ r.
             Restores P.logs P.reads P.leads r.1 (D.seen disk)) }
-        ensures same { IfOk result (λ r. D.seen r.0.disk ≡ D.seen disk) }
         ensures ready { IfOk result (λ r. r.0.ready ≡ true) }
-        ensures bad { IfErr result (λ e. e ≡ Refusal.BadImage → (value : P.Value)
-            → Restores P.logs P.reads P.leads value (D.seen disk) → ⊥) }
-        ensures memory { IfErr result (λ e. e ≡ Refusal.Memory → SelectsLength (D.seen disk)) }
-        ensures quiet { IfOk result (λ r.
-            Unmoved D.seen D.may_leave D.moment D.left_since disk r.0.disk) }
-        ensures fine { IfOk result (λ r. D.faults r.0.disk ≡ D.faults disk) }
+        ensures refused { IfErr result (IsUnread (Restores P.logs P.reads P.leads) (D.seen disk)) }
+        ensures read { IfOk result (λ r.
+            OnlyRead D.seen D.may_leave D.moment D.left_since D.faults ⊥ disk r.0.disk) }
 
         // The disk at the time when it was dropped.
-        ensures given_up { IfErr result (λ e. (d : D)
-            × Unmoved D.seen D.may_leave D.moment D.left_since disk d
-            × HasCause (D.faults disk) (D.faults d) (e ≡ Refusal.Disk)) }
-        ensures others { IfErr result (λ e. (e ≡ Refusal.Memory)
-            ⊎ ((e ≡ Refusal.BadImage) ⊎ (e ≡ Refusal.Disk))) }
+        ensures given_up { IfErr result (λ e. (d : D) × OnlyRead D.seen D.may_leave D.moment
+            D.left_since D.faults (e ≡ Refusal.Disk) disk d) }
     {
         let (tail, value) = read_logged::<D, P>(alloc, &mut disk)?;
         let journal = Journal {
@@ -283,16 +265,10 @@ impl<D: Disk, P: Replay> Journal<D, P> {
             Restores P.logs P.reads P.leads v (D.seen self.old.disk)) }
         ensures ready { OnOk result (self.new.ready ≡ true) }
         ensures shut { IsErr result → self.new.ready ≡ false }
-        ensures bad { IfErr result (λ e. e ≡ Refusal.BadImage → (value : P.Value)
-            → Restores P.logs P.reads P.leads value (D.seen self.old.disk) → ⊥) }
-        ensures memory { IfErr result (λ e.
-            e ≡ Refusal.Memory → SelectsLength (D.seen self.old.disk)) }
-        ensures quiet { Unmoved D.seen D.may_leave D.moment D.left_since
-            self.old.disk self.new.disk }
-        ensures disk { IsErrOf result Refusal.Disk →
-            Grew (D.faults self.old.disk) (D.faults self.new.disk) }
-        ensures others { IfErr result (λ e. (e ≡ Refusal.Memory)
-            ⊎ ((e ≡ Refusal.BadImage) ⊎ (e ≡ Refusal.Disk))) }
+        ensures refused { IfErr result
+            (IsUnread (Restores P.logs P.reads P.leads) (D.seen self.old.disk)) }
+        ensures read { OnlyRead D.seen D.may_leave D.moment D.left_since D.faults
+            (IsErrOf result Refusal.Disk) self.old.disk self.new.disk }
     {
         self.ready = false;
         let (tail, value) = read_logged::<D, P>(self.alloc, &mut self.disk)?;
@@ -310,16 +286,13 @@ impl<D: Disk, P: Replay> Journal<D, P> {
         ensures added { OnOk result ((image : List ℕ) (batches : List (List ℕ))
             → Opens image batches (D.seen self.old.disk)
             → Opens image (batches ++ batch.now ∷ []) (D.seen self.new.disk)) }
-        ensures ready { OnOk result (self.new.ready ≡ true) }
         ensures any_moment { (image : List ℕ) (batches : List (List ℕ))
             → Opens image batches (D.seen self.old.disk)
             → LeavesOnly D.moment D.left_since self.old.disk self.new.disk
             (OldOrNewLog image batches image (batches ++ batch.now ∷ [])) }
-        ensures disk { IsErrOf result Refusal.Disk →
-            Grew (D.faults self.old.disk) (D.faults self.new.disk) × (self.new.ready ≡ false) }
-        ensures unchanged { IfErr result (λ e. e ≢ Refusal.Disk →
-            (self.new.disk ≡ self.old.disk) × (self.new.ready ≡ self.old.ready)) }
-        ensures others { IfErr result (λ e. (e ≡ Refusal.Memory) ⊎ (e ≡ Refusal.Disk)) }
+        ensures after { AfterSave D.faults self.old.disk self.new.disk self.old.ready self.new.ready
+            result }
+        ensures not_large { IfErr result (λ e. e ≢ Refusal.ImageTooLarge) }
     {
         let Some(next) = end.checked_add(batch.len() + HEAD + 1) else {
             return Err(Refusal::Memory);
@@ -338,19 +311,14 @@ impl<D: Disk, P: Replay> Journal<D, P> {
 
         ensures saved { OnOk result
             (Restores P.logs P.reads P.leads (P.saved value.now) (D.seen self.new.disk)) }
-        ensures ready { OnOk result (self.new.ready ≡ true) }
         ensures any_moment { (old : P.Value)
             → Restores P.logs P.reads P.leads old (D.seen self.old.disk)
             → LeavesOnly D.moment D.left_since self.old.disk self.new.disk
             (RestoresEither P.logs P.reads P.leads old (P.saved value.now)) }
-        ensures disk { IsErrOf result Refusal.Disk →
-            Grew (D.faults self.old.disk) (D.faults self.new.disk) × (self.new.ready ≡ false) }
+        ensures after { AfterSave D.faults self.old.disk self.new.disk self.old.ready self.new.ready
+            result }
         ensures too_large { IsErrOf result Refusal.ImageTooLarge ↔
             (GREATEST_IMAGE < length (P.image value.now)) }
-        ensures unchanged { IfErr result (λ e. e ≢ Refusal.Disk →
-            (self.new.disk ≡ self.old.disk) × (self.new.ready ≡ self.old.ready)) }
-        ensures others { IfErr result (λ e. (e ≡ Refusal.ImageTooLarge)
-            ⊎ ((e ≡ Refusal.Memory) ⊎ (e ≡ Refusal.Disk))) }
     {
         let bytes = spelled_shut::<P>(self.alloc, value)?;
         self.ready = false;
@@ -380,22 +348,16 @@ impl<D: Disk, P: Replay> Journal<D, P> {
             → Restores P.logs P.reads P.leads old (D.seen self.old.disk)
             → IfSome batch.entry (λ b. P.leads b.now old (P.saved value.now))
             → Restores P.logs P.reads P.leads (P.saved value.now) (D.seen self.new.disk)) }
-        ensures ready { OnOk result (self.new.ready ≡ true) }
         ensures any_moment { IsTrue self.old.ready → (old : P.Value)
             → Restores P.logs P.reads P.leads old (D.seen self.old.disk)
             → IfSome batch.entry (λ b. P.leads b.now old (P.saved value.now))
             → LeavesOnly D.moment D.left_since self.old.disk self.new.disk
             (RestoresEither P.logs P.reads P.leads old (P.saved value.now)) }
-        ensures closed { IsErrOf result Refusal.Closed ↔ (self.old.ready ≡ false) }
-        ensures disk { IsErrOf result Refusal.Disk →
-            Grew (D.faults self.old.disk) (D.faults self.new.disk) × (self.new.ready ≡ false) }
+        ensures after { AfterSave D.faults self.old.disk self.new.disk self.old.ready self.new.ready
+            result }
         ensures too_large { IsErrOf result Refusal.ImageTooLarge ↔ IsTrue self.old.ready
             × (IfSome batch.entry (λ b. place_for self.old.tail b.now ≡ None))
             × (GREATEST_IMAGE < length (P.image value.now)) }
-        ensures unchanged { IfErr result (λ e. e ≢ Refusal.Disk →
-            (self.new.disk ≡ self.old.disk) × (self.new.ready ≡ self.old.ready)) }
-        ensures others { IfErr result (λ e. (e ≡ Refusal.Closed) ⊎ ((e ≡ Refusal.ImageTooLarge)
-            ⊎ ((e ≡ Refusal.Memory) ⊎ (e ≡ Refusal.Disk)))) }
     {
         if !self.ready {
             return Err(Refusal::Closed);
@@ -410,38 +372,16 @@ impl<D: Disk, P: Replay> Journal<D, P> {
     }
 }
 
-impl<P: Replay> Journal<MemoryDisk, P> {
-    ghost use Rattle.disk.specs.Memory.{held_by, left_by, filled_by_crash, IsFaultless};
-    ghost use Rattle.disk.specs.Plan.{fails_from, fails_once};
+impl<P: Replay> OverMemory for Journal<MemoryDisk, P> {
+    ghost disk = { λ j. j.disk };
 
-    /// From now on, the `k`-th call of the disk and all later ones fail; see
-    /// [`MemoryDisk::fail_from`].
-    pub fn fail_from(&mut self, k: u64)
-        ensures plan { self.new.disk.plan ≡ fails_from k }
-        ensures account { self.new.disk.account ≡ self.old.disk.account }
-        ensures ready { self.new.ready ≡ self.old.ready }
-    {
-        self.disk.fail_from(k);
+    ghost same = { λ old new. new.ready ≡ old.ready };
+
+    fn follow(&mut self, plan: Plan) {
+        self.disk.follow(plan);
     }
 
-    /// The `k`-th call of the disk from now on fails, and no later one; see
-    /// [`MemoryDisk::fail_once`].
-    pub fn fail_once(&mut self, k: u64)
-        ensures plan { self.new.disk.plan ≡ fails_once k }
-        ensures account { self.new.disk.account ≡ self.old.disk.account }
-        ensures ready { self.new.ready ≡ self.old.ready }
-    {
-        self.disk.fail_once(k);
-    }
-
-    /// The disk that a crash now leaves; see [`MemoryDisk::after_crash`].
-    pub fn after_crash(&self, fill: u8) -> Result<MemoryDisk, Refusal>
-        ensures filled { IfOk result (λ d. held_by d ≡ filled_by_crash fill self.now.disk) }
-        ensures left { IfOk result (λ d. left_by self.now.disk (held_by d)) }
-        ensures durable { IfOk result (λ d. Only (held_by d) (left_by d)) }
-        ensures faultless { IfOk result IsFaultless }
-        ensures memory { IfErr result (λ e. e ≡ Refusal.Memory) }
-    {
+    fn after_crash(&self, fill: u8) -> Result<MemoryDisk, Refusal> {
         self.disk.after_crash(fill)
     }
 }

@@ -1,4 +1,5 @@
 pub mod Records
+pub mod Saves
 pub mod Sides
 pub mod Moments
 pub mod Logs

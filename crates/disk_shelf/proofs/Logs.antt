@@ -468,13 +468,6 @@ pub record Read (at end : ℕ) (batches : List (List ℕ)) (held : List ℕ) : T
   pub back : (all : List (List ℕ)) → HasLog all (drop at held) →
       (more : List (List ℕ)) × HasLog more (drop end held)
 
-pub read_none : (at : ℕ) (held : List ℕ) → Read at at [] held
-read_none at held = record {
-  reached = omega arith;
-  ahead = λ more log. log;
-  back = λ all log. (all, log);
-}
-
 pub read_one : {at end next : ℕ} {batches : List (List ℕ)} {batch held : List ℕ} →
     Read at end batches held → side (drop end held) ≡ Some true →
     recorded (drop 1 (drop end held)) ≡ Some batch → next ≡ end + (9 + length batch) →

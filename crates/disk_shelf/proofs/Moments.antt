@@ -1,7 +1,7 @@
 -- Runs of calls of a disk, one call after another.
-use Rattle.std.proofs.Common.{◌≡◌, Bool, length, List, [], Some, inl, inr, ⊎_elim, ℕ, arith, subst}
+use Rattle.std.proofs.Common.{◌≡◌, Bool, length, List, Some, inl, inr, ⊎_elim, ℕ, arith, subst}
 use Rattle.std.proofs.Common.{sym}
-use Rattle.disk.specs.Areas.{Areas, Changes, Torn, part}
+use Rattle.disk.specs.Areas.{Areas, Changes, IsBlank, Torn, part}
 use Rattle.disk.specs.Crashes.{Elapses, Follows, LeavesOnly, Only}
 use Rattle.disk_shelf.specs.Shelf.{recorded, opened, NoneOrNew, OldOrNew}
 use Rattle.disk.specs.declared.device.Area.{Area}
@@ -69,7 +69,7 @@ module _ {D : Type 0} {moment : D → ℕ} {left_since : D → ℕ → Areas →
 
   -- both areas hold the image, and then the selector is written
   pub laid : {old mid new : D} (s : Areas) (image : List ℕ) →
-      LeavesOnly moment left_since old mid (λ c. c.select ≡ []) →
+      LeavesOnly moment left_since old mid IsBlank →
       (recorded s.a ≡ Some image) × (recorded s.b ≡ Some image) →
       LeavesOnly moment left_since mid new (Changes Select (Torn 0 1) s) →
       LeavesOnly moment left_since old new (NoneOrNew image)

@@ -1,10 +1,12 @@
 -- Calls that change nothing of a disk, and refusals that are passed on.
 use Rattle.std.proofs.Common.{◌≡◌, ◌≢◌, ◌∙◌, ◌⊎◌, ℕ, Result, Ok, Err, IsErrOf, OnOk, Option, None, Some}
-use Rattle.std.proofs.Common.{inl, inr, refl, sym, ⊎_elim}
+use Rattle.std.proofs.Common.{ap, inl, inr, refl, sym, ⊎_elim}
 use Rattle.ids.specs.declared.refusal.Refusal.{Refusal}
 use Rattle.ids.specs.declared.refusal.Refusal.TheVariants.{BadImage, Closed, Disk, Memory}
 use Rattle.disk.specs.Areas.{Areas}
 use Rattle.disk.specs.Crashes.{Elapses, HasCause, Only, Unmoved}
+use Rattle.disk_shelf.specs.Refusals.{IsReadRefusal, IsUnread}
+use Rattle.disk_shelf.specs.Shelf.{opened, SelectsLength}
 use Rattle.disk_shelf.proofs.Moments.{goes_on, joined, started, weaker}
 
 module _ {D : Type 0} {seen : D → Areas} {may_leave : D → Areas → Type 0}
@@ -19,11 +21,6 @@ module _ {D : Type 0} {seen : D → Areas} {may_leave : D → Areas → Type 0}
     crash = crash;
     any_moment = goes_on (started here) time crash;
   }
-
-  -- no call
-  pub still : {old : D} → ((c : Areas) → left_since old (moment old) c → may_leave old c) →
-      Unmoved seen may_leave moment left_since old old
-  still here = record { same = refl; crash = λ c left. left; any_moment = started here }
 
   -- one after another
   pub both_unmoved : {old mid new : D} → Unmoved seen may_leave moment left_since old mid →
@@ -91,9 +88,41 @@ read_no_disk refused is =
     let bad = (refused (λ was. absurd cc)).0 in absurd cc
 
 pub read_refused : {X : Type 0} (e : Refusal) → (e ≢ Memory → (e ≡ BadImage) × X) →
-    (e ≡ Memory) ⊎ ((e ≡ BadImage) ⊎ (e ≡ Disk))
+    IsReadRefusal e
 read_refused Memory refused = inl refl
 read_refused e refused = inr (inl (refused (λ is. absurd cc)).0)
+
+-- what a disk says that holds no value says that it holds none of another kind either, if each of
+-- these is one of those
+pub unread_as : {V : Type 0} {holds other : V → Areas → Type 0} {d : Areas} {e : Refusal} →
+    ((v : V) → other v d → holds v d) → IsUnread holds d e → IsUnread other d e
+unread_as each unread = record {
+  bad = λ is v held. unread.bad is v (each v held);
+  memory = unread.memory;
+  others = unread.others;
+}
+
+-- what a disk says if no image was found there
+pub unread_none : {T V : Type 0} {holds : V → Areas → Type 0} {d : Areas} {e : Refusal} →
+    (IsErrOf {T = T} (Err e) BadImage → opened d ≡ None) →
+    (IsErrOf {T = T} (Err e) Memory → SelectsLength d) → IsReadRefusal e →
+    ((v : V) → holds v d → opened d ≡ None → ⊥) → IsUnread holds d e
+unread_none bad memory others none = record {
+  bad = λ is v held. none v held (bad (ap Err is));
+  memory = λ is. memory (ap Err is);
+  others = others;
+}
+
+-- and if one was found that isn't read
+pub unread_image : {V W : Type 0} {reads : W → Type 0} {holds : V → Areas → Type 0} {d : Areas}
+    {e : Refusal} → (e ≢ Memory → (e ≡ BadImage) × ((w : W) → reads w → ⊥)) → SelectsLength d →
+    ((v : V) → holds v d → (w : W) × reads w) → IsUnread holds d e
+unread_image {e = e} refused tells first = record {
+  bad = λ is v held.
+      let read = first v held in (refused (bad_no_memory is)).1 read.0 read.1;
+  memory = λ _. tells;
+  others = read_refused e refused;
+}
 
 -- a failure of the disk is no other refusal
 pub disk_no_bad : {T : Type 0} → IsErrOf {T = T} (Err Disk) BadImage → ⊥

@@ -3,7 +3,7 @@ use Rattle.std.proofs.Common.{◌≡◌, ◌⊎◌, inl, inr, ⊎_elim, ℕ, ◌
 use Rattle.std.proofs.Common.{List, [], ◌∷◌, length, Option, Some, None, Result, Ok, Err, OnOk}
 use Rattle.std.proofs.Common.{is_some, refl, sym, ◌∙◌, ap, subst, arith}
 use Rattle.disk.specs.Areas.{Areas, part, Changes, Holds, Torn}
-use Rattle.disk.specs.Crashes.{Follows, Only}
+use Rattle.disk.specs.Crashes.{Follows, Only, StaysBlank}
 use Rattle.ids.specs.declared.limits.TheConstants.{GREATEST_IMAGE}
 use Rattle.disk_shelf.proofs.Records.{recorded_holds}
 use Rattle.disk.specs.declared.device.Area.{Area}
@@ -31,8 +31,7 @@ unselected s is = ap (λ (o : Option Bool). image_at o s) is
 
 -- a step on a side leaves an empty selector empty
 pub still_blank : (in_b : Bool) (step : List ℕ → List ℕ → Type 0) (old new : Areas → Type 0) →
-    Follows (Changes (half in_b) step) old new → ((c : Areas) → old c → c.select ≡ []) →
-    (c : Areas) → new c → c.select ≡ []
+    Follows (Changes (half in_b) step) old new → StaysBlank old → StaysBlank new
 still_blank true step old new crash blank c left =
     let from = crash c left in from.2.1 ∙ blank from.0 from.1
 still_blank false step old new crash blank c left =

@@ -1,2 +1,3 @@
 pub mod Shelf
 pub mod Logs
+pub mod Refusals

@@ -3,7 +3,7 @@
 use Rattle.std.specs.Prelude.{◌≡◌, ◌⊎◌, ℕ, ◌+◌, Bool, true, false, List, [], ◌∷◌, length, drop}
 use Rattle.std.specs.Prelude.{Option, Some, None, Vec}
 use Rattle.std.specs.declared.alloc.Global.{Global}
-use Rattle.disk.specs.Areas.{Areas, part}
+use Rattle.disk.specs.Areas.{Areas, IsBlank, part}
 use Rattle.disk.specs.Crashes.{Only}
 use Rattle.disk_shelf.specs.Shelf.{half, recorded, side}
 
@@ -64,9 +64,9 @@ OldOrNewLog old before new after c = Opens old before c ⊎ Opens new after c
 abbrev pub OldOrWhole : Bool → List ℕ → List (List ℕ) → List ℕ → Areas → Type 0
 OldOrWhole logged old before new c = OpensIf logged old before c ⊎ Opens new [] c
 
--- the selector is empty, or the disk opens to the new image, and no batch
+-- the disk is blank, or opens to the new image, and no batch
 abbrev pub NoneOrLog : List ℕ → Areas → Type 0
-NoneOrLog new c = (c.select ≡ []) ⊎ Opens new [] c
+NoneOrLog new c = IsBlank c ⊎ Opens new [] c
 
 -- a crash leaves what a read gives, this side is selected, and the log of its area ends there
 abbrev pub IsLoggedTo : {D : Type 0} (seen : D → Areas) (may_leave : D → Areas → Type 0) →

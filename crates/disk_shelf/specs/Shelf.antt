@@ -4,7 +4,7 @@ use Rattle.std.specs.Prelude.{List, [], ◌∷◌, ◌++◌, length, take, drop}
 use Rattle.std.specs.Prelude.{Option, Some, None, is_some, if◌then◌else◌, IsTrue}
 use Rattle.std.specs.Int.{w64, to_be_bytes, from_be_bytes}
 use Rattle.ids.specs.declared.limits.TheConstants.{GREATEST_IMAGE}
-use Rattle.disk.specs.Areas.{Areas, part}
+use Rattle.disk.specs.Areas.{Areas, IsBlank, part}
 use Rattle.disk.specs.Crashes.{Only}
 use Rattle.disk.specs.declared.device.Area.{Area}
 use Rattle.disk.specs.declared.device.Area.TheVariants.{A, B}
@@ -60,17 +60,21 @@ abbrev pub SelectsLength : Areas → Type 0
 SelectsLength d =
     (in_b : Bool) × (side d.select ≡ Some in_b) × TellsLength (part (half in_b) d)
 
--- the disk opens to an image, and that is read as this value
-abbrev pub IsReadAs : {V : Type 0} → (List ℕ → V → Type 0) → Option (List ℕ) → V → Type 0
-IsReadAs reads found value = (image : List ℕ) × (found ≡ Some image) × reads image value
+-- the disk opens to this image
+abbrev pub OpensTo : List ℕ → Areas → Type 0
+OpensTo image d = opened d ≡ Some image
+
+-- the disk opens to an image that is read as this value
+abbrev pub OpensAs : {V : Type 0} → (List ℕ → V → Type 0) → V → Areas → Type 0
+OpensAs reads value d = (image : List ℕ) × OpensTo image d × reads image value
 
 -- the disk opens to the old image or to the new one
 abbrev pub OldOrNew : Option (List ℕ) → List ℕ → Areas → Type 0
-OldOrNew old new c = (opened c ≡ old) ⊎ (opened c ≡ Some new)
+OldOrNew old new c = (opened c ≡ old) ⊎ OpensTo new c
 
--- the selector is empty, or the disk opens to the new image
+-- the disk is blank, or opens to the new image
 abbrev pub NoneOrNew : List ℕ → Areas → Type 0
-NoneOrNew new c = (c.select ≡ []) ⊎ (opened c ≡ Some new)
+NoneOrNew new c = IsBlank c ⊎ OpensTo new c
 
 -- a crash leaves what a read gives, this side is selected, and it holds an image
 abbrev pub IsSettled : {D : Type 0} (seen : D → Areas) (may_leave : D → Areas → Type 0) →

@@ -1,8 +1,8 @@
-//! Crash-consistent saving on disks: a crash at any moment leaves the old value or the new one.
+//! A store of one value on a disk, as its image; a store that writes only what changed is in the
+//! crate `disk_journal`. A crash at any moment leaves the old value or the new one.
 //!
-//! A [`Shelf`] keeps a value as its image. For the crate `disk_journal`, which keeps a value as an image
-//! and what happened since, this crate has the calls that write and read logs of batches ([`log`]).
-//! [`Persist`] and [`Replay`] say how values become bytes.
+//! [`Shelf`] is the store. [`Persist`] and [`Replay`] say how values become bytes. For the crate
+//! `disk_journal` there are the calls that write and read logs of batches ([`log`]).
 #![tactic(auto)]
 
 pub mod log;

@@ -1,11 +1,12 @@
-//! The disk calls that keep batches behind an image, and find them again; the crate `disk_journal` makes
-//! them. The byte before a batch, its gate, makes it count; it is written only once the batch is
+//! The disk calls that keep batches behind an image, and find them again; the crate `disk_journal`
+//! makes them. The byte before a batch, its gate, makes it count; it is written only once the batch is
 //! synced.
 ghost use Rattle.std.specs.Prelude.{◌≡◌, ◌+◌, ◌<◌, ◌≤◌, ◌^◌, ◌++◌, ◌⊎◌, List, ℕ, [], ◌∷◌, length, not};
 ghost use Rattle.std.specs.Prelude.{Bool, drop, IfErr, IfOk, IsErr, IsErrOf, OnOk, Some, false};
 ghost use Rattle.ids.specs.declared.limits.TheConstants.{GREATEST_IMAGE};
 ghost use Rattle.disk.specs.Areas.{Areas, part};
-ghost use Rattle.disk.specs.Crashes.{HasCause, LeavesOnly, Only, Unmoved};
+ghost use Rattle.disk.specs.Crashes.{HasCause, LeavesOnly, Only, StaysBlank, Unmoved};
+ghost use Rattle.disk_shelf.specs.Refusals.{IsReadRefusal};
 ghost use Rattle.disk_shelf.specs.Logs.{HasLog, IsKept, IsLoggedTo, IsNext, LeadAll, NoneOrLog};
 ghost use Rattle.disk_shelf.specs.Logs.{OldOrNewLog, OldOrWhole, Opens, OpensIf, Reached, Restores};
 ghost use Rattle.disk_shelf.specs.Shelf.{half as half_of, record_of, recorded, side};
@@ -96,7 +97,7 @@ pub fn turn<D: Disk>(disk: &mut D, in_b: bool, image: &[u8], bytes: &[u8]) -> Re
 /// A crash at any moment since the call began leaves an empty selector or the image; after `Ok` it
 /// leaves the image. Fails if the device failed.
 pub fn begin<D: Disk>(disk: &mut D, image: &[u8], bytes: &[u8]) -> Result<(), DiskFault>
-    requires blank { (c : Areas) → D.may_leave disk.old c → c.select ≡ [] }
+    requires blank { StaysBlank (D.may_leave disk.old) }
     requires spelled { bytes.now ≡ record_of image.now ++ 0 ∷ [] }
     requires fits { length image.now ≤ GREATEST_IMAGE }
 
@@ -124,8 +125,7 @@ fn next_batch<D: Disk>(
         → HasLog batches (drop at (part area (D.seen disk.old))) → ⊥ }
     ensures quiet { Unmoved D.seen D.may_leave D.moment D.left_since disk.old disk.new }
     ensures cause { HasCause (D.faults disk.old) (D.faults disk.new) (IsErrOf result Refusal.Disk) }
-    ensures others { IfErr result (λ e. (e ≡ Refusal.Memory)
-        ⊎ ((e ≡ Refusal.BadImage) ⊎ (e ≡ Refusal.Disk))) }
+    ensures others { IfErr result IsReadRefusal }
 {
     let gate = parity(disk, area, at)?;
     let Some(is_open) = gate else {
@@ -160,8 +160,7 @@ fn replay<D: Disk, P: Replay>(
         → LeadAll P.leads batches value.old last → ⊥ }
     ensures quiet { Unmoved D.seen D.may_leave D.moment D.left_since disk.old disk.new }
     ensures cause { HasCause (D.faults disk.old) (D.faults disk.new) (IsErrOf result Refusal.Disk) }
-    ensures others { IfErr result (λ e. (e ≡ Refusal.Memory)
-        ⊎ ((e ≡ Refusal.BadImage) ⊎ (e ≡ Refusal.Disk))) }
+    ensures others { IfErr result IsReadRefusal }
 {
     let mut end = at;
     while let Some(batch) = next_batch(alloc, disk, area, end)? {
@@ -198,8 +197,7 @@ pub fn replay_log<D: Disk, P: Replay>(
         → Restores P.logs P.reads P.leads v (D.seen disk.old) → ⊥ }
     ensures quiet { Unmoved D.seen D.may_leave D.moment D.left_since disk.old disk.new }
     ensures cause { HasCause (D.faults disk.old) (D.faults disk.new) (IsErrOf result Refusal.Disk) }
-    ensures others { IfErr result (λ e. (e ≡ Refusal.Memory)
-        ⊎ ((e ≡ Refusal.BadImage) ⊎ (e ≡ Refusal.Disk))) }
+    ensures others { IfErr result IsReadRefusal }
 {
     let start = HEAD + image.len();
     if !P::has_log(image) {

@@ -3,8 +3,9 @@
 ghost use Rattle.std.specs.Prelude.{◌≡◌, ◌≢◌, ◌⊎◌, ◌%◌, ◌==◌, ◌≤◌, [], length, drop, IfErr, IfOk, IsErr};
 ghost use Rattle.std.specs.Prelude.{IsErrOf, OnOk, Some, None, false, not};
 ghost use Rattle.ids.specs.declared.limits.TheConstants.{GREATEST_IMAGE};
-ghost use Rattle.disk.specs.Areas.{Areas, Changes, Holds, Torn, part};
-ghost use Rattle.disk.specs.Crashes.{HasCause, LeavesOnly, Only, Unmoved};
+ghost use Rattle.disk.specs.Areas.{Changes, Holds, IsBlank, part, Torn};
+ghost use Rattle.disk.specs.Crashes.{HasCause, LeavesOnly, Only, StaysBlank, Unmoved};
+ghost use Rattle.disk_shelf.specs.Refusals.{IsReadRefusal};
 ghost use Rattle.disk_shelf.specs.Shelf.{IsSettled, IsWhole, NoneOrNew, OldOrNew, half as half_of, opened};
 ghost use Rattle.disk_shelf.specs.Shelf.{record_of, recorded, side, told, TellsLength};
 
@@ -81,10 +82,10 @@ pub(crate) fn put<D: Disk>(
 
 /// Writes A and B from their starts.
 fn write_both<D: Disk>(disk: &mut D, bytes: &[u8]) -> Result<(), DiskFault>
-    requires { (c : Areas) → D.may_leave disk.old c → c.select ≡ [] }
+    requires { StaysBlank (D.may_leave disk.old) }
 
-    ensures any_moment { LeavesOnly D.moment D.left_since disk.old disk.new (λ c. c.select ≡ []) }
-    ensures crash { (c : Areas) → D.may_leave disk.new c → c.select ≡ [] }
+    ensures any_moment { LeavesOnly D.moment D.left_since disk.old disk.new IsBlank }
+    ensures crash { StaysBlank (D.may_leave disk.new) }
     ensures a { OnOk result (Holds 0 bytes.now (D.seen disk.old).a (D.seen disk.new).a) }
     ensures b { OnOk result (Holds 0 bytes.now (D.seen disk.old).b (D.seen disk.new).b) }
     ensures cause { HasCause (D.faults disk.old) (D.faults disk.new) (IsErr result) }
@@ -95,9 +96,9 @@ fn write_both<D: Disk>(disk: &mut D, bytes: &[u8]) -> Result<(), DiskFault>
 
 /// Writes A and B from their starts, and syncs.
 pub(crate) fn put_both<D: Disk>(disk: &mut D, bytes: &[u8]) -> Result<(), DiskFault>
-    requires { (c : Areas) → D.may_leave disk.old c → c.select ≡ [] }
+    requires { StaysBlank (D.may_leave disk.old) }
 
-    ensures any_moment { LeavesOnly D.moment D.left_since disk.old disk.new (λ c. c.select ≡ []) }
+    ensures any_moment { LeavesOnly D.moment D.left_since disk.old disk.new IsBlank }
     ensures a { OnOk result (Holds 0 bytes.now (D.seen disk.old).a (D.seen disk.new).a) }
     ensures b { OnOk result (Holds 0 bytes.now (D.seen disk.old).b (D.seen disk.new).b) }
     ensures durable { OnOk result (Only (D.seen disk.new) (D.may_leave disk.new)) }
@@ -110,7 +111,7 @@ pub(crate) fn put_both<D: Disk>(disk: &mut D, bytes: &[u8]) -> Result<(), DiskFa
 /// Saves the first image of a disk, as these bytes: into both areas, so that a torn selector opens
 /// to it too.
 pub(crate) fn lay<D: Disk>(disk: &mut D, image: &[u8], bytes: &[u8]) -> Result<(), DiskFault>
-    requires blank { (c : Areas) → D.may_leave disk.old c → c.select ≡ [] }
+    requires blank { StaysBlank (D.may_leave disk.old) }
     requires spelled { bytes.now ≡ record_of image.now }
     requires fits { length image.now ≤ GREATEST_IMAGE }
 
@@ -200,8 +201,7 @@ pub(crate) fn load<D: Disk>(
         TellsLength (drop at (part area (D.seen disk.old))) }
     ensures quiet { Unmoved D.seen D.may_leave D.moment D.left_since disk.old disk.new }
     ensures cause { HasCause (D.faults disk.old) (D.faults disk.new) (IsErrOf result Refusal.Disk) }
-    ensures others { IfErr result (λ e. (e ≡ Refusal.Memory)
-        ⊎ ((e ≡ Refusal.BadImage) ⊎ (e ≡ Refusal.Disk))) }
+    ensures others { IfErr result IsReadRefusal }
 {
     let len = told_length(disk, area, at)?;
     let mut image = vec![in alloc; 0; len]?;

@@ -1,19 +1,20 @@
 //! A crash-consistent store of one value, which is saved over and over: a crash leaves the old
 //! value or the new one. The image is written into the area that isn't selected; one byte of the
 //! selector then makes it the one that counts.
-ghost use Rattle.std.specs.Prelude.{◌≡◌, ◌≢◌, ◌⊎◌, ◌↔◌, ◌<◌, ◌≤◌, List, ℕ, [], ◌∷◌, length};
-ghost use Rattle.std.specs.Prelude.{IfErr, IfOk, IsErr, IsErrOf, IsTrue, MatchResult, OnErr, OnOk};
-ghost use Rattle.std.specs.Prelude.{Some, true, false};
+ghost use Rattle.std.specs.Prelude.{◌≡◌, ◌↔◌, ◌<◌, ◌≤◌, List, ℕ, [], ◌∷◌, length};
+ghost use Rattle.std.specs.Prelude.{IfErr, IfOk, IsErr, IsErrOf, IsTrue, MatchResult, OnOk};
+ghost use Rattle.std.specs.Prelude.{None, Some, true, false};
 ghost use Rattle.ids.specs.declared.limits.TheConstants.{GREATEST_IMAGE};
-ghost use Rattle.disk.specs.Areas.{Areas};
-ghost use Rattle.disk.specs.Crashes.{Grew, HasCause, LeavesOnly, Only, Unmoved};
-ghost use Rattle.disk.specs.Memory.{IsFaultless, filled_by_crash, held_by, left_by};
-ghost use Rattle.disk_shelf.specs.Shelf.{IsReadAs, IsSettled, NoneOrNew, OldOrNew, SelectsLength};
-ghost use Rattle.disk_shelf.specs.Shelf.{opened, record_of, side};
+ghost use Rattle.disk.specs.Areas.{IsBlank};
+ghost use Rattle.disk.specs.Crashes.{HasCause, LeavesOnly, Only, OnlyRead, StaysBlank, Unmoved};
+ghost use Rattle.disk.specs.Memory.{IsFaultless, held_by, left_by};
+ghost use Rattle.disk_shelf.specs.Refusals.{AfterSave, IsHandedBack, IsReadRefusal, IsUnread, IsUnwritten};
+ghost use Rattle.disk_shelf.specs.Shelf.{IsSettled, NoneOrNew, OldOrNew, OpensAs, OpensTo};
+ghost use Rattle.disk_shelf.specs.Shelf.{opened, record_of, SelectsLength, side};
 
 use crate::Persist;
 use crate::save::{chosen, half, image_in, lay, load, put_length, record, swap};
-use disk::{Disk, DiskFault, MemoryDisk};
+use disk::{Disk, DiskFault, MemoryDisk, OverMemory, Plan};
 use ids::Refusal;
 use std::alloc::Global;
 
@@ -56,9 +57,8 @@ fn synced_side<D: Disk>(disk: &mut D) -> Result<Option<bool>, DiskFault>
 
 /// Syncs a disk, and returns whether nothing was ever created on it.
 pub fn is_blank<D: Disk>(disk: &mut D) -> Result<bool, DiskFault>
-    ensures exact { IfOk result (λ b. IsTrue b ↔ ((D.seen disk.old).select ≡ [])) }
-    ensures blank { IfOk result (λ b.
-        IsTrue b → (c : Areas) → D.may_leave disk.new c → c.select ≡ []) }
+    ensures exact { IfOk result (λ b. IsTrue b ↔ IsBlank (D.seen disk.old)) }
+    ensures blank { IfOk result (λ b. IsTrue b → StaysBlank (D.may_leave disk.new)) }
     ensures quiet { Unmoved D.seen D.may_leave D.moment D.left_since disk.old disk.new }
     ensures cause { HasCause (D.faults disk.old) (D.faults disk.new) (IsErr result) }
 {
@@ -74,15 +74,14 @@ pub fn is_blank<D: Disk>(disk: &mut D) -> Result<bool, DiskFault>
 /// disk then holds what it held, even after a crash.
 pub fn recall_image<D: Disk>(alloc: Global, disk: &mut D) -> Result<(bool, Vec<u8>), Refusal>
     ensures side { IfOk result (λ r. side (D.seen disk.old).select ≡ Some r.0) }
-    ensures image { IfOk result (λ r. opened (D.seen disk.old) ≡ Some r.1.items) }
+    ensures image { IfOk result (λ r. OpensTo r.1.items (D.seen disk.old)) }
     ensures tells { OnOk result (SelectsLength (D.seen disk.old)) }
     ensures durable { OnOk result (Only (D.seen disk.new) (D.may_leave disk.new)) }
     ensures bad { IsErrOf result Refusal.BadImage → opened (D.seen disk.old) ≡ None }
     ensures memory { IsErrOf result Refusal.Memory → SelectsLength (D.seen disk.old) }
     ensures quiet { Unmoved D.seen D.may_leave D.moment D.left_since disk.old disk.new }
     ensures cause { HasCause (D.faults disk.old) (D.faults disk.new) (IsErrOf result Refusal.Disk) }
-    ensures others { IfErr result (λ e. (e ≡ Refusal.Memory)
-        ⊎ ((e ≡ Refusal.BadImage) ⊎ (e ≡ Refusal.Disk))) }
+    ensures others { IfErr result IsReadRefusal }
 {
     let side = synced_side(disk)?;
     let Some(in_b) = side else {
@@ -98,15 +97,11 @@ fn recall<D: Disk, P: Persist>(alloc: Global, disk: &mut D) -> Result<(bool, P::
 where
     P::Value: Drop,
     ensures side { IfOk result (λ r. side (D.seen disk.old).select ≡ Some r.0) }
-    ensures value { IfOk result (λ r. IsReadAs P.reads (opened (D.seen disk.old)) r.1) }
+    ensures value { IfOk result (λ r. OpensAs P.reads r.1 (D.seen disk.old)) }
     ensures durable { OnOk result (Only (D.seen disk.new) (D.may_leave disk.new)) }
-    ensures bad { IfErr result (λ e. e ≡ Refusal.BadImage →
-        (value : P.Value) → IsReadAs P.reads (opened (D.seen disk.old)) value → ⊥) }
-    ensures memory { IfErr result (λ e. e ≡ Refusal.Memory → SelectsLength (D.seen disk.old)) }
+    ensures refused { IfErr result (IsUnread (OpensAs P.reads) (D.seen disk.old)) }
     ensures quiet { Unmoved D.seen D.may_leave D.moment D.left_since disk.old disk.new }
     ensures cause { HasCause (D.faults disk.old) (D.faults disk.new) (IsErrOf result Refusal.Disk) }
-    ensures others { IfErr result (λ e. (e ≡ Refusal.Memory)
-        ⊎ ((e ≡ Refusal.BadImage) ⊎ (e ≡ Refusal.Disk))) }
 {
     let (in_b, image) = recall_image(alloc, disk)?;
     let value = P::from_bytes(alloc, &image)?;
@@ -129,15 +124,11 @@ pub fn read_value<D: Disk, P: Persist>(
 ) -> Result<(Selected, P::Value), Refusal>
 where
     P::Value: Drop,
-    ensures value { IfOk result (λ r. IsReadAs P.reads (opened (D.seen disk.old)) r.1) }
+    ensures value { IfOk result (λ r. OpensAs P.reads r.1 (D.seen disk.old)) }
     ensures settled { IfOk result (λ r. IsSettled D.seen D.may_leave disk.new r.0.in_b) }
-    ensures bad { IfErr result (λ e. e ≡ Refusal.BadImage →
-        (value : P.Value) → IsReadAs P.reads (opened (D.seen disk.old)) value → ⊥) }
-    ensures memory { IfErr result (λ e. e ≡ Refusal.Memory → SelectsLength (D.seen disk.old)) }
+    ensures refused { IfErr result (IsUnread (OpensAs P.reads) (D.seen disk.old)) }
     ensures quiet { Unmoved D.seen D.may_leave D.moment D.left_since disk.old disk.new }
     ensures cause { HasCause (D.faults disk.old) (D.faults disk.new) (IsErrOf result Refusal.Disk) }
-    ensures others { IfErr result (λ e. (e ≡ Refusal.Memory)
-        ⊎ ((e ≡ Refusal.BadImage) ⊎ (e ≡ Refusal.Disk))) }
 {
     let (in_b, value) = recall::<D, P>(alloc, disk)?;
     Ok((Selected { in_b }, value))
@@ -150,9 +141,7 @@ pub fn spelled<P: Persist>(alloc: Global, value: &P::Value) -> Result<Vec<u8>, R
     ensures bytes { IfOk result (λ v. v.items ≡ record_of (P.image value.now)) }
     ensures readable { OnOk result (P.reads (P.image value.now) (P.saved value.now)) }
     ensures within { OnOk result (length (P.image value.now) ≤ GREATEST_IMAGE) }
-    ensures too_large { IfErr result (λ e.
-        e ≡ Refusal.ImageTooLarge ↔ GREATEST_IMAGE < length (P.image value.now)) }
-    ensures others { IfErr result (λ e. (e ≡ Refusal.Memory) ⊎ (e ≡ Refusal.ImageTooLarge)) }
+    ensures refused { IfErr result (IsUnwritten (P.image value.now)) }
 {
     let mut bytes = P::to_bytes(alloc, value)?;
     put_length(&mut bytes);
@@ -190,22 +179,16 @@ impl<D: Disk> Shelf<D> {
         mut disk: D,
         value: &P::Value,
     ) -> Result<Shelf<D>, (D, Refusal)>
-        requires { (c : Areas) → D.may_leave disk c → c.select ≡ [] }
+        requires { StaysBlank (D.may_leave disk) }
 
-        ensures created { IfOk result (λ s. opened (D.seen s.disk) ≡ Some (P.image value.now)) }
+        ensures created { IfOk result (λ s. OpensTo (P.image value.now) (D.seen s.disk)) }
         ensures ready { IfOk result (λ s. s.ready ≡ true) }
         ensures readable { OnOk result (P.reads (P.image value.now) (P.saved value.now)) }
         ensures any_moment { MatchResult result
             (λ s. LeavesOnly D.moment D.left_since disk s.disk (NoneOrNew (P.image value.now)))
             (λ e. LeavesOnly D.moment D.left_since disk e.0 (NoneOrNew (P.image value.now))) }
-        ensures disk { IfErr result (λ e.
-            e.1 ≡ Refusal.Disk → Grew (D.faults disk) (D.faults e.0)) }
-        ensures too_large { MatchResult result
-            (λ _. length (P.image value.now) ≤ GREATEST_IMAGE)
-            (λ e. e.1 ≡ Refusal.ImageTooLarge ↔ GREATEST_IMAGE < length (P.image value.now)) }
-        ensures unchanged { IfErr result (λ e. e.1 ≢ Refusal.Disk → e.0 ≡ disk) }
-        ensures others { IfErr result (λ e. (e.1 ≡ Refusal.Memory)
-            ⊎ ((e.1 ≡ Refusal.ImageTooLarge) ⊎ (e.1 ≡ Refusal.Disk))) }
+        ensures within { OnOk result (length (P.image value.now) ≤ GREATEST_IMAGE) }
+        ensures refused { IfErr result (IsHandedBack D.faults (P.image value.now) disk) }
     {
         let bytes = match spelled::<P>(alloc, value) {
             Ok(bytes) => bytes,
@@ -233,22 +216,15 @@ impl<D: Disk> Shelf<D> {
     where
         D: Drop,
         P::Value: Drop,
-        ensures opened { IfOk result (λ r. IsReadAs P.reads (opened (D.seen disk)) r.1) }
-        ensures same { IfOk result (λ r. D.seen r.0.disk ≡ D.seen disk) }
+        ensures opened { IfOk result (λ r. OpensAs P.reads r.1 (D.seen disk)) }
         ensures ready { IfOk result (λ r. r.0.ready ≡ true) }
-        ensures bad { IfErr result (λ e. e ≡ Refusal.BadImage →
-            (value : P.Value) → IsReadAs P.reads (opened (D.seen disk)) value → ⊥) }
-        ensures memory { IfErr result (λ e. e ≡ Refusal.Memory → SelectsLength (D.seen disk)) }
-        ensures quiet { IfOk result (λ r.
-            Unmoved D.seen D.may_leave D.moment D.left_since disk r.0.disk) }
-        ensures fine { IfOk result (λ r. D.faults r.0.disk ≡ D.faults disk) }
+        ensures refused { IfErr result (IsUnread (OpensAs P.reads) (D.seen disk)) }
+        ensures read { IfOk result (λ r.
+            OnlyRead D.seen D.may_leave D.moment D.left_since D.faults ⊥ disk r.0.disk) }
 
         // The disk at the time when it was dropped.
-        ensures given_up { IfErr result (λ e. (d : D)
-            × Unmoved D.seen D.may_leave D.moment D.left_since disk d
-            × HasCause (D.faults disk) (D.faults d) (e ≡ Refusal.Disk)) }
-        ensures others { IfErr result (λ e. (e ≡ Refusal.Memory)
-            ⊎ ((e ≡ Refusal.BadImage) ⊎ (e ≡ Refusal.Disk))) }
+        ensures given_up { IfErr result (λ e. (d : D) × OnlyRead D.seen D.may_leave D.moment
+            D.left_since D.faults (e ≡ Refusal.Disk) disk d) }
     {
         let (in_b, value) = recall::<D, P>(alloc, &mut disk)?;
         let shelf = Shelf {
@@ -282,19 +258,12 @@ impl<D: Disk> Shelf<D> {
     pub fn reopen<P: Persist>(&mut self) -> Result<P::Value, Refusal>
     where
         P::Value: Drop,
-        ensures opened { IfOk result (λ v. IsReadAs P.reads (opened (D.seen self.old.disk)) v) }
+        ensures opened { IfOk result (λ v. OpensAs P.reads v (D.seen self.old.disk)) }
         ensures ready { OnOk result (self.new.ready ≡ true) }
         ensures shut { IsErr result → self.new.ready ≡ false }
-        ensures bad { IfErr result (λ e. e ≡ Refusal.BadImage →
-            (value : P.Value) → IsReadAs P.reads (opened (D.seen self.old.disk)) value → ⊥) }
-        ensures memory { IfErr result (λ e.
-            e ≡ Refusal.Memory → SelectsLength (D.seen self.old.disk)) }
-        ensures quiet { Unmoved D.seen D.may_leave D.moment D.left_since
-            self.old.disk self.new.disk }
-        ensures disk { IsErrOf result Refusal.Disk →
-            Grew (D.faults self.old.disk) (D.faults self.new.disk) }
-        ensures others { IfErr result (λ e. (e ≡ Refusal.Memory)
-            ⊎ ((e ≡ Refusal.BadImage) ⊎ (e ≡ Refusal.Disk))) }
+        ensures refused { IfErr result (IsUnread (OpensAs P.reads) (D.seen self.old.disk)) }
+        ensures read { OnlyRead D.seen D.may_leave D.moment D.left_since D.faults
+            (IsErrOf result Refusal.Disk) self.old.disk self.new.disk }
     {
         self.ready = false;
         let (in_b, value) = recall::<D, P>(self.alloc, &mut self.disk)?;
@@ -310,23 +279,17 @@ impl<D: Disk> Shelf<D> {
     /// with `Memory`, and with `Disk` if the device failed. `Disk` closes the shelf; the others
     /// change nothing.
     pub fn save<P: Persist>(&mut self, value: &P::Value) -> Result<(), Refusal>
-        ensures saved { OnOk result (opened (D.seen self.new.disk) ≡ Some (P.image value.now)) }
-        ensures ready { OnOk result (self.new.ready ≡ true) }
+        ensures saved { OnOk result (OpensTo (P.image value.now) (D.seen self.new.disk)) }
         ensures readable { MatchResult result
             (λ _. P.reads (P.image value.now) (P.saved value.now))
             (λ e. e ≡ Refusal.Disk → P.reads (P.image value.now) (P.saved value.now)) }
         ensures any_moment { IsTrue self.old.ready →
             LeavesOnly D.moment D.left_since self.old.disk self.new.disk
             (OldOrNew (opened (D.seen self.old.disk)) (P.image value.now)) }
-        ensures closed { IsErrOf result Refusal.Closed ↔ (self.old.ready ≡ false) }
-        ensures disk { IsErrOf result Refusal.Disk →
-            Grew (D.faults self.old.disk) (D.faults self.new.disk) × (self.new.ready ≡ false) }
+        ensures after { AfterSave D.faults self.old.disk self.new.disk self.old.ready self.new.ready
+            result }
         ensures too_large { IsErrOf result Refusal.ImageTooLarge ↔
             IsTrue self.old.ready × (GREATEST_IMAGE < length (P.image value.now)) }
-        ensures unchanged { IfErr result (λ e. e ≢ Refusal.Disk →
-            (self.new.disk ≡ self.old.disk) × (self.new.ready ≡ self.old.ready)) }
-        ensures others { IfErr result (λ e. (e ≡ Refusal.Closed) ⊎ ((e ≡ Refusal.ImageTooLarge)
-            ⊎ ((e ≡ Refusal.Memory) ⊎ (e ≡ Refusal.Disk)))) }
     {
         if !self.ready {
             return Err(Refusal::Closed);
@@ -354,37 +317,16 @@ pub fn disk_of_image(alloc: Global, image: &[u8]) -> Result<MemoryDisk, Refusal>
     Ok(MemoryDisk::of_areas(alloc, select, a, Vec::new(alloc)))
 }
 
-impl Shelf<MemoryDisk> {
-    ghost use Rattle.disk.specs.Plan.{fails_from, fails_once};
+impl OverMemory for Shelf<MemoryDisk> {
+    ghost disk = { λ s. s.disk };
 
-    /// From now on, the `k`-th call of the disk and all later ones fail; see
-    /// [`MemoryDisk::fail_from`].
-    pub fn fail_from(&mut self, k: u64)
-        ensures plan { self.new.disk.plan ≡ fails_from k }
-        ensures account { self.new.disk.account ≡ self.old.disk.account }
-        ensures ready { self.new.ready ≡ self.old.ready }
-    {
-        self.disk.fail_from(k);
+    ghost same = { λ old new. new.ready ≡ old.ready };
+
+    fn follow(&mut self, plan: Plan) {
+        self.disk.follow(plan);
     }
 
-    /// The `k`-th call of the disk from now on fails, and no later one; see
-    /// [`MemoryDisk::fail_once`].
-    pub fn fail_once(&mut self, k: u64)
-        ensures plan { self.new.disk.plan ≡ fails_once k }
-        ensures account { self.new.disk.account ≡ self.old.disk.account }
-        ensures ready { self.new.ready ≡ self.old.ready }
-    {
-        self.disk.fail_once(k);
-    }
-
-    /// The disk that a crash now leaves; see [`MemoryDisk::after_crash`].
-    pub fn after_crash(&self, fill: u8) -> Result<MemoryDisk, Refusal>
-        ensures filled { IfOk result (λ d. held_by d ≡ filled_by_crash fill self.now.disk) }
-        ensures left { IfOk result (λ d. left_by self.now.disk (held_by d)) }
-        ensures durable { IfOk result (λ d. Only (held_by d) (left_by d)) }
-        ensures faultless { IfOk result IsFaultless }
-        ensures memory { IfErr result (λ e. e ≡ Refusal.Memory) }
-    {
+    fn after_crash(&self, fill: u8) -> Result<MemoryDisk, Refusal> {
         self.disk.after_crash(fill)
     }
 }

@@ -26,27 +26,6 @@ shaded-next own cycle h os i o there is =
     ∙ ap (λ (x : Option Ref). make_all_grey own cycle h (option_to_list x ++ rest)) is
     ∙ sym (ap (make_all_grey own cycle h) (next_one os i there))
 
--- if one wakes nothing, those after it decide
-pub wakes-next : (f : Ref → Bool) (os : List (Option Ref)) (i : ℕ) → i < length os
-    → list_any f (option_to_list (get_or os i None)) ≡ false
-    → list_any f (filled (drop i os)) ≡ list_any f (filled (drop (i + 1) os))
-wakes-next f os i there quiet =
-    let o : List Ref = option_to_list (get_or os i None) in
-    let rest : List Ref = filled (drop (i + 1) os) in
-    ap (list_any f) (next_one os i there)
-    ∙ list_any-append f o rest
-    ∙ ap (λ (b : Bool). b || list_any f rest) quiet
-
-pub wakes-here : (f : Ref → Bool) (os : List (Option Ref)) (i : ℕ) → i < length os
-    → list_any f (option_to_list (get_or os i None)) ≡ true
-    → list_any f (filled (drop i os)) ≡ true
-wakes-here f os i there wakes =
-    let o : List Ref = option_to_list (get_or os i None) in
-    let rest : List Ref = filled (drop (i + 1) os) in
-    ap (list_any f) (next_one os i there)
-    ∙ list_any-append f o rest
-    ∙ ap (λ (b : Bool). b || list_any f rest) wakes
-
 -- shading doesn't change the roots
 roots-grey : (cycle : ℕ) (h : Heap) (r : Ref) → roots (make_grey cycle h r) ≡ roots h
 unfolding make_grey

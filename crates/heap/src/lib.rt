@@ -1,6 +1,6 @@
-//! A node's heap: its objects in numbered slots, its registers, its letters, and its grey objects.
-//! Each call does what its definition in `model` says, and one that is refused leaves everything as
-//! it was.
+//! A node's heap: its objects in numbered slots, its registers, its letters, and its grey objects,
+//! but nothing that concerns other nodes. Each call does what its definition in `model` says, and
+//! one that is refused leaves everything as it was.
 #![tactic(auto)]
 
 mod heap;

@@ -1,6 +1,6 @@
 //! The names and limits that every crate of the object space shares: node numbers, references,
-//! cycle numbers, the shape of a space, the limits, and the reasons for a refusal. A value of one
-//! of these types is within the limits by construction, except a reference.
+//! cycle numbers, the shape of a space, the limits, and the reasons for a refusal. Nothing here has
+//! a state. A value of one of these types is within the limits by construction, except a reference.
 #![tactic(auto)]
 
 mod limits;

@@ -119,17 +119,22 @@ module _ (bytes : List ℕ) (begins : begins_logged bytes ≡ true) where
             absurd cc,
       )
 
-  module _ (are : IsBytes bytes) (within : length bytes ≤ GREATEST_IMAGE) (s : Stored)
-      (says : logged_at bytes ≡ Some s) where
+  -- the bytes are an image that a log follows, which says this
+  pub record SaysLogged (s : Stored) : Type 0 where
+    pub are : IsBytes bytes
+    pub within : length bytes ≤ GREATEST_IMAGE
+    pub says : logged_at bytes ≡ Some s
+
+  module _ {s : Stored} (image : SaysLogged s) where
     pub image_second : IsImage second Second s
     unfolding second
     image_second =
-        let t = logged_so start.0 s (λ i. subst IsBytes start.1 are (suc (suc (suc i))))
-        (ap logged_at (sym start.1) ∙ says) in
+        let t = logged_so start.0 s (λ i. subst IsBytes start.1 image.are (suc (suc (suc i))))
+        (ap logged_at (sym start.1) ∙ image.says) in
         record {
           fits = t.0;
           spelled = t.1;
-          within = omega (arith, within, ap length start.1);
+          within = omega (arith, image.within, ap length start.1);
         }
 
     pub logged_image_is : (r : Result NodeView Refusal) → IfOk r (λ n. n ≡ node_of s)
@@ -146,4 +151,4 @@ module _ (bytes : List ℕ) (begins : begins_logged bytes ≡ true) where
         (λ e. e ≢ Memory → (e ≡ BadImage) × ((n : NodeView) → IsImageOf second n → ⊥)) IsOfNone
         (λ e more other. let h = more other in (h.0, λ n is. h.1 n (from_logged n is)))
         (is_none second Second s image_second.fits
-        (reads_second ∙ ap (option_map (λ (s : Stored). (Second, s))) says) r refused)
+        (reads_second ∙ ap (option_map (λ (s : Stored). (Second, s))) image.says) r refused)

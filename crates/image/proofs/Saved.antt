@@ -241,22 +241,20 @@ module _ (n : NodeView) (is : IsNode n) where
   fits wide = record { wide = wide; within = (sized, listed) }
 
   -- what was written within the limit
-  pub is_saved : {V : Type 0} (r : Result V Refusal) (is_open : Type 0) (limit : ℕ)
-      → limit ≡ GREATEST_IMAGE
-      → IsStanding (kept_view n) → OnOk r is_open
-      → (is_open → (stored_format Second).IsWide (stored_by n))
-      → OnOk r (length (image_of n) ≤ limit) → OnOk r (IsImageOf (image_of n) (kept_view n))
-  is_saved (Ok v) is_open limit all stands opened wide short = record {
+  pub is_saved : {V is_open : Type 0} (r : Result V Refusal) → IsStanding (kept_view n)
+      → OnOk r is_open → (is_open → (stored_format Second).IsWide (stored_by n))
+      → OnOk r (length (image_of n) ≤ GREATEST_IMAGE) → OnOk r (IsImageOf (image_of n) (kept_view n))
+  is_saved (Ok v) stands opened wide short = record {
     version = Second;
     spelled = record {
       says = stored_by n;
       image = record {
         fits = fits (wide opened);
         spelled = refl;
-        within = omega (arith, short, all);
+        within = short;
       };
       node = node_again;
     };
     saved = standing_saved (kept_view n) stands;
   }
-  is_saved (Err e) is_open limit all stands opened wide short = tt
+  is_saved (Err e) stands opened wide short = tt

@@ -105,21 +105,6 @@ spelled_later v bytes n p short = record {
   node = p.node;
 }
 
--- nodes that were read from images and have equal images are the same
-pub image_of_same : (m n : NodeView) → HasImage m → HasImage n → image_of m ≡ image_of n → m ≡ n
-image_of_same m n first second same =
-    let a = first.1 in
-    let b = second.1 in
-    let p = a.spelled in
-    let q = b.spelled in
-    let alike : spelling Second p.says ++ [] ≡ spelling Second q.says =
-    append-nil (spelling Second p.says) ∙ ap (spelling Second) (said_by a.version first.0 m p)
-    ∙ same ∙ ap (spelling Second) (sym (said_by b.version second.0 n q)) in
-    let e = (no_spelling_begins_another Second Second p.says q.says []
-    (fits_later a.version p.says p.image.fits) (fits_later b.version q.says q.image.fits)
-    alike).2 in
-    sym p.node ∙ ap node_of e ∙ q.node
-
 -- ---- one image, one node
 
 -- bytes are the image of at most one node

@@ -3,3 +3,4 @@ pub mod Nodes
 pub mod Conditions
 pub mod Wholes
 pub mod Logged
+pub mod Saving

@@ -1,7 +1,8 @@
-//! A saved node as bytes, its image.
+//! A saved node as bytes, its image. How the parts of an image are spelled is in the crate
+//! `image_parts`, and where images are kept in `node_store`.
 //!
 //! [`to_bytes`] writes an image, and [`from_bytes`] makes a node of it. docs/FORMATS.md has the
-//! table of its parts ("Images"); the crate `image_parts` defines how they are spelled.
+//! table of its parts ("Images").
 #![tactic(auto)]
 
 mod law;

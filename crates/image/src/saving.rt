@@ -1,13 +1,12 @@
 //! Writes the bytes of a node's image. They go into one writer, whose limit is that of an image. A
 //! node that needs more is refused, and nothing of it is kept.
-ghost use Rattle.std.specs.Prelude.{◌≡◌, ◌≢◌, ◌<◌, ◌≤◌, ◌+◌, ◌++◌, length, slice_set};
+ghost use Rattle.std.specs.Prelude.{◌≡◌, ◌≢◌, ◌<◌, ◌≤◌, ◌+◌, ◌++◌, [], length, slice_set};
 ghost use Rattle.std.specs.Prelude.{IfOk, IfErr, OnOk};
 ghost use Rattle.ids.specs.declared.limits.TheConstants.{GREATEST_IMAGE};
 ghost use Rattle.ids.specs.declared.refusal.Refusal.TheVariants.{ImageTooLarge, Memory};
 ghost use Rattle.model.specs.View.{kept_view};
-ghost use Rattle.image.specs.Images.{image_of};
 ghost use Rattle.image.specs.Logged.{IsLoggedOf, logged_image};
-ghost use Rattle.image.specs.Nodes.{IsImageOf};
+ghost use Rattle.image.specs.Saving.{WritesImage};
 
 use crate::writing::put_node;
 use codec::Writer;
@@ -30,12 +29,7 @@ const SLOT_BYTES: usize = 28;
 /// [`Refusal::ImageTooLarge`] if there are more than [`GREATEST_IMAGE`](ids::GREATEST_IMAGE) bytes.
 /// Otherwise [`Refusal::Memory`] if an allocation fails.
 pub fn to_bytes(alloc: Global, node: &Node) -> Result<Vec<u8>, Refusal>
-    ensures written { IfOk result (λ v. v.items ≡ image_of node.now.core) }
-    ensures image { OnOk result (IsImageOf (image_of node.now.core) (kept_view node.now.core)) }
-    ensures refused { IfErr result (λ e. e ≢ Memory
-        → (e ≡ ImageTooLarge) × (GREATEST_IMAGE < length (image_of node.now.core))) }
-    ensures last { IfErr result (λ e. e ≡ Memory
-        → length (image_of node.now.core) ≤ GREATEST_IMAGE) }
+    ensures { WritesImage [] node.now.core result }
 {
     to_bytes_over(Vec::new(alloc), node)
 }
@@ -44,12 +38,7 @@ pub fn to_bytes(alloc: Global, node: &Node) -> Result<Vec<u8>, Refusal>
 /// content is dropped. More is allocated only if that memory is too small. It fails as [`to_bytes`]
 /// does.
 pub fn to_bytes_over(bytes: Vec<u8>, node: &Node) -> Result<Vec<u8>, Refusal>
-    ensures written { IfOk result (λ v. v.items ≡ image_of node.now.core) }
-    ensures image { OnOk result (IsImageOf (image_of node.now.core) (kept_view node.now.core)) }
-    ensures refused { IfErr result (λ e. e ≢ Memory
-        → (e ≡ ImageTooLarge) × (GREATEST_IMAGE < length (image_of node.now.core))) }
-    ensures last { IfErr result (λ e. e ≡ Memory
-        → length (image_of node.now.core) ≤ GREATEST_IMAGE) }
+    ensures { WritesImage [] node.now.core result }
 {
     to_bytes_behind(bytes, &[], node)
 }
@@ -59,12 +48,7 @@ pub fn to_bytes_over(bytes: Vec<u8>, node: &Node) -> Result<Vec<u8>, Refusal>
 pub fn to_bytes_behind(bytes: Vec<u8>, front: &[u8], node: &Node) -> Result<Vec<u8>, Refusal>
     requires { length front.now ≤ GREATEST_IMAGE }
 
-    ensures written { IfOk result (λ v. v.items ≡ front.now ++ image_of node.now.core) }
-    ensures image { OnOk result (IsImageOf (image_of node.now.core) (kept_view node.now.core)) }
-    ensures refused { IfErr result (λ e. e ≢ Memory
-        → (e ≡ ImageTooLarge) × (GREATEST_IMAGE < length (image_of node.now.core))) }
-    ensures last { IfErr result (λ e. e ≡ Memory
-        → length (image_of node.now.core) ≤ GREATEST_IMAGE) }
+    ensures { WritesImage front.now node.now.core result }
 {
     let core = node.core();
     // (called for its contract: brings the core's invariant into scope)

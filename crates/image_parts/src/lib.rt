@@ -1,8 +1,8 @@
-//! The grammar of images: the parts that an image says about a node, and their bytes.
+//! The grammar of images: the parts that an image says about a node, and their bytes. Which parts
+//! form a node, and which node that is, is in the crate `image`.
 //!
 //! [`whole`] reads the parts; [`put_start`], [`put_front`] and the others write them, in the order
-//! of the table in docs/FORMATS.md ("Images"). `specs/Grammar.antt` has their spelling. The crate
-//! `image` says which parts form a node, and which node that is.
+//! of the table in docs/FORMATS.md ("Images"). `specs/Grammar.antt` has their spelling.
 #![tactic(auto)]
 
 mod law;

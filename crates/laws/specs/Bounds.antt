@@ -1,4 +1,4 @@
--- How many moves may be needed ("Progress" in docs/RULES.md). The numbers are functions of the
+-- How many moves may be needed ("Progress" in docs/PROOF.md). The numbers are functions of the
 -- current states.
 --
 -- Work is paid for in advance. A message that is sent costs its receipt and its number on its link,

@@ -1,4 +1,4 @@
--- A space without a collector ("Without a collector" in docs/RULES.md): the objects that were made,
+-- A space without a collector ("Without a collector" in docs/PROOF.md): the objects that were made,
 -- what each node's program holds, and the messages of programs in flight. No object is ever freed.
 -- There are no marks, cycles, tokens, slots, free lists or numbers of messages.
 use Rattle.std.specs.Prelude.{◌≡◌, ◌≢◌, ℕ, ◌<◌, ◌⊎◌, Bool, true, false, cond, ◌==◌, ◌&&◌, not, is_some, nat_lt, nat_le, List, [], ◌∷◌, ◌++◌, length, replicate, slice_set, slice_index_or, Option, None, Some, option_map, Result, Ok, Err, IsTrue}

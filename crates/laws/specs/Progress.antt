@@ -1,4 +1,4 @@
--- Collection never gets stuck ("Progress" in docs/RULES.md). Take a space after any list of steps.
+-- Collection never gets stuck ("Progress" in docs/PROOF.md). Take a space after any list of steps.
 -- The collector alone, by the moves of `Strategy`, ends the cycle's marking, has each node sweep
 -- the cycle, and frees what was garbage. No step of it is refused, and the number of moves is
 -- bounded, if no link runs out of numbers.

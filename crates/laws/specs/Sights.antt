@@ -1,5 +1,5 @@
 -- What programs see of a run of a space, and that it is a run of a space without a collector
--- ("Without a collector" in docs/RULES.md).
+-- ("Without a collector" in docs/PROOF.md).
 use Rattle.std.specs.Prelude.{◌≡◌, ℕ, Bool, true, false, cond, ◌==◌, ◌&&◌, not, List, [], ◌∷◌, ◌++◌, map, filter, Option, Some, Result, Ok, Err}
 use Rattle.ids.specs.Limits.{Shaped, IsShape}
 use Rattle.ids.specs.declared.names.Ref.{Ref}
@@ -63,8 +63,7 @@ choice_at_start (s ∷ ss) choice = choice_before s (choice_at_start ss choice)
 -- a restart has undone, or what a saved state lacks, is left out. If nothing was restarted and all
 -- states are current, nothing is left out.
 --
--- Three runs of two steps, where node 0 makes an object in one of them
--- (`proofs/rows/SightRows.antt`):
+-- Three runs of two steps, in one of which node 0 makes an object (`proofs/rows/SightRows.antt`):
 -- * made, then node 0 is restarted: no cut has it, since the restart took the object back;
 -- * made, then node 0 is saved: every cut has it;
 -- * node 0 is saved, then made: only the cuts of node 0's current state have it.

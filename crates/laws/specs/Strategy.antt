@@ -1,5 +1,5 @@
 -- What the collector does to end a cycle: a move that the space determines, and the same again
--- ("Progress" in docs/RULES.md). A space that does nothing else ends the cycle and sweeps it.
+-- ("Progress" in docs/PROOF.md). A space that does nothing else ends the cycle and sweeps it.
 use Rattle.std.specs.Prelude.{ℕ, zero, suc, ◌+◌, ◌*◌, ◌≤◌, ◌≡◌, Bool, true, false, cond, not, nat_lt, ◌==◌, is_some, List, [], ◌∷◌, ◌++◌, length, IsOk}
 use Rattle.std.specs.List.{AllByRecursion, position_or_len, range_with_len}
 use Rattle.model.specs.declared.event.Event.{Event}

@@ -1,9 +1,10 @@
-//! Theorems on what may happen in a space of nodes, over the definitions of crate `model`. They
-//! hold for every shape and every list of a program's events, deliveries, saves and restarts.
+//! Theorems on what may happen in a space of nodes, over the definitions of crate `model`; no code
+//! here does anything. They hold for every shape and every list of a program's events, deliveries,
+//! saves and restarts.
 //! `specs/Statements` says each of them in a few lines, and `proofs/` proves it. `specs/Sights`
 //! says that programs can't see the collector, by comparison with a space without one
 //! (`specs/Objects`), `specs/Progress` that collection never gets stuck (`progress.rt`).
-//! `proofs/rows` has worked examples of the rules. No code here does anything.
+//! `proofs/rows` has worked examples of the rules.
 //!
 //! # The ideas of the proofs
 //!

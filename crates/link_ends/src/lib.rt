@@ -1,6 +1,6 @@
-//! The two ends of a link, which carries the messages from one node to another. Its [`Sender`]
-//! numbers messages from 1 and keeps those that aren't acknowledged. Its [`Receiver`] receives them
-//! strictly in order and each once.
+//! The two ends of a link, which carries the messages from one node to another; the ends that a
+//! node has of all its links are in `link`. Its [`Sender`] numbers messages from 1 and keeps those
+//! that aren't acknowledged. Its [`Receiver`] receives them strictly in order and each once.
 #![tactic(auto)]
 
 mod receiver;

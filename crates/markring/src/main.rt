@@ -1,5 +1,6 @@
-//! The program `markring`. It reads the files that its arguments name and buffers standard output;
-//! the crates below decide what `sim` and `decode` print.
+//! The program `markring`, of which only `run` is here: scripts on node threads with disks. It
+//! reads the files that its arguments name and buffers standard output; the crates below decide
+//! what `sim` and `decode` print.
 #![tactic(auto)]
 
 ghost use Rattle.std.specs.Prelude.{◌≤◌, IfOk};

@@ -1,5 +1,5 @@
 -- What the end of a cycle's marking means, in the words of EWD998 ("The end of marking" in
--- docs/RULES.md): which messages in flight a cycle counts, the nodes' balances of these messages,
+-- docs/PROOF.md): which messages in flight a cycle counts, the nodes' balances of these messages,
 -- and when marking has terminated.
 use Rattle.std.specs.Prelude.{◌≡◌, ℕ, zero, suc, ℤ, pos, ◌+◌, ◌+ℤ◌, ◌≤◌, ◌<◌, Bool, false, cond, nat_lt, ◌==◌, List, [], ◌∷◌, drop}
 use Rattle.ids.specs.declared.names.Ref.{Ref}

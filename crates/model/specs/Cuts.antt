@@ -1,4 +1,4 @@
--- What is reachable in a space ("Cuts and reach" in docs/RULES.md).
+-- What is reachable in a space ("Cuts and reach" in docs/PROOF.md).
 use Rattle.std.specs.Prelude.{◌≡◌, ◌≢◌, ℕ, ◌+◌, ◌≤◌, Bool, true, cond, List, [], ◌∷◌, Some, None, Ok, slice_get, slice_index_or, ◌⊎◌}
 use Rattle.ids.specs.declared.names.Ref.{Ref}
 use Rattle.msg.specs.declared.body.Message.{Message}

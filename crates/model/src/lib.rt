@@ -1,4 +1,5 @@
-//! The definitions of the object space, which the contracts of all other crates cite.
+//! The definitions of the object space, which the contracts of all other crates cite; theorems
+//! about them are in `laws`, and the code that follows them is in the crates above.
 //!
 //! The code here is a few enums that both the program and the definitions use: events and answers
 //! of a node, a node in numbers, the balances in which it counts messages, and steps and outcomes

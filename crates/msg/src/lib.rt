@@ -1,4 +1,5 @@
-//! What nodes say to each other.
+//! What nodes say to each other: acknowledgements and messages as values; their bytes are in
+//! `frames`, and what a message does is in `node`.
 //!
 //! A frame is an acknowledgement or a message. An acknowledgement has the node that acknowledges,
 //! the other node, and a number. A message has the sender and the receiver, its number, its stamp,

@@ -1,5 +1,6 @@
 #![tactic(auto)]
-//! One node of the object space. An event is one step of the definitions in `model`, for every
+//! One node of the object space, with all that an event may change; it saves nothing, and sends
+//! frames only when asked for them. An event is one step of the definitions in `model`, for every
 //! state that the node shows, and a refused event changes no state. [`Core`] is the part of a node
 //! that is saved; [`Node`] also keeps early messages, which arrived before their turn.
 //!

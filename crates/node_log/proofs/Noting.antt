@@ -9,13 +9,6 @@ use Rattle.node_log.specs.Noted.{Noted}
 some_one : {x y : List ℕ} → ◌≡◌ {A = Option (List ℕ)} (Some x) (Some y) → x ≡ y
 some_one both = cc both
 
-pub lost : (old : Option (List ℕ)) {new : Option (List ℕ)} (e : Event) → new ≡ None
-    → Noted old new e
-lost old e none = record {
-  more = λ bytes is.
-      let both : ◌≡◌ {A = Option (List ℕ)} None (Some bytes) = sym none ∙ is in absurd cc;
-}
-
 pub added : (old : Option (List ℕ)) (e : Event) (before after : List ℕ) → Fits entry (entry_of e)
     → old ≡ Some before → after ≡ before ++ entry.spell (entry_of e) → Noted old (Some after) e
 added old e before after fits was is = record {

@@ -1,4 +1,5 @@
-//! The events of a node since its last save, as bytes: a batch for a journal.
+//! The events of a node since its last save, as bytes: a batch for a journal, which `disk_journal`
+//! writes and `node_store` performs again.
 #![tactic(auto)]
 
 mod log;

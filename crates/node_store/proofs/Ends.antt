@@ -26,16 +26,22 @@ use Rattle.node_store.specs.Logs.{AreDone, IsDone, Logged, spelled}
 
 -- ---- one event after another
 
-module _ (rest behind : List ℕ) (e : Event) (are : IsBytes rest)
-    (reads : entry.read rest ≡ Some (entry_of e, behind)) where
-  took : (rest ≡ entry.spell (entry_of e) ++ behind) × (IsBytes behind × Fits entry (entry_of e))
-  took = let t = entry_sound.takes rest (entry_of e, behind) are reads in (t.parts, (t.rest, t.fits))
+-- an event is read from these bytes, and these are left behind it
+pub record ReadsEvent (rest : List ℕ) (e : Event) (behind : List ℕ) : Type 0 where
+  pub are : IsBytes rest
+  pub reads : entry.read rest ≡ Some (entry_of e, behind)
 
-  pub bytes_behind : IsBytes behind
+module _ {rest behind : List ℕ} {e : Event} (read : ReadsEvent rest e behind) where
+  took : (rest ≡ entry.spell (entry_of e) ++ behind) × (IsBytes behind × Fits entry (entry_of e))
+  took =
+      let t = entry_sound.takes rest (entry_of e, behind) read.are read.reads in
+      (t.parts, (t.rest, t.fits))
+
+  bytes_behind : IsBytes behind
   bytes_behind = took.1.0
 
   -- what is left after the event leads on
-  pub logged_on : {now mid last : NodeView} → IsDone now e mid → Logged behind mid last
+  logged_on : {now mid last : NodeView} → IsDone now e mid → Logged behind mid last
       → Logged rest now last
   logged_on {mid = mid} done more = record {
     events = e ∷ more.events;
@@ -45,7 +51,7 @@ module _ (rest behind : List ℕ) (e : Event) (are : IsBytes rest)
   }
 
   -- what is left begins with that event
-  pub logged_first : {now last : NodeView} → Logged rest now last
+  logged_first : {now last : NodeView} → Logged rest now last
       → (mid : NodeView) × IsDone now e mid × Logged behind mid last
   logged_first {now} {last} log = by_events log.events log.fit log.is log.done
     where
@@ -57,7 +63,7 @@ module _ (rest behind : List ℕ) (e : Event) (are : IsBytes rest)
       by_events (f ∷ fs) fit is done =
           let both : ◌≡◌ {A = Option (Entry × List ℕ)}
           (Some (entry_of e, behind)) (Some (entry_of f, spelled fs)) =
-          sym reads ∙ ap entry.read is ∙ entry_sound.again (entry_of f) (spelled fs) fit.0 in
+          sym read.reads ∙ ap entry.read is ∙ entry_sound.again (entry_of f) (spelled fs) fit.0 in
           let parts : ◌≡◌ {A = Entry × List ℕ} (entry_of e, behind) (entry_of f, spelled fs) =
           cc both in
           let same = ap (λ (x : Entry × List ℕ). x.0) parts in (
@@ -72,7 +78,7 @@ module _ (rest behind : List ℕ) (e : Event) (are : IsBytes rest)
           )
 
 -- if no event is read from bytes, they are no log, unless they are empty
-pub logged_unread : {rest : List ℕ} {now last : NodeView} → rest ≢ [] → entry.read rest ≡ None
+logged_unread : {rest : List ℕ} {now last : NodeView} → rest ≢ [] → entry.read rest ≡ None
     → Logged rest now last → ⊥
 logged_unread {rest} {now} {last} some none log = by_events log.events log.fit log.is
   where
@@ -118,87 +124,108 @@ logged_more {bytes} {first} {now} {last} e fits is log = record {
 
 -- ---- a log that is read
 
--- These bytes are left of a batch. They lead from this node to the same ends as all of them from
--- the first node.
-pub record IsLeftOf (batch : List ℕ) (first : NodeView) (rest : List ℕ) (now : NodeView) : Type 0
-  where
-    pub are : IsBytes rest
-    pub ahead : (last : NodeView) → Logged batch first last → Logged rest now last
-    pub back : (last : NodeView) → Logged rest now last → Logged batch first last
-
-abbrev pub IsLeft : List ℕ → NodeView → Option (List ℕ) → NodeView → Type 0
-IsLeft batch first None now = ⊥
-IsLeft batch first (Some rest) now = IsLeftOf batch first rest now
-
 abbrev pub length_of : Option (List ℕ) → ℕ
 length_of None = 0
 length_of (Some rest) = length rest
 
--- the reader's bytes are used up
-pub left_end : (batch : List ℕ) (first : NodeView) (o : Option (List ℕ)) (now : NodeView)
-    → IsLeft batch first o now → whole_of o ≡ true → Logged batch first now
-left_end batch first None now is whole = absurd is
-left_end batch first (Some []) now is whole = is.back now (logged_none now)
-left_end batch first (Some (x ∷ rest)) now is whole =
-    absurd (omega (arith, eqb-true (length (x ∷ rest)) 0 whole))
-
--- no event is read
-pub left_unread : (batch : List ℕ) (first : NodeView) (o : Option (List ℕ)) (now : NodeView)
-    → IsLeft batch first o now → whole_of o ≡ false → (o >>= entry.read) ≡ None
-    → (last : NodeView) → Logged batch first last → ⊥
-left_unread batch first None now is whole none last log = is
-left_unread batch first (Some []) now is whole none last log = true≢false whole
-left_unread batch first (Some (x ∷ rest)) now is whole none last log =
-    logged_unread (λ nothing. absurd cc) none (is.ahead last log)
-
-module _ (batch : List ℕ) (first now : NodeView) (e : Event) where
-  -- an event is read that isn't answered
-  pub left_bad : (o behind : Option (List ℕ)) → IsLeft batch first o now
-      → (o >>= entry.read) ≡ with_rest (entry_of e) behind → open_of behind ≡ true
-      → ((after : NodeView) → IsDone now e after → ⊥) → (last : NodeView)
-      → Logged batch first last → ⊥
-  left_bad None behind is reads going none last log = is
-  left_bad (Some rest) None is reads going none last log = true≢false (sym going)
-  left_bad (Some rest) (Some behind) is reads going none last log =
-      let found = logged_first rest behind e is.are reads (is.ahead last log) in
-      none found.0 found.1
-
-  -- an event is read and performed
-  pub left_next : (o behind : Option (List ℕ)) (after : NodeView) → IsLeft batch first o now
-      → (o >>= entry.read) ≡ with_rest (entry_of e) behind → open_of behind ≡ true
-      → IsDone now e after → IsLeft batch first behind after
-  left_next None behind after is reads going done = absurd is
-  left_next (Some rest) None after is reads going done = absurd (true≢false (sym going))
-  left_next (Some rest) (Some behind) after is reads going done = record {
-    are = bytes_behind rest behind e is.are reads;
-    ahead = λ last log.
-        let found = logged_first rest behind e is.are reads (is.ahead last log) in
-        subst (λ n. Logged behind n last) (one-done now found.0 after e e refl found.1 done) found.2;
-    back = λ last log. is.back last (logged_on rest behind e is.are reads done log);
-  }
-
-  -- there is less to read then
-  pub left_less : (o behind : Option (List ℕ)) → IsLeft batch first o now
-      → (o >>= entry.read) ≡ with_rest (entry_of e) behind → open_of behind ≡ true
-      → length_of behind < length_of o
-  left_less None behind is reads going = absurd is
-  left_less (Some rest) None is reads going = absurd (true≢false (sym going))
-  left_less (Some rest) (Some behind) is reads going =
-      let t = took rest behind e is.are reads in
-      longer (entry.spell (entry_of e)) t.0 (λ none.
-      spelled-nothing e [] (sym none ∙ sym (append-nil (entry.spell (entry_of e)))) t.1.1)
-    where
-      longer : (text : List ℕ) → rest ≡ text ++ behind → (text ≡ [] → ⊥)
-          → length behind < length rest
-      longer [] is some = absurd (some refl)
-      longer (x ∷ text) is some =
-          omega (arith, ap length is, length-append text behind)
+-- A reader has bytes of a batch left. They lead from this node to the same ends as all of them from
+-- the first node.
+pub record IsLeft (batch : List ℕ) (first : NodeView) (o : Option (List ℕ)) (now : NodeView)
+    : Type 0 where
+  pub rest : List ℕ
+  pub here : o ≡ Some rest
+  pub are : IsBytes rest
+  pub ahead : (last : NodeView) → Logged batch first last → Logged rest now last
+  pub back : (last : NodeView) → Logged rest now last → Logged batch first last
 
 -- all of a batch is left
 pub left_all : (batch : List ℕ) (first : NodeView) → IsBytes batch
     → IsLeft batch first (Some batch) first
-left_all batch first are =
-    record { are = are; ahead = λ last log. log; back = λ last log. log }
+left_all batch first are = record {
+  rest = batch;
+  here = refl;
+  are = are;
+  ahead = λ last log. log;
+  back = λ last log. log;
+}
+
+used_up : (rest : List ℕ) → whole_of (Some rest) ≡ true → rest ≡ []
+used_up [] whole = refl
+used_up (x ∷ rest) whole = absurd (omega (arith, eqb-true (length (x ∷ rest)) 0 whole))
+
+module _ {batch : List ℕ} {first now : NodeView} {o : Option (List ℕ)} where
+  -- the reader's bytes are used up
+  pub left_end : IsLeft batch first o now → whole_of o ≡ true → Logged batch first now
+  left_end left whole =
+      let empty = used_up left.rest (subst (λ r. whole_of r ≡ true) left.here whole) in
+      left.back now (subst (λ l. Logged l now now) (sym empty) (logged_none now))
+
+  -- no event is read
+  pub left_unread : IsLeft batch first o now → whole_of o ≡ false → (o >>= entry.read) ≡ None
+      → (last : NodeView) → Logged batch first last → ⊥
+  left_unread left whole none last log =
+      logged_unread
+      (λ empty. true≢false (subst (λ r. whole_of r ≡ false) (left.here ∙ ap Some empty) whole))
+      (subst (λ r. (r >>= entry.read) ≡ None) left.here none) (left.ahead last log)
+
+-- an event is read of what is left, and the reader goes on
+pub record Took (batch : List ℕ) (first now : NodeView) (e : Event) (o behind : Option (List ℕ))
+    : Type 0 where
+  pub left : IsLeft batch first o now
+  pub next : List ℕ
+  pub there : behind ≡ Some next
+  pub read : ReadsEvent left.rest e next
+
+pub took_event : {batch : List ℕ} {first now : NodeView} {e : Event} {o : Option (List ℕ)}
+    (behind : Option (List ℕ)) → IsLeft batch first o now
+    → (o >>= entry.read) ≡ with_rest (entry_of e) behind → open_of behind ≡ true
+    → Took batch first now e o behind
+took_event None left reads going = absurd (true≢false (sym going))
+took_event {e = e} (Some next) left reads going = record {
+  left = left;
+  next = next;
+  there = refl;
+  read = record {
+    are = left.are;
+    reads = subst (λ r. (r >>= entry.read) ≡ Some (entry_of e, next)) left.here reads;
+  };
+}
+
+module _ {batch : List ℕ} {first now : NodeView} {e : Event} {o behind : Option (List ℕ)}
+    (t : Took batch first now e o behind) where
+  -- it isn't answered
+  pub left_bad : ((after : NodeView) → IsDone now e after → ⊥) → (last : NodeView)
+      → Logged batch first last → ⊥
+  left_bad none last log =
+      let found = logged_first t.read (t.left.ahead last log) in none found.0 found.1
+
+  -- it is performed
+  pub left_next : {after : NodeView} → IsDone now e after → IsLeft batch first behind after
+  left_next {after} done = record {
+    rest = t.next;
+    here = t.there;
+    are = bytes_behind t.read;
+    ahead = λ last log.
+        let found = logged_first t.read (t.left.ahead last log) in
+        subst (λ n. Logged t.next n last) (one-done now found.0 after e e refl found.1 done)
+        found.2;
+    back = λ last log. t.left.back last (logged_on t.read done log);
+  }
+
+  -- there is less to read then
+  pub left_less : length_of behind < length_of o
+  left_less =
+      let text = took t.read in
+      let less : length t.next < length t.left.rest = longer (entry.spell (entry_of e)) text.0
+      (λ none. spelled-nothing e [] (sym none ∙ sym (append-nil (entry.spell (entry_of e))))
+      text.1.1) in
+      omega (arith, less, ap length_of t.there, ap length_of t.left.here)
+    where
+      longer : (text : List ℕ) → t.left.rest ≡ text ++ t.next → (text ≡ [] → ⊥)
+          → length t.next < length t.left.rest
+      longer [] is some = absurd (some refl)
+      longer (x ∷ text) is some =
+          omega (arith, ap length is, length-append text t.next)
 
 -- a reader that has failed leaves nothing
 pub closed_none : {A : Type 0} (x : A) (behind : Option (List ℕ)) → open_of behind ≡ false

@@ -18,10 +18,11 @@ use Rattle.image.specs.Logged.{IsAnyWholeOf, IsEither}
 use Rattle.image.specs.Nodes.{IsImageOf}
 use Rattle.image.specs.Wholes.{IsWholeOf}
 use Rattle.image.proofs.Spelled.{kept_is}
-use Rattle.disk.specs.Areas.{Areas, part}
+use Rattle.disk.specs.Areas.{Areas, part, IsBlank}
 use Rattle.disk.specs.Crashes.{Only}
 use Rattle.disk_shelf.specs.Logs.{HasLog, LeadAll, OpensIf}
-use Rattle.disk_shelf.specs.Shelf.{IsReadAs, half, image_at, opened, OldOrNew, record_of, recorded, side}
+use Rattle.disk_shelf.specs.Refusals.{IsHandedBack}
+use Rattle.disk_shelf.specs.Shelf.{half, image_at, opened, OldOrNew, OpensAs, record_of, recorded, side}
 use Rattle.disk_shelf.proofs.Logs.{selected_if}
 use Rattle.disk_shelf.proofs.Records.{record_length}
 use Rattle.disk_shelf.proofs.Values.{fresh_led}
@@ -83,7 +84,7 @@ no_batches image batches c o = o.holds.1
 -- ---- nodes on disks
 
 -- a disk that opens to an image without a log
-pub keeps_read : (n : WholeNode) (c : Areas) → IsReadAs IsWholeOf (opened c) n → Keeps n c
+pub keeps_read : (n : WholeNode) (c : Areas) → OpensAs IsWholeOf n c → Keeps n c
 keeps_read n c found =
     restores_image
     (image_plain found.0 n.core found.2.0) (any_of found.0 n found.2)
@@ -95,7 +96,7 @@ keeps_written n image c is read = keeps_read n c (image, is, read)
 
 -- if no log follows the image, the node is what the image is read as
 pub read_kept : (n : WholeNode) (c : Areas) → IsPlain c → Keeps n c
-    → IsReadAs IsWholeOf (opened c) n
+    → OpensAs IsWholeOf n c
 read_kept n c plain r =
     let is = opens_image (begins_logged r.image) r.image r.batches c r.found in
     let none : begins_logged r.image ≡ false = plain r.image is in
@@ -104,7 +105,7 @@ read_kept n c plain r =
     let same : r.first ≡ n = subst (λ bs. LeadAll LeadsWhole bs r.first n) empty r.led in
     (r.image, is, whole_of r.image n none (subst (IsAnyWholeOf r.image) same r.read))
 
-pub plain_read : (n : WholeNode) (c : Areas) → IsReadAs IsWholeOf (opened c) n → IsPlain c
+pub plain_read : (n : WholeNode) (c : Areas) → OpensAs IsWholeOf n c → IsPlain c
 plain_read n c found image is =
     let both : ◌≡◌ {A = Option (List ℕ)} (Some found.0) (Some image) = sym found.1 ∙ is in
     let same : found.0 ≡ image = cc both in
@@ -119,7 +120,7 @@ pub keeps_one : (m n : WholeNode) (c : Areas) → Keeps m c → Keeps n c → m 
 keeps_one = restores_one one_whole one_led
 
 -- something was created on the disk
-pub keeps_some : (n : WholeNode) (c : Areas) → Keeps n c → c.select ≢ []
+pub keeps_some : (n : WholeNode) (c : Areas) → Keeps n c → IsBlank c → ⊥
 keeps_some n c r empty =
     let both : ◌≡◌ {A = Option Bool} None (Some r.found.in_b) =
     sym (ap side empty) ∙ r.found.selected in
@@ -173,9 +174,9 @@ only_written seen may_leave d n image only is read =
     only_plain seen may_leave d only (written_plain n image (seen d) is read)
 
 -- during a save
-pub either_kept : (old n : WholeNode) (image : List ℕ) (s c : Areas) → IsPlain s → Keeps old s
-    → IsWholeOf image n → OldOrNew (opened s) image c → KeepsEither old n c
-either_kept old n image s c plain keeps read =
+pub either_kept : {old n : WholeNode} {image : List ℕ} {s : Areas} (c : Areas) → IsPlain s
+    → Keeps old s → IsWholeOf image n → OldOrNew (opened s) image c → KeepsEither old n c
+either_kept {old} {n} {image} {s} c plain keeps read =
     ⊎_elim
     (λ same.
     let was = read_kept old s plain keeps in
@@ -247,6 +248,21 @@ pub failed_before : {T : Type 0} {e : Refusal} (ready : Bool) → e ≡ DiskFail
 failed_before true failed shut = refl
 failed_before false failed shut =
     let never : DiskFailed ≡ Closed = sym failed ∙ same_refusal (shut refl) in absurd cc
+
+-- ---- images of the same length
+
+pub handed_same : {D : Type 0} {faults : D → ℕ} {image other : List ℕ} {disk : D}
+    {back : D × Refusal} → length image ≡ length other → IsHandedBack faults image disk back
+    → IsHandedBack faults other disk back
+handed_same same handed = record {
+  failed = handed.failed;
+  too_large = (
+    λ is. omega (arith, same, handed.too_large.0 is),
+    λ large. handed.too_large.1 (omega (arith, same, large)),
+  );
+  unchanged = handed.unchanged;
+  others = handed.others;
+}
 
 -- ---- how a node is saved
 

@@ -1,5 +1,6 @@
 pub mod Logs
 pub mod Noted
+pub mod Acting
 pub mod Values
 pub mod Laws
 pub mod Plain

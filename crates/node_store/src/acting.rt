@@ -1,13 +1,8 @@
 //! Gives a node an event and notes it in the node's log.
-ghost use Rattle.std.specs.Prelude.{◌≡◌, ◌≢◌, IsTrue, IfErr, IfOk, OnErr};
-ghost use Rattle.ids.specs.declared.refusal.Refusal.TheVariants.{Memory};
-ghost use Rattle.model.specs.declared.event.Answer.TheVariants as answer;
-ghost use Rattle.model.specs.State.{NodeState};
-ghost use Rattle.model.specs.Steps.{act as act_of, is_memory_free, is_shading};
-ghost use Rattle.model.specs.View.{Follows, Leaves, NodeView, Performs, Shows, view_act};
-ghost use Rattle.node.specs.Keeping.{AreKeptIn, early_after, met};
+ghost use Rattle.std.specs.Prelude.{◌≡◌};
+ghost use Rattle.node.specs.Keeping.{AreKeptIn, met};
+ghost use Rattle.node_store.specs.Acting.{Acts, Notes};
 ghost use Rattle.node_store.specs.Logs.{is_turn};
-ghost use Rattle.node_store.specs.Noted.{IsLogged};
 
 use ids::Refusal;
 use model::{Answer, Event};
@@ -39,22 +34,9 @@ pub fn meant(node: &Node, event: Event) -> Event
 /// and changes what is saved. The log may be lost (see [`Log::note`]); no event is refused for
 /// that. If it is lost already, nothing is noted.
 pub fn act(node: &mut Node, log: &mut Log, event: Event) -> Result<Answer, Refusal>
-    ensures performs { Performs (is_shading (met node.old.early event)) result node.new.core
-        (view_act node.old.core (met node.old.early event)) }
-    ensures states { (s : NodeState) → Shows node.old.core s
-        → Follows (met node.old.early event) result node.new.core
-        (act_of s (met node.old.early event)) }
-    ensures unchanged { OnErr result (node.new.core ≡ node.old.core) }
-    ensures leaves { Leaves node.old.core node.new.core (met node.old.early event) }
-    ensures memory_free { IsTrue (is_memory_free node.old.core.local (met node.old.early event))
-        → IfErr result (λ e. e ≢ Memory) }
-    ensures early { node.new.early
-        ≡ early_after node.old.core.local node.old.early event result }
-    ensures turn { met node.old.early event ≢ event → IfOk result (λ a. a ≡ answer.Received) }
+    ensures acts { Acts node.old node.new event result }
     ensures kept { AreKeptIn node.new }
-    ensures logged { (first : NodeView) → IsLogged log.old first node.old.core
-        → IsLogged log.new first node.new.core }
-    ensures still { OnErr result (log.new ≡ log.old) }
+    ensures notes { Notes node.old node.new log.old log.new result }
 {
     if log.is_kept() {
         act_noting(node, log, event)
@@ -67,22 +49,9 @@ pub fn act(node: &mut Node, log: &mut Log, event: Event) -> Result<Answer, Refus
 // doesn't pay for it.
 #[inline(never)]
 fn act_noting(node: &mut Node, log: &mut Log, event: Event) -> Result<Answer, Refusal>
-    ensures performs { Performs (is_shading (met node.old.early event)) result node.new.core
-        (view_act node.old.core (met node.old.early event)) }
-    ensures states { (s : NodeState) → Shows node.old.core s
-        → Follows (met node.old.early event) result node.new.core
-        (act_of s (met node.old.early event)) }
-    ensures unchanged { OnErr result (node.new.core ≡ node.old.core) }
-    ensures leaves { Leaves node.old.core node.new.core (met node.old.early event) }
-    ensures memory_free { IsTrue (is_memory_free node.old.core.local (met node.old.early event))
-        → IfErr result (λ e. e ≢ Memory) }
-    ensures early { node.new.early
-        ≡ early_after node.old.core.local node.old.early event result }
-    ensures turn { met node.old.early event ≢ event → IfOk result (λ a. a ≡ answer.Received) }
+    ensures acts { Acts node.old node.new event result }
     ensures kept { AreKeptIn node.new }
-    ensures logged { (first : NodeView) → IsLogged log.old first node.old.core
-        → IsLogged log.new first node.new.core }
-    ensures still { OnErr result (log.new ≡ log.old) }
+    ensures notes { Notes node.old node.new log.old log.new result }
 {
     let meant = meant(node, event);
     let answer = node.act(event)?;

@@ -1,10 +1,11 @@
-//! A node's events since its last save, as a log that can be performed again. With a
-//! [`Journal`](disk_journal::Journal) a save then writes what happened, and not the whole node.
+//! Nodes on disks, and events that are noted for the next save. How a disk keeps a value is in the
+//! crates `disk_shelf` and `disk_journal`, and the bytes are in `image` and `event_bytes`.
 //!
-//! [`Log`] collects the events, and [`act`] performs one and notes it. A [`Store`] keeps a node: it
-//! is a shelf, which holds the image alone, or a journal. [`Store::save`] adds the events to the
-//! journal as a batch, or writes the image if the log was lost. Opening the journal performs the
-//! batches again: the node is then the one that was saved.
+//! A [`Store`] keeps a node: it is a shelf, which holds the image alone, or a journal, to which a
+//! save adds what happened. [`Log`] collects the events since the last save, and [`act`] performs
+//! one and notes it. [`Store::save`] adds the events to the journal as a batch, or writes the image
+//! if the log was lost. Opening the journal performs the batches again: the node is then the one
+//! that was saved.
 #![tactic(auto)]
 
 mod acting;

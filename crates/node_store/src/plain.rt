@@ -1,15 +1,15 @@
 //! A shelf for a node, on a disk on which no log follows the image. Each save writes the whole
 //! image.
-ghost use Rattle.std.specs.Prelude.{◌≡◌, ◌≢◌, ◌⊎◌, ◌↔◌, ◌<◌, ◌≤◌, [], length, true, false};
+ghost use Rattle.std.specs.Prelude.{◌≡◌, ◌↔◌, ◌<◌, ◌≤◌, length, true, false};
 ghost use Rattle.std.specs.Prelude.{IfErr, IfOk, IsErr, IsErrOf, IsTrue, MatchResult, OnOk};
 ghost use Rattle.ids.specs.declared.limits.TheConstants.{GREATEST_IMAGE};
 ghost use Rattle.ids.specs.declared.refusal.Refusal.TheVariants as refusal;
-ghost use Rattle.disk.specs.Areas.{Areas};
-ghost use Rattle.disk.specs.Crashes.{Grew, HasCause, LeavesOnly, Only, Unmoved};
-ghost use Rattle.disk_shelf.specs.Shelf.{IsSettled, SelectsLength};
+ghost use Rattle.disk.specs.Crashes.{HasCause, LeavesOnly, Only, OnlyRead, StaysBlank, Unmoved};
+ghost use Rattle.disk_shelf.specs.Refusals.{AfterSave, IsHandedBack, IsUnread};
+ghost use Rattle.disk_shelf.specs.Shelf.{IsSettled};
 ghost use Rattle.node.specs.Keeping.{WholeNode};
 ghost use Rattle.image.specs.Wholes.{saved_whole, whole_image};
-ghost use Rattle.node_store.specs.Plain.{IsPlain, Keeps, KeepsEither, StaysPlain};
+ghost use Rattle.node_store.specs.Plain.{Keeps, KeepsEither, KeepsPlain, StaysPlain};
 
 use crate::images::Images;
 use disk::Disk;
@@ -37,14 +37,10 @@ pub(crate) fn read_plain<D: Disk>(alloc: Global, disk: &mut D) -> Result<(Select
     ensures value { IfOk result (λ r. Keeps r.1 (D.seen disk.old)) }
     ensures settled { IfOk result (λ r. IsSettled D.seen D.may_leave disk.new r.0.in_b) }
     ensures plain { OnOk result (StaysPlain (D.may_leave disk.new)) }
-    ensures bad { IsErrOf result refusal.BadImage → IsPlain (D.seen disk.old)
-        → (n : WholeNode) → Keeps n (D.seen disk.old) → ⊥ }
-    ensures memory { IsErrOf result refusal.Memory → SelectsLength (D.seen disk.old) }
+    ensures refused { IfErr result (IsUnread KeepsPlain (D.seen disk.old)) }
     ensures quiet { Unmoved D.seen D.may_leave D.moment D.left_since disk.old disk.new }
     ensures cause { HasCause (D.faults disk.old) (D.faults disk.new)
         (IsErrOf result refusal.Disk) }
-    ensures others { IfErr result (λ e. (e ≡ refusal.Memory)
-        ⊎ ((e ≡ refusal.BadImage) ⊎ (e ≡ refusal.Disk))) }
 {
     match read_value::<D, Images>(alloc, disk) {
         Ok(found) => Ok(found),
@@ -72,18 +68,12 @@ impl<D: Disk> PlainShelf<D> {
 
     // Saves the first node on a disk on which nothing was ever created.
     pub(crate) fn create(alloc: Global, disk: D, node: &Node) -> Result<PlainShelf<D>, (D, Refusal)>
-        requires { (c : Areas) → D.may_leave disk c → c.select ≡ [] }
+        requires { StaysBlank (D.may_leave disk) }
         ensures created { IfOk result (λ s. Keeps (saved_whole node.now) (D.seen s.shelf.disk)) }
         ensures ready { IfOk result (λ s. s.shelf.ready ≡ true) }
-        ensures disk { IfErr result (λ e.
-            e.1 ≡ refusal.Disk → Grew (D.faults disk) (D.faults e.0)) }
+        ensures within { OnOk result (length (whole_image node.now) ≤ GREATEST_IMAGE) }
+        ensures refused { IfErr result (IsHandedBack D.faults (whole_image node.now) disk) }
         ensures later { IfErr result (λ e. D.moment disk ≤ D.moment e.0) }
-        ensures too_large { MatchResult result
-            (λ _. length (whole_image node.now) ≤ GREATEST_IMAGE)
-            (λ e. e.1 ≡ refusal.ImageTooLarge ↔ GREATEST_IMAGE < length (whole_image node.now)) }
-        ensures unchanged { IfErr result (λ e. e.1 ≢ refusal.Disk → e.0 ≡ disk) }
-        ensures others { IfErr result (λ e. (e.1 ≡ refusal.Memory)
-            ⊎ ((e.1 ≡ refusal.ImageTooLarge) ⊎ (e.1 ≡ refusal.Disk))) }
     {
         match Shelf::create::<Images>(alloc, disk, node) {
             Ok(shelf) => Ok(PlainShelf { shelf }),
@@ -108,16 +98,9 @@ impl<D: Disk> PlainShelf<D> {
         ensures opened { IfOk result (λ n. Keeps n (D.seen self.old.shelf.disk)) }
         ensures ready { OnOk result (self.new.shelf.ready ≡ true) }
         ensures shut { IsErr result → self.new.shelf.ready ≡ false }
-        ensures bad { IsErrOf result refusal.BadImage
-            → (n : WholeNode) → Keeps n (D.seen self.old.shelf.disk) → ⊥ }
-        ensures memory { IsErrOf result refusal.Memory
-            → SelectsLength (D.seen self.old.shelf.disk) }
-        ensures quiet { Unmoved D.seen D.may_leave D.moment D.left_since
-            self.old.shelf.disk self.new.shelf.disk }
-        ensures disk { IsErrOf result refusal.Disk →
-            Grew (D.faults self.old.shelf.disk) (D.faults self.new.shelf.disk) }
-        ensures others { IfErr result (λ e. (e ≡ refusal.Memory)
-            ⊎ ((e ≡ refusal.BadImage) ⊎ (e ≡ refusal.Disk))) }
+        ensures refused { IfErr result (IsUnread Keeps (D.seen self.old.shelf.disk)) }
+        ensures read { OnlyRead D.seen D.may_leave D.moment D.left_since D.faults
+            (IsErrOf result refusal.Disk) self.old.shelf.disk self.new.shelf.disk }
     {
         match self.shelf.reopen::<Images>() {
             Ok(node) => Ok(node),
@@ -129,7 +112,6 @@ impl<D: Disk> PlainShelf<D> {
     // saved; after `Ok` it leaves this one.
     pub(crate) fn save(&mut self, node: &Node) -> Result<(), Refusal>
         ensures saved { OnOk result (Keeps (saved_whole node.now) (D.seen self.new.shelf.disk)) }
-        ensures ready { OnOk result (self.new.shelf.ready ≡ true) }
         ensures any_moment { MatchResult result
             (λ _. (old : WholeNode) → Keeps old (D.seen self.old.shelf.disk)
             → LeavesOnly D.moment D.left_since self.old.shelf.disk self.new.shelf.disk
@@ -137,17 +119,10 @@ impl<D: Disk> PlainShelf<D> {
             (λ e. e ≡ refusal.Disk → (old : WholeNode) → Keeps old (D.seen self.old.shelf.disk)
             → LeavesOnly D.moment D.left_since self.old.shelf.disk self.new.shelf.disk
             (KeepsEither old (saved_whole node.now))) }
-        ensures closed { IsErrOf result refusal.Closed ↔ (self.old.shelf.ready ≡ false) }
-        ensures disk { IsErrOf result refusal.Disk →
-            Grew (D.faults self.old.shelf.disk) (D.faults self.new.shelf.disk)
-            × (self.new.shelf.ready ≡ false) }
+        ensures after { AfterSave D.faults self.old.shelf.disk self.new.shelf.disk
+            self.old.shelf.ready self.new.shelf.ready result }
         ensures too_large { IsErrOf result refusal.ImageTooLarge ↔ IsTrue self.old.shelf.ready
             × (GREATEST_IMAGE < length (whole_image node.now)) }
-        ensures unchanged { IfErr result (λ e. e ≢ refusal.Disk →
-            (self.new.shelf.disk ≡ self.old.shelf.disk)
-            × (self.new.shelf.ready ≡ self.old.shelf.ready)) }
-        ensures others { IfErr result (λ e. (e ≡ refusal.Closed) ⊎ ((e ≡ refusal.ImageTooLarge)
-            ⊎ ((e ≡ refusal.Memory) ⊎ (e ≡ refusal.Disk)))) }
     {
         match self.shelf.save::<Images>(node) {
             Ok(()) => Ok(()),

@@ -1,15 +1,12 @@
 //! A store keeps a node on a shelf, each time as its image, or in a journal, as its events since
 //! the last save. Which of the two it is was chosen when the node was found or created.
-ghost use Rattle.std.specs.Prelude.{◌≡◌, ◌≢◌, ◌⊎◌, ◌↔◌, ◌<◌, ◌≤◌, [], length, true, false};
+ghost use Rattle.std.specs.Prelude.{◌≡◌, ◌↔◌, ◌<◌, ◌≤◌, length, true, false};
 ghost use Rattle.std.specs.Prelude.{IfErr, IfOk, IsErr, IsErrOf, IsTrue, MatchResult, OnOk};
 ghost use Rattle.ids.specs.declared.limits.TheConstants.{GREATEST_IMAGE};
 ghost use Rattle.ids.specs.declared.refusal.Refusal.TheVariants as refusal;
 ghost use Rattle.ids.specs.declared.saves.Saves.TheVariants as way;
-ghost use Rattle.disk.specs.Areas.{Areas};
-ghost use Rattle.disk.specs.Crashes.{Grew, HasCause, LeavesOnly, Only, Unmoved};
-ghost use Rattle.disk.specs.Memory.{filled_by_crash, held_by, IsFaultless, left_by};
-ghost use Rattle.disk.specs.Plan.{fails_from, fails_once};
-ghost use Rattle.disk_shelf.specs.Shelf.{SelectsLength};
+ghost use Rattle.disk.specs.Crashes.{HasCause, LeavesOnly, Only, OnlyRead, StaysBlank, Unmoved};
+ghost use Rattle.disk_shelf.specs.Refusals.{AfterSave, IsHandedBack, IsUnread};
 ghost use Rattle.node.specs.Keeping.{WholeNode};
 ghost use Rattle.image.specs.Wholes.{saved_whole, whole_image};
 ghost use Rattle.node_store.specs.Noted.{IsLogged};
@@ -20,7 +17,7 @@ ghost use Rattle.node_store.specs.Stores.{WritesAll};
 use crate::place::Place;
 use crate::plain::{PlainShelf, read_plain};
 use crate::redoing::LoggedImages;
-use disk::{Disk, MemoryDisk};
+use disk::{Disk, MemoryDisk, OverMemory, Plan};
 use disk_journal::{Journal, Tail, read_logged};
 use ids::{Refusal, Saves};
 use node::Node;
@@ -54,14 +51,9 @@ fn read_in_journal<D: Disk>(alloc: Global, disk: &mut D) -> Result<(Place, Node)
     ensures value { IfOk result (λ r. Keeps r.1 (D.seen disk.old)) }
     ensures lies { IfOk result (λ r. LiesAt D.seen D.may_leave disk.new r.0) }
     ensures logged { IfOk result (λ r. is_logged_at r.0 ≡ true) }
-    ensures bad { IsErrOf result refusal.BadImage
-        → (n : WholeNode) → Keeps n (D.seen disk.old) → ⊥ }
-    ensures memory { IsErrOf result refusal.Memory → SelectsLength (D.seen disk.old) }
+    ensures refused { IfErr result (IsUnread Keeps (D.seen disk.old)) }
     ensures quiet { Unmoved D.seen D.may_leave D.moment D.left_since disk.old disk.new }
-    ensures cause { HasCause (D.faults disk.old) (D.faults disk.new)
-        (IsErrOf result refusal.Disk) }
-    ensures others { IfErr result (λ e. (e ≡ refusal.Memory)
-        ⊎ ((e ≡ refusal.BadImage) ⊎ (e ≡ refusal.Disk))) }
+    ensures cause { HasCause (D.faults disk.old) (D.faults disk.new) (IsErrOf result refusal.Disk) }
 {
     let (tail, node) = read_logged::<D, LoggedImages>(alloc, disk)?;
     Ok((Place::Logged(tail), node))
@@ -85,14 +77,9 @@ pub fn read_node<D: Disk>(
     ensures events { saves ≡ way.Events → IfOk result (λ r. is_logged_at r.0 ≡ true) }
     ensures images { saves ≡ way.Images → IsPlain (D.seen disk.old)
         → IfOk result (λ r. is_logged_at r.0 ≡ false) }
-    ensures bad { IsErrOf result refusal.BadImage
-        → (n : WholeNode) → Keeps n (D.seen disk.old) → ⊥ }
-    ensures memory { IsErrOf result refusal.Memory → SelectsLength (D.seen disk.old) }
+    ensures refused { IfErr result (IsUnread Keeps (D.seen disk.old)) }
     ensures quiet { Unmoved D.seen D.may_leave D.moment D.left_since disk.old disk.new }
-    ensures cause { HasCause (D.faults disk.old) (D.faults disk.new)
-        (IsErrOf result refusal.Disk) }
-    ensures others { IfErr result (λ e. (e ≡ refusal.Memory)
-        ⊎ ((e ≡ refusal.BadImage) ⊎ (e ≡ refusal.Disk))) }
+    ensures cause { HasCause (D.faults disk.old) (D.faults disk.new) (IsErrOf result refusal.Disk) }
 {
     match saves {
         Saves::Events => read_in_journal(alloc, disk),
@@ -155,20 +142,14 @@ impl<D: Disk> Store<D> {
         node: &Node,
         saves: Saves,
     ) -> Result<Store<D>, (D, Refusal)>
-        requires { (c : Areas) → D.may_leave disk c → c.select ≡ [] }
+        requires { StaysBlank (D.may_leave disk) }
         ensures created { IfOk result (λ s. Keeps (saved_whole node.now) (D.seen (disk_of s))) }
         ensures ready { IfOk result (λ s. is_ready_in s ≡ true) }
         ensures events { saves ≡ way.Events → IfOk result (λ s. logs_in s ≡ true) }
         ensures images { saves ≡ way.Images → IfOk result (λ s. logs_in s ≡ false) }
-        ensures disk { IfErr result (λ e.
-            e.1 ≡ refusal.Disk → Grew (D.faults disk) (D.faults e.0)) }
+        ensures within { OnOk result (length (whole_image node.now) ≤ GREATEST_IMAGE) }
+        ensures refused { IfErr result (IsHandedBack D.faults (whole_image node.now) disk) }
         ensures later { IfErr result (λ e. D.moment disk ≤ D.moment e.0) }
-        ensures too_large { MatchResult result
-            (λ _. length (whole_image node.now) ≤ GREATEST_IMAGE)
-            (λ e. e.1 ≡ refusal.ImageTooLarge ↔ GREATEST_IMAGE < length (whole_image node.now)) }
-        ensures unchanged { IfErr result (λ e. e.1 ≢ refusal.Disk → e.0 ≡ disk) }
-        ensures others { IfErr result (λ e. (e.1 ≡ refusal.Memory)
-            ⊎ ((e.1 ≡ refusal.ImageTooLarge) ⊎ (e.1 ≡ refusal.Disk))) }
     {
         match saves {
             Saves::Images => match PlainShelf::create(alloc, disk, node) {
@@ -207,15 +188,9 @@ impl<D: Disk> Store<D> {
             (Only (D.seen (disk_of self.new)) (D.may_leave (disk_of self.new))) }
         ensures shut { IsErr result → is_ready_in self.new ≡ false }
         ensures logs { logs_in self.new ≡ logs_in self.old }
-        ensures bad { IsErrOf result refusal.BadImage
-            → (n : WholeNode) → Keeps n (D.seen (disk_of self.old)) → ⊥ }
-        ensures memory { IsErrOf result refusal.Memory → SelectsLength (D.seen (disk_of self.old)) }
-        ensures quiet { Unmoved D.seen D.may_leave D.moment D.left_since
-            (disk_of self.old) (disk_of self.new) }
-        ensures disk { IsErrOf result refusal.Disk →
-            Grew (D.faults (disk_of self.old)) (D.faults (disk_of self.new)) }
-        ensures others { IfErr result (λ e. (e ≡ refusal.Memory)
-            ⊎ ((e ≡ refusal.BadImage) ⊎ (e ≡ refusal.Disk))) }
+        ensures refused { IfErr result (IsUnread Keeps (D.seen (disk_of self.old))) }
+        ensures read { OnlyRead D.seen D.may_leave D.moment D.left_since D.faults
+            (IsErrOf result refusal.Disk) (disk_of self.old) (disk_of self.new) }
     {
         match self {
             Store::Whole(plain) => match plain.reopen() {
@@ -241,7 +216,6 @@ impl<D: Disk> Store<D> {
         ensures saved { OnOk result ((old : WholeNode) → Keeps old (D.seen (disk_of self.old))
             → IsLogged log.now old.core node.now.core
             → Keeps (saved_whole node.now) (D.seen (disk_of self.new))) }
-        ensures ready { OnOk result (is_ready_in self.new ≡ true) }
         ensures only { OnOk result
             (Only (D.seen (disk_of self.new)) (D.may_leave (disk_of self.new))) }
         ensures any_moment { MatchResult result
@@ -254,16 +228,10 @@ impl<D: Disk> Store<D> {
             → LeavesOnly D.moment D.left_since (disk_of self.old) (disk_of self.new)
             (KeepsEither old (saved_whole node.now))) }
         ensures logs { logs_in self.new ≡ logs_in self.old }
-        ensures closed { IsErrOf result refusal.Closed ↔ (is_ready_in self.old ≡ false) }
-        ensures disk { IsErrOf result refusal.Disk →
-            Grew (D.faults (disk_of self.old)) (D.faults (disk_of self.new))
-            × (is_ready_in self.new ≡ false) }
+        ensures after { AfterSave D.faults (disk_of self.old) (disk_of self.new)
+            (is_ready_in self.old) (is_ready_in self.new) result }
         ensures too_large { IsErrOf result refusal.ImageTooLarge ↔ IsTrue (is_ready_in self.old)
             × WritesAll self.old log.now × (GREATEST_IMAGE < length (whole_image node.now)) }
-        ensures unchanged { IfErr result (λ e. e ≢ refusal.Disk →
-            (disk_of self.new ≡ disk_of self.old) × (is_ready_in self.new ≡ is_ready_in self.old)) }
-        ensures others { IfErr result (λ e. (e ≡ refusal.Closed) ⊎ ((e ≡ refusal.ImageTooLarge)
-            ⊎ ((e ≡ refusal.Memory) ⊎ (e ≡ refusal.Disk)))) }
     {
         match self {
             Store::Whole(plain) => match plain.save(node) {
@@ -278,43 +246,20 @@ impl<D: Disk> Store<D> {
     }
 }
 
-impl Store<MemoryDisk> {
-    /// From now on, the `k`-th call of the disk and all later ones fail; see
-    /// [`MemoryDisk::fail_from`].
-    pub fn fail_from(&mut self, k: u64)
-        ensures plan { (disk_of self.new).plan ≡ fails_from k }
-        ensures account { (disk_of self.new).account ≡ (disk_of self.old).account }
-        ensures ready { is_ready_in self.new ≡ is_ready_in self.old }
-        ensures logs { logs_in self.new ≡ logs_in self.old }
-    {
+impl OverMemory for Store<MemoryDisk> {
+    ghost disk = { disk_of };
+
+    ghost same = { λ old new.
+        (is_ready_in new ≡ is_ready_in old) × (logs_in new ≡ logs_in old) };
+
+    fn follow(&mut self, plan: Plan) {
         match self {
-            Store::Whole(plain) => plain.shelf.fail_from(k),
-            Store::Logged(journal) => journal.fail_from(k),
+            Store::Whole(plain) => plain.shelf.follow(plan),
+            Store::Logged(journal) => journal.follow(plan),
         }
     }
 
-    /// The `k`-th call of the disk from now on fails, and no later one; see
-    /// [`MemoryDisk::fail_once`].
-    pub fn fail_once(&mut self, k: u64)
-        ensures plan { (disk_of self.new).plan ≡ fails_once k }
-        ensures account { (disk_of self.new).account ≡ (disk_of self.old).account }
-        ensures ready { is_ready_in self.new ≡ is_ready_in self.old }
-        ensures logs { logs_in self.new ≡ logs_in self.old }
-    {
-        match self {
-            Store::Whole(plain) => plain.shelf.fail_once(k),
-            Store::Logged(journal) => journal.fail_once(k),
-        }
-    }
-
-    /// The disk that a crash now leaves; see [`MemoryDisk::after_crash`].
-    pub fn after_crash(&self, fill: u8) -> Result<MemoryDisk, Refusal>
-        ensures filled { IfOk result (λ d. held_by d ≡ filled_by_crash fill (disk_of self.now)) }
-        ensures left { IfOk result (λ d. left_by (disk_of self.now) (held_by d)) }
-        ensures durable { IfOk result (λ d. Only (held_by d) (left_by d)) }
-        ensures faultless { IfOk result IsFaultless }
-        ensures memory { IfErr result (λ e. e ≡ refusal.Memory) }
-    {
+    fn after_crash(&self, fill: u8) -> Result<MemoryDisk, Refusal> {
         match self {
             Store::Whole(plain) => plain.shelf.after_crash(fill),
             Store::Logged(journal) => journal.after_crash(fill),

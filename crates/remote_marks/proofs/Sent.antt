@@ -28,9 +28,6 @@ fits-then was now xs ys a =
     ∙ ap (λ (b : Bool). b && fits (map used (append_to was.links xs)) ys) a.fits
     ∙ ap (λ (v : LinksView). fits (map used v.links) ys) (sym a.sent)
 
-pub sent-none : (v : LinksView) → AreSent [] v v
-sent-none v = record { fits = refl; sent = refl }
-
 pub sent-then : {xs ys : List (ℕ × Message)} {was now next : LinksView} → AreSent xs was now
     → AreSent ys now next → AreSent (xs ++ ys) was next
 sent-then {xs = xs} {ys = ys} {was = was} {now = now} a b = record {

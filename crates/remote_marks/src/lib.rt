@@ -1,6 +1,6 @@
-//! What a node asks of others when it sees references. It sees to many of them, all or nothing, as
-//! far as other nodes are concerned: they are asked to mark their objects, by a Mark, once in a
-//! cycle, or the references are vouched for.
+//! What a node asks of others when it sees references; it marks its own objects in `heap`. It sees
+//! to many of them, all or nothing, as far as other nodes are concerned: they are asked to mark
+//! their objects, by a Mark, once in a cycle, or the references are vouched for.
 //!
 //! [`see`] can fail, and so can [`include`] and [`append_marks`], by which a node asks for what its
 //! program holds when it joins a cycle. They then leave everything as it was. If a step after them

@@ -2,7 +2,7 @@
 use Rattle.std.proofs.Common.{◌≡◌, ◌∙◌, ◌+◌, ◌-◌, ◌*◌, ◌^◌, ◌<◌, ◌≤◌, ◌&&◌, ℕ, Bool, true, false, not, cond, List, [], ◌∷◌, length, drop, get_or, Some, refl, sym, ap, subst, arith}
 use Rattle.std.specs.Char.{is_ascii_digit}
 use Rattle.std.specs.Str.{IsUtf8, IsCharBoundary}
-use Rattle.std.proofs.lemmas.Bool.{cond-true, eqb-true, lt-ltb}
+use Rattle.std.proofs.lemmas.Bool.{and_parts, cond-true, eqb-true, false≢true, lt-ltb}
 use Rattle.std.proofs.lemmas.Str.{IsCharBoundary-after_ascii}
 use Rattle.script.specs.Grammar.{u64_of, value_after}
 use Rattle.script.specs.Words.{digit_count, ends_word, fits_word, is_one_digit, is_space, word_end, word_of}
@@ -14,17 +14,15 @@ record Tests (digit space next : ℕ) : Type 0 where
   is_one : is_space space ≡ true
   is_other : is_space next ≡ false
 
-tests_of : (d s n : ℕ) (a b c : Bool) → is_ascii_digit d ≡ a → is_space s ≡ b → is_space n ≡ c
-    → (a && (b && not c)) ≡ true → Tests d s n
-tests_of d s n true true false digit space next is =
-    record { is_digit = digit; is_one = space; is_other = next }
-tests_of d s n true true true digit space next is = absurd cc
-tests_of d s n true false c digit space next is = absurd cc
-tests_of d s n false b c digit space next is = absurd cc
+not_true : (b : Bool) → not b ≡ true → b ≡ false
+not_true true is = absurd (false≢true is)
+not_true false is = refl
 
 three : (d s n : ℕ) (more : List ℕ) → is_one_digit (d ∷ s ∷ n ∷ more) ≡ true → Tests d s n
 three d s n more is =
-    tests_of d s n (is_ascii_digit d) (is_space s) (is_space n) refl refl refl is
+    let both = and_parts (is_ascii_digit d) (is_space s && not (is_space n)) is in
+    let rest = and_parts (is_space s) (not (is_space n)) both.1 in
+    record { is_digit = both.0; is_one = rest.0; is_other = not_true (is_space n) rest.1 }
 
 -- a digit is small
 small : (d : ℕ) → is_ascii_digit d ≡ true → (48 ≤ d) × (d ≤ 57)
@@ -61,9 +59,6 @@ module _ (d n : ℕ) (more : List ℕ) (digit : is_ascii_digit d ≡ true)
 
   ends : ends_word (drop (digit_count text) text) ≡ true
   ends = ap (λ (k : ℕ). ends_word (drop k text)) count
-
-  end : word_end text ≡ 1
-  end = sym (word_ends text ends) ∙ count
 
   value : value_after 0 (digits_of text) ≡ Some (d - 48)
   value =

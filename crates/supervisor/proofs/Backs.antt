@@ -1,6 +1,7 @@
 -- Cells that threads have given back are those of one wire, and their disks are of one moment.
-use Rattle.std.proofs.Common.{◌≡◌, ◌<◌, ◌≤◌, ◌+◌, ℕ, Bool, IsTrue, IfErr, IfOk, IsErrOf, OnOk, Result, is_ok, true, Ok, Err, List, [], drop, get_or, length, map, Option, Some, slice_get, refl, sym, ap, ◌∙◌, subst, arith}
+use Rattle.std.proofs.Common.{◌≡◌, ◌<◌, ◌≤◌, ◌+◌, ℕ, Bool, IsTrue, IfErr, IfOk, IsErrOf, OnOk, Result, is_ok, true, Ok, Err, List, [], ◌++◌, drop, get_or, length, map, take, Option, Some, slice_get, refl, sym, ap, ◌∙◌, subst, arith}
 use Rattle.std.proofs.lemmas.Option.{get_or_from_slice_get, slice_get_read, slice_get_within}
+use Rattle.std.proofs.Math.Seq.{take-append_seam}
 use mathlib.Core.Logic.{dite}
 use native.Mathlib.Decide.{ℕ_discrete}
 use Rattle.model.proofs.Lookups.{slice_get-drop}
@@ -68,57 +69,77 @@ module _ {D : Type 0} (wire : Wire) (name : Option Name) (named : name ≡ Some 
       → EachCell (λ k c. IsSeatOf wire c.seat) cells
   back-seats cells back k c there = back-seat k c (back k c there)
 
-  module _ (may_leave : D → Areas → Type 0) (old new : List (CellView D))
-      (back : EachCell (IsBack name is_begun) old) (rows : EachCell IsRow old)
-      (count : length old ≡ nodes_of (opened_with wire)) (learned : HaveLearned old new)
-      (kept : EachCell (λ k c. IsKept may_leave c) new) (begun : IsTrue is_begun) where
-    have-begun : HaveBegun new
-    have-begun k d there =
-        let inside = slice_get_within new k d there in
-        let was = some_at old k
-        (let long = learned.count in omega (arith, inside, long)) in
-        let h = learned.each k was.0 d was.1 there in
-        still-begun was.0 d h.same (ap (λ (v : CellView D). v.first) h.stays)
-        ((back k was.0 was.1).begun begun)
+-- The cells of a space that is closed: as threads gave them back, and after they learned of one
+-- moment.
+pub record AreBack {D : Type 0} (wire : Wire) (may_leave : D → Areas → Type 0) (name : Option Name)
+    (is_begun : Bool) (old new : List (CellView D)) : Type 0 where
+  pub named : name ≡ Some (name_of wire)
+  pub back : EachCell (IsBack name is_begun) old
+  pub rows : EachCell IsRow old
+  pub count : length old ≡ nodes_of (opened_with wire)
+  pub learned : HaveLearned old new
+  pub kept : EachCell (λ k c. IsKept may_leave c) new
+  pub begun : IsTrue is_begun
 
-    last-cell : EachCell (IsLast may_leave (opened_with wire) (nodes_of (opened_with wire))) new
-    last-cell k d there =
-        let inside = slice_get_within new k d there in
-        let was = some_at old k
-        (let long = learned.count in omega (arith, inside, long)) in
-        let c = was.0 in
-        let h = learned.each k c d was.1 there in
-        let seat = back-seat k c (back k c was.1) in
-        let row = rows k c was.1 in
-        let number : seat_node d.seat ≡ k = h.same.2 ∙ row.number in
-        record {
-          of = record {
-            kept = kept k d there;
-            began = h.same.4 ∙ seat.2;
-            inside = subst (λ (i : ℕ). i < nodes_of (opened_with wire)) (sym number)
-                (let long = learned.count in omega (arith, inside, long, count));
-          };
-          number = number;
-          ready = ap (λ (v : CellView D). v.is_open) h.stays ∙ row.ready;
-          width = h.same.3 ∙ seat.1 ∙ sym wire.opening;
-        }
+module _ {D : Type 0} {wire : Wire} {may_leave : D → Areas → Type 0} {name : Option Name}
+    {is_begun : Bool} {old new : List (CellView D)}
+    (h : AreBack wire may_leave name is_begun old new) where
+  have-begun : HaveBegun new
+  have-begun k d there =
+      let inside = slice_get_within new k d there in
+      let was = some_at old k
+      (let long = h.learned.count in omega (arith, inside, long)) in
+      let learned = h.learned.each k was.0 d was.1 there in
+      still-begun was.0 d learned.same (ap (λ (v : CellView D). v.first) learned.stays)
+      ((h.back k was.0 was.1).begun h.begun)
 
-    pub of-one-moment : (disks : List D) → map (λ c. c.disk) new ≡ disks
-        → AreAtOnce (opened_with wire) new → AreOfOneMoment may_leave (opened_with wire) disks
-    of-one-moment disks same once = record {
-      cells = new;
-      same = same;
-      count = learned.count ∙ count;
-      each = last-cell;
-      once = once;
-      begun = have-begun;
-    }
+  last-cell : EachCell (IsLast may_leave (opened_with wire) (nodes_of (opened_with wire))) new
+  last-cell k d there =
+      let inside = slice_get_within new k d there in
+      let was = some_at old k
+      (let long = h.learned.count in omega (arith, inside, long)) in
+      let c = was.0 in
+      let learned = h.learned.each k c d was.1 there in
+      let seat = back-seat wire name h.named is_begun k c (h.back k c was.1) in
+      let row = h.rows k c was.1 in
+      let number : seat_node d.seat ≡ k = learned.same.2 ∙ row.number in
+      record {
+        of = record {
+          kept = h.kept k d there;
+          began = learned.same.4 ∙ seat.2;
+          inside = subst (λ (i : ℕ). i < nodes_of (opened_with wire)) (sym number)
+              (let long = h.learned.count in let count = h.count in
+              omega (arith, inside, long, count));
+        };
+        number = number;
+        ready = ap (λ (v : CellView D). v.is_open) learned.stays ∙ row.ready;
+        width = learned.same.3 ∙ seat.1 ∙ sym wire.opening;
+      }
+
+  pub of-one-moment : (disks : List D) → map (λ c. c.disk) new ≡ disks
+      → AreAtOnce (opened_with wire) new → AreOfOneMoment may_leave (opened_with wire) disks
+  of-one-moment disks same once = record {
+    cells = new;
+    same = same;
+    count = h.learned.count ∙ h.count;
+    each = last-cell;
+    once = once;
+    begun = have-begun;
+  }
+
+-- a slice that began as all items of a vector of this length, and that is written back into it
+pub written-back : {C : Type 0} {old slice new : List C} {len : ℕ} → slice ≡ old → len ≡ length old
+    → length new ≡ length slice → take len (new ++ drop (length new) old) ≡ new
+written-back {old = old} {new = new} same long count =
+    ap (λ (n : ℕ). take n (new ++ drop (length new) old))
+    (long ∙ sym (ap length same) ∙ sym count)
+    ∙ take-append_seam new (drop (length new) old)
 
 -- ---- One cell after another
 
 module _ {D : Type 0} where
   -- the first of the cells that are left is in the place of that number
-  first-left : (all left : List (CellView D)) (number : ℕ) (c : CellView D)
+  pub first-left : (all left : List (CellView D)) (number : ℕ) (c : CellView D)
       → left ≡ drop number all → 0 < length left → c ≡ get_or left 0 c
       → slice_get all number ≡ Some c
   first-left all left number c is some first =
@@ -127,13 +148,12 @@ module _ {D : Type 0} where
       ∙ ap (λ (l : List (CellView D)). slice_get l 0) (sym is)
       ∙ slice_get_read left (length left) 0 c refl some first
 
-  pub kept-next : (P : CellView D → Type 0) (all left : List (CellView D)) (number : ℕ)
-      (c : CellView D) → left ≡ drop number all → 0 < length left → c ≡ get_or left 0 c → P c
+  pub kept-next : (P : CellView D → Type 0) (all : List (CellView D)) {number : ℕ}
+      {c : CellView D} → slice_get all number ≡ Some c → P c
       → EachCell (λ k d. k < number → P d) all → EachCell (λ k d. k < number + 1 → P d) all
-  kept-next P all left number c is some first kept each k d there below =
+  kept-next P all {number} {c} here kept each k d there below =
       dite (ℕ_discrete k number)
       (λ same.
-      let here = first-left all left number c is some first in
       let both : ◌≡◌ {A = Option (CellView D)} (Some c) (Some d) =
       sym here ∙ subst (λ (j : ℕ). slice_get all j ≡ Some d) same there in
       let one : c ≡ d = cc in

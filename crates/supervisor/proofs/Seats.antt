@@ -37,10 +37,10 @@ later-of P (x ∷ xs) rest h is k d there =
     h (suc k) d (ap (λ l. slice_get l k) (sym is) ∙ there)
 
 -- what is in a place of a list, as it was read from an equal list
-pub found-in : {A B : Type 0} (f : A → B) (all xs : List A) (place k : ℕ) (x : A) (y : B)
+pub found-in : {A B : Type 0} {all xs : List A} {place k : ℕ} {x : A} {y : B} (f : A → B)
     → xs ≡ all → k ≡ place → k < length xs → x ≡ get_or xs k x → y ≡ f x
     → slice_get (map f all) place ≡ Some y
-found-in f all xs place k x y same here inside is last =
+found-in {xs = xs} {place = place} {k = k} {x = x} {y = y} f same here inside is last =
     subst (λ l. slice_get (map f l) place ≡ Some y) same
     (subst (λ i. slice_get (map f xs) i ≡ Some y) here
     (mapped-there f xs k x (slice_get_read xs (length xs) k x refl inside is) ∙ ap Some (sym last)))

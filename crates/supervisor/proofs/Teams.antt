@@ -26,12 +26,15 @@ range_more a (suc n) =
     ∙ ap (λ (k : ℕ). range_with_len (a + 1) n ++ k ∷ [])
     (let same : a + 1 + n ≡ a + suc n = omega arith in same))
 
+-- none of the first of these, up to this place, is the node
+abbrev pub AreOthersBelow : ℕ → ℕ → List ℕ → Type 0
+AreOthersBelow node place ns = (k n : ℕ) → slice_get ns k ≡ Some n → k < place → n ≢ node
+
 -- one more place at which none is the node
-pub others-next : {W : Type 0} (node_of : W → ℕ) (ws : List W) (node place : ℕ) (w : W)
+pub others-next : {W : Type 0} (node_of : W → ℕ) (ws : List W) (node place : ℕ) {w : W}
     → place < length ws → w ≡ get_or ws place w → node_of w ≢ node
-    → ((k n : ℕ) → slice_get (map node_of ws) k ≡ Some n → k < place → n ≢ node)
-    → (k n : ℕ) → slice_get (map node_of ws) k ≡ Some n → k < place + 1 → n ≢ node
-others-next node_of ws node place w inside is other before k n there below =
+    → AreOthersBelow node place (map node_of ws) → AreOthersBelow node (place + 1) (map node_of ws)
+others-next node_of ws node place {w} inside is other before k n there below =
     dite (ℕ_discrete k place)
     (λ same.
     let here = mapped-there node_of ws place w (slice_get_read ws (length ws) place w refl inside is) in
@@ -43,10 +46,10 @@ others-next node_of ws node place w inside is other before k n there below =
 
 module _ {W R : Type 0} (of : W → ℕ) (node_of : R → ℕ) where
   -- a worker is joined, and its report comes last
-  pub joined : (ws left : List W) (w : W) (rs more : List R) (r : R) → IsPermutation ws (w ∷ left)
+  pub joined : {ws left : List W} {w : W} {more : List R} {r : R} (rs : List R) → IsPermutation ws (w ∷ left)
       → more ≡ rs ++ r ∷ [] → node_of r ≡ of w
       → IsPermutation (map of ws ++ map node_of rs) (map of left ++ map node_of more)
-  joined ws left w rs more r moved last own =
+  joined {ws} {left} {w} {more} {r} rs moved last own =
       let front = IsPermutation-append_left (map node_of rs) (map of ws) (map of (w ∷ left))
       (IsPermutation-map of ws (w ∷ left) moved) in
       let is : map of left ++ map node_of more ≡ (map of left ++ map node_of rs) ++ of w ∷ [] =

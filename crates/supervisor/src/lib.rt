@@ -1,5 +1,6 @@
-//! A space whose nodes run in threads: how it is opened from its disks, started and closed. What is
-//! proved of a cell holds whoever calls it, so no theorem depends on this crate.
+//! A space whose nodes run in threads: how it is opened from its disks, started and closed, and no
+//! rule of a node or a cell. What is proved of a cell holds whoever calls it, so no theorem depends
+//! on this crate.
 #![tactic(auto)]
 
 mod cells;

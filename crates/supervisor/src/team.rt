@@ -113,7 +113,8 @@ fn work<O: Ordered, R: Wait, S: Station, G: Gate>(
     run_node(rt, station, gate, node, of.plan.nodes, turns, stop).report
 }
 
-// Starts the thread of a worker, whose order has the name of `O`.
+// Starts the thread of a worker, whose order has the name of `O`. The order is in the channel before
+// the thread is created.
 fn start_named<O, R, S, G>(
     rt: &R,
     alloc: Global,
@@ -154,25 +155,6 @@ where
         Ok(handle) => Ok(Worker { of, handle }),
         Err(_) => Err(Refusal::Memory),
     }
-}
-
-// Starts the thread of a worker. Its order is in the channel before the thread is created.
-fn start_thread<R, S, G>(
-    rt: &R,
-    alloc: Global,
-    station: &Arc<S>,
-    gate: &Arc<G>,
-    stop: &Arc<Stop>,
-    of: Reports,
-) -> Result<Worker, Refusal>
-where
-    R: Threads + Wait + Clone + Send + Drop + 'static,
-    S: Station + Send + Sync + Drop + 'static,
-    G: Gate + Send + Sync + Drop + 'static,
-    ensures started { IfOk result (λ w. w.of ≡ of) }
-    ensures refused { IfErr result (λ e. e ≡ Memory) }
-{
-    start_named::<Brand, R, S, G>(rt, alloc, station, gate, stop, of)
 }
 
 // Sorts reports by node.
@@ -288,7 +270,8 @@ impl Team {
             node,
             plan: self.plan,
         };
-        let worker = start_thread(rt, alloc, station, gate, &self.halt.stop, of)?;
+        let stop = &self.halt.stop;
+        let worker = start_named::<Brand, R, S, G>(rt, alloc, station, gate, stop, of)?;
         self.add(worker);
         Ok(())
     }

@@ -1,5 +1,6 @@
-//! Runs a case. The first line that is read names a subject, and each further line is a command to
-//! it, whose answer is printed. `tests/README.md` lists the commands.
+//! A program for test cases, which makes the calls that neither `markring` nor the C library makes;
+//! it decides nothing. It runs a case. The first line that is read names a subject, and each
+//! further line is a command to it, whose answer is printed. `tests/README.md` lists the commands.
 #![tactic(auto)]
 
 mod case;

@@ -80,7 +80,7 @@ pub(crate) fn opened<R: Files<File = File>, D: Made + Drop>(
     }
 }
 
-/// Runs the code of docs/EMBEDDING.md in a space of two nodes.
+/// Runs the code of docs/RATTLE.md in a space of two nodes.
 pub(crate) fn show<R>(rt: &R, alloc: Global, case: &mut Case)
 where
     R: Clock + Threads + Wait + Clone + Send + Sync + Drop + 'static,

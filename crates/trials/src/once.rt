@@ -1,5 +1,5 @@
 //! A space that is closed with its disks as they are at one moment, and a second one that continues
-//! on them. docs/EMBEDDING.md shows parts of this file, and a case runs it.
+//! on them. docs/RATTLE.md shows parts of this file, and a case runs it.
 use crate::gates::pause;
 use crate::space::Open;
 use cell::Naming;

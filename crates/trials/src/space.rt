@@ -1,5 +1,5 @@
 //! A space in a program of one's own: two nodes, a letter, a collection cycle and a restart.
-//! docs/EMBEDDING.md shows this file, and a case runs it.
+//! docs/RATTLE.md shows this file, and a case runs it.
 use disk::Disk;
 use model::Event;
 use std::alloc::Global;

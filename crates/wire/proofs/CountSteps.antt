@@ -2,7 +2,7 @@
 use Rattle.std.proofs.Common.{◌≡◌, ℕ, ◌+◌, ◌%◌, ◌^◌, ◌<◌, ◌≤◌, List, [], ◌∷◌, ◌++◌, length, set, get_or, refl, sym, ap, ◌∙◌, subst, arith, le_refl, le_trans, length-set, length-append, get_or-set_other, get_or-set_same}
 use Rattle.std.specs.Prelude.{slice_index}
 use mathlib.Core.Option.{none}
-use Rattle.atomic_table.specs.Table.{State, Me, step, keeps, Allows}
+use Rattle.atomic_table.specs.Table.{Me, step, keeps, Allows}
 use Rattle.ids.specs.declared.limits.TheConstants.{GREATEST_CYCLE}
 use Rattle.model.specs.declared.step.Step.{Step}
 use Rattle.model.specs.World.{World, run, happens}
@@ -22,19 +22,13 @@ counted l r is = omega arith
 module _ {S : Type 0} {bytes : S → List ℕ} {opening : World} where
   module _ (p : Standing bytes opening) (role : p.view.role ≡ node) (e : Step) (q : Pair)
       (event : Happens p.view e q) where
-    abbrev s : State S Known
-    s = p.state
-
     abbrev h : Holds bytes opening p.state
     h = p.holds
-
-    abbrev id : ℕ
-    id = p.id
 
     abbrev v : Known
     v = p.view
 
-    ok : NodeOk opening h.log (slice_index s.words (board_at opening)) h.mail id v
+    ok : NodeOk opening h.log (slice_index p.state.words (board_at opening)) h.mail p.id v
     ok = node-of p role
 
     long : length (run opening h.log).current ≡ nodes_of opening
@@ -58,7 +52,7 @@ module _ {S : Type 0} {bytes : S → List ℕ} {opening : World} where
     now : run opening (h.log ++ e ∷ []) ≡ happens (run opening h.log) e
     now = run-push opening h.log e
 
-    mine : NodeOk opening (h.log ++ e ∷ []) (slice_index s.words (board_at opening)) h.mail id
+    mine : NodeOk opening (h.log ++ e ∷ []) (slice_index p.state.words (board_at opening)) h.mail p.id
         (ticks e q v)
     mine = record {
       below = ok.below;
@@ -76,7 +70,7 @@ module _ {S : Type 0} {bytes : S → List ℕ} {opening : World} where
       shows = ok.shows;
     }
 
-    enters : Enters e v (slice_index s.words (mailboxes opening)) (ticks e q v)
+    enters : Enters e v (slice_index p.state.words (mailboxes opening)) (ticks e q v)
     enters = record {
       log = h.log;
       events = subst (λ (o : World). AreEvents o (h.log ++ e ∷ [])) (sym ok.opening_is)
@@ -90,19 +84,19 @@ module _ {S : Type 0} {bytes : S → List ℕ} {opening : World} where
 
     -- the count afterwards
     abbrev x : ℕ
-    x = (slice_index s.words (mailboxes opening) + 1) % 2 ^ 64
+    x = (slice_index p.state.words (mailboxes opening) + 1) % 2 ^ 64
 
     ticked-on
         : Holds bytes opening (record {
-          words = set s.words (mailboxes opening) x;
-          homes = s.homes;
-          views = set s.views id (ticks e q v);
+          words = set p.state.words (mailboxes opening) x;
+          homes = p.state.homes;
+          views = set p.state.views p.id (ticks e q v);
         })
     ticked-on =
-        let wide : length s.words ≡ mailboxes opening + 2 = h.wide in
-        let words : List ℕ = set s.words (mailboxes opening) x in
+        let wide : length p.state.words ≡ mailboxes opening + 2 = h.wide in
+        let words : List ℕ = set p.state.words (mailboxes opening) x in
         let board =
-        get_or-set_other s.words (mailboxes opening) (board_at opening) x 0 (omega arith) in
+        get_or-set_other p.state.words (mailboxes opening) (board_at opening) x 0 (omega arith) in
         noted p (ticks e q v) (h.log ++ e ∷ []) words (record {
           alike = record { role = refl; me = refl };
           filling = refl;
@@ -115,26 +109,26 @@ module _ {S : Type 0} {bytes : S → List ℕ} {opening : World} where
             );
             more = (e ∷ [], refl);
           };
-          wide = length-set s.words (mailboxes opening) x;
-          boxes = λ m below. get_or-set_other s.words (mailboxes opening) m x 0 (omega arith);
+          wide = length-set p.state.words (mailboxes opening) x;
+          boxes = λ m below. get_or-set_other p.state.words (mailboxes opening) m x 0 (omega arith);
           events = are-push opening h.log e h.events local.event;
-          count = get_or-set_same s.words (mailboxes opening) x 0 (omega arith)
-              ∙ counted (length h.log) (slice_index s.words (mailboxes opening)) h.count
+          count = get_or-set_same p.state.words (mailboxes opening) x 0 (omega arith)
+              ∙ counted (length h.log) (slice_index p.state.words (mailboxes opening)) h.count
               ∙ ap (λ (k : ℕ). k % 2 ^ 64) (sym (length-append h.log (e ∷ [])));
           board = subst (λ (z : ℕ). z ≤ ended_of (run opening (h.log ++ e ∷ []))) (sym board)
               (le_trans h.board (ended-push opening h.log h.opens e));
           fits = subst (λ (z : ℕ). z ≤ GREATEST_CYCLE) (sym board) h.fits;
-          higher = subst (λ (z : ℕ). get_or s.words (board_at opening) 0 ≤ z) (sym board)
+          higher = subst (λ (z : ℕ). get_or p.state.words (board_at opening) 0 ≤ z) (sym board)
               (le_refl _);
           shown = λ _. board;
           visits = none-more (record { role = refl; me = refl }) refl;
           mine = subst
               (SeatOk opening (h.log ++ e ∷ []) (slice_index words (board_at opening))
-              (set s.views id (ticks e q v)) h.mail id (ticks e q v))
+              (set p.state.views p.id (ticks e q v)) h.mail p.id (ticks e q v))
               (sym role)
-              (subst (λ (z : ℕ). NodeOk opening (h.log ++ e ∷ []) z h.mail id (ticks e q v))
+              (subst (λ (z : ℕ). NodeOk opening (h.log ++ e ∷ []) z h.mail p.id (ticks e q v))
               (sym board) mine);
-          seen = continues-both v.seen h.log (h.log ++ e ∷ []) (h.learned id v p.at)
+          seen = continues-both v.seen h.log (h.log ++ e ∷ []) (h.learned p.id v p.at)
               (e ∷ [], refl);
         })
 

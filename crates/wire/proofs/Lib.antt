@@ -20,7 +20,6 @@ pub mod Ended
 pub mod Numbers
 pub mod Rows
 pub mod NewWires
-pub mod Nothing
 pub mod Telling
 pub mod Places
 pub mod Same

@@ -68,6 +68,11 @@ module _ {S : Type 0} {bytes : S → List ℕ} {opening : World} where
       none-from (found m v.emptying) (λ f e. none_holds (ap holder (ok.empties m f e).1)),
     )
 
+    -- a slot that comes back is in its place
+    homed : (m : ℕ) (x : S) → m < mailboxes opening
+        → get_elem? (set s.homes m (some x)) m ≡ some (some x)
+    homed m x below = set_here s.homes m (some x) (subst (λ (k : ℕ). m < k) (sym h.slots) below)
+
     -- how many steps on the mailbox came before
     abbrev place : ℕ → ℕ
     place m = length (h.mail.visits m)
@@ -112,22 +117,17 @@ module _ {S : Type 0} {bytes : S → List ℕ} {opening : World} where
         let lies = subst
         (Content bytes (nodes_of opening) (run opening h.log) s.homes s.views m) is b.content in
         let loose : (j : ℕ) → holder (h.mail.boxes m) ≢ suc j =
-        λ j e. (let never : 0 ≡ suc j = sym (ap holder is) ∙ e in omega arith) in (
+        λ j e. (let never : 0 ≡ suc j = sym (ap holder is) ∙ e in omega arith) in
+        let w : Known = claims m (place m) v in (
           lies.0,
           lies.1,
-          moved p (claims m (place m) v) m 3 (filling_by id) (record {
+          moved p w m 3 (filling_by id) (record {
             home = none;
             below = below;
             role = role;
             seat = still-seat;
             shows = refl;
-            content = (
-              claims m (place m) v,
-              set-at s.views id (claims m (place m) v) v p.at,
-              role,
-              me_is,
-              has-here m v.filling,
-            );
+            content = (w, set-at s.views id w v p.at, role, me_is, has-here m v.filling);
             free = λ j _. loose j;
             like = λ k apart. record { fills = has-more m k v.filling apart; empties = refl };
             taken = ok.released;
@@ -164,23 +164,18 @@ module _ {S : Type 0} {bytes : S → List ℕ} {opening : World} where
         let lies = subst
         (Content bytes (nodes_of opening) (run opening h.log) s.homes s.views m) is.1 b.content in
         let loose : (j : ℕ) → holder (h.mail.boxes m) ≢ suc j =
-        λ j e. (let never : 0 ≡ suc j = sym (ap holder is.1) ∙ e in omega arith) in (
+        λ j e. (let never : 0 ≡ suc j = sym (ap holder is.1) ∙ e in omega arith) in
+        let w : Known = takes_in m (place m) f v in (
           f,
           lies.0.0,
           lies.0.1,
-          moved p (takes_in m (place m) f v) m 2 (emptying_by id f) (record {
+          moved p w m 2 (emptying_by id f) (record {
             home = none;
             below = below;
             role = role;
             seat = still-seat;
             shows = refl;
-            content = (
-              takes_in m (place m) f v,
-              set-at s.views id (takes_in m (place m) f v) v p.at,
-              role,
-              me_is,
-              found-here m f v.emptying,
-            );
+            content = (w, set-at s.views id w v p.at, role, me_is, found-here m f v.emptying);
             free = λ j _. loose j;
             like = λ k apart.
                 record { fills = refl; empties = found-more m k f v.emptying apart };
@@ -250,11 +245,7 @@ module _ {S : Type 0} {bytes : S → List ℕ} {opening : World} where
             seat = still-seat;
             shows = refl;
             content = (
-              (
-                x,
-                set_here s.homes m (some x) (subst (λ (k : ℕ). m < k) (sym h.slots) mine.0),
-                owns.1,
-              ),
+              (x, homed m x mine.0, owns.1),
               net,
               sender-is v.me v.pair.saved f owns.3 ∙ me_is,
               to_is,
@@ -297,10 +288,7 @@ module _ {S : Type 0} {bytes : S → List ℕ} {opening : World} where
             role = role;
             seat = still-seat;
             shows = refl;
-            content = (
-              x,
-              set_here s.homes m (some x) (subst (λ (k : ℕ). m < k) (sym h.slots) mine.0),
-            );
+            content = (x, homed m x mine.0);
             free = λ j apart. only-one id j (holder (h.mail.boxes m)) (ap holder mine.1) apart;
             like = λ k apart. record { fills = refl; empties = found-stays m k v.emptying apart };
             taken = ok.released;

@@ -26,10 +26,10 @@ one_frame f g first second =
     (append-nil (spelling f) ∙ sym first.1 ∙ second.1)).1
 
 -- the mailbox that was just taken from, and the frame in it
-pub found-taken : (s t : NodeSeat) (from at place : ℕ) (f : Plain) → IsSame s t → at ≡ from
+pub found-taken : (s t : NodeSeat) {from at : ℕ} (place : ℕ) (f : Plain) → IsSame s t → at ≡ from
     → known t ≡ takes_in (inbox s from) place f (known s)
     → (inbox t at ≡ inbox s from) × (found (inbox t at) (known t).emptying ≡ Some f)
-found-taken s t from at place f same is known_is =
+found-taken s t {from} {at} place f same is known_is =
     let box : inbox t at ≡ inbox s from = λ i. is i * same.3 i + same.2 i in (
       box,
       (λ i. found (box i) (known_is i).emptying)
@@ -60,8 +60,6 @@ pub due-to : (n : NodeView) (to place : ℕ) → receiver (frame_due n to place)
 due-to n to place =
     goes-to n to ((link_to n to).base + 1 + place) (is_other n.local to)
     (released_at (link_to n to) place)
-
--- ---- Frames that came in
 
 -- ---- Frames that came in
 

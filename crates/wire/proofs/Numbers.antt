@@ -31,16 +31,20 @@ box-of {k} i j n first second same is =
     (subst (λ (z : ℕ). IsBox i j z (i * n + j)) same (is-box i j n first second))
 
 -- a mailbox from the node, and one to it, is its own
-pub own-from : (i j n m : ℕ) → IsBox i j n m → IsOwnBox i n m
-own-from i j n m box =
+pub own-from : (i j n : ℕ) → i < n → j < n → IsOwnBox i n (i * n + j)
+own-from i j n first second =
+    let m = i * n + j in
+    let box = is-box i j n first second in
     (box.below, ap (λ (b : Bool). b || m % n == i) (eq-eqb (m / n) i (sym box.sender)))
 
-pub own-to : (i j n m : ℕ) → IsBox i j n m → IsOwnBox j n m
-own-to i j n m box = (
-  box.below,
-  ap (λ (b : Bool). m / n == j || b) (eq-eqb (m % n) j (sym box.receiver))
-      ∙ or-true (m / n == j),
-)
+pub own-to : (i j n : ℕ) → i < n → j < n → IsOwnBox j n (i * n + j)
+own-to i j n first second =
+    let m = i * n + j in
+    let box = is-box i j n first second in (
+      box.below,
+      ap (λ (b : Bool). m / n == j || b) (eq-eqb (m % n) j (sym box.receiver))
+          ∙ or-true (m / n == j),
+    )
 
 pub a-node : (r : Role) → is_node r ≡ true → r ≡ node
 a-node dealer e = absurd (true≢false (sym e))

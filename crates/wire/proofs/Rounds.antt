@@ -1,7 +1,7 @@
 -- Two rounds in which each learner learns from another one, and the moment that they show.
-use Rattle.std.proofs.Common.{◌≡◌, ◌≢◌, ◌+◌, ◌<◌, ◌≤◌, ℕ, List, [], get_or, length, length-set, set, Some, slice_get, ⊎_elim, refl, sym, ap, ◌∙◌, subst, subst₂, arith}
+use Rattle.std.proofs.Common.{◌≡◌, ◌≢◌, ◌+◌, ◌<◌, ◌≤◌, ℕ, List, [], length, length-set, set, Some, slice_get, ⊎_elim, refl, sym, ap, ◌∙◌, subst, subst₂, arith}
 use Rattle.std.proofs.lemmas.Bool.{cases_lt}
-use Rattle.std.proofs.lemmas.Option.{slice_get-get_or, slice_get_within}
+use Rattle.std.proofs.lemmas.Option.{slice_get_within}
 use mathlib.Core.Logic.{dite}
 use native.Mathlib.Decide.{ℕ_discrete}
 use Rattle.model.specs.declared.step.Step.{Step}
@@ -77,8 +77,7 @@ module _ {T : Type 0} (s : Seating T) where
     pub learned : HasLearned s c d
     pub leads : Learns (known (s.seat b)).seen (known (s.seat c)) (known (s.seat d))
 
-  module _ (xs : List T) (at from : ℕ) (b b2 c d : T)
-      (t : Turn xs at from b b2 c d) where
+  module _ {xs : List T} {at from : ℕ} {b b2 c d : T} (t : Turn xs at from b b2 c d) where
     noted-same : (k : ℕ) (x y : T) → slice_get xs k ≡ Some x
         → slice_get (set xs from b2) k ≡ Some y → known (s.seat y) ≡ known (s.seat x)
     noted-same k x y was is =
@@ -117,10 +116,10 @@ module _ {T : Type 0} (s : Seating T) where
           source t.leads)));
     }
 
-  pub turned : (xs ys : List T) (at from : ℕ) (b b2 c d : T)
+  pub turned : {xs ys : List T} {at from : ℕ} {b b2 c d : T}
       → Turn xs at from b b2 c d → ys ≡ set (set xs from b2) at d → LearnedFrom s at from xs ys
-  turned xs ys at from b b2 c d t is =
-      subst (LearnedFrom s at from xs) (sym is) (after-turn xs at from b b2 c d t)
+  turned {xs} {at = at} {from = from} t is =
+      subst (LearnedFrom s at from xs) (sym is) (after-turn t)
 
 -- ---- What a seat knows that learned a list
 
@@ -153,7 +152,7 @@ seen-now seen v w h =
 
 -- ---- The two rounds
 
-module _ {T : Type 0} (s : Seating T) (wire : Wire) (start : List T) where
+module _ {T : Type 0} (s : Seating T) (wire : Wire) where
   abbrev AreSeated : List T → Type 0
   AreSeated items = EachAt (λ k c. IsSeatOf wire (s.seat c)) items
 
@@ -163,16 +162,13 @@ module _ {T : Type 0} (s : Seating T) (wire : Wire) (start : List T) where
       let was = some_at xs k (omega (arith, inside, h.count)) in
       still-of wire (s.seat was.0) (s.seat d) (of k was.0 was.1) (h.each k was.0 d was.1 is).same
 
-  -- the seat of a learner, after another one or the same made a note
-  pub noted-seats : (xs : List T) (from at : ℕ) (b b2 x : T) → AreSeated xs
-      → slice_get xs from ≡ Some b → HasLearned s b b2 → at < length xs
-      → IsSeatOf wire (s.seat (get_or (set xs from b2) at x))
-  noted-seats xs from at b b2 x of there noted inside =
-      seated-still xs (set xs from b2) of (one-learned s xs from b b2 there noted) at
-      (get_or (set xs from b2) at x)
-      (slice_get-get_or (set xs from b2) at x
-      (subst (λ (n : ℕ). at < n) (sym (length-set xs from b2)) inside))
+  -- the seats of the learners, after one of them made a note
+  pub noted-seats : (xs : List T) (from : ℕ) {b b2 : T} → AreSeated xs
+      → slice_get xs from ≡ Some b → HasLearned s b b2 → AreSeated (set xs from b2)
+  noted-seats xs from {b} {b2} of there noted =
+      seated-still xs (set xs from b2) of (one-learned s xs from b b2 there noted)
 
+module _ {T : Type 0} (s : Seating T) (wire : Wire) (start : List T) where
   -- Of the learners before the place `at`, each has learned a list, with which the one begins that
   -- the learner in the place `last` learned.
   pub record FirstRound (items : List T) (at last : ℕ) : Type 0 where
@@ -193,41 +189,36 @@ module _ {T : Type 0} (s : Seating T) (wire : Wire) (start : List T) where
     led = λ k c d was is below. absurd (omega (arith, below));
   }
 
-  pub first-next : (xs ys : List T) (at last : ℕ) → FirstRound xs at last
+  pub first-next : {xs ys : List T} {at last : ℕ} → FirstRound xs at last
       → at < length xs → LearnedFrom s at last xs ys → FirstRound ys (at + 1) at
-  first-next xs ys at last h inside turn = record {
+  first-next {xs} {ys} {at} {last} h inside turn = record {
     learned = all-again s start xs ys h.learned turn.learned;
-    seats = seated-still xs ys h.seats turn.learned;
+    seats = seated-still s wire xs ys h.seats turn.learned;
     within = omega arith;
     later = λ _. refl;
-    led = led;
+    led = λ k c d there last_there below.
+        (let source = some_at xs last (omega (arith, inside, h.within)) in
+        let learner = some_at xs at inside in
+        let h2 = turn.leads source.0 learner.0 d source.1 learner.1 last_there in
+        dite (ℕ_discrete k at)
+        (λ is.
+        let same : d ≡ c =
+        same-there ys at d c last_there (subst (λ (j : ℕ). slice_get ys j ≡ Some c) is there) in
+        subst (λ (x : T).
+        IsLed (known (s.seat x)) × Continues (known (s.seat x)).seen (known (s.seat d)).seen) same
+        (led-now _ _ _ h2, continues-itself (known (s.seat d)).seen))
+        (λ apart.
+        let was = some_at xs k
+        (let long = turn.learned.count in
+        let in_ys = slice_get_within ys k c there in omega (arith, long, in_ys)) in
+        let same = turn.others k was.0 c was.1 there apart in
+        let before = h.led k was.0 source.0 was.1 source.1
+        (let lower : k < at = omega (arith, below, apart) in lower) in
+        subst (λ (v : Known). IsLed v × Continues v.seen (known (s.seat d)).seen) (sym same) (
+          before.0,
+          continues-both _ _ _ before.1 (seen-now _ _ _ h2),
+        )));
   }
-    where
-      led : (k : ℕ) (c d : T) → slice_get ys k ≡ Some c → slice_get ys at ≡ Some d
-          → k < at + 1 → IsLed (known (s.seat c))
-          × Continues (known (s.seat c)).seen (known (s.seat d)).seen
-      led k c d there last_there below =
-          let source = some_at xs last (omega (arith, inside, h.within)) in
-          let learner = some_at xs at inside in
-          let h2 = turn.leads source.0 learner.0 d source.1 learner.1 last_there in
-          dite (ℕ_discrete k at)
-          (λ is.
-          let same : d ≡ c =
-          same-there ys at d c last_there (subst (λ (j : ℕ). slice_get ys j ≡ Some c) is there) in
-          subst (λ (x : T).
-          IsLed (known (s.seat x)) × Continues (known (s.seat x)).seen (known (s.seat d)).seen) same
-          (led-now _ _ _ h2, continues-itself (known (s.seat d)).seen))
-          (λ apart.
-          let was = some_at xs k
-          (let long = turn.learned.count in
-          let in_ys = slice_get_within ys k c there in omega (arith, long, in_ys)) in
-          let same = turn.others k was.0 c was.1 there apart in
-          let before = h.led k was.0 source.0 was.1 source.1
-          (let lower : k < at = omega (arith, below, apart) in lower) in
-          subst (λ (v : Known). IsLed v × Continues v.seen (known (s.seat d)).seen) (sym same) (
-            before.0,
-            continues-both _ _ _ before.1 (seen-now _ _ _ h2),
-          ))
 
   -- The middle list leads to the learners before the place `at`. Each of the others has learned a
   -- list with which the middle one begins, and which is that of the last one.
@@ -245,9 +236,9 @@ module _ {T : Type 0} (s : Seating T) (wire : Wire) (start : List T) where
     pub end : (d : T) → slice_get items last ≡ Some d → at ≤ last
         → (known (s.seat d)).seen ≡ middle
 
-  pub second-begins : (xs : List T) (at last : ℕ) → FirstRound xs at last
+  pub second-begins : {xs : List T} {at last : ℕ} → FirstRound xs at last
       → at ≡ length xs → SecondRound xs 0 last
-  second-begins xs at last h all =
+  second-begins {xs} {at} {last} h all =
       ⊎_elim some none (cases_lt last (length xs))
     where
       nothing : length xs ≤ last → 0 < length xs → ⊥
@@ -291,11 +282,11 @@ module _ {T : Type 0} (s : Seating T) (wire : Wire) (start : List T) where
             absurd (let within = slice_get_within xs last x there in omega (arith, within, empty));
       }
 
-  pub second-next : (xs ys : List T) (at last : ℕ) → SecondRound xs at last
+  pub second-next : {xs ys : List T} {at last : ℕ} → SecondRound xs at last
       → at < length xs → LearnedFrom s at last xs ys → SecondRound ys (at + 1) last
-  second-next xs ys at last h inside turn = record {
+  second-next {xs} {ys} {at} {last} h inside turn = record {
     learned = all-again s start xs ys h.learned turn.learned;
-    seats = seated-still xs ys h.seats turn.learned;
+    seats = seated-still s wire xs ys h.seats turn.learned;
     all = (let long = turn.learned.count in let most = h.all in omega (arith, long, most));
     inside = λ some. (let long = turn.learned.count in
         let last_inside = h.inside
@@ -346,9 +337,9 @@ module _ {T : Type 0} (s : Seating T) (wire : Wire) (start : List T) where
           (subst (λ (l : List Step). Continues l new.log) (h.end source.0 source.1 before)
           new.continues))
 
-  pub second-ends : (items : List T) (at last : ℕ) → SecondRound items at last
+  pub second-ends : {items : List T} {at last : ℕ} → SecondRound items at last
       → at ≡ length items → AreAtOnce s (opened_with wire) items
-  second-ends items at last h all = record {
+  second-ends {items} h all = record {
     log = h.middle;
     events = h.events;
     each = λ k c there.

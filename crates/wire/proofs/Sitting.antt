@@ -1,5 +1,5 @@
 -- What a seat records of the slots that it holds, as slots come and go.
-use Rattle.std.proofs.Common.{◌≡◌, ◌≢◌, ℕ, zero, suc, ◌<◌, ◌==◌, cond, eq-eqb, ne_eqb, Bool, true, false, true≢false, List, [], ◌∷◌, ◌++◌, drop, take, get_or, Option, Some, None, refl, sym, ap, ◌∙◌, subst, ⊎_elim, arith}
+use Rattle.std.proofs.Common.{◌≡◌, ◌≢◌, ℕ, zero, suc, ◌<◌, ◌==◌, cond, eq-eqb, ne_eqb, Bool, true, false, true≢false, List, [], ◌∷◌, ◌++◌, drop, take, get_or, Option, Some, None, refl, sym, ap, ◌∙◌, subst, subst₂, ⊎_elim, arith}
 use Rattle.std.specs.Prelude.{is_some}
 use Rattle.std.proofs.lemmas.Bool.{cond-true, cond-false, cases_Bool}
 use mathlib.Core.Option.{some, some-ne-none, some-injective}
@@ -106,6 +106,14 @@ fresh-minds k v e = cond-false _ _ _ e.0 ∙ ap is_some e.1
 abbrev Seated : {S : Type 0} → (S → List ℕ) → ℕ → ℕ → List ℕ → Known → List (ℕ × S) → Type 0
 Seated bytes me nodes held v out = Sits bytes me nodes held (v, out)
 
+-- a seat of this node that begins to fill or empty this mailbox: what it knew, and what it then knows
+record IsFront (me nodes : ℕ) (v w : Known) (at : ℕ) : Type 0 where
+  fresh : IsFresh at v
+  its : IsOwnBox me nodes at
+  same : (w.role ≡ v.role) × (w.me ≡ v.me) × (w.nodes ≡ v.nodes)
+  here : minds at w ≡ true
+  others : (k : ℕ) → k ≢ at → minds k v ≡ minds k w
+
 module _ {S : Type 0} {bytes : S → List ℕ} {me nodes : ℕ} where
   -- a step on no slot
   pub sits-still : {held : List ℕ} {v : Known} {out : List (ℕ × S)} {pair : Pair}
@@ -134,30 +142,43 @@ module _ {S : Type 0} {bytes : S → List ℕ} {me nodes : ℕ} where
     spells = s.spells;
   }
 
+  -- one more slot is in front
+  sits-held : {held : List ℕ} {v w : Known} {at : ℕ} {out : List (ℕ × S)} (x : S)
+      → Seated bytes me nodes held v out → IsFront me nodes v w at
+      → ((i b : ℕ) (y : S) (g : Plain) → get_elem? ((at, x) ∷ out) i ≡ some (b, y)
+      → found b w.emptying ≡ Some g → bytes y ≡ spelling g)
+      → Seated bytes me nodes (at ∷ held) w ((at, x) ∷ out)
+  sits-held {held} {v} {w} {at} x s h spells = record {
+    role = ap is_node h.same.0 ∙ s.role;
+    me_is = s.me_is ∙ sym h.same.1;
+    nodes_is = s.nodes_is ∙ sym h.same.2;
+    within = s.within;
+    few = s.few;
+    order = ap (λ (l : List ℕ). at ∷ l) s.order;
+    minded = λ k. dite (ℕ_discrete k at)
+        (λ is. subst (λ (j : ℕ). has j (at ∷ held) ≡ minds j w) (sym is)
+        (has-here at held ∙ sym h.here))
+        (λ apart. has-more at k held apart ∙ s.minded k ∙ h.others k apart);
+    single = once-more at held (s.minded at ∙ fresh-minds at v h.fresh) s.single;
+    own = λ k e. dite (ℕ_discrete k at)
+        (λ is. subst (IsOwnBox me nodes) (sym is) h.its)
+        (λ apart. s.own k (sym (has-more at k held apart) ∙ e));
+    spells = spells;
+  }
+
   pub sits-claimed : {held : List ℕ} {v : Known} {out : List (ℕ × S)} (at place : ℕ) (x : S)
       → Seated bytes me nodes held v out → IsFresh at v → IsOwnBox me nodes at
       → Seated bytes me nodes (at ∷ held) (claims at place v) ((at, x) ∷ out)
-  sits-claimed {held} {v} {out} at place x s fresh its =
-      let gone : has at held ≡ false = s.minded at ∙ fresh-minds at v fresh in
-      record {
-        role = s.role;
-        me_is = s.me_is;
-        nodes_is = s.nodes_is;
-        within = s.within;
-        few = s.few;
-        order = ap (λ (l : List ℕ). at ∷ l) s.order;
-        minded = λ k. dite (ℕ_discrete k at)
-            (λ is. subst (λ (j : ℕ). has j (at ∷ held) ≡ minds j (claims at place v)) (sym is)
-            (has-here at held ∙ sym (cond-true _ _ _ (has-here at v.filling))))
-            (λ apart. has-more at k held apart ∙ s.minded k
-            ∙ ap (λ (b : Bool). cond b true (is_some (found k v.emptying)))
-            (sym (has-more at k v.filling apart)));
-        single = once-more at held gone s.single;
-        own = λ k e. dite (ℕ_discrete k at)
-            (λ is. subst (IsOwnBox me nodes) (sym is) its)
-            (λ apart. s.own k (sym (has-more at k held apart) ∙ e));
-        spells = spells;
-      }
+  sits-claimed {v = v} {out = out} at place x s fresh its =
+      let front : IsFront me nodes v (claims at place v) at = record {
+        fresh = fresh;
+        its = its;
+        same = (refl, refl, refl);
+        here = cond-true _ _ _ (has-here at v.filling);
+        others = λ k apart. ap (λ (b : Bool). cond b true (is_some (found k v.emptying)))
+            (sym (has-more at k v.filling apart));
+      } in
+      sits-held x s front spells
     where
       spells : (i b : ℕ) (y : S) (g : Plain) → get_elem? ((at, x) ∷ out) i ≡ some (b, y)
           → found b v.emptying ≡ Some g → bytes y ≡ spelling g
@@ -174,27 +195,15 @@ module _ {S : Type 0} {bytes : S → List ℕ} {me nodes : ℕ} where
       → bytes x ≡ spelling f
       → Seated bytes me nodes (at ∷ held) (takes_in at place f v) ((at, x) ∷ out)
   sits-took {held} {v} {out} at place x f s fresh its spelled =
-      let gone : has at held ≡ false = s.minded at ∙ fresh-minds at v fresh in
-      record {
-        role = s.role;
-        me_is = s.me_is;
-        nodes_is = s.nodes_is;
-        within = s.within;
-        few = s.few;
-        order = ap (λ (l : List ℕ). at ∷ l) s.order;
-        minded = λ k. dite (ℕ_discrete k at)
-            (λ is. subst (λ (j : ℕ). has j (at ∷ held) ≡ minds j (takes_in at place f v)) (sym is)
-            (has-here at held
-            ∙ sym (cond-false _ _ _ fresh.0 ∙ ap is_some (found-here at f v.emptying))))
-            (λ apart. has-more at k held apart ∙ s.minded k
-            ∙ ap (λ (o : Option Plain). cond (has k v.filling) true (is_some o))
-            (sym (found-more at k f v.emptying apart)));
-        single = once-more at held gone s.single;
-        own = λ k e. dite (ℕ_discrete k at)
-            (λ is. subst (IsOwnBox me nodes) (sym is) its)
-            (λ apart. s.own k (sym (has-more at k held apart) ∙ e));
-        spells = spells;
-      }
+      let front : IsFront me nodes v (takes_in at place f v) at = record {
+        fresh = fresh;
+        its = its;
+        same = (refl, refl, refl);
+        here = cond-false _ _ _ fresh.0 ∙ ap is_some (found-here at f v.emptying);
+        others = λ k apart. ap (λ (o : Option Plain). cond (has k v.filling) true (is_some o))
+            (sym (found-more at k f v.emptying apart));
+      } in
+      sits-held x s front spells
     where
       spells : (i b : ℕ) (y : S) (g : Plain) → get_elem? ((at, x) ∷ out) i ≡ some (b, y)
           → found b ((at, f) ∷ v.emptying) ≡ Some g → bytes y ≡ spelling g
@@ -270,44 +279,44 @@ module _ {S : Type 0} {bytes : S → List ℕ} {me nodes : ℕ} where
       ∙ ap (λ (j : ℕ). found j (cleared at v.emptying)) (sym is) ∙ e in cc))
       (λ apart. sym (found-stays at b v.emptying apart) ∙ e))
 
+  -- the same slots in another order
+  sits-ordered : {held now : List ℕ} {v : Known} {out last : List (ℕ × S)}
+      → Seated bytes me nodes held v out → boxes_of last ≡ now
+      → ((k : ℕ) → has k now ≡ has k held) → once now ≡ true
+      → ((i b : ℕ) (y : S) → get_elem? last i ≡ some (b, y)
+      → (j : ℕ) × (get_elem? out j ≡ some (b, y)))
+      → Seated bytes me nodes now v last
+  sits-ordered s order same single there = record {
+    role = s.role;
+    me_is = s.me_is;
+    nodes_is = s.nodes_is;
+    within = s.within;
+    few = s.few;
+    order = order;
+    minded = λ k. same k ∙ s.minded k;
+    single = single;
+    own = λ k e. s.own k (sym (same k) ∙ e);
+    spells = λ i b y f e found. (let at = there i b y e in s.spells at.0 b y f at.1 found);
+  }
+
   -- the first slot moves to the end
   pub sits-turned : {held : List ℕ} {v : Known} {out : List (ℕ × S)}
       → Seated bytes me nodes held v out
       → Seated bytes me nodes (drop 1 held ++ take 1 held) v (turned out)
   sits-turned {v = v} {out = []} s =
       subst (λ (l : List ℕ). Seated bytes me nodes (drop 1 l ++ take 1 l) v []) s.order
-      (record {
-        role = s.role;
-        me_is = s.me_is;
-        nodes_is = s.nodes_is;
-        within = s.within;
-        few = s.few;
-        order = refl;
-        minded = λ k. ap (has k) s.order ∙ s.minded k;
-        single = refl;
-        own = λ k e. s.own k (sym (ap (has k) s.order) ∙ e);
-        spells = s.spells;
-      })
+      (sits-ordered s refl (λ k. ap (has k) s.order) refl (λ i b y e. (i, e)))
   sits-turned {v = v} {out = (at, x) ∷ out} s =
       subst
       (λ (l : List ℕ).
       Seated bytes me nodes (drop 1 l ++ take 1 l) v (out ++ (at, x) ∷ [])) s.order
-      (record {
-        role = s.role;
-        me_is = s.me_is;
-        nodes_is = s.nodes_is;
-        within = s.within;
-        few = s.few;
-        order = boxes-last out at x;
-        minded = λ k. has-last k at (boxes_of out) ∙ ap (has k) s.order ∙ s.minded k;
-        single = once-last at (boxes_of out) (ap once s.order ∙ s.single);
-        own = λ k e. s.own k
-            (ap (has k) (sym s.order) ∙ sym (has-last k at (boxes_of out)) ∙ e);
-        spells = λ i b y f e there. ⊎_elim
-            (λ (was : get_elem? out i ≡ some (b, y)). s.spells (suc i) b y f was there)
-            (λ (is : (at, x) ≡ (b, y)). s.spells zero b y f (ap some is) there)
-            (at_snoc out (at, x) (b, y) i e);
-      })
+      (sits-ordered s (boxes-last out at x)
+      (λ k. has-last k at (boxes_of out) ∙ ap (has k) s.order)
+      (once-last at (boxes_of out) (ap once s.order ∙ s.single))
+      (λ i b y e. ⊎_elim
+      (λ (was : get_elem? out i ≡ some (b, y)). (suc i, was))
+      (λ (is : (at, x) ≡ (b, y)). (zero, ap some is))
+      (at_snoc out (at, x) (b, y) i e)))
 
   -- its number comes first if the slot does
   pub in-front : {held : List ℕ} {v : Known} {out : List (ℕ × S)} (at : ℕ) (tail : List ℕ)
@@ -322,3 +331,10 @@ module _ {S : Type 0} {bytes : S → List ℕ} {me nodes : ℕ} where
       first_of : List ℕ → ℕ
       first_of [] = 0
       first_of (y ∷ ys) = y
+
+  -- what a seat holds once its first slot has gone, by equal lists and what it then knows
+  pub sits-left : {held items : List ℕ} {v w : Known} {out left : List (ℕ × S)}
+      → Seated bytes me nodes held v out → held ≡ items → v ≡ w → out ≡ left
+      → Seated bytes me nodes items w left
+  sits-left s first known last =
+      subst₂ (Sits bytes me nodes) first (λ i. (known i, last i)) s

@@ -89,15 +89,6 @@ pub record Apart (n : ℕ) (old new : ℕ) (mail mail' : Mail) (v : Known) : Typ
       → by_node i (mail'.visits m) ≡ by_node i (mail.visits m)
   pub board : (v.role ≡ node → v.me ≢ 0) → new ≡ old
 
-pub same-mail : (n b : ℕ) (mail : Mail) (v : Known) → Apart n b b mail mail v
-same-mail n b mail v =
-    record {
-      posted = λ m a. refl;
-      got = λ m a. refl;
-      visits = λ m i a. refl;
-      board = λ a. refl;
-    }
-
 -- A node's seat is still as the rule says if only its visits have changed, and what it loaded,
 -- showed or learned.
 pub still-node : {opening : World} {log seen : List Step} {old new j number shown : ℕ}

@@ -40,16 +40,3 @@ still-supplied h =
       l.0,
       record { events = l.1.events; pair = l.1.pair; own = l.1.own; net = l.1.net },
     ))
-
--- a seat that was just dealt
-pub first-supplied : (opening : World) (me : ℕ) → IsSupplied (node_of_opening opening me)
-first-supplied opening me =
-    ∣ (
-      [],
-      record {
-        events = tt;
-        pair = refl;
-        own = refl;
-        net = λ k f e. (let never : ◌≡◌ {A = Option Plain} None (Some f) = e in absurd cc);
-      },
-    ) ∣₁

@@ -1,7 +1,7 @@
-//! The wire: mailboxes between the threads of a space's nodes, the count of its events, and a board
-//! on which node 0 shows the last ended cycle. One rule over all of it holds between any two atomic
-//! steps of any threads. It implies that what the threads do is one list of events of the space
-//! (docs/WIRE.md).
+//! The wire, which has no nodes: mailboxes between the threads of a space's nodes, the count of its
+//! events, and a board on which node 0 shows the last ended cycle. One rule over all of it holds
+//! between any two atomic steps of any threads. It implies that what the threads do is one list of
+//! events of the space (docs/WIRE.md).
 //!
 //! A wire is a table of slots and of words, each of which changes only in single atomic steps.
 //! Between `n` nodes it has `n * n` mailboxes, each a word and a slot. The mailbox from node `i` to

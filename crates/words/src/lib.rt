@@ -1,4 +1,5 @@
-//! What the program's arguments ask for, and its exit statuses.
+//! What the program's arguments ask for, and its exit statuses. The commands are in the crates
+//! `commands` and `markring`.
 #![tactic(auto)]
 
 mod command;

@@ -37,10 +37,10 @@ up_to_sent node nodes turn scanned unsaved goes_on =
     ++ (sends node nodes ++ (raises node ++ at node turn stage.Sent goes_on ∷ []))))))))
 
 -- a whole turn, whether or not its last question ends the worker
-pub at-last : {T : Type 0} (past : CallsMade) (node nodes turn scanned : ℕ) (unsaved : Bool)
+pub at-last : {T : Type 0} {calls : List Called} (node nodes turn scanned : ℕ) (unsaved : Bool)
     (r : Result T Stage) → IfErr r (λ s. s ≡ stage.Sent)
-    → asked past ≡ up_to_sent node nodes turn scanned unsaved (is_ok r)
-    → asked past ≡ turn_of node nodes turn (result_err r) scanned unsaved
-at-last past node nodes turn scanned unsaved (Ok x) is made = made
-at-last past node nodes turn scanned unsaved (Err s) is made =
-    subst (λ t. asked past ≡ turn_of node nodes turn (Some t) scanned unsaved) (sym is) made
+    → calls ≡ up_to_sent node nodes turn scanned unsaved (is_ok r)
+    → calls ≡ turn_of node nodes turn (result_err r) scanned unsaved
+at-last node nodes turn scanned unsaved (Ok x) is made = made
+at-last {calls = calls} node nodes turn scanned unsaved (Err s) is made =
+    subst (λ t. calls ≡ turn_of node nodes turn (Some t) scanned unsaved) (sym is) made

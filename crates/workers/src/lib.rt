@@ -1,5 +1,5 @@
-//! The turns of a worker: what a thread does for its node, over and over. A turn makes the same
-//! calls in the same order, whatever they return:
+//! The turns of a worker: what a thread does for its node, over and over, by calls that `cell` has.
+//! A turn makes the same calls in the same order, whatever they return:
 //!
 //! ```text
 //! gate: Start

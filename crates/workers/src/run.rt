@@ -63,14 +63,6 @@ pub struct Run {
     pub turns: Snapshot<Turns>,
 }
 
-// The same before its end is counted.
-#[derive(Drop)]
-struct Taken {
-    report: Report,
-    asked: Option<Asked>,
-    turns: Snapshot<Turns>,
-}
-
 // Whether a turn that ended there is whole.
 fn is_whole(ended_at: Option<Stage>) -> bool
     ensures { result ≡ is_whole ended_at }
@@ -86,8 +78,10 @@ fn add(turns: &mut Snapshot<Turns>, turn: Snapshot<CallsMade>)
     *turns = Snapshot::of(&Turns::Then { before, turn });
 }
 
-// Takes this many turns, or fewer if the workers are asked to stop or the gate ends this one.
-fn take_turns<R: Wait, S: Station, G: Gate>(
+/// Takes `turns` turns for a node of a space of `nodes` nodes. It takes fewer only if it finds,
+/// before a turn, that the workers were asked to stop, or if the gate ends this worker. Then it
+/// counts the worker as ended. The report sums up the turns.
+pub fn run_node<R: Wait, S: Station, G: Gate>(
     rt: &R,
     station: &S,
     gate: &G,
@@ -95,7 +89,7 @@ fn take_turns<R: Wait, S: Station, G: Gate>(
     nodes: u8,
     turns: u32,
     stop: &Stop,
-) -> Taken
+) -> Run
     ensures { IsRun node nodes turns result.report result.asked result.turns.value }
 {
     let mut past = Snapshot::of(&Turns::Start);
@@ -118,7 +112,7 @@ fn take_turns<R: Wait, S: Station, G: Gate>(
         freed += u64::from(taken.freed);
         add(&mut past, taken.past);
     }
-    Taken {
+    Run {
         report: Report {
             node,
             turns: over,
@@ -128,33 +122,7 @@ fn take_turns<R: Wait, S: Station, G: Gate>(
             made: Made,
         },
         asked,
-        turns: past,
-    }
-}
-
-/// Takes `turns` turns for a node of a space of `nodes` nodes. It takes fewer only if it finds,
-/// before a turn, that the workers were asked to stop, or if the gate ends this worker. Then it
-/// counts the worker as ended. The report sums up the turns.
-pub fn run_node<R: Wait, S: Station, G: Gate>(
-    rt: &R,
-    station: &S,
-    gate: &G,
-    node: u8,
-    nodes: u8,
-    turns: u32,
-    stop: &Stop,
-) -> Run
-    ensures { IsRun node nodes turns result.report result.asked result.turns.value }
-{
-    let Taken {
-        report,
-        asked,
-        turns,
-    } = take_turns(rt, station, gate, node, nodes, turns, stop);
-    Run {
-        report,
-        asked,
         counted: stop.note_end(),
-        turns,
+        turns: past,
     }
 }

@@ -1,4 +1,4 @@
--- What playing the collector's strategy gives ("Progress" in docs/RULES.md).
+-- What playing the collector's strategy gives ("Progress" in docs/PROOF.md).
 use Rattle.std.specs.Prelude.{◌≡◌, ℕ, ◌+◌, ◌*◌, ◌<◌, ◌≤◌, ◌⊎◌, List, ◌++◌, Result, Ok, Err, IsOk}
 use Rattle.std.specs.List.{AllByRecursion}
 use Rattle.ids.specs.declared.refusal.Refusal.{Refusal}

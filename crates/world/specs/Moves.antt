@@ -1,5 +1,5 @@
 -- What the collector does next, as the sites of the code's space show it ("Progress" in
--- docs/RULES.md).
+-- docs/PROOF.md).
 use Rattle.std.specs.Prelude.{◌≡◌, ℕ, Bool, true, ◌+◌, nat_lt, not, is_some, ◌==◌, List, length}
 use Rattle.model.specs.declared.step.Step.TheVariants as step
 use Rattle.model.specs.State.{LocalState, got_from}

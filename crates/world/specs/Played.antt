@@ -1,4 +1,4 @@
--- The strategy of the collector on the code ("Progress" in docs/RULES.md).
+-- The strategy of the collector on the code ("Progress" in docs/PROOF.md).
 use Rattle.std.specs.Prelude.{◌≡◌, ℕ, true, List, map, IsOk}
 use Rattle.std.specs.List.{AllByRecursion}
 use Rattle.model.specs.declared.step.Step.{Step}

@@ -1,5 +1,5 @@
 //! The collector's strategy, played: a space that does nothing else ends its cycle, and has it
-//! swept on each node ("Progress" in docs/RULES.md).
+//! swept on each node ("Progress" in docs/PROOF.md).
 ghost use Rattle.std.specs.Prelude.{◌≡◌, ◌<◌, ◌≤◌, ◌+◌, ◌↔◌, List, length, true, is_some, IsTrue, IfOk, IfErr, IfSome};
 ghost use Rattle.std.specs.List.{AllByRecursion};
 ghost use Rattle.ids.specs.Limits.{Shaped, IsShape};
@@ -221,7 +221,7 @@ impl Sim {
     ///
     /// A move is a scan, a sweep of all slots, a pass of the token, or the receipt of a message.
     /// Before a message is received, both its nodes are saved, which costs an image each.
-    /// "Progress" in docs/RULES.md has the rule by which moves are chosen, and the bound on their
+    /// "Progress" in docs/PROOF.md has the rule by which moves are chosen, and the bound on their
     /// number.
     ///
     /// It fails with `Memory` if allocation fails, with `ImageTooLarge` if a node can't be saved,

@@ -1,5 +1,5 @@
 //! The theorems over all runs, as the contract of one function that does nothing. The statements
-//! are in `laws/specs`, and docs/RULES.md explains their terms.
+//! are in `laws/specs`, and docs/PROOF.md explains their terms.
 ghost use Rattle.laws.specs.Sights.{CollectorIsUnseen};
 ghost use Rattle.laws.specs.Statements.{OfEveryRun, OfSpaces, OnlyEventsChange, CutsExtend, ReachIsLive, SweepsFreeNoneReachable, NodesAgree, BalancesAddUp, OldGarbageGoes, TargetsAreLive, NetGrows, NoneRefusedInTurn, NoneBeyond, AcknowledgementsGoThrough, HandsGoThrough, AcknowledgedIsTakenIn};
 ghost use Rattle.laws.specs.Progress.{MarkingCanEnd, CycleCanEnd, GarbageCanGo, EndIsFoundSoon};

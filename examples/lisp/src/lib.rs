@@ -3,7 +3,7 @@
 //! Each value is an object, except `()`, which is nothing. An object's word has a tag and a payload
 //! of 28 bits. A pair has two places, a closure three: parameters, body and environment. All that
 //! an interpreter works on is in registers ([`Root`]), so the registers are its stack: an
-//! evaluation that nests too deeply fails with `NoRegister`.
+//! evaluation that nests too deeply ends with `no register is left`.
 //!
 //! `(send NODE VALUE)` sends a reference, and `(receive)` waits for one. A pair of another node is
 //! read by a Get and written by a Put, as if it were the node's own.
@@ -25,7 +25,11 @@ pub struct Fault(pub String);
 
 impl From<Refusal> for Fault {
     fn from(refusal: Refusal) -> Self {
-        Fault(refusal.to_string())
+        // Only roots use registers, so one that isn't there is one that isn't free.
+        Fault(match refusal {
+            Refusal::NoRegister => "no register is left".into(),
+            other => other.to_string(),
+        })
     }
 }
 
@@ -375,12 +379,17 @@ impl<'r> Lisp<'r> {
             Some((Tag::Closure, _)) => return Ok("a closure".into()),
             Some((Tag::Pair, _)) => {}
         }
-        let (car, cdr) = (self.load(value, CAR)?, self.load(value, CDR)?);
-        let (car, cdr) = (self.show(&car)?, self.show(&cdr)?);
-        Ok(match cdr.strip_prefix('(') {
-            Some(")") => format!("({car})"),
-            Some(rest) => format!("({car} {rest}"),
-            None => format!("({car} . {cdr})"),
-        })
+        // A loop along the list, so a long one needs few registers.
+        let (mut text, mut rest) = (String::from("("), copy(value)?);
+        loop {
+            let item = self.load(&rest, CAR)?;
+            text += &self.show(&item)?;
+            rest = self.load(&rest, CDR)?;
+            match self.word(&rest)? {
+                None => return Ok(text + ")"),
+                Some((Tag::Pair, _)) => text.push(' '),
+                Some(_) => return Ok(format!("{text} . {})", self.show(&rest)?)),
+            }
+        }
     }
 }

@@ -40,10 +40,18 @@ fn expressions_have_values() {
 #[test]
 fn a_deep_recursion_runs_out_of_registers() {
     let program = "(define f (lambda (n) (if (eq n 0) 0 (+ 1 (f (- n 1)))))) (f 500)";
-    assert_eq!(on_one(program), "error: there is no such register");
+    assert_eq!(on_one(program), "error: no register is left");
     // A tail call takes none.
     let program = "(define f (lambda (n) (if (eq n 0) 'done (f (- n 1))))) (f 3000)";
     assert_eq!(on_one(program), "done");
+}
+
+#[test]
+fn a_long_list_is_shown() {
+    let program = "(define up (lambda (n list) (if (eq n 0) list (up (- n 1) (cons n list)))))
+        (up 600 ())";
+    let numbers: Vec<String> = (1..=600).map(|it| it.to_string()).collect();
+    assert_eq!(on_one(program), format!("({})", numbers.join(" ")));
 }
 
 #[test]

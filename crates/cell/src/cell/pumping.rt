@@ -42,6 +42,18 @@ fn event_of(frame: Frame) -> Event
     }
 }
 
+// Whether the frame left.
+#[inline(always)]
+fn outbound(is_sent: bool) -> Outbound
+    ensures { is_out result ≡ is_sent }
+{
+    if is_sent {
+        Outbound::Sent
+    } else {
+        Outbound::Full
+    }
+}
+
 impl<D: Disk> Cell<D> {
     /// Receives the waiting message from another node, if there is one. Otherwise takes the frame
     /// in the mailbox from that node, empties the mailbox, and gives the frame to the node; `Empty`
@@ -154,10 +166,6 @@ impl<D: Disk> Cell<D> {
             return Err(Refusal::NoNode);
         }
         let is_sent = self.desk.send(wire, self.alloc, to)?;
-        Ok(if is_sent {
-            Outbound::Sent
-        } else {
-            Outbound::Full
-        })
+        Ok(outbound(is_sent))
     }
 }

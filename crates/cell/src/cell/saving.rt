@@ -28,8 +28,8 @@ ghost use Rattle.cell.specs.declared.call.Call.TheVariants as call;
 ghost use Rattle.model.specs.View.{kept_view};
 ghost use Rattle.node.specs.Keeping.{kept_whole};
 ghost use Rattle.image.specs.Images.{image_of};
-ghost use Rattle.disk.specs.Crashes.{Grew, Only};
-ghost use Rattle.disk.specs.Memory.{filled_by_crash, held_by, IsFaultless, left_by};
+ghost use Rattle.disk.specs.Crashes.{Grew};
+ghost use Rattle.disk.specs.Memory.{AfterCrash};
 ghost use Rattle.disk.specs.Plan.{fails_from, fails_once};
 ghost use Rattle.wire.specs.Readers.{known, IsSame, IsSeatOf};
 ghost use Rattle.cell.specs.Cells.{IsKept};
@@ -40,7 +40,7 @@ ghost use Rattle.model.specs.declared.step.Step.TheVariants as step;
 
 use super::Cell;
 use crate::{Call, CallOutcome};
-use disk::{Disk, MemoryDisk};
+use disk::{Disk, MemoryDisk, OverMemory};
 use ids::Refusal;
 use wire::Wire;
 
@@ -215,10 +215,7 @@ impl Cell<MemoryDisk> {
 
     /// The disk that a crash now leaves; see [`MemoryDisk::after_crash`].
     pub fn after_crash(&self, fill: u8) -> Result<MemoryDisk, Refusal>
-        ensures filled { IfOk result (λ d. held_by d ≡ filled_by_crash fill self.now.disk) }
-        ensures left { IfOk result (λ d. left_by self.now.disk (held_by d)) }
-        ensures durable { IfOk result (λ d. Only (held_by d) (left_by d)) }
-        ensures faultless { IfOk result IsFaultless }
+        ensures left { IfOk result (AfterCrash fill self.now.disk) }
         ensures memory { IfErr result (λ e. e ≡ Refusal.Memory) }
     {
         self.store.after_crash(fill)

@@ -2,11 +2,12 @@ use Rattle.std.proofs.Common.{◌≡◌, ◌<◌, ℕ, Some, length, map, take}
 use Rattle.std.specs.Prelude.{slice_get}
 use Rattle.disk.specs.Memory.{held_by}
 use Rattle.c_handles.specs.Opening.{Image, IsShort, areas_in}
+use Rattle.c_handles.proofs.Lists.{EachBefore}
 use Rattle.c_handles.proofs.opening.disks_of.Given as goal
 
 abbrev pub invariant-loop-place : goal.invariant-loop-place
 invariant-loop-place l = record {
   held : map held_by l.disks.items ≡ map areas_in (take l.place l.images);
-  short : (k : ℕ) (i : Image) → k < l.place → slice_get l.images k ≡ Some i → IsShort i;
+  short : EachBefore IsShort l.images l.place;
   end : l.place-end ≡ length l.images;
 }

@@ -3,7 +3,7 @@ use Rattle.std.specs.Arc.{arc_value}
 use Rattle.std.proofs.lemmas.List.{length-map}
 use Rattle.std.proofs.lemmas.List.Elements.{All-push, All-same}
 use Rattle.wire.specs.Readers.{IsSeatOf}
-use Rattle.cell.proofs.Ready.{handed-on, shifted-by}
+use Rattle.cell.proofs.Ready.{handed-on, shift, shifted-by}
 use Rattle.c_handles.specs.Opening.{IsFreshIn, cell_in}
 use Rattle.c_handles.proofs.Lists.{first-of, later-of}
 use Rattle.c_handles.proofs.opening.seat_all.Goals as goal
@@ -28,9 +28,9 @@ loop-preserved c =
       plain = later-of (λ y. y.logs ≡ false) c.loop.cells.items _ was.plain
           c.remove-cell.ensures.items;
       left = omega (arith, was.left, c.remove-cell.ensures.len);
-      made = shifted-by cell_in Some _ c.loop.cells.items _ _ _ c.remove-cell.result _ was.made
-          c.in_ok-push.ensures.items (ap Some c.in_ok-full.ensures.cell)
-          c.remove-cell.ensures.value some c.remove-cell.ensures.items;
+      made = shifted-by cell_in Some
+          (shift _ _ c.loop.cells.items c.in_ok-push.ensures.items c.remove-cell.ensures.value some
+          c.remove-cell.ensures.items) (ap Some c.in_ok-full.ensures.cell) was.made;
       fresh = All-same (IsFreshIn (arc_value c.args.wire.now)) _ _ c.in_ok-push.ensures.items
           (All-push (IsFreshIn (arc_value c.args.wire.now)) _ _ was.fresh
           c.in_ok-full.ensures.fresh);

@@ -2,7 +2,7 @@ use Rattle.std.proofs.Common.{◌≡◌, ◌<◌, length, arith}
 use Rattle.std.specs.Arc.{arc_value}
 use Rattle.std.proofs.lemmas.List.Elements.{All-push, All-same}
 use Rattle.wire.specs.Readers.{IsWatchOf}
-use Rattle.cell.proofs.Ready.{handed-on, shifted}
+use Rattle.cell.proofs.Ready.{handed-on, shift, shifted}
 use Rattle.c_handles.specs.Opening.{IsOnWire, watch_in}
 use Rattle.c_handles.proofs.Lists.{first-of, later-of}
 use Rattle.c_handles.proofs.opening.seat_watches.Goals as goal
@@ -21,9 +21,9 @@ loop-preserved c =
       of = later-of (IsWatchOf (arc_value c.args.wire.now)) c.loop.watches.items _ was.of
           c.remove-watch.ensures.items;
       left = omega (arith, was.left, c.remove-watch.ensures.len);
-      made = shifted watch_in _ c.loop.watches.items _ _ _ c.remove-watch.result _ was.made
-          c.in_ok-push.ensures.items c.in_ok-full.ensures.watch c.remove-watch.ensures.value
-          some c.remove-watch.ensures.items;
+      made = shifted watch_in
+          (shift _ _ c.loop.watches.items c.in_ok-push.ensures.items c.remove-watch.ensures.value
+          some c.remove-watch.ensures.items) c.in_ok-full.ensures.watch was.made;
       wire = All-same (IsOnWire (arc_value c.args.wire.now)) _ _ c.in_ok-push.ensures.items
           (All-push (IsOnWire (arc_value c.args.wire.now)) _ _ was.wire
           c.in_ok-full.ensures.wire);

@@ -1,6 +1,12 @@
+use Rattle.std.proofs.Common.{◌<◌, length, subst}
+use Rattle.ids.specs.declared.limits.TheConstants.{GREATEST_IMAGE}
+use Rattle.ids.specs.declared.refusal.Refusal.TheVariants.{ImageTooLarge}
+use Rattle.image.specs.Wholes.{whole_image}
+use Rattle.node.specs.Keeping.{WholeNode}
 use Rattle.node_store.specs.Stores.{disk_of, logs_in}
+use Rattle.cell.specs.Opened.{IsCause}
 use Rattle.cell.proofs.Beside.{new-logs}
-use Rattle.cell.proofs.Causes.{creating-cause}
+use Rattle.cell.proofs.Causes.{by-cause}
 use Rattle.cell.proofs.NewCells.{opens-new}
 use Rattle.cell.proofs.finding.create.Goals as goal
 
@@ -11,11 +17,17 @@ returns-in-Ok-clause-opens g c =
 
 pub returns-in-Err-clause-cause : goal.returns-in-Err-clause-cause
 returns-in-Err-clause-cause g c =
-    creating-cause g.D.Disk.seen g.D.Disk.moment g.D.Disk.faults c.args.node.now c.args.disk
-    c.in-Err._disk c.in-Err.refusal
-    (c.requires.0 (g.D.Disk.seen c.args.disk) (g.met.D.Disk.reads_left c.args.disk), c.requires.1)
-    c.in-Err.ensures.later c.in-Err.ensures.disk c.in-Err.ensures.too_large.0
-    c.in-Err.ensures.others
+    let local = c.args.node.now.core.local in
+    let said = c.in-Err.ensures in λ other.
+    by-cause
+    (IsCause g.D.Disk.seen g.D.Disk.moment g.D.Disk.faults local.shape local.own c.args.disk)
+    ImageTooLarge c.in-Err.refusal said.refused.others other
+    (λ is. record {
+      blank = c.requires.0 (g.D.Disk.seen c.args.disk) (g.met.D.Disk.reads_left c.args.disk);
+      large = subst (λ (n : WholeNode). GREATEST_IMAGE < length (whole_image n)) c.requires.1
+          (said.refused.too_large.0 is);
+    })
+    (λ is. record { after = c.in-Err._disk; later = said.later; failed = said.refused.failed is })
 
 pub returns-in-Ok-clause-logs : goal.returns-in-Ok-clause-logs
 returns-in-Ok-clause-logs g c =

@@ -1,14 +1,14 @@
-use Rattle.std.proofs.Common.{◌≡◌, ◌∙◌, true, ap, length, refl, rules, subst, sym}
+use Rattle.std.proofs.Common.{◌≡◌, ◌∙◌, true, ap, refl, rules, subst, sym}
 use Rattle.std.proofs.lemmas.List.{with_items_is}
 use Rattle.std.proofs.lemmas.Result.{err_from_is_err_and}
 use Rattle.node_store.specs.Stores.{disk_of, is_ready_in, logs_in}
 use Rattle.wire.specs.OneAge.{AreApart, AreOfOneAge}
 use Rattle.cell.specs.Disks.{OpensToNode}
 use Rattle.cell.specs.Ages.{IsWhy}
-use Rattle.cell.specs.Looking.{AreLookedAt, AreOn, AreUnmoved, logs_at}
+use Rattle.cell.specs.Looking.{AreOn, AreUnmoved, logs_at}
 use Rattle.cell.specs.Opened.{AreBeside, AreFound, IsChosen}
 use Rattle.cell.proofs.Beside.{beside-by, chosen-as}
-use Rattle.cell.proofs.Looking.{all-on, all-read, why-before}
+use Rattle.cell.proofs.Looking.{all-on, all-read, were-read, why-before}
 use Rattle.cell.proofs.finding.find.Goals as goal
 
 pub returns-then-len-from : goal.returns-then-len-from
@@ -26,53 +26,42 @@ returns-then-len-from g c = record {
   one_age = tt;
 }
 
-pub returns-in_err-nodes : goal.returns-in_err-nodes
-returns-in_err-nodes g c =
+pub returns-in_err-nodes-clause-disks : goal.returns-in_err-nodes-clause-disks
+returns-in_err-nodes-clause-disks g c = λ other.
+    absurd (other (sym c.len.ensures ∙ c.if-len-from.false ∙ c.from.ensures
+    ∙ c.nodes.ensures.value))
+
+pub returns-in_err-nodes-clause-why : goal.returns-in_err-nodes-clause-why
+returns-in_err-nodes-clause-why g c =
     let p = err_from_is_err_and c.from_residual.result c.from_residual.ensures.1 in
-    let same = sym c.len.ensures ∙ c.if-len-from.false ∙ c.from.ensures ∙ c.nodes.ensures.value in
+    rw (p.1, p.2) (subst (λ l. IsWhy g.D.Disk.seen g.D.Disk.moment g.D.Disk.faults c.args.shape l
+    c.in_err-nodes.field-0.0) c.as_mut_slice.ensures.value c.in_err-nodes.ensures.why)
+
+pub returns-in_err-nodes-clause-untouched : goal.returns-in_err-nodes-clause-untouched
+returns-in_err-nodes-clause-untouched g c =
+    let p = err_from_is_err_and c.from_residual.result c.from_residual.ensures.1 in
     let quiet = subst
     (λ l. AreUnmoved g.D.Disk.seen g.D.Disk.may_leave g.D.Disk.moment g.D.Disk.left_since l
     c.look_at_all.new.disks) c.as_mut_slice.ensures.value c.in_err-nodes.ensures.untouched in
-    rw (p.1, p.2) (record {
-      disks = λ other. absurd (other same);
-      why = subst (λ l. IsWhy g.D.Disk.seen g.D.Disk.moment g.D.Disk.faults c.args.shape l
-          c.in_err-nodes.field-0.0) c.as_mut_slice.ensures.value c.in_err-nodes.ensures.why;
-      untouched = λ _. rw (with_items_is c.args.disks.now c.look_at_all.new.disks
-          (quiet.count ∙ sym c.args.disks.now.ok.0)) quiet;
-      taken = tt;
-      count = tt;
-      found = tt;
-      logs = tt;
-      read = tt;
-      all = tt;
-      one_age = tt;
-    })
+    rw (p.1, p.2) (λ _. rw (with_items_is c.args.disks.now c.look_at_all.new.disks
+    (quiet.count ∙ sym c.args.disks.now.ok.0)) quiet)
 
 pub returns-in-Some : goal.returns-in-Some
 returns-in-Some g c =
     let same = sym c.len.ensures ∙ c.if-len-from.false ∙ c.from.ensures ∙ c.nodes.ensures.value in
-    let old = c.args.disks.now.items in
-    let new = c.look_at_all.new.disks in
-    let many : length old ≡ c.args.shape.nodes = sym c.args.disks.now.ok.0 ∙ same in
-    let quiet = subst
-    (λ l. AreUnmoved g.D.Disk.seen g.D.Disk.may_leave g.D.Disk.moment g.D.Disk.left_since l new)
-    c.as_mut_slice.ensures.value c.in_ok-nodes.ensures.untouched in
-    let found = subst
-    (λ l. AreLookedAt g.D.Disk.seen g.D.Disk.may_leave g.D.Disk.faults c.args.shape
-    c.args.shape.nodes l new c.in_ok-nodes.nodes.items c.in_ok-nodes.areas.items)
-    c.as_mut_slice.ensures.value c.in_ok-nodes.ensures.found in
+    let read = were-read c.as_mut_slice.ensures.value (sym c.args.disks.now.ok.0 ∙ same)
+    c.in_ok-nodes.ensures.untouched c.in_ok-nodes.ensures.found in
     record {
       disks = λ other. absurd (other same);
       why = record {
         nodes = c.in_ok-nodes.nodes.items;
-        count = found.nodes_count ∙ sym many;
-        read = all-read g.D.Disk.seen g.D.Disk.may_leave g.D.Disk.faults c.args.shape old new
-            c.in_ok-nodes.nodes.items c.in_ok-nodes.areas.items found many quiet.count;
+        count = read.found.nodes_count ∙ sym read.many;
+        read = all-read read;
         are = subst (λ l. AreApart l c.in-Some.sender c.in-Some.receiver) c.as_slice.ensures.value
             c.in-Some.ensures.apart;
       };
       untouched = λ _. rw (with_items_is c.args.disks.now c.look_at_all.new.disks
-          (quiet.count ∙ sym c.args.disks.now.ok.0)) quiet;
+          (read.quiet.count ∙ sym c.args.disks.now.ok.0)) read.quiet;
       taken = tt;
       count = tt;
       found = tt;
@@ -85,20 +74,12 @@ returns-in-Some g c =
 pub put_all_on-requires-clause-on : goal.put_all_on-requires-clause-on
 put_all_on-requires-clause-on g c =
     let same = sym c.len.ensures ∙ c.if-len-from.false ∙ c.from.ensures ∙ c.nodes.ensures.value in
-    let old = c.args.disks.now.items in
+    let read = were-read c.as_mut_slice.ensures.value (sym c.args.disks.now.ok.0 ∙ same)
+    c.in_ok-nodes.ensures.untouched c.in_ok-nodes.ensures.found in
     let new = c.look_at_all.new.disks in
-    let many : length old ≡ c.args.shape.nodes = sym c.args.disks.now.ok.0 ∙ same in
-    let quiet = subst
-    (λ l. AreUnmoved g.D.Disk.seen g.D.Disk.may_leave g.D.Disk.moment g.D.Disk.left_since l new)
-    c.as_mut_slice.ensures.value c.in_ok-nodes.ensures.untouched in
-    let found = subst
-    (λ l. AreLookedAt g.D.Disk.seen g.D.Disk.may_leave g.D.Disk.faults c.args.shape
-    c.args.shape.nodes l new c.in_ok-nodes.nodes.items c.in_ok-nodes.areas.items)
-    c.as_mut_slice.ensures.value c.in_ok-nodes.ensures.found in
     let items : c.replace-found.result.items ≡ new =
     ap (λ v. v.items) c.replace-found.ensures.value
-    ∙ with_items_is c.args.disks.now new
-    (quiet.count ∙ sym c.args.disks.now.ok.0) in
+    ∙ with_items_is c.args.disks.now new (read.quiet.count ∙ sym c.args.disks.now.ok.0) in
     subst
     (λ l. AreOn g.D.Disk.seen g.D.Disk.may_leave c.args.shape l c.as_slice-2.result.now
     c.as_slice-3.result.now) (sym items)
@@ -107,59 +88,41 @@ put_all_on-requires-clause-on g c =
     (sym c.as_slice-2.ensures.value)
     (subst
     (λ l. AreOn g.D.Disk.seen g.D.Disk.may_leave c.args.shape new c.in_ok-nodes.nodes.items l)
-    (sym c.as_slice-3.ensures.value)
-    (all-on g.D.Disk.seen g.D.Disk.may_leave g.D.Disk.faults c.args.shape old new
-    c.in_ok-nodes.nodes.items c.in_ok-nodes.areas.items found many quiet.count)))
+    (sym c.as_slice-3.ensures.value) (all-on read)))
 
-pub returns-in_err-stores : goal.returns-in_err-stores
-returns-in_err-stores g c =
+pub returns-in_err-stores-clause-disks : goal.returns-in_err-stores-clause-disks
+returns-in_err-stores-clause-disks g c = λ other.
+    absurd (other (sym c.len.ensures ∙ c.if-len-from.false ∙ c.from.ensures
+    ∙ c.nodes.ensures.value))
+
+pub returns-in_err-stores-clause-why : goal.returns-in_err-stores-clause-why
+returns-in_err-stores-clause-why g c =
     let p = err_from_is_err_and c.from_residual-in_err-stores.result
     c.from_residual-in_err-stores.ensures.1 in
     let same = sym c.len.ensures ∙ c.if-len-from.false ∙ c.from.ensures ∙ c.nodes.ensures.value in
-    let old = c.args.disks.now.items in
-    let new = c.look_at_all.new.disks in
-    let many : length old ≡ c.args.shape.nodes = sym c.args.disks.now.ok.0 ∙ same in
-    let quiet = subst
-    (λ l. AreUnmoved g.D.Disk.seen g.D.Disk.may_leave g.D.Disk.moment g.D.Disk.left_since l new)
-    c.as_mut_slice.ensures.value c.in_ok-nodes.ensures.untouched in
-    let found = subst
-    (λ l. AreLookedAt g.D.Disk.seen g.D.Disk.may_leave g.D.Disk.faults c.args.shape
-    c.args.shape.nodes l new c.in_ok-nodes.nodes.items c.in_ok-nodes.areas.items)
-    c.as_mut_slice.ensures.value c.in_ok-nodes.ensures.found in
-    let items : c.replace-found.result.items ≡ new =
+    let read = were-read c.as_mut_slice.ensures.value (sym c.args.disks.now.ok.0 ∙ same)
+    c.in_ok-nodes.ensures.untouched c.in_ok-nodes.ensures.found in
+    let items : c.replace-found.result.items ≡ c.look_at_all.new.disks =
     ap (λ v. v.items) c.replace-found.ensures.value
-    ∙ with_items_is c.args.disks.now new
-    (quiet.count ∙ sym c.args.disks.now.ok.0) in
-    rw (p.1, p.2) (record {
-      disks = λ other. absurd (other same);
-      why = why-before g.D.Disk.seen g.D.Disk.may_leave g.D.Disk.faults c.args.shape g.D.Disk.moment
-          g.D.Disk.left_since old new _ c.in_ok-nodes.nodes.items c.in_ok-nodes.areas.items _ found
-          many quiet items c.in_err-stores.ensures.all_read c.in_err-stores.ensures.why;
-      untouched = λ reading. absurd (c.in_err-stores.ensures.all_read reading);
-      taken = tt;
-      count = tt;
-      found = tt;
-      logs = tt;
-      read = tt;
-      all = tt;
-      one_age = tt;
-    })
+    ∙ with_items_is c.args.disks.now c.look_at_all.new.disks
+    (read.quiet.count ∙ sym c.args.disks.now.ok.0) in
+    rw (p.1, p.2) (why-before read _ c.in_err-stores.ensures.all_read
+    (subst (λ l. IsWhy g.D.Disk.seen g.D.Disk.moment g.D.Disk.faults c.args.shape l
+    c.in_err-stores.field-0.0) items c.in_err-stores.ensures.why))
+
+pub returns-in_err-stores-clause-untouched : goal.returns-in_err-stores-clause-untouched
+returns-in_err-stores-clause-untouched g c =
+    let p = err_from_is_err_and c.from_residual-in_err-stores.result
+    c.from_residual-in_err-stores.ensures.1 in
+    rw (p.1, p.2) (λ reading. absurd (c.in_err-stores.ensures.all_read reading))
 
 pub returns : goal.returns
 returns g c =
-    let old = c.args.disks.now.items in
-    let new = c.look_at_all.new.disks in
     let seen = g.D.Disk.seen in
     let saves = c.args.saves in
     let same = sym c.len.ensures ∙ c.if-len-from.false ∙ c.from.ensures ∙ c.nodes.ensures.value in
-    let many : length old ≡ c.args.shape.nodes = sym c.args.disks.now.ok.0 ∙ same in
-    let quiet = subst
-    (λ l. AreUnmoved g.D.Disk.seen g.D.Disk.may_leave g.D.Disk.moment g.D.Disk.left_since l new)
-    c.as_mut_slice.ensures.value c.in_ok-nodes.ensures.untouched in
-    let found = subst
-    (λ l. AreLookedAt g.D.Disk.seen g.D.Disk.may_leave g.D.Disk.faults c.args.shape
-    c.args.shape.nodes l new c.in_ok-nodes.nodes.items c.in_ok-nodes.areas.items)
-    c.as_mut_slice.ensures.value c.in_ok-nodes.ensures.found in
+    let read = were-read c.as_mut_slice.ensures.value (sym c.args.disks.now.ok.0 ∙ same)
+    c.in_ok-nodes.ensures.untouched c.in_ok-nodes.ensures.found in
     let areas = c.in_ok-nodes.areas.items in
     let chosen = subst
     (λ l. AreBeside (λ k d place. IsChosen saves (seen d) (logs_at saves place)) l areas)
@@ -172,16 +135,15 @@ returns g c =
       why = tt;
       untouched = tt;
       taken = ap (λ v. v.items) c.replace-found.ensures.after ∙ c.new.ensures.items;
-      count = found.nodes_count;
+      count = read.found.nodes_count;
       found = subst
           (λ l. AreFound (λ n s. (is_ready_in s ≡ true) × OpensToNode n (seen (disk_of s)))
           c.args.shape l c.in_ok-stores.stores.items)
           c.as_slice-2.ensures.value c.in_ok-stores.ensures.found;
-      logs = beside-by old areas c.in_ok-stores.stores.items
-          (c.in_ok-nodes.ensures.found.places_count ∙ sym many)
+      logs = beside-by c.args.disks.now.items areas c.in_ok-stores.stores.items
+          (c.in_ok-nodes.ensures.found.places_count ∙ sym read.many)
           (λ d place s. chosen-as saves (seen d) place (logs_in s)) chosen logs;
-      read = all-read seen g.D.Disk.may_leave g.D.Disk.faults c.args.shape old new
-          c.in_ok-nodes.nodes.items areas found many quiet.count;
-      all = found.nodes_count ∙ sym many;
+      read = all-read read;
+      all = read.found.nodes_count ∙ sym read.many;
       one_age = subst AreOfOneAge c.as_slice.ensures.value c.in_default.ensures.fit;
     }

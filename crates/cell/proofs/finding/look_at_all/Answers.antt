@@ -1,6 +1,6 @@
 use Rattle.std.proofs.Common.{◌≡◌, ℕ, get_or, ◌∙◌, arith, length-set, subst}
 use Rattle.std.proofs.lemmas.Result.{err_from_is_err_and}
-use Rattle.cell.specs.Looking.{AreLookedAt, logs_at}
+use Rattle.cell.specs.Looking.{AreLookedAt, IsLookedAt, logs_at}
 use Rattle.cell.specs.Opened.{IsChosen}
 use Rattle.cell.proofs.Beside.{beside-next}
 use Rattle.cell.proofs.Causes.{why-there}
@@ -17,7 +17,11 @@ returns-in_err-node g c =
       untouched = unmoved-at c.loop-number.number c.from.result x c.look_at.new.disk
           c.loop-number.invariant.quiet c.from.ensures there c.look_at.ensures.quiet;
       why = why-there g.D.Disk.seen g.D.Disk.moment g.D.Disk.faults c.args.shape c.args.disks.now
-          c.loop-number.number x there _ c.in_err-node.ensures.why;
+          c.loop-number.number _ (record {
+            value = x;
+            there = there;
+            is = c.in_err-node.ensures.why;
+          });
       found = tt;
       chosen = tt;
     })
@@ -69,23 +73,22 @@ loop-number-preserved g c =
     let x = get_or c.loop-number.disks c.from.result c.index-disks-from.result in
     let there = read-there c.from.result c.index-disks-from.result c.loop-number.invariant.looked
     c.loop-number.invariant.quiet.count c.from.ensures (omega (arith, c.requires)) in
+    let it : IsLookedAt g.D.Disk.seen g.D.Disk.may_leave g.D.Disk.faults c.args.shape
+    c.loop-number.number x c.look_at.new.disk c.in_ok-node.node c.in_ok-node.area = record {
+      node = c.in_ok-node.ensures.node;
+      holds = c.in_ok-node.ensures.holds;
+      read = c.in_ok-node.ensures.read;
+      fine = c.in_ok-node.ensures.fine;
+    } in
     record {
       quiet = unmoved-at c.loop-number.number c.from.result x c.look_at.new.disk
           c.loop-number.invariant.quiet c.from.ensures there c.look_at.ensures.quiet;
-      looked = looked-at c.from.result x c.look_at.new.disk
-          c.in_ok-node.node c.in_ok-node.area c.loop-number.invariant.looked c.from.ensures there
-          (record {
-            node = c.in_ok-node.ensures.node;
-            holds = c.in_ok-node.ensures.holds;
-            read = c.in_ok-node.ensures.read;
-            fine = c.in_ok-node.ensures.fine;
-          })
+      looked = looked-at c.from.result c.loop-number.invariant.looked c.from.ensures there it
           (c.in_ok-keep.ensures.kept, c.in_ok-keep-2.ensures.kept);
       count = length-set c.loop-number.disks c.from.result c.look_at.new.disk
           ∙ c.loop-number.invariant.count;
       chosen = beside-next
           (λ d place. IsChosen c.args.saves (g.D.Disk.seen d) (logs_at c.args.saves place))
-          c.args.disks.now c.loop-number.areas.items _ c.loop-number.number x c.in_ok-node.area
-          c.loop-number.invariant.chosen c.loop-number.invariant.looked.places_count there
+          c.args.disks.now c.loop-number.areas.items c.loop-number.invariant.chosen c.loop-number.invariant.looked.places_count there
           c.in_ok-node.ensures.chosen c.in_ok-keep-2.ensures.kept;
     }

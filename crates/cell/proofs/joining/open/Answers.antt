@@ -8,6 +8,7 @@ use Rattle.node_store.specs.Stores.{logs_in}
 use Rattle.node_store.proofs.Stores.{keeps_kept}
 use Rattle.wire.specs.OneAge.{AreOfOneAge}
 use Rattle.wire.specs.Readers.{IsMade}
+use Rattle.cell.specs.Ages.{AreRead}
 use Rattle.cell.specs.Opened.{AreBeside, IsChosen, IsNodeOf, IsReadFrom, cores, world_of}
 use Rattle.cell.specs.Reached.{IsReached}
 use Rattle.cell.proofs.Beside.{beside-mapped}
@@ -41,9 +42,8 @@ returns-in_err-nodes g c =
       all = tt;
       one_age = tt;
       closed = λ opening reached width once.
-          never-ages g.D.Disk.seen g.D.Disk.may_leave g.met.D.Disk.reads_left c.args.shape opening
-          c.args.disks.items reached width once g.D.Disk.moment g.D.Disk.faults _
-          c.in_err-nodes.ensures.why;
+          never-ages (record { reached = reached; width = width; once = once }) g.D.Disk.seen
+          g.met.D.Disk.reads_left g.D.Disk.moment g.D.Disk.faults _ c.in_err-nodes.ensures.why;
       begun = tt;
       new = tt;
       made = tt;
@@ -57,6 +57,12 @@ returns-in-Ok g c =
     let same = c.in-Ok.ensures.nodes in
     let all = sym (length-map _ (λ v. v.node)) ∙ ap length same in
     let one_age = subst AreOfOneAge (sym same) c.in_ok-nodes.ensures.one_age in
+    let read : AreRead g.D.Disk.seen c.args.shape c.args.disks.items AreOfOneAge = record {
+      nodes = nodes;
+      count = c.in_ok-nodes.ensures.all;
+      read = c.in_ok-nodes.ensures.read;
+      are = c.in_ok-nodes.ensures.one_age;
+    } in
     record {
       disks = λ apart. absurd (ok-no-error (c.in_ok-nodes.ensures.disks apart));
       why = tt;
@@ -77,9 +83,8 @@ returns-in-Ok g c =
       one_age = one_age;
       closed = λ opening reached width once.
           subst IsReached (sym made.opening)
-          (opened-again g.D.Disk.seen g.D.Disk.may_leave g.met.D.Disk.reads_left c.args.shape
-          opening c.args.disks.items nodes reached width once c.in_ok-nodes.ensures.count
-          c.in_ok-nodes.ensures.read).0;
+          (opened-again (record { reached = reached; width = width; once = once }) g.D.Disk.seen
+          g.met.D.Disk.reads_left read).0;
       begun = new-begun _ c.in-Ok.ensures.new one_age
           (λ k d there.
           (let seat = made.each_seat k d.seat (mapped-there (λ x. x.seat) _ k d there) in (
@@ -93,18 +98,5 @@ returns-in-Ok g c =
           (sym same) made;
     }
 
-pub returns : goal.returns
-returns g c = record {
-  disks = λ apart. absurd (ok-no-error (c.in_ok-nodes.ensures.disks apart));
-  why = tt;
-  read = tt;
-  logs = tt;
-  shaped = tt;
-  count = tt;
-  all = tt;
-  one_age = tt;
-  closed = λ _ _ _ _. tt;
-  begun = tt;
-  new = tt;
-  made = tt;
-}
+pub returns-clause-disks : goal.returns-clause-disks
+returns-clause-disks g c = λ apart. absurd (ok-no-error (c.in_ok-nodes.ensures.disks apart))

@@ -4,7 +4,7 @@ use Rattle.std.proofs.lemmas.Result.{err_from_is_err_and}
 use Rattle.std.proofs.lemmas.List.Elements.{All-append, All-cons, All-nil}
 use Rattle.node_store.specs.Stores.{disk_of, logs_in}
 use Rattle.cell.specs.Cells.{IsNew}
-use Rattle.cell.proofs.Ready.{first-ready, handed-on, later-ready, made-new, shifted, shifted-by}
+use Rattle.cell.proofs.Ready.{first-ready, handed-on, later-ready, made-new, shift, shifted, shifted-by}
 use Rattle.cell.proofs.joining.seat_all.Goals as goal
 
 pub new-requires : goal.new-requires
@@ -20,22 +20,24 @@ loop-preserved g c =
     let was = c.loop.invariant in
     let some : 0 < length c.loop.nodes.items = omega arith in
     let made = c.in_ok-new.ensures.made in
+    let stored = shift _ _ c.loop.stores.items c.in_ok-push.ensures.items
+    c.remove-store.ensures.value (omega (arith, some, was.ready.shelved))
+    c.remove-store.ensures.items in
     record {
       ready = later-ready _ _ _ was.ready
           (c.remove-node.ensures.items, c.remove-store.ensures.items, c.remove-seat.ensures.items);
       left = omega (arith, was.left, c.remove-node.ensures.len);
       all = was.all;
-      nodes = shifted _ _ _ _ _ _ c.remove-node.result _ was.nodes c.in_ok-push.ensures.items
-          (ap (λ v. v.node) made) c.remove-node.ensures.value some c.remove-node.ensures.items;
-      disks = shifted-by (λ v. v.disk) disk_of _ _ _ _ _ c.remove-store.result _ was.disks
-          c.in_ok-push.ensures.items (ap (λ v. v.disk) made) c.remove-store.ensures.value
-          (omega (arith, some, was.ready.shelved)) c.remove-store.ensures.items;
-      logs = shifted-by (λ v. v.logs) logs_in _ _ _ _ _ c.remove-store.result _ was.logs
-          c.in_ok-push.ensures.items (ap (λ v. v.logs) made) c.remove-store.ensures.value
-          (omega (arith, some, was.ready.shelved)) c.remove-store.ensures.items;
-      seats = shifted _ _ _ _ _ _ c.remove-seat.result _ was.seats c.in_ok-push.ensures.items
-          (ap (λ v. v.seat) made) c.remove-seat.ensures.value
-          (omega (arith, some, was.ready.seated)) c.remove-seat.ensures.items;
+      nodes = shifted (λ v. v.node)
+          (shift _ _ _ c.in_ok-push.ensures.items c.remove-node.ensures.value some
+          c.remove-node.ensures.items)
+          (ap (λ v. v.node) made) was.nodes;
+      disks = shifted-by (λ v. v.disk) disk_of stored (ap (λ v. v.disk) made) was.disks;
+      logs = shifted-by (λ v. v.logs) logs_in stored (ap (λ v. v.logs) made) was.logs;
+      seats = shifted (λ v. v.seat)
+          (shift _ _ _ c.in_ok-push.ensures.items c.remove-seat.ensures.value
+          (omega (arith, some, was.ready.seated)) c.remove-seat.ensures.items)
+          (ap (λ v. v.seat) made) was.seats;
       new = subst (All IsNew) (sym c.in_ok-push.ensures.items)
           (All-append IsNew _ _ was.new
           (All-cons IsNew _ [] (made-new _ _ _ _ _ made) (All-nil IsNew)));

@@ -1,11 +1,13 @@
-use Rattle.std.proofs.Common.{◌≡◌, ◌∙◌, IfOk, Option, Some, not, sym, ap, subst}
+use Rattle.std.proofs.Common.{◌≡◌, ◌∙◌, [], IfOk, Option, Some, not, sym, ap, subst}
+use Rattle.model.specs.declared.step.Outcome.TheVariants as outcome
 use Rattle.model.specs.declared.step.Step.{Step}
 use Rattle.script.specs.declared.line.Line.{Line}
 use Rattle.script.specs.declared.line.Line.TheVariants as line
 use Rattle.script.specs.Grammar.{line_of, words_of}
+use Rattle.commands.specs.Freed.{KeepsSums, freed_in, freed_with}
 use Rattle.commands.specs.Script.{PrintsReply, ShowsHeld, TakesLine}
 use Rattle.commands.specs.declared.simulation.Reply.TheVariants as reply
-use Rattle.commands.proofs.Replies.{denied_shows, printed_as, read_some}
+use Rattle.commands.proofs.Replies.{denied_shows, outcome_shows, printed_as, prints_refused, prints_taken, read_some, step_refused}
 use Rattle.commands.proofs.simulation.run_line.Given as given
 use Rattle.commands.proofs.simulation.run_line.Goals as goal
 use Rattle.commands.proofs.simulation.run_line.Goals.{Else-is_none}
@@ -34,10 +36,39 @@ returns-in-Refused g c =
       is = one;
     }))
 
-pub returns-in-Open : goal.returns-in-Open
-returns-in-Open g c =
-    rw (step_read g (goal.at.returns-in-Open g c).Else-is_none c.in-Step.is, c.in-Open.is)
-    (c.run_step.ensures c.args.number)
+-- an event, which was answered
+pub returns-in-Ok : goal.returns-in-Ok
+returns-in-Ok g c =
+    let o = outcome.Answer c.in-Ok.answer in
+    rw (step_read g (goal.at.returns-in-Ok g c).Else-is_none c.in-Step.is, c.in-Open.is, c.in-Act.is)
+    (printed_as c.print_line.result c.print_line.ensures.text c.print_line.ensures.status
+    (λ text status zero. prints_taken
+    (record {
+      outcome = o;
+      answers = λ h shown. outcome_shows h c.in-Open.freed _ shown
+          (rw c.in-Ok.is at c.act.ensures.stepped)
+          (λ w sums there kept. subst (λ s. KeepsSums c.note.new.freed.sums
+          (freed_with w s (freed_in o) sums)) c.sweeper-swept.ensures
+          (subst (λ k. KeepsSums c.note.new.freed.sums
+          (freed_with w c.sweeper-swept.result k sums)) c.freed_by.ensures
+          (c.note.ensures w sums there kept)));
+      text = c.put_answer.ensures;
+    })
+    text zero c.args.number))
+
+pub returns-in-Err : goal.returns-in-Err
+returns-in-Err g c =
+    let refused = step_refused {line = []} (rw c.in-Err.is at c.act.ensures.stepped) c.in-Open.freed in
+    rw (step_read g (goal.at.returns-in-Err g c).Else-is_none c.in-Step.is, c.in-Open.is, c.in-Act.is)
+    (printed_as c.print_refusal-in-Err.result c.print_refusal-in-Err.ensures.text
+    c.print_refusal-in-Err.ensures.status
+    (λ text status one. prints_refused refused.refused text one c.args.number))
+
+-- another step
+pub returns-in_default-step : goal.returns-in_default-step
+returns-in_default-step g c =
+    rw (step_read g (goal.at.returns-in_default-step g c).Else-is_none c.in-Step.is, c.in-Open.is)
+    (c.run_move.ensures c.args.number c.in-Open.freed)
 
 -- what isn't a step
 pub returns-in_default : goal.returns-in_default

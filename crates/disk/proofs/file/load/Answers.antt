@@ -12,4 +12,4 @@ returns c =
     loaded_by content.items mid (sym (c.len.ensures ∙ content.ok.0))
     c.in-Ok.ensures.held c.set.ensures.held
     (set_reaches (Changes c.args.area (Torn 0 c.len.result)) s mid s' c.set.ensures.synced
-    c.set.ensures.ranges c.in-Ok.ensures.torn)
+    c.set.ensures.ranges c.in-Ok.ensures.risks.torn)

@@ -6,7 +6,20 @@ use Rattle.disk_shelf.specs.Logs.{HasLog, IsNext}
 use Rattle.disk_shelf.proofs.Logs.{read_all}
 use Rattle.disk_shelf.proofs.Quiet.{bad_no_memory, both_unmoved, handed_cause, handed_err, memory_no_bad, memory_no_disk, ok_no_err, read_no_disk, read_refused, same_err}
 use Rattle.disk_shelf.proofs.Values.{fresh_led, next_led, performed_more}
+use Rattle.disk_shelf.proofs.log.replay.Given as given
 use Rattle.disk_shelf.proofs.log.replay.Goals as goal
+use Rattle.disk_shelf.proofs.log.replay.Goals.{In-Some}
+
+-- the batch that was found is the next one of the disk as it was
+found : (g : given.Over) (c : In-Some g) →
+    IsNext (drop c.loop-batch.end (part c.args.area (g.D.Disk.seen c.args.disk.now)))
+    (Some c.in-Some.batch)
+found g c =
+    let now = c.loop-batch in
+    subst (λ d. IsNext (drop now.end (part c.args.area d)) (Some c.in-Some.batch))
+    now.invariant.1.same
+    (subst (IsNext (drop now.end (part c.args.area (g.D.Disk.seen now.disk)))) c.in-Some.is
+    c.in_ok-batch.ensures.batch)
 
 pub redo-requires : goal.redo-requires
 redo-requires g c =
@@ -45,14 +58,9 @@ pub returns-in_err-redo : goal.returns-in_err-redo
 returns-in_err-redo g c =
     let exit = c.from_residual-in_err-redo in
     let p = err_from_is_err_and exit.result exit.ensures.1 in
-    let seen = g.D.Disk.seen in
     let now = c.loop-batch in
     let batch = c.in-Some.batch in
-    let held = part c.args.area (seen c.args.disk.now) in
-    let next : IsNext (drop now.end held) (Some batch) =
-    subst (λ d. IsNext (drop now.end (part c.args.area d)) (Some batch)) now.invariant.1.same
-    (subst (IsNext (drop now.end (part c.args.area (seen now.disk)))) c.in-Some.is
-    c.in_ok-batch.ensures.batch) in
+    let next = found g (goal.at.returns-in_err-redo g c).In-Some in
     let refused = c.in_err-redo.ensures.refused in
     rw (p.1, p.2) (record {
       led = tt;
@@ -68,14 +76,9 @@ returns-in_err-redo g c =
 
 pub loop-batch-preserved : goal.loop-batch-preserved
 loop-batch-preserved g c =
-    let seen = g.D.Disk.seen in
     let now = c.loop-batch in
     let batch = c.in-Some.batch in
-    let held = part c.args.area (seen c.args.disk.now) in
-    let next : IsNext (drop now.end held) (Some batch) =
-    subst (λ d. IsNext (drop now.end (part c.args.area d)) (Some batch)) now.invariant.1.same
-    (subst (IsNext (drop now.end (part c.args.area (seen now.disk)))) c.in-Some.is
-    c.in_ok-batch.ensures.batch) in
+    let next = found g (goal.at.loop-batch-preserved g c).In-Some in
     let count : c.len.result ≡ length batch.items = c.len.ensures ∙ batch.ok.0 in
     let led = subst (λ l. g.P.Replay.leads l now.value c.redo.new.value) c.deref.ensures.value
     c.in_ok-redo.ensures.led in (

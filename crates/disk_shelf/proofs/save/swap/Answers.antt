@@ -2,33 +2,32 @@ use Rattle.std.proofs.Common.{◌∙◌}
 use Rattle.std.proofs.lemmas.Result.{on_ok_weaker}
 use Rattle.disk_shelf.proofs.Moments.{swapped}
 use Rattle.disk_shelf.proofs.Sides.{on_ok_all, Aside, is_there, settled_by, written_selector}
+use Rattle.disk_shelf.proofs.save.swap.Given as given
 use Rattle.disk_shelf.proofs.save.swap.Goals as goal
+use Rattle.disk_shelf.proofs.save.swap.Goals.{In_ok-put}
+
+-- the image is in the other area
+aside : (g : given.Over) (c : In_ok-put g) →
+    Aside c.args.in_b c.half.result c.args.image.now c.args.bytes.now
+    (g.D.Disk.seen c.args.disk.now) (g.D.Disk.seen c.put.new.disk)
+aside g c = record {
+  other = c.half.ensures;
+  selected = c.requires.settled.1;
+  spelled = c.requires.spelled;
+  fits = c.requires.fits;
+  written = c.in_ok-put.ensures.written;
+}
 
 pub returns-clause-any_moment : goal.returns-clause-any_moment
 returns-clause-any_moment g c =
-    let aside : Aside c.args.in_b c.half.result c.args.image.now c.args.bytes.now
-    (g.D.Disk.seen c.args.disk.now) (g.D.Disk.seen c.put.new.disk) = record {
-      other = c.half.ensures;
-      selected = c.requires.settled.1;
-      spelled = c.requires.spelled;
-      fits = c.requires.fits;
-      written = c.in_ok-put.ensures.written;
-    } in
-    swapped aside c.put.ensures.any_moment c.put-2.ensures.any_moment
+    swapped (aside g (goal.at.returns-clause-any_moment g c).In_ok-put) c.put.ensures.any_moment
+    c.put-2.ensures.any_moment
 
 pub returns-clause-opened : goal.returns-clause-opened
 returns-clause-opened g c =
-    let s = g.D.Disk.seen c.put.new.disk in
-    let aside : Aside c.args.in_b c.half.result c.args.image.now c.args.bytes.now
-    (g.D.Disk.seen c.args.disk.now) s = record {
-      other = c.half.ensures;
-      selected = c.requires.settled.1;
-      spelled = c.requires.spelled;
-      fits = c.requires.fits;
-      written = c.in_ok-put.ensures.written;
-    } in
-    on_ok_weaker c.put-2.result (λ written. (written_selector _ c.mark-choice.result s
-    (g.D.Disk.seen c.put-2.new.disk) c.mark-choice.ensures written).1 ∙ is_there aside)
+    on_ok_weaker c.put-2.result (λ written. (written_selector _ c.mark-choice.result
+    (g.D.Disk.seen c.put.new.disk) (g.D.Disk.seen c.put-2.new.disk) c.mark-choice.ensures
+    written).1 ∙ is_there (aside g (goal.at.returns-clause-opened g c).In_ok-put))
     c.put-2.ensures.written
 
 pub returns-clause-settled : goal.returns-clause-settled

@@ -10,11 +10,9 @@ returns-in_err-in_b g c =
     rw (p.1, p.2) (record {
       value = tt;
       settled = tt;
-      bad = c.in_err-in_b.ensures.bad;
-      memory = c.in_err-in_b.ensures.memory;
+      refused = c.in_err-in_b.ensures.refused;
       quiet = c.recall.ensures.quiet;
       cause = handed_cause refl c.in_err-in_b.ensures.cause;
-      others = c.in_err-in_b.ensures.others;
     })
 
 pub returns : goal.returns
@@ -24,9 +22,7 @@ returns g c =
     record {
       value = said.value;
       settled = (said.durable, rw same said.side, rw (same, said.value.1) refl);
-      bad = tt;
-      memory = tt;
+      refused = tt;
       quiet = c.recall.ensures.quiet;
       cause = no_cause (said.cause.fine ok_no_err) ok_no_err;
-      others = tt;
     }

@@ -1,7 +1,7 @@
 use Rattle.std.proofs.Common.{◌≡◌, ◌+◌, [], ◌++◌, ◌∙◌, arith, length, length-append, refl}
 use Rattle.std.proofs.lemmas.Result.{IfErr-weaker, on_ok_weaker}
 use Rattle.ids.specs.declared.limits.TheConstants.{GREATEST_IMAGE}
-use Rattle.codec.specs.Writing.{IsOpen, Says}
+use Rattle.codec.specs.Writing.{Says}
 use Rattle.image_parts.specs.Grammar.{spelling, image_format}
 use Rattle.image.specs.Images.{image_of}
 use Rattle.image.proofs.Saved.{is_saved}
@@ -23,8 +23,7 @@ returns c =
     rw (← c.core-core.ensures.value)
     (record {
       written = c.finish.ensures.written text said;
-      image = is_saved n state.sound c.finish.result (IsOpen c.put_node.new.out)
-          GREATEST_IMAGE refl state.saved c.finish.ensures.within
+      image = is_saved n state.sound c.finish.result state.saved c.finish.ensures.within
           (λ is. let k = c.put_node.ensures.known is in k.1)
           (on_ok_weaker c.finish.result (λ fits. omega (arith, fits, limit, long))
           (c.finish.ensures.fits text said));

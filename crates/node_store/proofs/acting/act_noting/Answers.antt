@@ -7,26 +7,33 @@ use Rattle.node_store.proofs.Quiet.{quiet-same}
 use Rattle.node_store.proofs.Ends.{logged_more}
 use Rattle.node_store.proofs.acting.act_noting.Goals as goal
 
-pub returns-then-is_change-clause-logged : goal.returns-then-is_change-clause-logged
-returns-then-is_change-clause-logged c first logged bytes is =
+pub returns-then-is_change-clause-notes : goal.returns-then-is_change-clause-notes
+returns-then-is_change-clause-notes c =
     let old = c.args.node.now in
     let new = c.act.new.self in
     let e = c.meant-meant.result in
-    let more = c.note-lost.ensures.noted.more bytes is in
     let done : IsDone old.core e new.core = record {
       answer = c.in_ok-answer.answer;
       acts = ap (view_act old.core) c.meant-meant.ensures ∙ c.in_ok-answer.ensures.performs;
       now = sym c.is_change.ensures ∙ c.if-is_change.true;
     } in
-    subst (λ l. Logged l first new.core) (sym more.1.2)
-    (logged_more e more.0 done (logged more.1.0 more.1.1))
+    record {
+      logged = λ first logged bytes is.
+          let more = c.note-lost.ensures.noted.more bytes is in
+          subst (λ l. Logged l first new.core) (sym more.1.2)
+          (logged_more e more.0 done (logged more.1.0 more.1.1));
+      still = tt;
+    }
 
-pub returns-else-is_change-clause-logged : goal.returns-else-is_change-clause-logged
-returns-else-is_change-clause-logged c first logged bytes is =
+pub returns-else-is_change-clause-notes : goal.returns-else-is_change-clause-notes
+returns-else-is_change-clause-notes c =
     let old = c.args.node.now in
     let new = c.act.new.self in
     let early : is_change c.in_ok-answer.answer ≡ false =
     sym c.is_change.ensures ∙ c.if-is_change.false in
-    subst (Logged bytes first)
-    (sym (quiet-same old.core new.core (met old.early c.args.event) c.in_ok-answer.answer
-    c.in_ok-answer.ensures.performs early)) (logged bytes is)
+    record {
+      logged = λ first logged bytes is. subst (Logged bytes first)
+          (sym (quiet-same old.core new.core (met old.early c.args.event) c.in_ok-answer.answer
+          c.in_ok-answer.ensures.performs early)) (logged bytes is);
+      still = tt;
+    }

@@ -1,6 +1,7 @@
 use Rattle.std.proofs.Common.{subst, sym}
 use Rattle.node_store.specs.Plain.{IsPlain}
-use Rattle.node_store.proofs.Stores.{keeps_read, only_plain, plain_read, read_kept, same_refusal}
+use Rattle.node_store.proofs.Stores.{keeps_read, only_plain, plain_read, read_kept}
+use Rattle.disk_shelf.proofs.Quiet.{unread_as}
 use Rattle.node_store.proofs.plain.read_plain.Goals as goal
 
 pub returns-in-Ok-clause-value : goal.returns-in-Ok-clause-value
@@ -13,7 +14,7 @@ returns-in-Ok-clause-plain g c =
     (subst IsPlain (sym c.read_value.ensures.quiet.same)
     (plain_read c.in-Ok.found.1 (g.D.Disk.seen c.args.disk.now) c.in-Ok.ensures.value))
 
-pub returns-in-Err-clause-bad : goal.returns-in-Err-clause-bad
-returns-in-Err-clause-bad g c is plain n keeps =
-    c.in-Err.ensures.bad (same_refusal is) n
-    (read_kept n (g.D.Disk.seen c.args.disk.now) plain keeps)
+pub returns-in-Err-clause-refused : goal.returns-in-Err-clause-refused
+returns-in-Err-clause-refused g c =
+    unread_as (λ n keeps. read_kept n (g.D.Disk.seen c.args.disk.now) keeps.0 keeps.1)
+    c.in-Err.ensures.refused

@@ -7,9 +7,21 @@ use Rattle.model.specs.declared.event.Event.{Event}
 use Rattle.node.specs.Keeping.{WholeNode}
 use Rattle.event_bytes.specs.Entries.{entry}
 use Rattle.event_bytes.specs.Events.{entry_of}
-use Rattle.node_store.proofs.Ends.{IsLeft, closed_none, kept_alone, left_all, left_bad, left_end}
-use Rattle.node_store.proofs.Ends.{left_less, left_next, left_unread}
+use Rattle.node_store.proofs.Ends.{IsLeft, Took, closed_none, kept_alone, left_all, left_bad, left_end}
+use Rattle.node_store.proofs.Ends.{left_less, left_next, left_unread, took_event}
 use Rattle.node_store.proofs.redoing.redo.Goals as goal
+use Rattle.node_store.proofs.redoing.redo.Goals.{Else-not-is_open}
+
+-- an event was read of what was left
+read : (c : Else-not-is_open)
+    → Took c.args.batch.now c.args.node.now.core c.loop-reader.node.core c.in-Some.event
+    (left c.loop-reader.reader) (left c.read_event.new.reader)
+read c =
+    let after = left c.read_event.new.reader in
+    took_event after c.loop-reader.invariant.1
+    (c.read_event.ensures.is
+    ∙ ap (λ (o : Option Event). option_map entry_of o >>= λ x. with_rest x after) c.in-Some.is)
+    (sym c.is_open.ensures ∙ c.if-not-is_open.false)
 
 pub loop-reader-init : goal.loop-reader-init
 loop-reader-init c = (
@@ -27,8 +39,7 @@ returns-in_default-clause-refused c = λ other.
     c.read_event.ensures.is
     ∙ ap (λ (o : Option Event). option_map entry_of o >>= λ x. with_rest x after) c.in_default.is in (
       refl,
-      λ last led. left_unread c.args.batch.now c.args.node.now.core (left now.reader)
-          now.node.core now.invariant.1 (sym c.finish.ensures ∙ c.loop-reader-test.true) none
+      λ last led. left_unread now.invariant.1 (sym c.finish.ensures ∙ c.loop-reader-test.true) none
           led.0.before led.0.logged,
     )
 
@@ -43,8 +54,7 @@ returns-then-not-is_open-clause-refused c = λ other.
     ∙ ap (λ (o : Option Event). option_map entry_of o >>= λ x. with_rest x after) c.in-Some.is
     ∙ closed_none (entry_of c.in-Some.event) after closed in (
       refl,
-      λ last led. left_unread c.args.batch.now c.args.node.now.core (left now.reader)
-          now.node.core now.invariant.1 (sym c.finish.ensures ∙ c.loop-reader-test.true) none
+      λ last led. left_unread now.invariant.1 (sym c.finish.ensures ∙ c.loop-reader-test.true) none
           led.0.before led.0.logged,
     )
 
@@ -52,50 +62,28 @@ pub perform-requires : goal.perform-requires
 perform-requires c = c.loop-reader.invariant.0
 
 pub loop-reader-smaller : goal.loop-reader-smaller
-loop-reader-smaller c =
-    let now = c.loop-reader in
-    let after = left c.read_event.new.reader in
-    left_less c.args.batch.now c.args.node.now.core now.node.core c.in-Some.event
-    (left now.reader) after now.invariant.1
-    (c.read_event.ensures.is
-    ∙ ap (λ (o : Option Event). option_map entry_of o >>= λ x. with_rest x after) c.in-Some.is)
-    (sym c.is_open.ensures ∙ c.if-not-is_open.false)
+loop-reader-smaller c = left_less (read (goal.at.loop-reader-smaller c).Else-not-is_open)
 
 pub loop-reader-preserved : goal.loop-reader-preserved
-loop-reader-preserved c =
-    let now = c.loop-reader in
-    let after = left c.read_event.new.reader in (
-      c.in_ok-perform.ensures.alone,
-      left_next c.args.batch.now c.args.node.now.core now.node.core c.in-Some.event
-          (left now.reader) after c.perform.new.node.core now.invariant.1
-          (c.read_event.ensures.is
-          ∙ ap (λ (o : Option Event). option_map entry_of o >>= λ x. with_rest x after)
-          c.in-Some.is)
-          (sym c.is_open.ensures ∙ c.if-not-is_open.false) c.in_ok-perform.ensures.done,
-    )
+loop-reader-preserved c = (
+  c.in_ok-perform.ensures.alone,
+  left_next (read (goal.at.loop-reader-preserved c).Else-not-is_open) c.in_ok-perform.ensures.done,
+)
 
 pub returns-in_err-perform-clause-refused : goal.returns-in_err-perform-clause-refused
 returns-in_err-perform-clause-refused c =
-    let now = c.loop-reader in
-    let after = left c.read_event.new.reader in
+    let at = (goal.at.returns-in_err-perform-clause-refused c).Else-not-is_open in
     let p = err_from_is_err_and c.from_residual.result c.from_residual.ensures.1 in
     rw (p.1, p.2) (λ other.
-    let h = c.in_err-perform.ensures.refused other in (
-      h.0,
-      λ last led. left_bad c.args.batch.now c.args.node.now.core now.node.core
-          c.in-Some.event (left now.reader) after now.invariant.1
-          (c.read_event.ensures.is
-          ∙ ap (λ (o : Option Event). option_map entry_of o >>= λ x. with_rest x after) c.in-Some.is)
-          (sym c.is_open.ensures ∙ c.if-not-is_open.false) h.1 led.0.before led.0.logged,
-    ))
+    let h = c.in_err-perform.ensures.refused other in
+    (h.0, λ last led. left_bad (read at) h.1 led.0.before led.0.logged))
 
 pub returns-clause-led : goal.returns-clause-led
 returns-clause-led c =
     let now = c.loop-reader in (
       record {
         before = now.node.core;
-        logged = left_end c.args.batch.now c.args.node.now.core (left now.reader) now.node.core
-            now.invariant.1 (sym c.finish.ensures ∙ c.loop-reader-test.false);
+        logged = left_end now.invariant.1 (sym c.finish.ensures ∙ c.loop-reader-test.false);
         kept = ap (λ (n : WholeNode). n.core) c.mark_saved.ensures;
       },
       kept_alone now.node c.mark_saved.new.self now.invariant.0 c.mark_saved.ensures,

@@ -1,12 +1,12 @@
-use Rattle.std.proofs.Common.{◌≡◌, ◌≢◌, ◌∙◌, Err, IfOk, ap, false, refl, rules, subst, sym}
+use Rattle.std.proofs.Common.{◌≡◌, ◌≢◌, ◌∙◌, Err, IfErr, IfOk, ap, false, refl, rules, subst, sym}
 use Rattle.std.proofs.lemmas.Result.{IfOk-weaker}
 use Rattle.ids.specs.declared.refusal.Refusal.TheVariants.{BadImage}
 use Rattle.disk.proofs.Causes.{later_cause, no_cause}
-use Rattle.disk_shelf.specs.Shelf.{SelectsLength}
-use Rattle.disk_shelf.proofs.Quiet.{bad_no_disk, both_unmoved, handed_cause, handed_err, ok_no_err}
+use Rattle.disk_shelf.specs.Refusals.{IsUnread}
+use Rattle.disk_shelf.proofs.Quiet.{bad_no_disk, both_unmoved, handed_cause, ok_no_err}
 use Rattle.node_store.specs.Plain.{Keeps}
 use Rattle.node_store.specs.Stores.{is_logged_at}
-use Rattle.node_store.proofs.Stores.{images_no_events, same_refusal}
+use Rattle.node_store.proofs.Stores.{images_no_events}
 use Rattle.node_store.proofs.store.read_node.Goals as goal
 
 pub returns-in-Events : goal.returns-in-Events
@@ -17,11 +17,9 @@ returns-in-Events g c =
       lies = said.lies;
       events = λ _. said.logged;
       images = λ is. absurd (images_no_events (sym is ∙ c.in-Events.is));
-      bad = said.bad;
-      memory = said.memory;
+      refused = said.refused;
       quiet = said.quiet;
       cause = said.cause;
-      others = said.others;
     }
 
 pub returns-in-Ok : goal.returns-in-Ok
@@ -32,11 +30,9 @@ returns-in-Ok g c =
       lies = (said.settled, said.plain);
       events = λ is. absurd (images_no_events (sym c.in-Images.is ∙ is));
       images = λ _ _. refl;
-      bad = λ is. absurd (ok_no_err is);
-      memory = λ is. absurd (ok_no_err is);
+      refused = tt;
       quiet = c.read_plain.ensures.quiet;
       cause = no_cause (said.cause.fine ok_no_err) ok_no_err;
-      others = tt;
     }
 
 pub returns-in-Err-BadImage : goal.returns-in-Err-BadImage
@@ -53,13 +49,12 @@ returns-in-Err-BadImage g c =
       events = λ is. absurd (images_no_events (sym c.in-Images.is ∙ is));
       images = λ way plain_seen. IfOk-weaker read.result (λ r. Keeps r.1 seen)
           (λ r. is_logged_at r.0 ≡ false)
-          (λ r keeps. absurd (plain.bad bad plain_seen r.1 (subst (Keeps r.1) same keeps)))
+          (λ r keeps. absurd (plain.refused.bad c.in-Err-BadImage.field-0-is r.1
+          (plain_seen, subst (Keeps r.1) same keeps)))
           said.value;
-      bad = λ is n keeps. said.bad is n (subst (Keeps n) (sym same) keeps);
-      memory = λ is. subst SelectsLength same (said.memory is);
+      refused = subst (λ s. IfErr read.result (IsUnread Keeps s)) same said.refused;
       quiet = both_unmoved c.read_plain.ensures.quiet said.quiet;
       cause = later_cause (plain.cause.fine (bad_no_disk bad)) said.cause;
-      others = said.others;
     }
 
 pub returns-in-Err : goal.returns-in-Err
@@ -71,9 +66,11 @@ returns-in-Err g c =
       lies = tt;
       events = λ _. tt;
       images = λ _ _. tt;
-      bad = λ is. absurd (other (same_refusal is));
-      memory = λ is. said.memory (handed_err refl is);
+      refused = record {
+        bad = λ is. absurd (other is);
+        memory = said.refused.memory;
+        others = said.refused.others;
+      };
       quiet = c.read_plain.ensures.quiet;
       cause = handed_cause refl said.cause;
-      others = said.others;
     }

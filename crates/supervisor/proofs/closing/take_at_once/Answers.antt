@@ -1,11 +1,9 @@
-use Rattle.std.proofs.Common.{◌≡◌, ◌++◌, ◌∙◌, IfOk, ap, arith, drop, length, map, subst, sym, take}
-use Rattle.std.proofs.Math.Seq.{take-append_seam}
-use Rattle.wire.specs.Readers.{opened_with, IsSeatOf}
-use Rattle.wire.specs.Rule.{nodes_of}
+use Rattle.std.proofs.Common.{◌≡◌, ◌∙◌, IfOk, ap, arith, map, subst, sym}
+use Rattle.wire.specs.Readers.{IsSeatOf}
 use Rattle.cell.specs.Cells.{IsKept}
 use Rattle.cell.specs.Moments.{EachCell, HaveLearned}
 use Rattle.supervisor.specs.Closing.{IsBack, IsRow, IsWhy}
-use Rattle.supervisor.proofs.Backs.{all-back, back-seats, both-ok, err-then, of-one-moment}
+use Rattle.supervisor.proofs.Backs.{AreBack, all-back, back-seats, both-ok, err-then, of-one-moment, written-back}
 use Rattle.supervisor.proofs.closing.take_at_once.Goals as goal
 
 pub survey-requires : goal.survey-requires
@@ -20,20 +18,21 @@ pub returns-clause-once : goal.returns-clause-once
 returns-clause-once g c =
     let old = c.in_ok-cells.cells.items in
     let new = c.survey.new.cells in
-    let learned = subst (λ l. HaveLearned l new) c.as_mut_slice.ensures.value
-    c.survey.ensures.learned in
-    let long : c.in_ok-cells.cells.len ≡ length new =
-    omega (arith, learned.count, c.in_ok-cells.cells.ok) in
-    let back : take c.in_ok-cells.cells.len (new ++ drop (length new) old) ≡ new =
-    ap (λ n. take n (new ++ drop (length new) old)) long
-    ∙ take-append_seam new (drop (length new) old) in
+    let back = written-back c.as_mut_slice.ensures.value c.in_ok-cells.cells.ok.0
+    c.survey.ensures.learned.count in
     both-ok _ _ _ c.take_disks.result (λ disks same kept.
-    of-one-moment c.args.wire.now g.W.Naming.wire c.requires.named g.W.Naming.begun
-    g.D.Disk.may_leave old new c.in_ok-cells.ensures.back
-    (subst (EachCell IsRow) c.as_slice.ensures.value c.in_default.ensures.rows)
-    (let count : length old ≡ nodes_of (opened_with c.args.wire.now) =
-    omega (arith, c.in_ok-cells.ensures.count, c.requires.wide, c.in_ok-cells.cells.ok) in count)
-    learned kept c.requires.begun disks.items same c.survey.ensures.at_once)
+    let all : AreBack c.args.wire.now g.D.Disk.may_leave g.W.Naming.wire g.W.Naming.begun old new =
+    record {
+      named = c.requires.named;
+      back = c.in_ok-cells.ensures.back;
+      rows = subst (EachCell IsRow) c.as_slice.ensures.value c.in_default.ensures.rows;
+      count = omega (arith, c.in_ok-cells.ensures.count, c.requires.wide, c.in_ok-cells.cells.ok);
+      learned = subst (λ l. HaveLearned l new) c.as_mut_slice.ensures.value
+          c.survey.ensures.learned;
+      kept = kept;
+      begun = c.requires.begun;
+    } in
+    of-one-moment all disks.items same c.survey.ensures.at_once)
     (subst (λ l. IfOk c.take_disks.result (λ v. map (λ x. x.disk) l ≡ v.items)) back
     c.take_disks.ensures.disks)
     (subst (λ l. IfOk c.take_disks.result (λ _. EachCell (λ k x. IsKept g.D.Disk.may_leave x) l)) back
@@ -50,12 +49,9 @@ returns-clause-back g c =
     let new = c.survey.new.cells in
     let learned = subst (λ l. HaveLearned l new) c.as_mut_slice.ensures.value
     c.survey.ensures.learned in
-    let long : c.in_ok-cells.cells.len ≡ length new =
-    omega (arith, learned.count, c.in_ok-cells.cells.ok) in
-    let back : take c.in_ok-cells.cells.len (new ++ drop (length new) old) ≡ new =
-    ap (λ n. take n (new ++ drop (length new) old)) long
-    ∙ take-append_seam new (drop (length new) old) in
     err-then c.take_disks.result c.take_disks.ensures.back (λ u same.
     subst (EachCell (IsBack g.W.Naming.wire g.W.Naming.begun))
-    (sym (ap (λ v. v.items) same ∙ back))
+    (sym (ap (λ v. v.items) same
+    ∙ written-back c.as_mut_slice.ensures.value c.in_ok-cells.cells.ok.0
+    c.survey.ensures.learned.count))
     (all-back g.W.Naming.wire g.W.Naming.begun old new learned c.in_ok-cells.ensures.back))

@@ -2,8 +2,8 @@ use Rattle.std.proofs.Common.{◌≡◌, ◌<◌, ◌∙◌, ap, arith, drop, le
 use Rattle.std.proofs.lemmas.List.{drop-drop, length-map}
 use Rattle.std.proofs.lemmas.Option.{slice_get_within}
 use Rattle.cell.specs.Cells.{IsKept}
-use Rattle.cell.proofs.Ready.{handed-on, shifted-by}
-use Rattle.supervisor.proofs.Backs.{kept-next}
+use Rattle.cell.proofs.Ready.{handed-on, shift, shifted-by}
+use Rattle.supervisor.proofs.Backs.{first-left, kept-next}
 use Rattle.supervisor.proofs.closing.take_disks.Goals as goal
 
 pub loop-preserved : goal.loop-preserved
@@ -17,12 +17,12 @@ loop-preserved g c =
       all = was.all;
       rest = c.remove.ensures.items ∙ ap (drop 1) was.rest
           ∙ drop-drop 1 c.loop.counter c.args.cells.items;
-      disks = shifted-by (λ d. d) (λ v. v.disk) _ _ _ _ c.into_disk.result c.remove.result _
-          was.disks c.push_reserved.ensures.items c.into_disk.ensures.disk c.remove.ensures.value some
-          c.remove.ensures.items;
-      kept = kept-next (IsKept g.D.Disk.may_leave) c.args.cells.items c.loop.cells.items
-          c.loop.counter c.remove.result was.rest some c.remove.ensures.value
-          c.into_disk.ensures.kept was.kept;
+      disks = shifted-by (λ d. d) (λ v. v.disk)
+          (shift _ _ _ c.push_reserved.ensures.items c.remove.ensures.value some
+          c.remove.ensures.items) c.into_disk.ensures.disk was.disks;
+      kept = kept-next (IsKept g.D.Disk.may_leave) c.args.cells.items
+          (first-left c.args.cells.items c.loop.cells.items c.loop.counter c.remove.result was.rest
+          some c.remove.ensures.value) c.into_disk.ensures.kept was.kept;
     }
 
 pub returns-clause-disks : goal.returns-clause-disks

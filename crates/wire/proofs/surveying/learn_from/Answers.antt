@@ -3,7 +3,7 @@ use Rattle.std.proofs.lemmas.Option.{slice_get-get_or}
 use Rattle.model.specs.declared.step.Step.{Step}
 use Rattle.wire.specs.Plays.{Learns}
 use Rattle.wire.specs.Readers.{known}
-use Rattle.wire.proofs.Rounds.{noted-seats, turned}
+use Rattle.wire.proofs.Rounds.{Turn, noted-seats, turned}
 use Rattle.wire.proofs.surveying.learn_from.Goals as goal
 
 pub note-note-requires : goal.note-note-requires
@@ -17,11 +17,13 @@ note-note-requires g c =
 pub learn-requires-clause-wire : goal.learn-requires-clause-wire
 learn-requires-clause-wire g c =
     let xs = c.args.learners.now in
-    noted-seats g.T.Learner.seating c.args.wire.now xs xs c.args.from c.args.to
-    (get_or xs c.args.from c.index-learners-from.result) c.note-note.new.self
-    c.index-learners-to.result
-    c.requires.wire (slice_get-get_or xs c.args.from c.index-learners-from.result c.requires.from)
-    c.note-note.ensures.learned c.requires.to
+    let ys = set xs c.args.from c.note-note.new.self in
+    noted-seats g.T.Learner.seating c.args.wire.now xs c.args.from c.requires.wire
+    (slice_get-get_or xs c.args.from c.index-learners-from.result c.requires.from)
+    c.note-note.ensures.learned c.args.to (get_or ys c.args.to c.index-learners-to.result)
+    (slice_get-get_or ys c.args.to c.index-learners-to.result
+    (subst (λ (n : ℕ). c.args.to < n) (sym (length-set xs c.args.from c.note-note.new.self))
+    c.requires.to))
 
 pub returns : goal.returns
 returns g c =
@@ -29,8 +31,8 @@ returns g c =
     let b = get_or xs c.args.from c.index-learners-from.result in
     let ys = set xs c.args.from c.note-note.new.self in
     let x = get_or ys c.args.to c.index-learners-to.result in
-    turned g.T.Learner.seating xs _ c.args.to c.args.from b c.note-note.new.self x c.learn.new.self
-    (record {
+    let turn : Turn g.T.Learner.seating xs c.args.to c.args.from b c.note-note.new.self x
+    c.learn.new.self = record {
       there = slice_get-get_or xs c.args.from c.index-learners-from.result c.requires.from;
       noted = c.note-note.ensures.learned;
       same = c.note-note.ensures.known;
@@ -41,5 +43,5 @@ returns g c =
       leads = subst (λ (l : List Step). Learns l (known (g.T.Learner.seating.seat x))
           (known (g.T.Learner.seating.seat c.learn.new.self)))
           c.note-note.ensures.seen c.learn.ensures.leads;
-    })
-    refl
+    } in
+    turned g.T.Learner.seating turn refl

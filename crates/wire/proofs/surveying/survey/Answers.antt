@@ -13,12 +13,12 @@ learn_from-requires-clause-from g c = omega (arith, c.loop-to.invariant.within)
 
 pub loop-to-preserved : goal.loop-to-preserved
 loop-to-preserved g c =
-    first-next g.T.Learner.seating c.args.wire.now c.args.learners.now _ _ _ _
+    first-next g.T.Learner.seating c.args.wire.now c.args.learners.now
     c.loop-to.invariant (omega arith) c.learn_from.ensures
 
 pub loop-place-init : goal.loop-place-init
 loop-place-init g c =
-    second-begins g.T.Learner.seating c.args.wire.now c.args.learners.now _ _ _
+    second-begins g.T.Learner.seating c.args.wire.now c.args.learners.now
     c.loop-to.invariant (omega arith)
 
 pub learn_from-requires-in-loop-place-clause-wire
@@ -32,12 +32,12 @@ learn_from-requires-in-loop-place-clause-from g c =
 
 pub loop-place-preserved : goal.loop-place-preserved
 loop-place-preserved g c =
-    second-next g.T.Learner.seating c.args.wire.now c.args.learners.now _ _ _ _
+    second-next g.T.Learner.seating c.args.wire.now c.args.learners.now
     c.loop-place.invariant (omega arith) c.learn_from-in-loop-place.ensures
 
 pub returns-clause-at_once : goal.returns-clause-at_once
 returns-clause-at_once g c =
-    second-ends g.T.Learner.seating c.args.wire.now c.args.learners.now _ _ _
+    second-ends g.T.Learner.seating c.args.wire.now c.args.learners.now
     c.loop-place.invariant (omega arith)
 
 pub returns-clause-learned : goal.returns-clause-learned

@@ -18,8 +18,8 @@ returns-clause-calls g c =
       scanned = scanned.0;
       few = scanned.1;
       unsaved = saved.0;
-      whole = at-last c.ask-5.new.calls.past.value c.args.node c.args.nodes c.args.number scanned.0
-          saved.0 c.ask-5.result c.ask-5.ensures.stage
+      whole = at-last c.args.node c.args.nodes c.args.number scanned.0 saved.0 c.ask-5.result
+          c.ask-5.ensures.stage
           (subst (λ l. asked c.ask-5.new.calls.past.value ≡ l ++ up_to_sent c.args.node c.args.nodes
           c.args.number scanned.0 saved.0 (is_ok c.ask-5.result)) c.requires.asks made.asks);
     }

@@ -10,7 +10,7 @@ returns c =
     let found : batch_of c.args.self.now ≡ Some c.in-Some.events.now =
     sym c.events.ensures ∙ ap (option_map (λ b. b.now)) c.in-Some.is in
     rw found (
-      gave_batch c.args.self.now _ _ c.in-Some.events.now c.in_ok-counts.counts found
+      gave_batch c.in_ok-counts.counts found
           (c.in_ok-counts.ensures.counted ∙ ap counts_of c.core.ensures.value)
           c.state-summary.ensures.sound (search rules) (search rules),
       c.in_ok-put_batch.ensures,

@@ -7,7 +7,7 @@ use Rattle.c_handles.proofs.lone.LoneNode.image.Goals as goal
 
 pub returns : goal.returns
 returns c = (
-  took c.args.self.now _ _ c.in_ok-counts.counts
+  took c.in_ok-counts.counts
       (c.in_ok-counts.ensures.counted ∙ ap counts_of c.core.ensures.value)
       c.state-summary.ensures.sound c.in_ok-bytes.ensures.read (search rules) (search rules),
   subst (λ l. Wrote l (Ok tt) c.args.buffer.now c.put.new.buffer c.put.new.needed)

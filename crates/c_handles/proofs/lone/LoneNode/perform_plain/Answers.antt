@@ -1,111 +1,45 @@
-use Rattle.std.proofs.Common.{◌≡◌, ◌∙◌, Ok, ap, refl, subst, sym, true, false}
-use Rattle.std.proofs.lemmas.Bool.{true≢false}
+use Rattle.std.proofs.Common.{◌≡◌, ◌∙◌, Ok, subst, sym}
 use Rattle.std.proofs.lemmas.Result.{err_from_is_err_and}
-use Rattle.model.specs.Effects.{is_change}
-use Rattle.model.specs.View.{view_act}
-use Rattle.node.specs.Keeping.{met}
+use Rattle.node_store.specs.Acting.{Acts}
 use Rattle.node_store.specs.Logs.{is_turn}
-use Rattle.node_store.proofs.Quiet.{quiet-same}
 use Rattle.node_store.proofs.Turns.{met_same}
-use Rattle.c_handles.specs.Logs.{Led}
 use Rattle.c_handles.specs.Lone.{Gave}
-use Rattle.c_handles.proofs.Logs.{after_counted, after_uncounted, if_kept, if_none, led_noted, other_than}
+use Rattle.c_handles.proofs.Exits.{acts_by, gave_noted, gave_refusal, gave_same, gave_unlogged}
+use Rattle.c_handles.proofs.Logs.{other_than}
 use Rattle.c_handles.proofs.lone.LoneNode.perform_plain.Goals as goal
+use Rattle.c_handles.proofs.lone.LoneNode.perform_plain.Goals.{In_ok-answer}
 
-pub returns-then-self : goal.returns-then-self
-returns-then-self c =
-    let old = c.args.self.now in
-    let new = c.act.new.self in
-    let e = c.args.event in
-    let a = c.in_ok-answer.answer in
-    let log = c.note.new.self.log in
-    let acts = c.in_ok-answer.ensures.performs in
-    let counts : is_change a ≡ true = sym c.is_change.ensures ∙ c.if-is_change.true in
-    let same : met old.node.early e ≡ e =
-    met_same old.node.early e (other_than (is_turn e) old.logs c.requires c.if-self.true) in
-    subst (λ n. Gave old n e (Ok a)) (sym c.note.ensures.stays) (record {
-      acts = record {
-        performs = c.in_ok-answer.ensures.performs;
-        states = c.in_ok-answer.ensures.states;
-        unchanged = c.in_ok-answer.ensures.unchanged;
-        leaves = c.in_ok-answer.ensures.leaves;
-        memory_free = c.in_ok-answer.ensures.memory_free;
-        early = c.in_ok-answer.ensures.early;
-        turn = c.in_ok-answer.ensures.turn;
-      };
-      stays = after_counted old new log (is_change a) counts;
-      logs = λ first.
-          if_kept old.logs old.log log
-          (led_noted first old.node.core new.core old.counts e a old.log log
-          (ap (view_act old.node.core) (sym same) ∙ acts) counts
-          c.note.ensures.noted);
-      quiet = λ none. absurd (true≢false (sym counts ∙ none));
-    })
-
-pub returns-else-is_change : goal.returns-else-is_change
-returns-else-is_change c =
-    let old = c.args.self.now in
-    let new = c.act.new.self in
-    let acts = c.in_ok-answer.ensures.performs in
-    let counts : is_change c.in_ok-answer.answer ≡ false =
-    sym c.is_change.ensures ∙ c.if-is_change.false in
-    let same : new.core ≡ old.node.core =
-    quiet-same old.node.core new.core (met old.node.early c.args.event) c.in_ok-answer.answer acts
-    counts in
-    record {
-      acts = record {
-        performs = c.in_ok-answer.ensures.performs;
-        states = c.in_ok-answer.ensures.states;
-        unchanged = c.in_ok-answer.ensures.unchanged;
-        leaves = c.in_ok-answer.ensures.leaves;
-        memory_free = c.in_ok-answer.ensures.memory_free;
-        early = c.in_ok-answer.ensures.early;
-        turn = c.in_ok-answer.ensures.turn;
-      };
-      stays = after_uncounted old new (is_change c.in_ok-answer.answer) counts;
-      logs = λ first led bytes is.
-          subst (λ n. Led bytes first n old.counts) (sym same) (led bytes is);
-      quiet = λ none. refl;
-    }
+acts : (c : In_ok-answer)
+    → Acts c.args.self.now.node c.act.new.self c.args.event (Ok c.in_ok-answer.answer)
+acts c =
+    let said = c.in_ok-answer.ensures in
+    acts_by said.performs said.states said.unchanged said.leaves said.memory_free said.early
+    said.turn
 
 pub returns-in_err-answer : goal.returns-in_err-answer
 returns-in_err-answer c =
     let p = err_from_is_err_and c.from_residual.result c.from_residual.ensures.1 in
-    let old = c.args.self.now in
     let said = c.in_err-answer.ensures in
-    rw (p.1, p.2) (record {
-      acts = record {
-        performs = said.performs;
-        states = said.states;
-        unchanged = said.unchanged;
-        leaves = said.leaves;
-        memory_free = said.memory_free;
-        early = said.early;
-        turn = said.turn;
-      };
-      stays = after_uncounted old c.act.new.self false refl;
-      logs = λ first led bytes is.
-          subst (λ n. Led bytes first n old.counts) (sym said.unchanged) (led bytes is);
-      quiet = λ none. refl;
-    })
+    rw (p.1, p.2)
+    (gave_refusal (acts_by said.performs said.states said.unchanged said.leaves said.memory_free
+    said.early said.turn))
+
+pub returns-else-is_change : goal.returns-else-is_change
+returns-else-is_change c =
+    gave_same (acts (goal.at.returns-else-is_change c).In_ok-answer)
+    (sym c.is_change.ensures ∙ c.if-is_change.false)
+
+pub returns-then-self : goal.returns-then-self
+returns-then-self c =
+    let old = c.args.self.now in
+    let e = c.args.event in
+    let same = met_same old.node.early e (other_than (is_turn e) old.logs c.requires c.if-self.true)
+    in
+    subst (λ n. Gave old n e (Ok c.in_ok-answer.answer)) (sym c.note.ensures.stays)
+    (gave_noted (acts (goal.at.returns-then-self c).In_ok-answer)
+    (sym c.is_change.ensures ∙ c.if-is_change.true) (sym same) c.note.ensures.noted)
 
 pub returns-else-self : goal.returns-else-self
 returns-else-self c =
-    let old = c.args.self.now in
-    let a = c.in_ok-answer.answer in
-    let said = c.in_ok-answer.ensures in
-    let counts : is_change a ≡ true = sym c.is_change.ensures ∙ c.if-is_change.true in
-    record {
-      acts = record {
-        performs = said.performs;
-        states = said.states;
-        unchanged = said.unchanged;
-        leaves = said.leaves;
-        memory_free = said.memory_free;
-        early = said.early;
-        turn = said.turn;
-      };
-      stays = after_counted old c.act.new.self old.log (is_change a) counts;
-      logs = λ first led. if_none old.logs old.log c.if-self.false;
-      quiet = λ none. refl;
-    }
+    gave_unlogged (acts (goal.at.returns-else-self c).In_ok-answer)
+    (sym c.is_change.ensures ∙ c.if-is_change.true) c.if-self.false

@@ -21,11 +21,11 @@ invariant_of-self-inside-2 g c =
     let given = c.act-answered.ensures.given in
     let same = ap (λ d. d.saved) c.act-answered.ensures.stays in
     let first = cell.first.value in (
-      given-dropped first _ _ _ _ cell.desk.node desk.node v w given
-          (own-none cell.desk.node.early c.args.event c.requires.own) cell.dropped,
+      given-dropped given (own-none cell.desk.node.early c.args.event c.requires.own)
+          cell.dropped,
       (
-        dropped-as first v w cell.desk.saved desk.saved
-            (given-took _ _ _ _ cell.desk.node desk.node v w given) same cell.saved_dropped,
+        dropped-as first v w cell.desk.saved desk.saved (given-took given) same
+            cell.saved_dropped,
         stays-open cell.desk.saved desk.saved desk.node.core
             (g.D.Disk.may_leave (disk_of cell.store)) same (cell.while_open ready) cell.imaged,
       ),
@@ -49,7 +49,7 @@ returns-clause-goes_on g c =
     rw (← c.self.view_is)
     record {
       same = said.same;
-      marked = marked-after _ _ c.act-answered.result _ _ _ _ said.given.acted.known said.unsaved;
+      marked = marked-after _ _ c.act-answered.result _ _ said.given.acted.known said.unsaved;
       stays = ap (cell_at cell.first.value (disk_of cell.store) (is_ready_in cell.store)
           (logs_in cell.store) c.push-2.new.self)
           said.stays;

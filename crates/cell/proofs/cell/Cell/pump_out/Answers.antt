@@ -1,37 +1,24 @@
-use Rattle.std.proofs.Common.{◌≡◌, ◌∙◌, Bool, ap, slice_index_or, subst, sym, true}
+use Rattle.std.proofs.Common.{◌≡◌, Bool, ap, slice_index_or, subst, sym}
 use Rattle.std.proofs.lemmas.Result.{err_from_is_err_and}
 use Rattle.node_store.specs.Stores.{disk_of, is_ready_in, logs_in}
 use Rattle.cell.specs.Cells.{CellView}
 use Rattle.wire.specs.Readers.{known, outbox}
 use Rattle.cell.specs.Pumping.{is_out}
 use Rattle.wire.specs.Sending.{frame_due, places_after, IsSent}
-use Rattle.cell.proofs.Dropping.{dropped-as, send-took}
-use Rattle.cell.proofs.Opening.{stays-open}
+use Rattle.cell.proofs.Dropping.{send-took}
+use Rattle.cell.proofs.Still.{is-still, still-kept}
 use Rattle.cell.proofs.Views.{cell_at}
 use Rattle.cell.proofs.cell.Cell.pump_out.Goals as goal
-use Rattle.cell.proofs.cell.Cell.pump_out.Goals.{then-is_sent, else-is_sent}
 
 pub invariant_of-self-inside : goal.invariant_of-self-inside
 invariant_of-self-inside g c =
     let cell = c.self.inside in
     let desk = c.send.new.self in
-    let ready : is_ready_in cell.store ≡ true =
-    sym c.is_ready.ensures.ready ∙ c.if-not-is_ready.false in
     let said = c.send.ensures in
-    let v = known cell.desk.seat in
-    let w = known desk.seat in
-    let took = send-took _ _ c.send.result cell.desk desk said.sent said.refused in
-    let first = cell.first.value in (
-      dropped-as first v w cell.desk.node.core desk.node.core took
-          (ap (λ d. d.node.core) said.stays) cell.dropped,
-      (
-        dropped-as first v w cell.desk.saved desk.saved took (ap (λ d. d.saved) said.stays)
-            cell.saved_dropped,
-        stays-open cell.desk.saved desk.saved desk.node.core
-            (g.D.Disk.may_leave (disk_of cell.store)) (ap (λ d. d.saved) said.stays)
-            (cell.while_open ready) cell.imaged,
-      ),
-    )
+    still-kept (g.D.Disk.may_leave (disk_of cell.store))
+    (is-still cell.desk desk (send-took _ _ c.send.result cell.desk desk said.sent said.refused)
+    said.stays)
+    cell.dropped cell.saved_dropped cell.while_open cell.left cell.imaged
 
 pub returns-clause-stays : goal.returns-clause-stays
 returns-clause-stays g c =
@@ -61,29 +48,18 @@ returns-clause-sent g c =
     let desk = c.self.inside.desk in
     let to = c.args.to in
     let after = known c.send.new.self.seat in
-    let out : is_out c.if-is_sent.result ≡ c.in_ok-is_sent.is_sent =
-    elim c.if-is_sent.branch [
-      | then-is_sent w ↦ ap is_out w.result-is ∙ sym w.if-is_sent.true
-      | else-is_sent w ↦ ap is_out w.result-is ∙ sym w.if-is_sent.false
-    ] in
     subst (λ (v : CellView g.row.D.Denot).
     IsSent (outbox v.seat to) (frame_due v.node.core to (slice_index_or v.places to 0))
-    (is_out c.if-is_sent.result) (known v.seat) after) c.self.view_is
+    (is_out c.outbound.result) (known v.seat) after) c.self.view_is
     (subst (λ (b : Bool).
     IsSent (outbox desk.seat to) (frame_due desk.node.core to (slice_index_or desk.places to 0)) b
-    (known desk.seat) after) (sym out) c.in_ok-is_sent.ensures.sent)
+    (known desk.seat) after) (sym c.outbound.ensures) c.in_ok-is_sent.ensures.sent)
 
 pub returns-clause-places : goal.returns-clause-places
 returns-clause-places g c =
     let desk = c.self.inside.desk in
-    let to = c.args.to in
     let after = c.send.new.self.places in
-    let out : is_out c.if-is_sent.result ≡ c.in_ok-is_sent.is_sent =
-    elim c.if-is_sent.branch [
-      | then-is_sent w ↦ ap is_out w.result-is ∙ sym w.if-is_sent.true
-      | else-is_sent w ↦ ap is_out w.result-is ∙ sym w.if-is_sent.false
-    ] in
     subst (λ (v : CellView g.row.D.Denot).
-    after ≡ places_after (is_out c.if-is_sent.result) v.node.core to v.places) c.self.view_is
-    (subst (λ (b : Bool). after ≡ places_after b desk.node.core to desk.places) (sym out)
-    c.in_ok-is_sent.ensures.places)
+    after ≡ places_after (is_out c.outbound.result) v.node.core c.args.to v.places) c.self.view_is
+    (subst (λ (b : Bool). after ≡ places_after b desk.node.core c.args.to desk.places)
+    (sym c.outbound.ensures) c.in_ok-is_sent.ensures.places)

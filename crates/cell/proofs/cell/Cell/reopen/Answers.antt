@@ -1,4 +1,4 @@
-use Rattle.std.proofs.Common.{◌≡◌, ◌⊎◌, Bool, IsTrue, Err, inl, inr, ⊎_elim, true, false, refl, sym, ap, ◌∙◌, subst, [], ◌∷◌, ◌++◌}
+use Rattle.std.proofs.Common.{◌≡◌, ◌⊎◌, Bool, IsTrue, inl, inr, ⊎_elim, true, false, refl, sym, ap, ◌∙◌, subst, [], ◌∷◌, ◌++◌}
 use Rattle.circular_buffer.specs.Buffer.{keep_last}
 use Rattle.ids.specs.declared.limits.TheConstants.{TRACE_EVENTS}
 use Rattle.node.specs.Keeping.{WholeNode}
@@ -25,9 +25,9 @@ returns-in-Err-clause-others g c =
     (⊎_elim
     (λ bad. absurd (never-bad cell.desk.saved cell.desk.node.core seen
     (cell.left seen (g.met.D.Disk.reads_left (disk_of cell.store)))
-    (c.in-Err.ensures.bad (ap Err bad))))
+    (c.in-Err.ensures.refused.bad bad)))
     inr)
-    c.in-Err.ensures.others
+    c.in-Err.ensures.refused.others
 
 pub reopen-requires-in-Ok-clause-kept : goal.reopen-requires-in-Ok-clause-kept
 reopen-requires-in-Ok-clause-kept g c =
@@ -59,12 +59,12 @@ invariant_of-self-inside g c =
     let w = known desk.seat in
     let took = took-same v w (ap (λ u. u.me) said.known) (ap (λ u. u.taken) said.known) in
     let first = cell.first.value in
-    let kept = dropped-found first v w cell.desk.node.core cell.desk.saved found.core took
+    let kept = dropped-found found.core took
     (which-found cell.desk.saved cell.desk.node.core found.core was_seen there
     (cell.left was_seen (g.met.D.Disk.reads_left (disk_of cell.store))))
     cell.dropped cell.saved_dropped in
     let opens : ∥ OpensTo found.core seen ∥₁ =
-    ∣ subst (OpensTo found.core) (sym c.reopen.ensures.quiet.same) there ∣₁ in (
+    ∣ subst (OpensTo found.core) (sym c.reopen.ensures.read.quiet.same) there ∣₁ in (
       subst (HasDropped first w) (sym (ap (λ d. d.node.core) said.done)) kept,
       (
         subst (HasDropped first w) (sym (ap (λ d. d.saved) said.done)) kept,
@@ -113,7 +113,7 @@ returns-in-Err-clause-saved_still g c =
     (λ held x may.
     ⊎_elim
     (λ ready. cell.while_open ready)
-    (λ holds. holds) held x (c.reopen.ensures.quiet.crash x may))
+    (λ holds. holds) held x (c.reopen.ensures.read.quiet.crash x may))
 
 pub returns-in-Ok-clause-done : goal.returns-in-Ok-clause-done
 returns-in-Ok-clause-done g c =

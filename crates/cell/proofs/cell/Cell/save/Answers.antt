@@ -28,7 +28,7 @@ invariant_of-self-inside-in-Err g c =
     (is_ready_in c.save.new.self ≡ true → HoldsSaved (g.D.Disk.may_leave new) saved)
     × ((x : Areas) → g.D.Disk.may_leave new x → ∥ OpensToEither saved n x ∥₁) in
     let unchanged : (e ≢ refusal.Disk) → Kept = λ apart.
-    (let same = said.unchanged apart in (
+    (let same = said.after.unchanged apart in (
       λ ready. subst (λ d. HoldsSaved (g.D.Disk.may_leave d) saved) (sym same.0)
           (cell.while_open (sym same.1 ∙ ready)),
       λ x may. cell.left x (subst (λ d. g.D.Disk.may_leave d x) same.0 may),
@@ -37,11 +37,11 @@ invariant_of-self-inside-in-Err g c =
     (let was_open : is_ready_in cell.store ≡ true =
     ⊎_elim (λ opens. opens)
     (λ shut.
-    let closed : e ≡ refusal.Closed = same-refusal (said.closed.1 shut) in
+    let closed : e ≡ refusal.Closed = same-refusal (said.after.closed.1 shut) in
     absurd (closed-no-disk (sym closed ∙ is))) (cases_Bool (is_ready_in cell.store)) in (
       λ ready. absurd (false≢true
-          (sym (said.disk (ap (λ (r : Refusal). Err r) is)).1 ∙ ready)),
-      failed-left g.D.Disk.may_leave g.D.Disk.moment g.D.Disk.left_since old new saved n
+          (sym (said.after.failed (ap (λ (r : Refusal). Err r) is)).1 ∙ ready)),
+      failed-left g.D.Disk.may_leave saved n
           (g.met.D.Disk.counts_now new)
           (saved-by (cell.while_open was_open (g.D.Disk.seen old) (g.met.D.Disk.reads_left old))
           c.log.ensures
@@ -51,7 +51,7 @@ invariant_of-self-inside-in-Err g c =
     ⊎_elim (λ is. unchanged (λ d. absurd (closed-no-disk (sym is ∙ d))))
     (⊎_elim (λ is. unchanged (λ d. absurd (large-no-disk (sym is ∙ d))))
     (⊎_elim (λ is. unchanged (λ d. absurd (memory-no-disk (sym is ∙ d)))) failed))
-    said.others in
+    said.after.others in
     let imaged : IsImaged (logs_in c.save.new.self) saved = λ none.
     cell.imaged (sym c.save.ensures.logs ∙ none) in
     (cell.dropped, (cell.saved_dropped, (kept.0, (kept.1, (imaged, tt)))))
@@ -72,7 +72,7 @@ invariant_of-self-inside g c =
     let first = cell.first.value in
     let kept = dropped-kept first v w n took cell.dropped in
     let was_open : is_ready_in cell.store ≡ true =
-    ⊎_elim (λ opens. opens) (λ shut. absurd (ok-no-error (said.closed.1 shut)))
+    ⊎_elim (λ opens. opens) (λ shut. absurd (ok-no-error (said.after.closed.1 shut)))
     (cases_Bool (is_ready_in cell.store)) in
     let seen = g.D.Disk.seen (disk_of store) in
     let opens : ∥ OpensTo (kept_view n) seen ∥₁ =
@@ -96,7 +96,7 @@ returns-in-Ok-clause-done g c =
     let desk = c.save-in-Ok.new.self in
     rw (← c.self.view_is)
     (ap (λ (b : Bool). cell_at first (disk_of store) b (logs_in store) trace desk)
-    c.in-Ok.ensures.ready
+    c.in-Ok.ensures.after.ready
     ∙ ap (λ (b : Bool). cell_at first (disk_of store) true b trace desk) c.save.ensures.logs
     ∙ ap (cell_at first (disk_of store) true (logs_in c.self.inside.store) trace)
     c.save-in-Ok.ensures.done)

@@ -1,7 +1,8 @@
 use Rattle.std.proofs.Common.{◌≡◌, ◌<◌, ℕ, Bool, true, [], ◌∷◌, ◌++◌, sym, ap, ◌∙◌, subst}
 use Rattle.node_store.specs.Stores.{disk_of, is_ready_in, logs_in}
-use Rattle.cell.proofs.Dropping.{TookMore, at-last, dropped-as, handled-dropped, handled-took, took-again, took-same}
+use Rattle.cell.proofs.Dropping.{IsTakenFrame, TookMore, at-last, dropped-as, handled-dropped, handled-took, took-again, took-same}
 use Rattle.cell.proofs.Opening.{stays-open}
+use Rattle.cell.proofs.Still.{is-still, still-kept}
 use Rattle.circular_buffer.specs.Buffer.{keep_last}
 use Rattle.ids.specs.declared.limits.TheConstants.{TRACE_EVENTS}
 use Rattle.msg.specs.Frames.{plain}
@@ -22,25 +23,11 @@ use Rattle.cell.proofs.cell.Cell.take_in.Goals as goal
 pub invariant_of-self-inside : goal.invariant_of-self-inside
 invariant_of-self-inside g c =
     let cell = c.self.inside in
-    let desk = c.take.new.self in
-    let ready : is_ready_in cell.store ≡ true =
-    ap (λ v. v.is_open) c.self.view_is ∙ c.requires.ready in
-    let said = c.take.ensures in
-    let v = known cell.desk.seat in
-    let w = known desk.seat in
     let missed = c.in_err-frame.ensures.taken.3 in
-    let took = took-same v w (ap (λ u. u.me) missed) (ap (λ u. u.taken) missed) in
-    let first = cell.first.value in (
-      dropped-as first v w cell.desk.node.core desk.node.core took
-          (ap (λ d. d.node.core) said.stays) cell.dropped,
-      (
-        dropped-as first v w cell.desk.saved desk.saved took (ap (λ d. d.saved) said.stays)
-            cell.saved_dropped,
-        stays-open cell.desk.saved desk.saved desk.node.core
-            (g.D.Disk.may_leave (disk_of cell.store)) (ap (λ d. d.saved) said.stays)
-            (cell.while_open ready) cell.imaged,
-      ),
-    )
+    still-kept (g.D.Disk.may_leave (disk_of cell.store))
+    (is-still cell.desk c.take.new.self
+    (took-same _ _ (ap (λ v. v.me) missed) (ap (λ v. v.taken) missed)) c.take.ensures.stays)
+    cell.dropped cell.saved_dropped cell.while_open cell.left cell.imaged
 
 pub invariant_of-self-inside-2 : goal.invariant_of-self-inside-2
 invariant_of-self-inside-2 g c =
@@ -53,21 +40,24 @@ invariant_of-self-inside-2 g c =
     let u = known cell.desk.seat in
     let v = known c.take.new.self.seat in
     let w = known desk.seat in
-    let f = plain c.in_ok-frame.frame in
+    let f = c.in_ok-frame.frame in
     let told = c.in_ok-frame.ensures.taken in
     let saved = ap (λ d. d.saved) said.stays ∙ ap (λ d. d.saved) took.stays in
     let more : TookMore u v = record {
       me = ap (λ (x : Known). x.me) told.3.2;
-      taken = (f ∷ [], ap (λ (x : Known). x.taken) told.3.2);
+      taken = (plain f ∷ [], ap (λ (x : Known). x.taken) told.3.2);
+    } in
+    let taken : IsTakenFrame v f = record {
+      taken = at-last u v (plain f) more.taken.1;
+      receiver = told.1 ∙ sym more.me;
     } in
     let first = cell.first.value in (
-      handled-dropped first c.in_ok-frame.frame c.handle-answered.result c.take.new.self.node
-          desk.node v w said.handled (at-last u v f more.taken.1) (told.1 ∙ sym more.me)
+      handled-dropped f c.handle-answered.result c.take.new.self.node desk.node w said.handled taken
           (dropped-as first u v cell.desk.node.core c.take.new.self.node.core more
           (ap (λ d. d.node.core) took.stays) cell.dropped),
       (
         dropped-as first u w cell.desk.saved desk.saved
-            (took-again u v w more (handled-took c.in_ok-frame.frame c.handle-answered.result
+            (took-again u v w more (handled-took f c.handle-answered.result
             c.take.new.self.node desk.node v w said.handled))
             saved cell.saved_dropped,
         stays-open cell.desk.saved desk.saved desk.node.core

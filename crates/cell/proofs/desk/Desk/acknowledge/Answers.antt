@@ -2,30 +2,17 @@ use Rattle.std.proofs.Common.{sym, subst}
 use Rattle.std.proofs.Math.Logic.{∥∥₁_map}
 use Rattle.wire.specs.Readers.{known}
 use Rattle.cell.specs.Desks.{AreTaken}
+use Rattle.cell.proofs.Seats.{facts}
 use Rattle.cell.proofs.Standing.{stands-acknowledged}
 use Rattle.cell.proofs.desk.Desk.acknowledge.Goals as goal
 
 pub invariant_of-self-inside : goal.invariant_of-self-inside
 invariant_of-self-inside c =
     let desk = c.self.inside in
-    let pair = (known desk.seat).pair in (
-      desk.at,
-      (
-        stands-acknowledged desk.own desk.nodes pair desk.node.core c.act.new.node.core c.args.ack
-            c.act.result desk.stands c.act.ensures.leaves
-            (c.act.ensures.states pair.current desk.stands.shows) c.act.ensures.unchanged,
-        (
-          desk.was,
-          (
-            desk.ended_is,
-            (
-              desk.unsaved,
-              (
-                subst (AreTaken (known desk.seat).taken) (sym c.act.ensures.early) desk.taken,
-                (∥∥₁_map desk.logged (c.act.ensures.logged desk.saved.value), tt),
-              ),
-            ),
-          ),
-        ),
-      ),
-    )
+    let pair = (known desk.seat).pair in
+    facts desk.at
+    (stands-acknowledged c.args.ack c.act.result desk.stands c.act.ensures.acts.leaves
+    (c.act.ensures.acts.states pair.current desk.stands.shows) c.act.ensures.acts.unchanged)
+    desk.was desk.ended_is desk.unsaved
+    (subst (AreTaken (known desk.seat).taken) (sym c.act.ensures.acts.early) desk.taken)
+    (∥∥₁_map desk.logged (c.act.ensures.notes.logged desk.saved.value))

@@ -35,5 +35,5 @@ perform-requires-clause-taken c d is =
 
 pub returns-in-Data-clause-unsaved : goal.returns-in-Data-clause-unsaved
 returns-in-Data-clause-unsaved c =
-    marked-after _ _ c.perform.result _ _ _ _ c.perform.ensures.given.acted.known
+    marked-after _ _ c.perform.result _ _ c.perform.ensures.given.acted.known
     c.perform.ensures.unsaved

@@ -1,149 +1,79 @@
-use Rattle.std.proofs.Common.{◌≡◌, true, false, IsTrue, List, Ok, Err, refl, sym, ap, ◌∙◌, subst, Result}
+use Rattle.std.proofs.Common.{◌≡◌, Bool, true, IsTrue, Ok, Err, Result, cond, refl, sym, ap, ◌∙◌, subst}
 use Rattle.std.proofs.Math.Logic.{∥∥₁_map}
-use Rattle.std.proofs.lemmas.Bool.{cond-true, cond-false, false≢true}
 use Rattle.std.proofs.lemmas.Result.{err_from_is_err_and}
 use Rattle.ids.specs.declared.refusal.Refusal.{Refusal}
-use Rattle.msg.specs.Frames.{Plain}
 use Rattle.model.specs.declared.event.Answer.{Answer}
 use Rattle.model.specs.declared.event.Event.{Event}
 use Rattle.model.specs.State.{NodeState}
 use Rattle.model.specs.Steps.{act, is_memory_free}
 use Rattle.model.specs.View.{NodeView}
 use Rattle.node.specs.Keeping.{met}
+use Rattle.wire.specs.Entering.{known_after, state_of}
 use Rattle.model.specs.Effects.{is_change}
-use Rattle.wire.specs.Entering.{known_after, pair_by, state_of}
 use Rattle.wire.specs.Plays.{Happens}
-use Rattle.wire.specs.Views.{Known, Pair, ticks}
+use Rattle.wire.specs.Views.{Known, Pair}
 use Rattle.wire.specs.Readers.{known}
-use Rattle.cell.specs.Desks.{AreTaken, IsSavedNode, StandsAt}
-use Rattle.cell.specs.Events.{Given}
-use Rattle.cell.proofs.Seats.{steps-on}
-use Rattle.cell.proofs.Standing.{behind-acted, stands-moved, stands-quiet}
-use Rattle.cell.proofs.Waiting.{taken-after}
+use Rattle.cell.specs.Desks.{AreTaken, IsSavedNode, IsUnsaved, StandsAt}
+use Rattle.cell.specs.Events.{Given, MayAct}
+use Rattle.cell.proofs.Entered.{pair-after, taken-then, unsaved-after}
+use Rattle.cell.proofs.Seats.{facts}
+use Rattle.cell.proofs.Standing.{behind-acted, stands-moved}
+use Rattle.cell.proofs.Waiting.{acted-taken, taken-after}
 use Rattle.cell.proofs.desk.Desk.perform.Goals as goal
 
 pub invariant_of-self-inside : goal.invariant_of-self-inside
 invariant_of-self-inside c =
-    let desk = c.self.inside in (
-      desk.at,
-      (
-        subst (λ (m : NodeView). StandsAt desk.own desk.nodes (known desk.seat).pair m)
-            (sym c.in_err-answer.ensures.unchanged) desk.stands,
-        (
-          desk.was,
-          (
-            desk.ended_is,
-            (
-              desk.unsaved,
-              (
-                subst (AreTaken (known desk.seat).taken) (sym c.in_err-answer.ensures.early)
-                    (taken-after (known desk.seat).taken desk.node.core.local desk.node.early c.args.event _
-                    desk.taken (rw (← c.self.view_is) at c.requires.taken)),
-                (∥∥₁_map desk.logged (c.in_err-answer.ensures.logged desk.saved.value), tt),
-              ),
-            ),
-          ),
-        ),
-      ),
-    )
+    let desk = c.self.inside in
+    facts desk.at
+    (subst (λ (m : NodeView). StandsAt desk.own desk.nodes (known desk.seat).pair m)
+    (sym c.in_err-answer.ensures.acts.unchanged) desk.stands)
+    desk.was desk.ended_is desk.unsaved
+    (subst (AreTaken (known desk.seat).taken) (sym c.in_err-answer.ensures.acts.early)
+    (taken-after (known desk.seat).taken desk.node.core.local desk.node.early c.args.event _
+    desk.taken (rw (← c.self.view_is) at c.requires.taken)))
+    (∥∥₁_map desk.logged (c.in_err-answer.ensures.notes.logged desk.saved.value))
 
-pub invariant_of-self-inside-then-enter : goal.invariant_of-self-inside-then-enter
-invariant_of-self-inside-then-enter c =
+pub invariant_of-self-inside-2 : goal.invariant_of-self-inside-2
+invariant_of-self-inside-2 c =
     let desk = c.self.inside in
     let v = known desk.seat in
-    let pair = v.pair in
     let a = c.in_ok-answer.answer in
     let e = met desk.node.early c.args.event in
-    let counts : is_change a ≡ true = sym c.enter.ensures.changed ∙ c.if-enter.true in
-    let known_is : known c.enter.new.seat ≡ ticks c.args.step (pair_by c.args.meant.now pair) v =
-    c.enter.ensures.known
-    ∙ cond-true (is_change a) (ticks c.args.step (pair_by c.args.meant.now pair) v) v counts in
-    let found = c.in_ok-answer.ensures.states pair.current desk.stands.shows in
-    let after : Pair = record { current = found.0; saved = pair.saved } in
-    let pair_is : (known c.enter.new.seat).pair ≡ after =
+    let found = c.in_ok-answer.ensures.acts.states v.pair.current desk.stands.shows in
+    let known_is : known c.enter-counts.new.seat ≡ known_after e c.args.step (Ok a) v =
+    c.enter-counts.ensures.known
+    ∙ ap (λ (m : Event). known_after m c.args.step (Ok a) v)
+    (rw (← c.self.view_is) at c.requires.met) in
+    let may = subst (λ (m : Event). MayAct v m c.args.step)
+    (rw (← c.self.view_is) at c.requires.met) (rw (← c.self.view_is) at c.requires.may) in
+    let pair_is =
     ap (λ (w : Known). w.pair) known_is
-    ∙ ap (λ (x : Event). pair_by x pair) (rw (← c.self.view_is) at c.requires.met)
-    ∙ ap (λ (r : Result (NodeState × Answer) Refusal).
-    let q : Pair = record { current = state_of pair.current r; saved = pair.saved } in q)
-    found.1 in (
-      record {
-        own = c.enter.ensures.same.2 ∙ desk.at.own;
-        nodes = c.enter.ensures.same.3 ∙ desk.at.nodes;
-      },
-      (
-        subst (λ (p : Pair). StandsAt desk.own desk.nodes p c.act.new.node.core)
-            (sym pair_is)
-            (stands-moved desk.own desk.nodes pair found.0 desk.node.core c.act.new.node.core e
-            desk.stands c.in_ok-answer.ensures.leaves found.2
-            (behind-acted pair.saved pair.current e found.0 a desk.stands.behind found.1)),
-        (
-          subst (λ (p : Pair). IsSavedNode desk.own desk.nodes p.saved desk.saved.value)
-              (sym pair_is) desk.was,
-          (
-            desk.ended_is
-                ∙ sym (ap (λ (p : Pair). p.saved.local.phases.ended) pair_is),
-            (
-              λ never. absurd (false≢true (sym never)),
-              (
-                subst (λ (ts : List Plain). AreTaken ts c.act.new.node.early)
-                    (sym (ap (λ (w : Known). w.taken) known_is))
-                    (subst (AreTaken v.taken) (sym c.in_ok-answer.ensures.early)
-                    (taken-after v.taken desk.node.core.local desk.node.early c.args.event
-                    (Ok a) desk.taken (rw (← c.self.view_is) at c.requires.taken))),
-                (∥∥₁_map desk.logged (c.in_ok-answer.ensures.logged desk.saved.value), tt),
-              ),
-            ),
-          ),
-        ),
-      ),
-    )
+    ∙ pair-after e c.args.step a v found.0 found.1 (may.quiet found.0 a found.1) in
+    facts
+    (record {
+      own = c.enter-counts.ensures.same.2 ∙ desk.at.own;
+      nodes = c.enter-counts.ensures.same.3 ∙ desk.at.nodes;
+    })
+    (subst (λ (p : Pair). StandsAt desk.own desk.nodes p c.act.new.node.core) (sym pair_is)
+    (stands-moved found.0 desk.stands c.in_ok-answer.ensures.acts.leaves found.2
+    (behind-acted v.pair.saved v.pair.current e found.0 a desk.stands.behind found.1)))
+    (subst (λ (p : Pair). IsSavedNode desk.own desk.nodes p.saved desk.saved.value) (sym pair_is)
+    desk.was)
+    (desk.ended_is ∙ sym (ap (λ (p : Pair). p.saved.local.phases.ended) pair_is))
+    (subst (IsUnsaved c.is_unsaved_after-self-inside.result) (sym pair_is)
+    (unsaved-after (is_change a) c.is_unsaved_after-self-inside.result desk.unsaved
+    (may.quiet found.0 a found.1)
+    (c.is_unsaved_after-self-inside.ensures
+    ∙ ap (λ (b : Bool). cond b true desk.is_unsaved) c.enter-counts.ensures.changed)))
+    (acted-taken desk.node.core.local c.args.event (Ok a) desk.taken
+    (rw (← c.self.view_is) at c.requires.taken) c.in_ok-answer.ensures.acts.early
+    (ap (λ (w : Known). w.taken) known_is ∙ taken-then e c.args.step a v))
+    (∥∥₁_map desk.logged (c.in_ok-answer.ensures.notes.logged desk.saved.value))
 
-pub invariant_of-self-inside-else-enter : goal.invariant_of-self-inside-else-enter
-invariant_of-self-inside-else-enter c =
-    let desk = c.self.inside in
-    let v = known desk.seat in
-    let pair = v.pair in
-    let a = c.in_ok-answer.answer in
-    let e = met desk.node.early c.args.event in
-    let quiet : is_change a ≡ false = sym c.enter.ensures.changed ∙ c.if-enter.false in
-    let known_is : known c.enter.new.seat ≡ v =
-    c.enter.ensures.known
-    ∙ cond-false (is_change a) (ticks c.args.step (pair_by c.args.meant.now pair) v) v quiet in
-    let found = c.in_ok-answer.ensures.states pair.current desk.stands.shows in
-    let kept = steps-on desk c.enter.new.seat c.enter.ensures.same
-    (ap (λ (w : Known). w.pair) known_is) in (
-      kept.at,
-      (
-        subst (λ (p : Pair). StandsAt desk.own desk.nodes p c.act.new.node.core)
-            (sym (ap (λ (w : Known). w.pair) known_is))
-            (stands-quiet desk.own desk.nodes pair found.0 desk.node.core c.act.new.node.core e
-            desk.stands c.in_ok-answer.ensures.leaves found.2
-            ((rw (← c.self.view_is) at c.requires.may).quiet found.0 a
-            (ap (act pair.current) (rw (← c.self.view_is) at c.requires.met) ∙ found.1) quiet)),
-        (
-          kept.was,
-          (
-            kept.ended_is,
-            (
-              kept.unsaved,
-              (
-                subst (λ (ts : List Plain). AreTaken ts c.act.new.node.early)
-                    (sym (ap (λ (w : Known). w.taken) known_is))
-                    (subst (AreTaken v.taken) (sym c.in_ok-answer.ensures.early)
-                    (taken-after v.taken desk.node.core.local desk.node.early c.args.event
-                    (Ok a) desk.taken (rw (← c.self.view_is) at c.requires.taken))),
-                (∥∥₁_map desk.logged (c.in_ok-answer.ensures.logged desk.saved.value), tt),
-              ),
-            ),
-          ),
-        ),
-      ),
-    )
-
-pub enter-requires-clause-event : goal.enter-requires-clause-event
-enter-requires-clause-event c counts =
+pub enter-counts-requires-clause-event : goal.enter-counts-requires-clause-event
+enter-counts-requires-clause-event c counts =
     let v = known c.self.inside.seat in
-    let found = c.in_ok-answer.ensures.states v.pair.current c.self.inside.stands.shows in
+    let found = c.in_ok-answer.ensures.acts.states v.pair.current c.self.inside.stands.shows in
     let answered : act v.pair.current c.args.meant.now ≡ Ok (found.0, c.in_ok-answer.answer) =
     ap (act v.pair.current) (rw (← c.self.view_is) at c.requires.met) ∙ found.1 in
     subst (Happens v c.args.step)
@@ -159,7 +89,7 @@ returns-in_err-answer c =
     let desk = c.self.inside in
     let v = known desk.seat in
     let e = c.in_err-answer.field-0.0 in
-    let said = c.in_err-answer.ensures in
+    let said = c.in_err-answer.ensures.acts in
     let meant = rw (← c.self.view_is) at c.requires.met in
     rw (p.1, p.2, ← c.self.view_is) (record {
       given = subst (λ (m : Event).
@@ -184,25 +114,24 @@ returns-in_err-answer c =
       stays = refl;
     })
 
-pub returns-then-enter : goal.returns-then-enter
-returns-then-enter c =
+pub returns : goal.returns
+returns c =
     let desk = c.self.inside in
     let v = known desk.seat in
     let a = c.in_ok-answer.answer in
-    let said = c.in_ok-answer.ensures in
+    let said = c.in_ok-answer.ensures.acts in
     let meant = rw (← c.self.view_is) at c.requires.met in
     rw (← c.self.view_is) (record {
-      given = subst (λ (m : Event).
-          Given c.args.event m c.args.step (Ok a) desk.node c.act.new.node v (known c.enter.new.seat))
-          (sym meant)
+      given = subst (λ (m : Event). Given c.args.event m c.args.step (Ok a) desk.node
+          c.act.new.node v (known c.enter-counts.new.seat)) (sym meant)
           record {
             acted = record {
               performs = said.performs;
               states = said.states v.pair.current desk.stands.shows;
               unchanged = tt;
-              known = c.enter.ensures.known
+              known = c.enter-counts.ensures.known
                   ∙ ap (λ (m : Event). known_after m c.args.step (Ok a) v) meant;
-              entered = c.enter.ensures.entered;
+              entered = c.enter-counts.ensures.entered;
             };
             early = said.early;
             turn = said.turn;
@@ -210,40 +139,8 @@ returns-then-enter c =
                 (rw (← c.self.view_is) at c.requires.due) from d next (meant ∙ is);
           };
       memory_free = λ _. tt;
-      unsaved = sym (cond-true (is_change a) true desk.is_unsaved
-          (sym c.enter.ensures.changed ∙ c.if-enter.true));
-      same = c.enter.ensures.same;
-      stays = refl;
-    })
-
-pub returns-else-enter : goal.returns-else-enter
-returns-else-enter c =
-    let desk = c.self.inside in
-    let v = known desk.seat in
-    let a = c.in_ok-answer.answer in
-    let said = c.in_ok-answer.ensures in
-    let meant = rw (← c.self.view_is) at c.requires.met in
-    rw (← c.self.view_is) (record {
-      given = subst (λ (m : Event).
-          Given c.args.event m c.args.step (Ok a) desk.node c.act.new.node v (known c.enter.new.seat))
-          (sym meant)
-          record {
-            acted = record {
-              performs = said.performs;
-              states = said.states v.pair.current desk.stands.shows;
-              unchanged = tt;
-              known = c.enter.ensures.known
-                  ∙ ap (λ (m : Event). known_after m c.args.step (Ok a) v) meant;
-              entered = c.enter.ensures.entered;
-            };
-            early = said.early;
-            turn = said.turn;
-            due = λ from d next is.
-                (rw (← c.self.view_is) at c.requires.due) from d next (meant ∙ is);
-          };
-      memory_free = λ _. tt;
-      unsaved = sym (cond-false (is_change a) true desk.is_unsaved
-          (sym c.enter.ensures.changed ∙ c.if-enter.false));
-      same = c.enter.ensures.same;
+      unsaved = c.is_unsaved_after-self-inside.ensures
+          ∙ ap (λ (b : Bool). cond b true desk.is_unsaved) c.enter-counts.ensures.changed;
+      same = c.enter-counts.ensures.same;
       stays = refl;
     })

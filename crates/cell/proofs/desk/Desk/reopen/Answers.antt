@@ -45,8 +45,8 @@ invariant_of-self-inside c =
     ap (λ (v : Known). v.pair) c.enter_found.ensures.ticked
     ∙ ap (λ (m : NodeView). found_pair (is_same_node m desk.saved.value) pair)
     c.core.ensures.value in
-    let found = is-found desk.own desk.nodes pair desk.node.core desk.saved.value found_core
-    desk.stands desk.was c.requires.kept (rw (← c.self.view_is) at c.requires.which) in (
+    let found = is-found found_core desk.stands desk.was c.requires.kept
+    (rw (← c.self.view_is) at c.requires.which) in (
       record {
         own = c.enter_found.ensures.same.2 ∙ desk.at.own;
         nodes = c.enter_found.ensures.same.3 ∙ desk.at.nodes;

@@ -3,19 +3,30 @@ use Rattle.std.proofs.lemmas.Result.{err_from_is_err_and}
 use Rattle.msg.specs.Frames.{Plain}
 use Rattle.model.specs.View.{NodeView}
 use Rattle.wire.specs.Readers.{known, outbox}
+use Rattle.wire.specs.Views.{Known}
+use Rattle.cell.specs.declared.desk.Desk.TheInside.{Inside}
 use Rattle.wire.specs.Rule.{Spells}
 use Rattle.wire.specs.Plays.{Releases}
-use Rattle.cell.specs.Desks.{AreTaken}
 use Rattle.wire.specs.Sending.{IsSent, frame_due, next_place, places_after}
 use Rattle.cell.proofs.Releasing.{due-releases}
 use Rattle.wire.proofs.Mailed.{due-to, sent-pair, sent-taken}
-use Rattle.cell.proofs.Seats.{other-on, steps-on}
+use Rattle.cell.proofs.Seats.{other-on, same-facts}
 use Rattle.cell.proofs.desk.Desk.send.Goals as goal
 
-placed : (is : Bool) (n : NodeView) (to i j next : ℕ) (places : List ℕ) → is ≡ true → i ≡ to
+placed : {is : Bool} {i j next : ℕ} (n : NodeView) (to : ℕ) (places : List ℕ) → is ≡ true → i ≡ to
     → j ≡ to → next ≡ next_place n to (slice_index_or places i 0)
     → slice_set places j next ≡ places_after is n to places
-placed is n to i j next places sent from at follows = rw (sent, follows, from, at) refl
+placed n to places sent from at follows = rw (sent, follows, from, at) refl
+
+-- the frame that is due, by the place that was read
+sent-by : (desk : Inside) (to : ℕ) {place : ℕ} (is : Bool) (w : Known) → place ≡ to
+    → IsSent (outbox desk.seat to) (frame_due desk.node.core to (slice_index_or desk.places place 0))
+    is (known desk.seat) w
+    → IsSent (outbox desk.seat to) (frame_due desk.node.core to (slice_index_or desk.places to 0))
+    is (known desk.seat) w
+sent-by desk to is w same sent =
+    subst (λ (i : ℕ). IsSent (outbox desk.seat to)
+    (frame_due desk.node.core to (slice_index_or desk.places i 0)) is (known desk.seat) w) same sent
 
 unplaced : (is : Bool) (n : NodeView) (to : ℕ) (places : List ℕ) → is ≡ false
     → places ≡ places_after is n to places
@@ -43,60 +54,19 @@ send-is_sent-requires-clause-released c =
     subst (λ (i : ℕ). Releases i (known desk.seat).pair.saved
     (frame_due desk.node.core c.args.to place))
     (sym desk.at.own ∙ desk.seat.sits.me_is)
-    (due-releases desk.own desk.nodes (known desk.seat).pair desk.node.core c.args.to place
-    desk.stands (rw (← c.self.view_is) at c.requires.other))
+    (due-releases c.args.to place desk.stands (rw (← c.self.view_is) at c.requires.other))
 
 pub invariant_of-self-inside : goal.invariant_of-self-inside
 invariant_of-self-inside c =
-    let desk = c.self.inside in
     let sent = c.send-is_sent.ensures.sent in
-    let kept = steps-on desk c.send-is_sent.new.seat c.send-is_sent.ensures.same
-    (sent-pair _ _ c.send-is_sent.result _ _ sent) in (
-      kept.at,
-      (
-        kept.stands,
-        (
-          kept.was,
-          (
-            kept.ended_is,
-            (
-              kept.unsaved,
-              (
-                subst (λ (ts : List Plain). AreTaken ts desk.node.early)
-                    (sym (sent-taken _ _ c.send-is_sent.result _ _ sent)) desk.taken,
-                (desk.logged, tt),
-              ),
-            ),
-          ),
-        ),
-      ),
-    )
+    same-facts c.self.inside c.send-is_sent.new.seat c.send-is_sent.ensures.same
+    (sent-pair _ _ c.send-is_sent.result _ _ sent) (sent-taken _ _ c.send-is_sent.result _ _ sent)
 
 pub invariant_of-self-inside-else-is_sent : goal.invariant_of-self-inside-else-is_sent
 invariant_of-self-inside-else-is_sent c =
-    let desk = c.self.inside in
     let sent = c.send-is_sent.ensures.sent in
-    let kept = steps-on desk c.send-is_sent.new.seat c.send-is_sent.ensures.same
-    (sent-pair _ _ c.send-is_sent.result _ _ sent) in (
-      kept.at,
-      (
-        kept.stands,
-        (
-          kept.was,
-          (
-            kept.ended_is,
-            (
-              kept.unsaved,
-              (
-                subst (λ (ts : List Plain). AreTaken ts desk.node.early)
-                    (sym (sent-taken _ _ c.send-is_sent.result _ _ sent)) desk.taken,
-                (desk.logged, tt),
-              ),
-            ),
-          ),
-        ),
-      ),
-    )
+    same-facts c.self.inside c.send-is_sent.new.seat c.send-is_sent.ensures.same
+    (sent-pair _ _ c.send-is_sent.result _ _ sent) (sent-taken _ _ c.send-is_sent.result _ _ sent)
 
 pub returns-in_err-bytes : goal.returns-in_err-bytes
 returns-in_err-bytes c =
@@ -114,11 +84,8 @@ returns-then-is_sent c =
     let desk = c.self.inside in
     rw (← c.self.view_is) (record {
       same = c.send-is_sent.ensures.same;
-      sent = subst (λ (i : ℕ). IsSent (outbox desk.seat c.args.to)
-          (frame_due desk.node.core c.args.to (slice_index_or desk.places i 0))
-          c.send-is_sent.result (known desk.seat) (known c.send-is_sent.new.seat))
-          c.from.ensures c.send-is_sent.ensures.sent;
-      places = placed _ desk.node.core _ _ _ _ desk.places c.if-is_sent.true c.from.ensures
+      sent = sent-by desk c.args.to _ _ c.from.ensures c.send-is_sent.ensures.sent;
+      places = placed desk.node.core c.args.to desk.places c.if-is_sent.true c.from.ensures
           c.from-then-is_sent.ensures c.due-frame.ensures.next;
       refused = tt;
       stays = refl;
@@ -129,10 +96,7 @@ returns-else-is_sent c =
     let desk = c.self.inside in
     rw (← c.self.view_is) (record {
       same = c.send-is_sent.ensures.same;
-      sent = subst (λ (i : ℕ). IsSent (outbox desk.seat c.args.to)
-          (frame_due desk.node.core c.args.to (slice_index_or desk.places i 0))
-          c.send-is_sent.result (known desk.seat) (known c.send-is_sent.new.seat))
-          c.from.ensures c.send-is_sent.ensures.sent;
+      sent = sent-by desk c.args.to _ _ c.from.ensures c.send-is_sent.ensures.sent;
       places = unplaced _ desk.node.core c.args.to desk.places c.if-is_sent.false;
       refused = tt;
       stays = refl;

@@ -3,7 +3,7 @@ use Rattle.msg.specs.Frames.{Plain}
 use Rattle.wire.specs.Readers.{inbox, known}
 use Rattle.wire.proofs.Mailed.{received-pair, received-taken}
 use Rattle.cell.specs.Desks.{AreTaken}
-use Rattle.cell.proofs.Seats.{other-on, steps-on}
+use Rattle.cell.proofs.Seats.{other-on, still-facts}
 use Rattle.cell.proofs.Waiting.{taken-more}
 use Rattle.cell.proofs.desk.Desk.take.Goals as goal
 
@@ -20,24 +20,7 @@ invariant_of-self-inside c =
     let told = c.receive.ensures.taken in
     let more = received-taken box c.args.from c.receive.result (known desk.seat) (known seat) told
     in
-    let kept = steps-on desk seat c.receive.ensures.same
-    (received-pair box c.args.from c.receive.result (known desk.seat) (known seat) told) in (
-      kept.at,
-      (
-        kept.stands,
-        (
-          kept.was,
-          (
-            kept.ended_is,
-            (
-              kept.unsaved,
-              (
-                subst (λ (ts : List Plain). AreTaken ts desk.node.early) (sym more.1)
-                    (taken-more (known desk.seat).taken more.0 desk.node.early desk.taken),
-                (desk.logged, tt),
-              ),
-            ),
-          ),
-        ),
-      ),
-    )
+    still-facts desk seat c.receive.ensures.same
+    (received-pair box c.args.from c.receive.result (known desk.seat) (known seat) told)
+    (subst (λ (ts : List Plain). AreTaken ts desk.node.early) (sym more.1)
+    (taken-more (known desk.seat).taken more.0 desk.node.early desk.taken))

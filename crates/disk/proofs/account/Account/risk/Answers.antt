@@ -1,7 +1,8 @@
 use Rattle.disk.proofs.account.Account.risk.Goals as goal
 
-pub returns-in-Ok-clause-crash : goal.returns-in-Ok-clause-crash
-returns-in-Ok-clause-crash c = c.note.ensures.crash
-
-pub returns-in-Ok-clause-torn : goal.returns-in-Ok-clause-torn
-returns-in-Ok-clause-torn c = c.in-Ok.ensures.torn
+pub returns-in-Ok-clause-risks : goal.returns-in-Ok-clause-risks
+returns-in-Ok-clause-risks c = record {
+  crash = c.note.ensures.risks.crash;
+  torn = c.in-Ok.ensures.risks.torn;
+  refused = tt;
+}

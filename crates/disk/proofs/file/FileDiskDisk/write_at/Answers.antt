@@ -16,7 +16,7 @@ returns-then-is_err-clause-crash g c c' left =
     let found = c.look_again.new.self.account.state in
     let change = subst (λ (x : Areas). step x (areas_of found.held)) noted.held
     c.look_again.ensures.change in
-    follows_set step c.args.self.now.account.state c.begin.new.self.state found noted.crash
+    follows_set step c.args.self.now.account.state c.begin.new.self.state found noted.risks.crash
     c.look_again.ensures.crash change c'
     (subst (λ (s : State). leaves s c') c.fault.ensures.state left)
 
@@ -34,20 +34,20 @@ returns-clause-crash g c =
       held = written_from c.args.area c.args.at c.args.bytes.now (areas_of s.held)
           (areas_of mid.held) (areas_of new.held) c.in_ok-begin.ensures.held c.write.ensures.held;
     }) in
-    follows_set (Changes c.args.area (Torn c.args.at n)) s mid new c.in_ok-begin.ensures.crash
+    follows_set (Changes c.args.area (Torn c.args.at n)) s mid new c.in_ok-begin.ensures.risks.crash
     (set_leaves mid new c.write.ensures.synced c.write.ensures.ranges) change
 
 pub returns-then-is_err-clause-torn_too : goal.returns-then-is_err-clause-torn_too
 returns-then-is_err-clause-torn_too g c is d x left torn =
     subst (λ (s : State). leaves s x) (sym c.fault.ensures.state)
     (risk_left c.look_again.new.self.account.state x
-    (c.look_again.ensures.risk x (c.in_ok-begin.ensures.torn d x left torn)))
+    (c.look_again.ensures.risk x (c.in_ok-begin.ensures.risks.torn d x left torn)))
 
 pub returns-clause-torn : goal.returns-clause-torn
 returns-clause-torn g c =
     set_reaches (Changes c.args.area (Torn c.args.at (length c.args.bytes.now)))
     c.args.self.now.account.state c.begin.new.self.state c.write.new.self c.write.ensures.synced
-    c.write.ensures.ranges c.in_ok-begin.ensures.torn
+    c.write.ensures.ranges c.in_ok-begin.ensures.risks.torn
 
 pub returns-then-is_err-clause-failed : goal.returns-then-is_err-clause-failed
 returns-then-is_err-clause-failed g c =

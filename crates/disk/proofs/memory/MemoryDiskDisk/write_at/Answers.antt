@@ -3,7 +3,7 @@ use Rattle.std.proofs.lemmas.Bool.{false≢true}
 use Rattle.std.proofs.lemmas.Result.{err_from_is_err_and}
 use Rattle.disk.specs.Areas.{Areas, Changes, Torn}
 use Rattle.disk.specs.Crashes.{Elapses, Follows, Reaches}
-use Rattle.disk.specs.Record.{areas_of, leaves, left_since, moments}
+use Rattle.disk.specs.Record.{areas_of, leaves, left_since, moments, Passes}
 use Rattle.disk.specs.declared.account.Account.{Account}
 use Rattle.disk.specs.declared.state.State.{State}
 use Rattle.disk.proofs.Times.{elapses_by, elapses_same, elapses_then}
@@ -28,10 +28,10 @@ returns-in_err-risk c =
       failed = changed_none c.args.area c.args.at (length c.args.bytes.now) (areas_of s.held)
           (areas_of new.state.held) same;
       kept = same;
-      crash = c.risk.ensures.crash;
+      crash = c.risk.ensures.risks.crash;
       torn = tt;
       torn_too = λ is. absurd (memory_no_device noted.memory is);
-      refused = λ _. (same, noted.refused);
+      refused = λ _. (same, noted.risks.refused);
       time = elapses_then c.args.self.now.account.past.value new.past.value s new.state
           c.risk.ensures.time;
       cause = err_cause noted.cause refl;
@@ -50,10 +50,10 @@ returns-then-falters c =
       failed = changed_none c.args.area c.args.at (length c.args.bytes.now)
           (areas_of old.state.held) (areas_of new.state.held) same;
       kept = same;
-      crash = λ x left. c.risk.ensures.crash x (subst (λ (s : State). leaves s x) stays left);
+      crash = λ x left. c.risk.ensures.risks.crash x (subst (λ (s : State). leaves s x) stays left);
       torn = tt;
       torn_too = λ is d x left torn. subst (λ (s : State). leaves s x) (sym stays)
-          (risk_left mid.state x (c.in_ok-risk.ensures.torn d x left torn));
+          (risk_left mid.state x (c.in_ok-risk.ensures.risks.torn d x left torn));
       refused = λ is. absurd (device_no_memory c.fault.ensures.same is);
       time = elapses_by old.past.value mid.past.value new.past.value old.state new.state
           (λ s'. elapses_then old.past.value mid.past.value old.state s' c.risk.ensures.time)
@@ -105,18 +105,17 @@ returns-in_err-begin c =
     let same = c.begin.ensures.held ∙ ap (λ a. areas_of a.state.held) c.keep.ensures.account in
     let Crash : Account → Type 0 = λ a. Follows (Changes c.args.area (Torn c.args.at n))
     (leaves a.state) (leaves new.state) in
-    let Time : Account → Type 0 = λ a. Elapses (moments a.past.value) (moments new.past.value)
-    (left_since a.past.value a.state) (left_since new.past.value new.state) (leaves new.state) in
+    let Time : Account → Type 0 = λ a. Passes a new in
     let Same : Account → Type 0 = λ a. (x : Areas) → leaves new.state x ↔ leaves a.state x in
     rw (p.1, p.2) (record {
       written = tt;
       failed = changed_none c.args.area c.args.at n (areas_of s.held) (areas_of new.state.held)
           same;
       kept = same;
-      crash = subst Crash c.keep.ensures.account c.begin.ensures.crash;
+      crash = subst Crash c.keep.ensures.account c.begin.ensures.risks.crash;
       torn = tt;
       torn_too = λ is. absurd (memory_no_device begun.memory is);
-      refused = λ _. (same, subst Same c.keep.ensures.account begun.refused);
+      refused = λ _. (same, subst Same c.keep.ensures.account begun.risks.refused);
       time = subst Time c.keep.ensures.account begun.time;
       cause = later_cause (ap (λ a. a.failures) c.keep.ensures.account)
           (err_cause begun.cause refl);
@@ -154,10 +153,10 @@ returns c =
       written = changed_to c.args.area at bytes (areas_of s.held) (areas_of new.held) held;
       failed = tt;
       kept = tt;
-      crash = follows_set step s mid new (subst Crash account c.in_ok-begin.ensures.crash)
+      crash = follows_set step s mid new (subst Crash account c.in_ok-begin.ensures.risks.crash)
           (set_leaves mid new c.write.ensures.synced c.write.ensures.ranges) change;
       torn = subst Reach account (set_reaches step kept mid new c.write.ensures.synced
-          c.write.ensures.ranges c.in_ok-begin.ensures.torn);
+          c.write.ensures.ranges c.in_ok-begin.ensures.risks.torn);
       torn_too = λ is. absurd (ok_no_err is);
       refused = λ is. absurd (ok_no_err is);
       time = subst Time account (c.in_ok-begin.ensures.gone new);

@@ -1,7 +1,7 @@
 use Rattle.std.proofs.lemmas.Result.{err_from_is_err_and}
 use Rattle.disk_journal.proofs.journal.Journal.open.Goals as goal
 
-pub returns-in_err-tail-clause-bad : goal.returns-in_err-tail-clause-bad
-returns-in_err-tail-clause-bad g c =
+pub returns-in_err-tail-clause-refused : goal.returns-in_err-tail-clause-refused
+returns-in_err-tail-clause-refused g c =
     let p = err_from_is_err_and c.from_residual.result c.from_residual.ensures.1 in
-    rw (p.1, p.2) c.in_err-tail.ensures.bad
+    rw (p.1, p.2) c.in_err-tail.ensures.refused

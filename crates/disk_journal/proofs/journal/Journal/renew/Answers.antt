@@ -1,13 +1,20 @@
-use Rattle.std.proofs.Common.{◌≡◌, ◌-◌, ◌+◌, ◌∙◌, ⊎_elim, Err, [], inl, inr, ap, arith, not, length, refl, subst, sym}
+use Rattle.std.proofs.Common.{◌≡◌, ◌-◌, ◌+◌, ◌∙◌, Err, [], inl, ap, arith, not, length, refl, subst, sym}
 use Rattle.std.proofs.lemmas.Result.{err_from_is_err_and}
-use Rattle.disk.specs.Crashes.{LeavesOnly}
-use Rattle.disk_shelf.specs.Logs.{IsLoggedTo, OldOrWhole, Opens, Restores}
-use Rattle.disk_shelf.proofs.Moments.{started, weaker}
+use Rattle.disk_shelf.specs.Logs.{IsLoggedTo, Opens, Restores}
+use Rattle.disk_shelf.proofs.Moments.{started}
 use Rattle.disk_shelf.proofs.Quiet.{ok_no_err, same_err}
-use Rattle.disk_journal.proofs.Refusals.{disk_not_large, not_above, spelled_no_disk}
+use Rattle.disk_shelf.proofs.Saves.{done_save, failed_save, unwritten_save}
+use Rattle.disk_journal.proofs.Refusals.{disk_not_large, not_above}
 use Rattle.disk_journal.proofs.Shut.{shut_again, shut_image, shut_length}
-use Rattle.disk_journal.proofs.Values.{kept_whole, restores_image, restores_turned}
+use Rattle.disk_journal.proofs.Values.{kept_whole, restores_image, turned_leaves}
+use Rattle.disk_journal.proofs.journal.Journal.renew.Given as given
 use Rattle.disk_journal.proofs.journal.Journal.renew.Goals as goal
+use Rattle.disk_journal.proofs.journal.Journal.renew.Goals.{After-image_before_gate}
+
+-- the image is between its length and the gate
+same : (g : given.Over) (c : After-image_before_gate g) →
+    c.image_before_gate.result.now ≡ g.P.Persist.image c.args.value.now
+same g c = shut_image c.deref.ensures.value c.in_ok-bytes.ensures.bytes c.image_before_gate.ensures
 
 pub image_before_gate-requires : goal.image_before_gate-requires
 image_before_gate-requires g c =
@@ -24,90 +31,70 @@ turn-requires-clause-spelled g c =
 
 pub turn-requires-clause-fits : goal.turn-requires-clause-fits
 turn-requires-clause-fits g c =
-    let same : c.image_before_gate.result.now ≡ g.P.Persist.image c.args.value.now =
-    shut_image c.deref.ensures.value c.in_ok-bytes.ensures.bytes c.image_before_gate.ensures in
-    omega (arith, ap length same, c.in_ok-bytes.ensures.within)
+    let is = same g (goal.at.turn-requires-clause-fits g c).After-image_before_gate in
+    omega (arith, ap length is, c.in_ok-bytes.ensures.within)
 
 pub returns-in_err-bytes : goal.returns-in_err-bytes
 returns-in_err-bytes g c =
     let p = err_from_is_err_and c.from_residual.result c.from_residual.ensures.1 in
     let was = c.args.self.now.disk in
     let kept = c.args.self.now.kept c.requires.ready in
-    let refused = c.in_err-bytes.ensures in
+    let refused = c.in_err-bytes.ensures.refused in
     rw (p.1, p.2) (record {
       saved = tt;
-      ready = tt;
       any_moment = λ old r. started (λ x left.
           inl (subst (Restores g.P.Replay.logs g.P.Persist.reads g.P.Replay.leads old)
           (sym (kept.only x (g.met.D.Disk.only_now was x left))) r));
-      disk = λ is. absurd (spelled_no_disk refused.others is);
+      after = unwritten_save c.requires.ready refused.others;
       too_large = (
         λ is. refused.too_large.0 (same_err is),
         λ large. ap Err (refused.too_large.1 large),
       );
-      unchanged = λ _. (refl, refl);
-      others = ⊎_elim (λ m. inr (inl m)) (λ large. inl large) refused.others;
     })
 
 pub returns-in_err-turn : goal.returns-in_err-turn
 returns-in_err-turn g c =
     let exit = c.from_residual-in_err-turn in
     let p = err_from_is_err_and exit.result exit.ensures.1 in
-    let same : c.image_before_gate.result.now ≡ g.P.Persist.image c.args.value.now =
-    shut_image c.deref.ensures.value c.in_ok-bytes.ensures.bytes c.image_before_gate.ensures in
+    let is = same g (goal.at.returns-in_err-turn g c).After-image_before_gate in
     rw (p.1, p.2) (record {
       saved = tt;
-      ready = tt;
-      any_moment = λ old r. weaker
-          (subst (λ l. LeavesOnly g.D.Disk.moment g.D.Disk.left_since c.args.self.now.disk
-          c.turn.new.disk (OldOrWhole (g.P.Replay.logs r.image) r.image r.batches l)) same
-          (c.turn.ensures.any_moment (g.P.Replay.logs r.image) r.image r.batches r.found))
-          (λ x. restores_turned r (g.met.P.Replay.followed c.args.value.now)
-          c.in_ok-bytes.ensures.readable);
-      disk = λ _. (c.in_err-turn.ensures.cause.failed refl, refl);
+      any_moment = λ old r. turned_leaves (g.met.P.Replay.followed c.args.value.now)
+          c.in_ok-bytes.ensures.readable is r
+          (c.turn.ensures.any_moment (g.P.Replay.logs r.image) r.image r.batches r.found);
+      after = failed_save c.requires.ready (c.in_err-turn.ensures.cause.failed refl) refl;
       too_large = (
         λ is. absurd (disk_not_large is),
         λ large. absurd (not_above c.in_ok-bytes.ensures.within large),
       );
-      unchanged = λ other. absurd (other refl);
-      others = inr (inr refl);
     })
 
 pub returns : goal.returns
 returns g c =
-    let same : c.image_before_gate.result.now ≡ g.P.Persist.image c.args.value.now =
-    shut_image c.deref.ensures.value c.in_ok-bytes.ensures.bytes c.image_before_gate.ensures in
+    let is = same g (goal.at.returns g c).After-image_before_gate in
     record {
       saved = restores_image (g.met.P.Replay.followed c.args.value.now)
           c.in_ok-bytes.ensures.readable
-          (subst (λ l. Opens l [] (g.D.Disk.seen c.turn.new.disk)) same
-          c.in_ok-turn.ensures.turned);
-      ready = refl;
-      any_moment = λ old r. weaker
-          (subst (λ l. LeavesOnly g.D.Disk.moment g.D.Disk.left_since c.args.self.now.disk
-          c.turn.new.disk (OldOrWhole (g.P.Replay.logs r.image) r.image r.batches l)) same
-          (c.turn.ensures.any_moment (g.P.Replay.logs r.image) r.image r.batches r.found))
-          (λ x. restores_turned r (g.met.P.Replay.followed c.args.value.now)
-          c.in_ok-bytes.ensures.readable);
-      disk = λ is. absurd (ok_no_err is);
+          (subst (λ l. Opens l [] (g.D.Disk.seen c.turn.new.disk)) is c.in_ok-turn.ensures.turned);
+      any_moment = λ old r. turned_leaves (g.met.P.Replay.followed c.args.value.now)
+          c.in_ok-bytes.ensures.readable is r
+          (c.turn.ensures.any_moment (g.P.Replay.logs r.image) r.image r.batches r.found);
+      after = done_save c.requires.ready refl;
       too_large = (
         λ is. absurd (ok_no_err is),
         λ large. absurd (not_above c.in_ok-bytes.ensures.within large),
       );
-      unchanged = tt;
-      others = tt;
     }
 
 pub invariant_of-self-2 : goal.invariant_of-self-2
 invariant_of-self-2 g c =
     let image = g.P.Persist.image c.args.value.now in
     let in_b = not c.args.self.now.tail.in_b in
-    let same : c.image_before_gate.result.now ≡ image =
-    shut_image c.deref.ensures.value c.in_ok-bytes.ensures.bytes c.image_before_gate.ensures in
+    let is = same g (goal.at.invariant_of-self-2 g c).After-image_before_gate in
     let end : 8 + length c.image_before_gate.result.now ≡ c.len-start.result - 1 =
     omega (
       arith,
-      ap length same,
+      ap length is,
       c.len-start.ensures ∙ c.in_ok-bytes.bytes.ok.0,
       shut_length image c.in_ok-bytes.ensures.bytes,
     ) in
@@ -115,7 +102,6 @@ invariant_of-self-2 g c =
       kept = λ _. kept_whole
           (subst (IsLoggedTo g.D.Disk.seen g.D.Disk.may_leave c.turn.new.disk in_b) end
           c.in_ok-turn.ensures.logged)
-          (subst (λ l. Opens l [] (g.D.Disk.seen c.turn.new.disk)) same
-          c.in_ok-turn.ensures.turned)
+          (subst (λ l. Opens l [] (g.D.Disk.seen c.turn.new.disk)) is c.in_ok-turn.ensures.turned)
           (g.met.P.Replay.followed c.args.value.now);
     }

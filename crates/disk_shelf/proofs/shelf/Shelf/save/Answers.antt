@@ -1,10 +1,11 @@
-use Rattle.std.proofs.Common.{◌≡◌, ◌∙◌, ⊎_elim, Err, Some, ap, arith, inl, inr, length, refl, subst}
+use Rattle.std.proofs.Common.{◌≡◌, ◌∙◌, Err, Some, ap, arith, inl, length, refl, subst}
 use Rattle.std.proofs.lemmas.Result.{err_from_is_err_and}
 use Rattle.disk.specs.Crashes.{LeavesOnly}
 use Rattle.disk_shelf.specs.Shelf.{OldOrNew, opened}
 use Rattle.disk_shelf.proofs.Moments.{started}
 use Rattle.disk_shelf.proofs.Records.{image_seen, spelled_again, text_long}
 use Rattle.disk_shelf.proofs.Quiet.{closed_no_disk}
+use Rattle.disk_shelf.proofs.Saves.{done_save, failed_save, shut_save, unwritten_save}
 use Rattle.disk_shelf.proofs.shelf.Shelf.save.Goals as goal
 
 pub returns-in_err-bytes-clause-any_moment : goal.returns-in_err-bytes-clause-any_moment
@@ -29,32 +30,27 @@ returns-clause-any_moment g c is =
     subst (λ l. LeavesOnly g.D.Disk.moment g.D.Disk.left_since old c.swap.new.disk
     (OldOrNew (opened (g.D.Disk.seen old)) l)) same c.swap.ensures.any_moment
 
-pub returns-in_err-bytes-clause-unchanged : goal.returns-in_err-bytes-clause-unchanged
-returns-in_err-bytes-clause-unchanged g c =
-    let p = err_from_is_err_and c.from_residual.result c.from_residual.ensures.1 in
-    rw p.1 (λ _. (refl, refl))
+pub returns-then-not-self-clause-after : goal.returns-then-not-self-clause-after
+returns-then-not-self-clause-after g c = shut_save c.if-not-self.true
 
-pub returns-in_err-bytes-clause-others : goal.returns-in_err-bytes-clause-others
-returns-in_err-bytes-clause-others g c =
+pub returns-in_err-bytes-clause-after : goal.returns-in_err-bytes-clause-after
+returns-in_err-bytes-clause-after g c =
     let p = err_from_is_err_and c.from_residual.result c.from_residual.ensures.1 in
-    rw (p.1, p.2)
-    (⊎_elim (λ m. inr (inr (inl m))) (λ t. inr (inl t)) c.in_err-bytes.ensures.others)
+    rw (p.1, p.2) (unwritten_save c.if-not-self.false c.in_err-bytes.ensures.refused.others)
 
-pub returns-in_err-swap-clause-others : goal.returns-in_err-swap-clause-others
-returns-in_err-swap-clause-others g c =
+pub returns-in_err-swap-clause-after : goal.returns-in_err-swap-clause-after
+returns-in_err-swap-clause-after g c =
     let exit = c.from_residual-in_err-swap in
     let p = err_from_is_err_and exit.result exit.ensures.1 in
-    rw p.1 (inr (inr (inr p.2)))
+    rw (p.1, p.2)
+    (failed_save c.if-not-self.false (c.in_err-swap.ensures.cause.failed refl) refl)
 
-pub returns-then-not-self-clause-disk : goal.returns-then-not-self-clause-disk
-returns-then-not-self-clause-disk g c is = absurd (closed_no_disk is)
+pub returns-clause-after : goal.returns-clause-after
+returns-clause-after g c = done_save c.if-not-self.false refl
 
 pub returns-then-not-self-clause-readable : goal.returns-then-not-self-clause-readable
 returns-then-not-self-clause-readable g c is =
     absurd (closed_no_disk {T = Unit} (ap Err is))
-
-pub returns-then-not-self-clause-closed : goal.returns-then-not-self-clause-closed
-returns-then-not-self-clause-closed g c = (λ _. c.if-not-self.true, λ _. refl)
 
 pub image_in-requires : goal.image_in-requires
 image_in-requires g c =

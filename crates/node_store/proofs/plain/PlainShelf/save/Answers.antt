@@ -1,9 +1,10 @@
-use Rattle.std.proofs.Common.{◌≡◌, ◌≢◌, ◌⊎◌, ⊎_elim, sym, subst, ◌∙◌, true, false, ℕ, List, Some, Result, Ok, Err}
-use Rattle.std.specs.Prelude.{IfErr, MatchResult, OnOk}
+use Rattle.std.proofs.Common.{◌≡◌, ◌≢◌, ⊎_elim, sym, subst, ◌∙◌, ℕ, List, Some, Result, Ok, Err}
+use Rattle.std.specs.Prelude.{MatchResult, OnOk}
 use Rattle.ids.specs.declared.refusal.Refusal.{Refusal}
 use Rattle.ids.specs.declared.refusal.Refusal.TheVariants as refusal
 use Rattle.image.specs.Wholes.{IsWholeOf, saved_whole, whole_image}
 use Rattle.node.specs.Keeping.{WholeNode}
+use Rattle.disk_shelf.specs.Refusals.{AfterSave}
 use Rattle.disk_shelf.specs.Shelf.{opened}
 use Rattle.disk_shelf.proofs.Moments.{weaker}
 use Rattle.node_store.specs.Plain.{StaysPlain}
@@ -22,9 +23,8 @@ returns-in-Ok-clause-any_moment g c old keeps =
     let was = c.args.self.now in
     let seen = g.D.Disk.seen was.shelf.disk in
     weaker
-    (c.in-Ok.ensures.any_moment (open_before was.shelf.ready c.in-Ok.ensures.closed.1))
-    (λ x. either_kept old (saved_whole n) (whole_image n) seen x
-    (was.plain seen (g.met.D.Disk.reads_left was.shelf.disk)) keeps c.in-Ok.ensures.readable)
+    (c.in-Ok.ensures.any_moment (open_before was.shelf.ready c.in-Ok.ensures.after.closed.1))
+    (λ x. either_kept x (was.plain seen (g.met.D.Disk.reads_left was.shelf.disk)) keeps c.in-Ok.ensures.readable)
 
 pub returns-in-Err-clause-any_moment : goal.returns-in-Err-clause-any_moment
 returns-in-Err-clause-any_moment g c is old keeps =
@@ -32,14 +32,12 @@ returns-in-Err-clause-any_moment g c is old keeps =
     let was = c.args.self.now in
     let seen = g.D.Disk.seen was.shelf.disk in
     weaker
-    (c.in-Err.ensures.any_moment (failed_before was.shelf.ready is c.in-Err.ensures.closed.1))
-    (λ x. either_kept old (saved_whole n) (whole_image n) seen x
-    (was.plain seen (g.met.D.Disk.reads_left was.shelf.disk)) keeps (c.in-Err.ensures.readable is))
+    (c.in-Err.ensures.any_moment (failed_before was.shelf.ready is c.in-Err.ensures.after.closed.1))
+    (λ x. either_kept x (was.plain seen (g.met.D.Disk.reads_left was.shelf.disk)) keeps (c.in-Err.ensures.readable is))
 
 pub invariant_of-self : goal.invariant_of-self
 invariant_of-self g c = record {
-  plain = by c.save.result c.save.ensures.saved c.save.ensures.ready c.save.ensures.readable
-      c.save.ensures.closed.1 c.save.ensures.unchanged c.save.ensures.others;
+  plain = by c.save.result c.save.ensures.saved c.save.ensures.readable c.save.ensures.after;
 }
   where
     image : List ℕ
@@ -53,32 +51,28 @@ invariant_of-self g c = record {
 
     by : (r : Result (Unit {0}) Refusal)
         → OnOk r (opened (g.D.Disk.seen c.save.new.self.disk) ≡ Some image)
-        → OnOk r (c.save.new.self.ready ≡ true)
         → MatchResult r (λ _. IsWholeOf image n) (λ e. e ≡ refusal.Disk → IsWholeOf image n)
-        → (c.args.self.now.shelf.ready ≡ false → r ≡ Err refusal.Closed)
-        → IfErr r (λ e. e ≢ refusal.Disk → (c.save.new.self.disk ≡ c.args.self.now.shelf.disk)
-        × (c.save.new.self.ready ≡ c.args.self.now.shelf.ready))
-        → IfErr r (λ e. (e ≡ refusal.Closed) ⊎ ((e ≡ refusal.ImageTooLarge)
-        ⊎ ((e ≡ refusal.Memory) ⊎ (e ≡ refusal.Disk)))) → Stays
-    by (Ok u) saved ready readable shut same others =
+        → AfterSave g.D.Disk.faults c.args.self.now.shelf.disk c.save.new.self.disk
+        c.args.self.now.shelf.ready c.save.new.self.ready r → Stays
+    by (Ok u) saved readable after =
         only_written g.D.Disk.seen g.D.Disk.may_leave c.save.new.self.disk n image
-        (c.save.new.self.settled ready).0 saved readable
-    by (Err e) saved ready readable shut same others =
+        (c.save.new.self.settled after.ready).0 saved readable
+    by (Err e) saved readable after =
         ⊎_elim (λ is. unchanged (λ d. (let never = sym is ∙ d in absurd cc)))
         (⊎_elim (λ is. unchanged (λ d. (let never = sym is ∙ d in absurd cc)))
         (⊎_elim (λ is. unchanged (λ d. (let never = sym is ∙ d in absurd cc))) failed))
-        others
+        after.others
       where
         unchanged : (e ≢ refusal.Disk) → Stays
         unchanged apart =
-            subst (λ d. StaysPlain (g.D.Disk.may_leave d)) (sym (same apart).0)
+            subst (λ d. StaysPlain (g.D.Disk.may_leave d)) (sym (after.unchanged apart).0)
             c.args.self.now.plain
 
         failed : e ≡ refusal.Disk → Stays
         failed is x may =
             let old = c.args.self.now.shelf.disk in
             let moment = c.save.ensures.any_moment
-            (failed_before c.args.self.now.shelf.ready is shut) in
+            (failed_before c.args.self.now.shelf.ready is after.closed.1) in
             either_plain n image (g.D.Disk.seen old) x
             (c.args.self.now.plain (g.D.Disk.seen old) (g.met.D.Disk.reads_left old)) (readable is)
             (moment.each x (g.met.D.Disk.counts_now c.save.new.self.disk (g.D.Disk.moment old) x

@@ -1,6 +1,4 @@
 use Rattle.std.proofs.Common.{refl}
-use Rattle.disk_shelf.proofs.Quiet.{ok_no_err}
-use Rattle.node_store.proofs.Stores.{same_refusal}
 use Rattle.node_store.proofs.store.Store.reopen.Goals as goal
 
 pub returns-in-Ok : goal.returns-in-Ok
@@ -12,11 +10,8 @@ returns-in-Ok g c =
       only = (c.reopen.new.self.shelf.settled said.ready).0;
       shut = said.shut;
       logs = refl;
-      bad = said.bad;
-      memory = said.memory;
-      quiet = c.reopen.ensures.quiet;
-      disk = said.disk;
-      others = tt;
+      refused = tt;
+      read = said.read;
     })
 
 pub returns-in-Err : goal.returns-in-Err
@@ -28,11 +23,8 @@ returns-in-Err g c =
       only = tt;
       shut = said.shut;
       logs = refl;
-      bad = said.bad;
-      memory = said.memory;
-      quiet = c.reopen.ensures.quiet;
-      disk = said.disk;
-      others = said.others;
+      refused = said.refused;
+      read = said.read;
     })
 
 pub returns-in-Ok-reopen : goal.returns-in-Ok-reopen
@@ -44,11 +36,8 @@ returns-in-Ok-reopen g c =
       only = (c.reopen-in-Logged.new.self.kept said.ready).only;
       shut = said.shut;
       logs = refl;
-      bad = λ is. absurd (ok_no_err is);
-      memory = λ is. absurd (ok_no_err is);
-      quiet = c.reopen-in-Logged.ensures.quiet;
-      disk = said.disk;
-      others = tt;
+      refused = tt;
+      read = said.read;
     })
 
 pub returns-in-Err-reopen : goal.returns-in-Err-reopen
@@ -60,9 +49,6 @@ returns-in-Err-reopen g c =
       only = tt;
       shut = said.shut;
       logs = refl;
-      bad = λ is. said.bad (same_refusal is);
-      memory = λ is. said.memory (same_refusal is);
-      quiet = c.reopen-in-Logged.ensures.quiet;
-      disk = said.disk;
-      others = said.others;
+      refused = said.refused;
+      read = said.read;
     })

@@ -2,25 +2,35 @@ use Rattle.std.proofs.Common.{◌≡◌, IfSome, List, None, arith, refl, subst,
 use Rattle.disk_journal.specs.Tails.{place_for}
 use Rattle.disk_shelf.proofs.Quiet.{ok_no_err}
 use Rattle.image.proofs.Logged.{same_length}
+use Rattle.image.specs.Wholes.{saved_whole}
+use Rattle.node.specs.Keeping.{WholeNode}
 use Rattle.node_store.specs.Noted.{IsLogged}
+use Rattle.node_store.specs.Values.{LeadsWhole}
 use Rattle.node_store.proofs.Ends.{led_by}
 use Rattle.node_store.proofs.Stores.{failed_before, mapped_some, open_before, some_mapped}
+use Rattle.node_store.proofs.store.Store.save.Given as given
 use Rattle.node_store.proofs.store.Store.save.Goals as goal
+use Rattle.node_store.proofs.store.Store.save.Goals.{After-bytes}
+
+-- the batch that the log is leads from the node that is stored
+leads : (g : given.Over) (c : After-bytes g) (old : WholeNode)
+    → IsLogged c.args.log.now old.core c.args.node.now.core
+    → IfSome c.bytes.result (λ b. LeadsWhole b.now old (saved_whole c.args.node.now))
+leads g c old logged =
+    let n = c.args.node.now in
+    led_by (λ b. b.now) c.bytes.result old n
+    (subst (λ l. IsLogged l old.core n.core) (sym c.bytes.ensures) logged)
 
 pub returns-in-Ok : goal.returns-in-Ok
 returns-in-Ok g c =
     let said = c.in-Ok.ensures in
     rw c.in-Whole.is (record {
       saved = λ old keeps logged. said.saved;
-      ready = said.ready;
-      only = (c.save.new.self.shelf.settled said.ready).0;
+      only = (c.save.new.self.shelf.settled said.after.ready).0;
       any_moment = λ old keeps logged. said.any_moment old keeps;
       logs = refl;
-      closed = said.closed;
-      disk = said.disk;
+      after = said.after;
       too_large = (λ is. absurd (ok_no_err is), λ t. said.too_large.1 (t.0, t.2));
-      unchanged = tt;
-      others = tt;
     })
 
 pub returns-in-Err : goal.returns-in-Err
@@ -28,18 +38,14 @@ returns-in-Err g c =
     let said = c.in-Err.ensures in
     rw c.in-Whole.is (record {
       saved = tt;
-      ready = tt;
       only = tt;
       any_moment = λ is old keeps logged. said.any_moment is old keeps;
       logs = refl;
-      closed = said.closed;
-      disk = said.disk;
+      after = said.after;
       too_large = (
         λ is. (let t = said.too_large.0 is in (t.0, tt, t.1)),
         λ t. said.too_large.1 (t.0, t.2),
       );
-      unchanged = said.unchanged;
-      others = said.others;
     })
 
 pub returns-in-Ok-save : goal.returns-in-Ok-save
@@ -50,17 +56,13 @@ returns-in-Ok-save g c =
     let same = same_length n.core in
     rw c.in-Logged.is (record {
       saved = λ old keeps logged. said.saved old keeps
-          (led_by (λ b. b.now) c.bytes.result old n
-          (subst (λ l. IsLogged l old.core n.core) (sym c.bytes.ensures) logged));
-      ready = said.ready;
-      only = (c.save-in-Logged.new.self.kept said.ready).only;
+          (leads g (goal.at.returns-in-Ok-save g c).After-bytes old logged);
+      only = (c.save-in-Logged.new.self.kept said.after.ready).only;
       any_moment = λ old keeps logged. said.any_moment
-          (open_before c.in-Logged.journal.ready said.closed.1) old keeps
-          (led_by (λ b. b.now) c.bytes.result old n
-          (subst (λ l. IsLogged l old.core n.core) (sym c.bytes.ensures) logged));
+          (open_before c.in-Logged.journal.ready said.after.closed.1) old keeps
+          (leads g (goal.at.returns-in-Ok-save g c).After-bytes old logged);
       logs = refl;
-      closed = said.closed;
-      disk = said.disk;
+      after = said.after;
       too_large = (
         λ is. absurd (ok_no_err is),
         λ t. said.too_large.1 (
@@ -70,8 +72,6 @@ returns-in-Ok-save g c =
           omega (arith, t.2, same),
         ),
       );
-      unchanged = tt;
-      others = tt;
     })
 
 pub returns-in-Err-save : goal.returns-in-Err-save
@@ -82,15 +82,12 @@ returns-in-Err-save g c =
     let same = same_length n.core in
     rw c.in-Logged.is (record {
       saved = tt;
-      ready = tt;
       only = tt;
       any_moment = λ is old keeps logged. said.any_moment
-          (failed_before c.in-Logged.journal.ready is said.closed.1) old keeps
-          (led_by (λ b. b.now) c.bytes.result old n
-          (subst (λ l. IsLogged l old.core n.core) (sym c.bytes.ensures) logged));
+          (failed_before c.in-Logged.journal.ready is said.after.closed.1) old keeps
+          (leads g (goal.at.returns-in-Err-save g c).After-bytes old logged);
       logs = refl;
-      closed = said.closed;
-      disk = said.disk;
+      after = said.after;
       too_large = (
         λ is. (let t = said.too_large.0 is in (
           t.0,
@@ -105,6 +102,4 @@ returns-in-Err-save g c =
           omega (arith, t.2, same),
         ),
       );
-      unchanged = said.unchanged;
-      others = said.others;
     })

@@ -5,6 +5,5 @@ use Rattle.supervisor.proofs.space.SpaceOn.program.Goals as goal
 pub returns-in-Some-clause-cell : goal.returns-in-Some-clause-cell
 returns-in-Some-clause-cell g c =
     let found = c.in-Some.ensures.lookup in
-    found-in arc_value c.args.self.now.cells.items c.deref.result.now c.args.node c.from.result
-    c.in-Some.cell.now c.deref-in-Some.result.now c.deref.ensures.value c.from.ensures found.3.0
-    found.1 c.deref-in-Some.ensures
+    found-in arc_value c.deref.ensures.value c.from.ensures found.3.0 found.1
+    c.deref-in-Some.ensures

@@ -30,9 +30,8 @@ loop-worker-preserved g c =
         c.push_reserved.ensures.capacity,
       );
       all = IsPermutation-trans _ _ _ was.all
-          (joined (λ (w : Worker). w.of.node) (λ (r : Report). r.node) _ left worker
-          c.loop-worker.reports.items _ c.join.result moved c.push_reserved.ensures.items
-          c.join.ensures.2.own);
+          (joined (λ (w : Worker). w.of.node) (λ (r : Report). r.node) _ moved
+          c.push_reserved.ensures.items c.join.ensures.2.own);
       planned = All-tail Planned worker left planned;
       reported = All-same Reported _ _ c.push_reserved.ensures.items
           (All-push Reported c.loop-worker.reports.items c.join.result was.reported

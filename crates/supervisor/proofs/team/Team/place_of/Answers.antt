@@ -10,7 +10,6 @@ loop-place-init c = λ k n there below. absurd (omega (arith, below))
 pub loop-place-preserved : goal.loop-place-preserved
 loop-place-preserved c =
     others-next (λ w. w.of.node) c.args.self.now.workers.items c.args.node c.loop-place.place
-    c.index.result.now
     (omega (
       arith,
       c.loop-place-test.true,

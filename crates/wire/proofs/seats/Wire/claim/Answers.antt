@@ -1,4 +1,4 @@
-use Rattle.std.proofs.Common.{rules, ◌≡◌, ◌+◌, ◌*◌, ◌<◌, refl, sym, ◌∙◌, subst, subst₂, arith, length, vec_len}
+use Rattle.std.proofs.Common.{rules, ◌+◌, ◌*◌, ◌<◌, refl, sym, ◌∙◌, subst, subst₂, arith}
 use Rattle.wire.proofs.Numbers.{box-of, in-words, own-from, a-node}
 use Rattle.wire.specs.Plays.{IsSupplied}
 use Rattle.wire.specs.Seated.{Sits}
@@ -26,14 +26,10 @@ hold-requires c =
     let s = c.args.seat.now in
     let at = s.node * s.nodes + c.from.result in
     let to_is : c.from.result < s.nodes = search rules in
-    let to = c.from.result in
-    let box = box-of {k = s.nodes} {m = at} s.node to s.nodes s.sits.within to_is refl refl in
     let told = c.compare_exchange-found.ensures.2.0 c.if-found-ne-EMPTY.false in
     let few = room-for at s.sits (s.sits.minded at ∙ fresh-minds at s.seat.me.0 told.4)
-    (own-from s.node to s.nodes at box) in
-    let room = s.room in
-    let long : vec_len s.held ≡ length s.held.items = search rules in
-    omega (arith, few, room, long)
+    (own-from s.node c.from.result s.nodes s.sits.within to_is) in
+    omega (arith, few, s.room, s.held.ok.0)
 
 pub invariant_of-seat-2 : goal.invariant_of-seat-2
 invariant_of-seat-2 c =
@@ -41,12 +37,12 @@ invariant_of-seat-2 c =
     let to = c.from.result in
     let at = s.node * s.nodes + to in
     let to_is : to < s.nodes = search rules in
-    let box = box-of {k = s.nodes} {m = at} s.node to s.nodes s.sits.within to_is refl refl in
     let told = c.compare_exchange-found.ensures.2.0 c.if-found-ne-EMPTY.false in
     record {
       sits = subst₂ (Sits (λ v. v.items) s.node s.nodes) (sym c.hold.ensures.items)
           (λ i. (sym told.2 i, sym told.3 i))
-          (sits-claimed at told.0 told.1 s.sits told.4 (own-from s.node to s.nodes at box));
+          (sits-claimed at told.0 told.1 s.sits told.4
+          (own-from s.node to s.nodes s.sits.within to_is));
       supplied = subst IsSupplied (sym told.2) (still-supplied s.supplied);
       room = search rules;
     }

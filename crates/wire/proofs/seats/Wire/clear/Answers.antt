@@ -1,4 +1,4 @@
-use Rattle.std.proofs.Common.{rules, ◌≡◌, ℕ, ◌+◌, ◌*◌, ◌<◌, ◌∷◌, drop, refl, sym, ap, ◌∙◌, subst, subst₂}
+use Rattle.std.proofs.Common.{rules, ◌≡◌, ℕ, ◌+◌, ◌*◌, ◌<◌, ◌∷◌, drop, refl, sym, ap, ◌∙◌, subst}
 use lib.ListN.{get_elem?}
 use Rattle.atomic_table.specs.Table.{rest}
 use Rattle.wire.specs.Lists.{has, found}
@@ -6,7 +6,7 @@ use Rattle.wire.specs.Views.{Known, clears}
 use Rattle.wire.specs.Plays.{IsSupplied}
 use Rattle.wire.specs.Seated.{Sits}
 use Rattle.wire.proofs.Numbers.{box-of, in-words, a-node}
-use Rattle.wire.proofs.Sitting.{sits-cleared}
+use Rattle.wire.proofs.Sitting.{sits-left, sits-cleared}
 use Rattle.wire.proofs.Supplying.{still-supplied}
 use Rattle.wire.proofs.MailPlays.{clears_allowed}
 use Rattle.wire.proofs.seats.Wire.clear.Goals as goal
@@ -42,18 +42,15 @@ invariant_of-seat c =
     let at = c.from.result * s.nodes + s.node in
     let now = c.exchange-bytes.ensures in
     let told = c.store.ensures.2 in
-    let front = c.bring.ensures.front in
-    let sits = subst (λ o. Sits (λ v. v.items) b.node b.nodes b.held.items (b.seat.me.0, o)) front.1
-    b.sits in
+    let sits = subst (λ o. Sits (λ v. v.items) b.node b.nodes b.held.items (b.seat.me.0, o))
+    c.bring.ensures.front.1 b.sits in
     record {
-      sits = subst₂ (Sits (λ v. v.items) b.node b.nodes)
+      sits = sits-left
+          (sits-cleared at told.0.0 _ sits
+          (sym (ap (λ m. has at m.0.filling) now.3) ∙ told.2))
           (ap (drop 1) sits.order ∙ sym c.remove.ensures.items)
-          (λ i. (
-            (sym (told.0.1 ∙ ap (λ m. clears at told.0.0 m.0) now.3)) i,
-            (sym (told.1 ∙ ap (λ m. rest m.1) now.3)) i,
-          ))
-          (sits-cleared at told.0.0 front.0 sits
-          (sym (ap (λ m. has at m.0.filling) now.3) ∙ told.2));
+          (sym (told.0.1 ∙ ap (λ m. clears at told.0.0 m.0) now.3))
+          (sym (told.1 ∙ ap (λ m. rest m.1) now.3));
       supplied = subst IsSupplied (sym told.0.1)
           (still-supplied (subst (λ m. IsSupplied m.0) (sym now.3) b.supplied));
       room = search rules;

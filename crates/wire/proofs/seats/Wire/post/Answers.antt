@@ -5,7 +5,7 @@ use Rattle.wire.specs.Views.{Known, posts}
 use Rattle.wire.specs.Plays.{IsSupplied, Owns}
 use Rattle.wire.specs.Seated.{Sits}
 use Rattle.wire.proofs.Numbers.{box-of, in-words, a-node}
-use Rattle.wire.proofs.Sitting.{sits-posted}
+use Rattle.wire.proofs.Sitting.{sits-left, sits-posted}
 use Rattle.wire.proofs.Supplying.{still-supplied}
 use Rattle.wire.proofs.MailPlays.{posts_allowed}
 use Rattle.wire.proofs.seats.Wire.post.Goals as goal
@@ -43,18 +43,15 @@ invariant_of-seat c =
     let at = s.node * s.nodes + c.from.result in
     let now = c.exchange-emptied.ensures in
     let told = c.store.ensures.2 in
-    let front = c.bring.ensures.front in
-    let sits = subst (λ o. Sits (λ v. v.items) b.node b.nodes b.held.items (b.seat.me.0, o)) front.1
-    b.sits in
+    let sits = subst (λ o. Sits (λ v. v.items) b.node b.nodes b.held.items (b.seat.me.0, o))
+    c.bring.ensures.front.1 b.sits in
     record {
-      sits = subst₂ (Sits (λ v. v.items) b.node b.nodes)
+      sits = sits-left
+          (sits-posted at told.1.0.0 told.0 _ sits
+          (sym (ap (λ m. found at m.0.emptying) now.3) ∙ told.1.2))
           (ap (drop 1) sits.order ∙ sym c.remove.ensures.items)
-          (λ i. (
-            (sym (told.1.0.1 ∙ ap (λ m. posts at told.1.0.0 told.0 m.0) now.3)) i,
-            (sym (told.1.1 ∙ ap (λ m. rest m.1) now.3)) i,
-          ))
-          (sits-posted at told.1.0.0 told.0 front.0 sits
-          (sym (ap (λ m. found at m.0.emptying) now.3) ∙ told.1.2));
+          (sym (told.1.0.1 ∙ ap (λ m. posts at told.1.0.0 told.0 m.0) now.3))
+          (sym (told.1.1 ∙ ap (λ m. rest m.1) now.3));
       supplied = subst IsSupplied (sym told.1.0.1)
           (still-supplied (subst (λ m. IsSupplied m.0) (sym now.3) b.supplied));
       room = search rules;

@@ -22,16 +22,16 @@ clear-bytes-requires-clause-taken c =
       subst (λ (k : ℕ). k < c.args.self.now.nodes) (sym told.0) c.requires.from.0,
       (
         told.2.0,
-        (found-taken c.args.seat.now c.take.new.seat c.args.from c.in_ok-taken.taken.from
-            told.2.5.0 told.2.0 same told.0 told.2.5.1).1,
+        (found-taken c.args.seat.now c.take.new.seat told.2.5.0 told.2.0 same told.0
+            told.2.5.1).1,
       ),
     )
 
 pub unreachable-requires : goal.unreachable-requires
 unreachable-requires c =
     let told = c.in_ok-taken.ensures.taken in
-    let at = found-taken c.args.seat.now c.take.new.seat c.args.from c.in_ok-taken.taken.from
-    told.2.5.0 told.2.0 c.take.ensures.same told.0 told.2.5.1 in
+    let at = found-taken c.args.seat.now c.take.new.seat told.2.5.0 told.2.0 c.take.ensures.same
+    told.0 told.2.5.1 in
     c.in-Err.ensures.only told.2.0 told.2.1
     (c.deref.ensures.value ∙ c.clear-bytes.ensures.bytes told.2.0 at.1)
 
@@ -45,8 +45,7 @@ returns-clause-taken c =
     let s = c.args.seat.now in
     let told = c.in_ok-taken.ensures.taken in
     let f : Plain = told.2.0 in
-    let at = found-taken s c.take.new.seat c.args.from c.in_ok-taken.taken.from told.2.5.0 f
-    c.take.ensures.same told.0 told.2.5.1 in
+    let at = found-taken s c.take.new.seat told.2.5.0 f c.take.ensures.same told.0 told.2.5.1 in
     let bytes : c.deref.result.now ≡ spelling f =
     c.deref.ensures.value ∙ c.clear-bytes.ensures.bytes f at.1 in
     let cleared = c.clear-bytes.ensures.cleared in

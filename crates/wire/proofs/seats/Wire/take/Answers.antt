@@ -1,4 +1,4 @@
-use Rattle.std.proofs.Common.{rules, ◌≡◌, ℕ, ◌+◌, ◌*◌, ◌/◌, ◌<◌, refl, sym, ap, ◌∙◌, subst, subst₂, arith, length, vec_len}
+use Rattle.std.proofs.Common.{rules, ◌≡◌, ℕ, ◌+◌, ◌*◌, ◌/◌, ◌<◌, refl, sym, ap, ◌∙◌, subst, subst₂, arith}
 use Rattle.wire.specs.Views.{takes_in}
 use Rattle.wire.specs.Plays.{IsSupplied}
 use Rattle.wire.specs.Seated.{Sits}
@@ -27,28 +27,22 @@ hold-requires c =
     let s = c.args.seat.now in
     let at = c.from.result * s.nodes + s.node in
     let from_is : c.from.result < s.nodes = search rules in
-    let from = c.from.result in
-    let box = box-of {k = s.nodes} {m = at} from s.node s.nodes from_is s.sits.within refl refl in
     let told = c.compare_exchange-found.ensures.2.0 c.if-found-ne-FULL.false in
     let few = room-for at s.sits (s.sits.minded at ∙ fresh-minds at s.seat.me.0 told.1.4.3)
-    (own-to from s.node s.nodes at box) in
-    let room = s.room in
-    let long : vec_len s.held ≡ length s.held.items = search rules in
-    omega (arith, few, room, long)
+    (own-to c.from.result s.node s.nodes from_is s.sits.within) in
+    omega (arith, few, s.room, s.held.ok.0)
 
 pub invariant_of-seat-2 : goal.invariant_of-seat-2
 invariant_of-seat-2 c =
     let s = c.args.seat.now in
     let at = c.from.result * s.nodes + s.node in
     let from_is : c.from.result < s.nodes = search rules in
-    let from = c.from.result in
-    let box = box-of {k = s.nodes} {m = at} from s.node s.nodes from_is s.sits.within refl refl in
     let told = c.compare_exchange-found.ensures.2.0 c.if-found-ne-FULL.false in
     record {
       sits = subst₂ (Sits (λ v. v.items) s.node s.nodes) (sym c.hold.ensures.items)
           (λ i. (sym told.1.0.1 i, sym told.1.4.1 i))
           (sits-took at told.1.0.0 told.1.4.0 told.0 s.sits told.1.4.3
-          (own-to from s.node s.nodes at box) told.1.4.2.1);
+          (own-to c.from.result s.node s.nodes from_is s.sits.within) told.1.4.2.1);
       supplied = ∣ told.1.5 ∣₁;
       room = search rules;
     }

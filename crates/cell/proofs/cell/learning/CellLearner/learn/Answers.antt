@@ -2,8 +2,8 @@ use Rattle.std.proofs.Common.{ap, sym, ◌∙◌}
 use Rattle.wire.specs.Views.{learns}
 use Rattle.wire.specs.Readers.{known}
 use Rattle.node_store.specs.Stores.{disk_of, is_ready_in, logs_in}
-use Rattle.cell.proofs.Dropping.{dropped-as, took-same}
-use Rattle.cell.proofs.Opening.{stays-left}
+use Rattle.cell.proofs.Dropping.{took-same}
+use Rattle.cell.proofs.Still.{is-still, still-kept}
 use Rattle.cell.proofs.Views.{cell_at}
 use Rattle.cell.proofs.cell.learning.CellLearner.learn.Goals as goal
 
@@ -11,22 +11,10 @@ pub invariant_of-self-inside : goal.invariant_of-self-inside
 invariant_of-self-inside g c =
     let cell = c.self.inside in
     let said = c.learn.ensures in
-    let desk = c.learn.new.self in
-    let v = known cell.desk.seat in
-    let w = known desk.seat in
-    let took = took-same v w (ap (λ u. u.me) said.learned.known)
-    (ap (λ u. u.taken) said.learned.known) in
-    let first = cell.first.value in (
-      dropped-as first v w cell.desk.node.core desk.node.core took
-          (ap (λ d. d.node.core) said.stays) cell.dropped,
-      (
-        dropped-as first v w cell.desk.saved desk.saved took (ap (λ d. d.saved) said.stays)
-            cell.saved_dropped,
-        stays-left (g.D.Disk.may_leave (disk_of cell.store))
-            (ap (λ d. d.saved) said.stays) (ap (λ d. d.node.core) said.stays) cell.while_open
-            cell.left cell.imaged,
-      ),
-    )
+    still-kept (g.D.Disk.may_leave (disk_of cell.store))
+    (is-still cell.desk c.learn.new.self
+    (took-same _ _ (ap (λ v. v.me) said.learned.known) (ap (λ v. v.taken) said.learned.known)) said.stays)
+    cell.dropped cell.saved_dropped cell.while_open cell.left cell.imaged
 
 pub returns-clause-learned : goal.returns-clause-learned
 returns-clause-learned g c =

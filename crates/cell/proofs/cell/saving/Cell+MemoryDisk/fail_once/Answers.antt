@@ -1,16 +1,11 @@
 use Rattle.std.proofs.Common.{ap}
-use Rattle.cell.proofs.Opening.{told-to-fail}
+use Rattle.cell.proofs.Opening.{cell-facts, told-to-fail}
 use Rattle.cell.proofs.cell.saving.Cell+MemoryDisk.fail_once.Goals as goal
 
 pub invariant_of-self-inside : goal.invariant_of-self-inside
 invariant_of-self-inside c =
-    let cell = c.self.inside in (
-      cell.dropped,
-      (
-        cell.saved_dropped,
-        told-to-fail _ _ cell.desk.saved cell.desk.node.core _ _
-            (ap (λ a. a.state) c.fail_once.ensures.account)
-            c.fail_once.ensures.ready c.fail_once.ensures.logs cell.while_open cell.left
-            cell.imaged,
-      ),
-    )
+    let cell = c.self.inside in
+    let said = c.fail_once.ensures in
+    cell-facts cell.dropped cell.saved_dropped
+    (told-to-fail cell.desk.saved cell.desk.node.core (ap (λ a. a.state) said.account) said.same.0
+    said.same.1 cell.while_open cell.left cell.imaged)

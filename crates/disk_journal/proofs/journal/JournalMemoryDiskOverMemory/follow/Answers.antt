@@ -5,12 +5,12 @@ use Rattle.disk.specs.Record.{areas_of, leaves}
 use Rattle.disk_shelf.specs.Shelf.{half, side}
 use Rattle.disk.specs.declared.account.Account.{Account}
 use Rattle.disk.specs.declared.state.State.{State}
-use Rattle.disk_journal.proofs.journal.Journal+MemoryDisk+P.fail_once.Goals as goal
+use Rattle.disk_journal.proofs.journal.JournalMemoryDiskOverMemory.follow.Goals as goal
 
 pub invariant_of-self : goal.invariant_of-self
 invariant_of-self g c =
     let tail = c.args.self.now.tail in
-    let same = ap (λ (a : Account). a.state) c.fail_once.ensures.account in
+    let same = ap (λ (a : Account). a.state) c.follow.ensures.account in
     record {
       kept = λ is.
           let k = c.args.self.now.kept is in

@@ -1,6 +1,6 @@
 use Rattle.std.proofs.Common.{◌≡◌, ◌≤◌, ◌*◌}
 use Rattle.workers.specs.Turns.{count, freed_over, received_over, whole_turns, AreTurns}
-use Rattle.workers.proofs.run.take_turns.Given as goal
+use Rattle.workers.proofs.run.run_node.Given as goal
 
 abbrev pub invariant-loop-turn : goal.invariant-loop-turn
 invariant-loop-turn g l = record {
