@@ -54,25 +54,24 @@ pub fn laws()
     // A step that isn't an event changes nothing: for example reading a word, a repeat, or a
     // refused step.
     ensures events { OnlyEventsChange }
-    // Take any moment of a run, and any choice of current and saved states later in that run. This
-    // choice is one of that moment's choices, followed by steps without saves and restarts.
+    // A cut is a choice of a state of each node, the current or the saved one. Each cut of any later
+    // moment of a run is a cut of this moment, followed by steps without saves and restarts.
     ensures cuts_extend { OfEveryRun CutsExtend }
-    // In each such choice, every reference that is reachable from a register, a letter or a message
-    // in flight names an object that its owner still has.
+    // In each cut, every reference that is reachable from a register, a letter or a message in
+    // flight names an object that its owner still has.
     ensures live { OfEveryRun ReachIsLive }
-    // In each such choice with the current state of a sweeping node, that node's reachable objects
-    // are there before the sweep, and the same after it.
+    // In each cut with the current state of a sweeping node, that node's reachable objects are there
+    // before the sweep, and the same after it.
     ensures frees_none_reachable { OfEveryRun SweepsFreeNoneReachable }
-    // In each such choice, if a node counts a cycle's marking as ended, so does node 0, and so does
-    // every node in a later cycle. All nodes have joined the cycle, no node in it has a grey
-    // object, and no message that it counts is in flight.
+    // In each cut, if a node counts a cycle's marking as ended, so does node 0, and so does every
+    // node in a later cycle. All nodes have joined the cycle, no node in it has a grey object, and
+    // no message that it counts is in flight.
     ensures agreement { OfEveryRun NodesAgree }
-    // In each such choice, the balances add up to the number of messages in flight that node 0's
-    // cycle counts.
+    // In each cut, the balances add up to the number of messages in flight that node 0's cycle
+    // counts.
     ensures balances { OfEveryRun BalancesAddUp }
-    // Take an object that a node had saved before a cycle began, and that was reachable in no
-    // choice then. In any later choice in which the node has swept that cycle, it no longer has the
-    // object.
+    // Take an object that a node had saved before a cycle began, and that was reachable in no cut
+    // then. In any later cut in which the node has swept that cycle, it no longer has the object.
     ensures old_garbage { OfEveryRun OldGarbageGoes }
     // A Mark, Put or Get that is received finds the object that it is about: it is the receiver's,
     // and live.
@@ -80,9 +79,9 @@ pub fn laws()
     // A frame that was released, a message or an acknowledgement, may be delivered at any later
     // time.
     ensures net { OfEveryRun NetGrows }
-    // No released message is refused as one for another node or space. It is refused only before
-    // its turn, or if a message that it makes the receiver send would need a number above the
-    // greatest.
+    // No released message is refused as one for another node or space. It is refused only if it is
+    // so early that the receiver has no place for it, or if a message that it makes the receiver
+    // send would need a number above the greatest.
     ensures in_turn { OfEveryRun NoneRefusedInTurn }
     // No acknowledgement covers more than was released, and its receiver accepts it at any time. So
     // the acknowledgement that is handed over is never refused.
