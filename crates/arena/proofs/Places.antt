@@ -1,7 +1,7 @@
 -- How the places of a block are taken apart and put together. Assumes `Logic`.
-use mathlib.Core.Path.{◌≡◌, refl, sym}
+use mathlib.Core.Path.{◌≡◌, ◌∙◌, ap, refl, sym}
 use mathlib.Core.List.{List, [], ◌∷◌, ◌++◌}
-use Prim.Native.Nat.{ℕ, zero, suc, ◌+◌, ◌*◌, ◌<◌}
+use Prim.Native.Nat.{ℕ, zero, suc, ◌+◌, ◌*◌, ◌<◌, ◌^◌}
 use native.Mathlib.Nat.{zero-mul}
 use native.Mathlib.Omega.{arith}
 use lib.ListN.{length, get_or}
@@ -17,7 +17,7 @@ use denote.Index.{place, place_is, row}
 use denote.Memory.{part_at, shared_of}
 use denote.Steps.{nothing}
 use Rattle.core.proofs.ptr.Rows.{El, R, el_x, elτ, sz, add_times, one_more, row_glue}
-use Rattle.core.proofs.ptr.Rows.{room_snoc, glued}
+use Rattle.core.proofs.ptr.Rows.{glued, one_below, room_snoc, times_below}
 use Rattle.std_alloc.proofs.RawLayout.{as_raw, as_written}
 use Rattle.arena.specs.Block.{room_of, values_lent}
 
@@ -106,3 +106,27 @@ pub same-read : {X : Type 0} (xs : List X) (i : ℕ) (d e : X) → i < length xs
 same-read [] i d e lt = absurd (omega arith)
 same-read (x ∷ xs) zero d e lt = refl
 same-read (x ∷ xs) (suc i) d e lt = same-read xs i d e (omega arith)
+
+-- the value of this number is in a block of which nothing was emptied
+pub record Inside (E : El) (emptied unused : ℕ) (xs : List (el_x E)) (index o : ℕ) : Type 0 where
+  pub lt : index < length xs
+  pub some_value : el_x E
+  pub here : index * sz E + o ≡ place (sz E) (emptied * sz E + o) index
+  pub tiny : sz E < 2 ^ 64
+  pub far : index * sz E < 2 ^ 64
+
+pub inside : (E : El) (emptied unused : ℕ) (xs : List (el_x E)) (index o : ℕ)
+    → (emptied ≡ 0) × (index < length xs) → (emptied + length xs + unused) * sz E < 2 ^ 63
+    → Inside E emptied unused xs index o
+inside E emptied unused xs index o asked small =
+    let size = sz E in
+    let all = emptied + length xs + unused in
+    record {
+      lt = asked.1;
+      some_value = (not-empty xs (omega (arith, asked.1))).0;
+      here = ap (λ (j : ℕ). index * size + j)
+          (sym (ap (λ (j : ℕ). j * size + o) asked.0 ∙ first-place size o))
+          ∙ sym (place_is size (emptied * size + o) index);
+      tiny = omega (arith, one_below all size (2 ^ 63) (omega (arith, asked.1)) small);
+      far = omega (arith, times_below index all size (2 ^ 63) (omega (arith, asked.1)) small);
+    }

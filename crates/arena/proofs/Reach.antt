@@ -3,17 +3,13 @@ use Rattle.std.proofs.Common.{◌≡◌, ℕ, ◌/◌, ◌%◌, ◌<◌, List, [
 use Rattle.std.proofs.Common.{set}
 use Rattle.std.proofs.Common.{sym, ap, ◌∙◌, subst, arith}
 use Rattle.arena.specs.Row.{Row, row}
-use Rattle.arena.specs.Chunked.{chunks_of, flat, IsPacked, IsPresent, HasRoom}
+use Rattle.arena.specs.Chunked.{chunks_of, flat, IsPacked, HasRoom}
 use Rattle.arena.specs.declared.root.Root.{Root}
-use Rattle.arena.specs.declared.root.Root.TheVariants.{Absent, Present}
+use Rattle.arena.specs.declared.root.Root.TheVariants.{Present}
 use Rattle.arena.specs.declared.root.TheConstants.{CHUNK}
 use Rattle.arena.proofs.Packed.{IsAt, rewritten, lies, chunk_there, last_there, extends, adds}
 
 module _ {E : Type 0} where
-  pub present : (root : Root E) → 0 < length (flat (chunks_of root)) → IsPresent root
-  present Absent some = absurd (omega arith)
-  present (Present chunks) some = tt
-
   module _ {root : Root E} {chunks : Row (Row E)} (there : root ≡ Present chunks)
       (sound : IsPacked (chunks_of root)) where
     abbrev Items : List E

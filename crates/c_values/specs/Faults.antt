@@ -1,7 +1,6 @@
 -- The statuses of calls from C, and what a call writes.
 use Rattle.std.specs.Prelude.{◌≡◌, ℤ, pos, Option, Some, None, Result, Ok, Err}
 use Rattle.ids.specs.Refusals.{number_of}
-use Rattle.ids.specs.declared.refusal.Refusal.{Refusal}
 use Rattle.c_values.specs.declared.fault.Fault.{Fault}
 use Rattle.c_values.specs.declared.fault.Fault.TheVariants as fault
 
@@ -20,11 +19,6 @@ status_of fault.Congested = pos 107
 status_of fault.Nothing = pos 108
 status_of (fault.Ages sender receiver) = pos 109
 status_of fault.NoLog = pos 110
-
--- a refusal is a fault, and an answer stays one
-abbrev pub as_fault : {A : Type 0} → Result A Refusal → Result A Fault
-as_fault (Ok a) = Ok a
-as_fault (Err e) = Err (fault.Refused e)
 
 -- ---- Calls of a handle
 

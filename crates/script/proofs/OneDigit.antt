@@ -5,7 +5,7 @@ use Rattle.std.specs.Str.{IsUtf8, IsCharBoundary}
 use Rattle.std.proofs.lemmas.Bool.{and_parts, cond-true, eqb-true, false≢true, lt-ltb}
 use Rattle.std.proofs.lemmas.Str.{IsCharBoundary-after_ascii}
 use Rattle.script.specs.Grammar.{u64_of, value_after}
-use Rattle.script.specs.Words.{digit_count, ends_word, fits_word, is_one_digit, is_space, word_end, word_of}
+use Rattle.script.specs.Words.{digit_count, ends_word, fits_word, is_one_digit, is_space, word_of}
 use Rattle.script.proofs.Fronts.{digits_of, number_is, word_ends, word_number, at_digit}
 
 -- the three tests

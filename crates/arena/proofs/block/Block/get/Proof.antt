@@ -1,6 +1,6 @@
 -- `get` reads the pointer through a `&`, and returns its share of one value. Assumes `Logic`.
 use Rattle.arena.proofs.Names.{◌≡◌, refl, sym, ap, subst, ◌∙◌, List, [], ◌∷◌, ◌++◌, ℕ, ◌+◌, ◌*◌}
-use Rattle.arena.proofs.Names.{◌<◌, ◌^◌, arith, length, get_or, Lft, Share, ftrue, flft}
+use Rattle.arena.proofs.Names.{◌<◌, length, get_or, Lft, Share, ftrue, flft}
 use Rattle.arena.proofs.Names.{ent, id⊢, never, SProp, Fn, a_type, w64, inst_fn, Val, vptr}
 use Rattle.arena.proofs.Names.{vint, vstruct, vcons, vnil, WpFn, ‵, raw, ◌⊛◌, at_ret}
 use Rattle.arena.proofs.Names.{◌$◌, ◌∵◌, !, qed, by, move, keep, drop, use0, use1, split, join}
@@ -8,10 +8,10 @@ use Rattle.arena.proofs.Names.{rewrite, fsplit, fjoin, feq_i, flt_l, suffices, w
 use Rattle.arena.proofs.Names.{sub, look_in, enter, stop, fld, load, bin, of_opd, size_lit, first}
 use Rattle.arena.proofs.Names.{blocks, exec, returns, alloc_all, pass_all, free_all, look_at, get}
 use Rattle.arena.proofs.Names.{through, sets, sets_last, env, fact, fact_i, tables, ◌⊑◌, usize, yes}
-use Rattle.arena.proofs.Names.{cell_at, place, place_is, layouts, owns, Ptr}
+use Rattle.arena.proofs.Names.{cell_at, place, layouts, owns, Ptr}
 use Rattle.arena.proofs.Names.{block_ptr, in_a_block, plain, types_at, nothing, heard, Stays}
-use Rattle.arena.proofs.Names.{walk_of, stay_dropped, Goes-dropped, El, R, el_x, sz, times_below}
-use Rattle.arena.proofs.Names.{one_below, proved_at, leaves}
+use Rattle.arena.proofs.Names.{walk_of, stay_dropped, Goes-dropped, El, R, el_x, sz}
+use Rattle.arena.proofs.Names.{proved_at, leaves}
 use base.Fml.{fhide}
 use base.Logic.{emp}
 use types.Run.{addr}
@@ -26,7 +26,7 @@ use denote.Struct.Lending.{lent_out}
 use Rattle.std_alloc.proofs.VecSteps.Shapes.{after}
 use Rattle.arena.specs.Block.{block_lent}
 use Rattle.arena.proofs.Opens.{B, Fields, owner, fields-open, fields-told}
-use Rattle.arena.proofs.Places.{first-place, not-empty, same-read, lent-place}
+use Rattle.arena.proofs.Places.{same-read, lent-place, inside}
 use Rattle.arena.specs.contracts.block.Block as block
 use Rattle.arena.specs.contracts.block.Block.get as F
 use Rattle.arena.specs.contracts.block.Block.get.Key.{name as #self}
@@ -71,20 +71,11 @@ get_spec 𝓤 𝓛 𝓜 𝓡 wired T L =
     (block.the_lent (R E)) κ d rb ro) $ split ! $ move ! (1 ∷ []) $ unhide ! $
     in_a_block ! d.start (λ p. block_lent (R E) p k xs n κ) (id⊢ 𝓤 (never 𝓤)) (λ b o e. fsplit ! $
     flt_l ! (λ small.
-    let lt : index < length xs = asked.1 in let from : ℕ = k * s + o in
-    let at : ℕ = index * s + o in
-    let some_value : el_x E = (not-empty xs (omega (arith, lt))).0 in
-    let x : el_x E = get_or xs index some_value in
-    let here : at ≡ place s from index =
-    ap (λ (j : ℕ). index * s + j) (sym (ap (λ (j : ℕ). j * s + o) asked.0 ∙ first-place s o))
-    ∙ sym (place_is s from index) in
-    let tiny : s < 2 ^ 64 =
-    omega (arith, one_below (k + length xs + n) s (2 ^ 63) (omega (arith, lt)) small) in
-    let far : index * s < 2 ^ 64 =
-    omega (arith, times_below index (k + length xs + n) s (2 ^ 63) (omega (arith, lt)) small) in
+    let i = inside E k n xs index o asked small in let from : ℕ = k * s + o in
+    let at : ℕ = index * s + o in let x : el_x E = get_or xs index i.some_value in
     use1 𝓛 (‵ (shared_of (R E) x b (place s from index) κ))
-    (lent-place E 𝓛 b κ xs some_value from lt) $
-    rewrite ! 0 (λ (j : ℕ). ‵ (shared_of (R E) x b j κ)) (sym here) refl $ hide ! $
+    (lent-place E 𝓛 b κ xs i.some_value from i.lt) $
+    rewrite ! 0 (λ (j : ℕ). ‵ (shared_of (R E) x b j κ)) (sym i.here) refl $ hide ! $
     move ! (1 ∷ 2 ∷ []) $
     looks ! tt (Fields E) (fields-open E 𝓛) (d.start, tt) rb ro (λ q' vs. move ! (1 ∷ []) $
     peeks ! (Fields E) (Is (Fields E)) (shows 𝓛 (Fields E)) (d.start, tt) vs (λ is.
@@ -95,8 +86,9 @@ get_spec 𝓤 𝓛 𝓜 𝓡 wired T L =
     blocks ! $
     sets ! (of_opd ! (load ! (through ! refl (fld ! refl (stop !)))
     (look_in ! 1 (sub ! 0 refl (whole !))))) refl (tt, tt) $
-    sets ! (bin ! (get ! refl) (size_lit ! (record { fits = tiny })) (record { fits = far })) refl
-    (tt, record { fits = far }) $
+    sets ! (bin ! (get ! refl) (size_lit ! (record { fits = i.tiny })) (record { fits = i.far }))
+    refl
+    (tt, record { fits = i.far }) $
     sets ! (bin ! (get ! refl) (get ! refl) tt) refl (tt, tt) $
     sets_last ! (addr ! (through ! refl (stop !))) refl (tt, tt) $
     exec ! 𝓣.C 𝓣.Λ (env fn.locals l) (after 1 fn.body) (at_ret _ Post) $
@@ -107,6 +99,6 @@ get_spec 𝓤 𝓛 𝓜 𝓡 wired T L =
     returns ! (look_at ! 0 refl) $ free_all ! refl $ keep ! (1 ∷ 3 ∷ 0 ∷ []) $ join ! $
     let r : Bor (el_x E) = record { ref_ptr = (b, at); now = x } in
     let Told : Type 0 = x ≡ get_or xs index x in
-    use0 𝓛 (raw (fact 𝓤 Told)) (fact_i 𝓤 Told (emp 𝓤) (same-read xs index some_value x lt)) $
+    use0 𝓛 (raw (fact 𝓤 Told)) (fact_i 𝓤 Told (emp 𝓤) (same-read xs index i.some_value x i.lt)) $
     nothing ! $ nothing ! $ fjoin ! $ nothing ! $ fjoin ! $ move ! (2 ∷ 0 ∷ 3 ∷ 1 ∷ []) $
     by ! (leaves 𝓛 Ed hs c z (vptr b at) r (tt, (tt, tt)) (tt, (tt, tt)))))))))))

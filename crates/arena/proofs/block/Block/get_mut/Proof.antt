@@ -1,6 +1,6 @@
 -- `get_mut` lends one value, and the block follows it. Assumes `Logic`.
-use Rattle.arena.proofs.Names.{◌≡◌, refl, sym, ap, subst, ◌∙◌, List, [], ◌∷◌, ◌++◌, ℕ, ◌+◌, ◌*◌}
-use Rattle.arena.proofs.Names.{◌<◌, ◌^◌, arith, length, get_or, set, length-set, full_share, Lft}
+use Rattle.arena.proofs.Names.{◌≡◌, refl, sym, subst, List, [], ◌∷◌, ◌++◌, ℕ, ◌+◌, ◌*◌}
+use Rattle.arena.proofs.Names.{◌<◌, ◌^◌, length, get_or, set, length-set, full_share, Lft}
 use Rattle.arena.proofs.Names.{Share, GName, Fml, ftrue, fsep, flft, ent, sep, id⊢}
 use Rattle.arena.proofs.Names.{SProp, Fn, a_type, named, w64, inst_fn, Val, vptr, vint, WpFn, sem}
 use Rattle.arena.proofs.Names.{Logic, ‵, raw, ◌⊛◌, some, at_ret, ◌$◌, ◌∵◌, !, qed, by, move, keep}
@@ -9,10 +9,10 @@ use Rattle.arena.proofs.Names.{pick, flt_i, suffices, done, whole, sub, look_in,
 use Rattle.arena.proofs.Names.{load, bin, of_opd, size_lit, first, blocks, exec, returns, alloc_all}
 use Rattle.arena.proofs.Names.{pass_all, free_all, look_at, get, through, sets, sets_last, env}
 use Rattle.arena.proofs.Names.{fact, fact_i, tables, ◌⊑◌, usize, yes, no, row, cell_at, part_at}
-use Rattle.arena.proofs.Names.{shares, place, place_is, others, takes, puts, layouts}
+use Rattle.arena.proofs.Names.{shares, place, others, takes, puts, layouts}
 use Rattle.arena.proofs.Names.{owns, Ptr, block_ptr, plain, types_at, nothing, heard, Stays}
 use Rattle.arena.proofs.Names.{walk_of, stay_dropped, Goes-dropped, El, R, el_x, sz}
-use Rattle.arena.proofs.Names.{times_below, one_below, proved_at, leaves}
+use Rattle.arena.proofs.Names.{proved_at, leaves}
 use base.Logic.{emp}
 use seplogic.Ra.Ura.{Ura}
 use types.Kit.{later, await, group, fpack}
@@ -26,49 +26,63 @@ use Rattle.std_alloc.proofs.VecSteps.Shapes.{after}
 use Rattle.arena.specs.Block.{room_of, block_owns}
 use Rattle.arena.specs.LendsPlace.{with_values}
 use Rattle.arena.proofs.Opens.{B, Fields, owner, IsSmall, block_in}
-use Rattle.arena.proofs.Places.{first-place, not-empty, same-read}
+use Rattle.arena.proofs.Places.{Inside, inside, same-read}
 use Rattle.arena.specs.contracts.block.Block.get_mut as F
 use Rattle.arena.specs.contracts.block.Block.get_mut.Key.{name as #self}
 use Rattle.arena.proofs.block.Block.get_mut.Statement.{statement}
 use Rattle.arena.proofs.block.Block.get_mut.Code as code
 
-module _ (E : El) {M : Type 1} {𝓤 : Ura M} (𝓛 : Logic 𝓤) (d : (B E).Denot) (index : ℕ)
-    (rb ro b o : ℕ) (ms : List Val) where
+-- a value that is lent: the block's cell, what that holds, the start of the block, and what is
+-- known of the value's number
+record Lent (E : El) (d : (B E).Denot) (index : ℕ) : Type 0 where
+  rb : ℕ
+  ro : ℕ
+  b : ℕ
+  o : ℕ
+  ms : List Val
+  start : d.start ≡ block_ptr b o
+  word : ms ≡ owner E b o ∷ []
+  small : IsSmall E d
+  value : Inside E d.emptied d.unused d.values index o
+
+module _ (E : El) {M : Type 1} {𝓤 : Ura M} (𝓛 : Logic 𝓤) {d : (B E).Denot} {index : ℕ}
+    (l : Lent E d index) where
   -- what stays with the block while the value is lent
   abbrev Rest : Fml
-  Rest = fsep (others (shares (R E)) full_share d.values index b (d.emptied * sz E + o))
-      (fsep (fsep (room_of (R E) d.emptied b o)
-      (room_of (R E) d.unused b ((d.emptied + length d.values) * sz E + o)))
-      (fsep ((Fields E).own_val (d.start, tt) ms)
-      (cell_at full_share (B E).mir (owner E b o ∷ []) rb ro)))
+  Rest = fsep (others (shares (R E)) full_share d.values index l.b (d.emptied * sz E + l.o))
+      (fsep (fsep (room_of (R E) d.emptied l.b l.o)
+      (room_of (R E) d.unused l.b ((d.emptied + length d.values) * sz E + l.o)))
+      (fsep ((Fields E).own_val (d.start, tt) l.ms)
+      (cell_at full_share (B E).mir (owner E l.b l.o ∷ []) l.rb l.ro)))
 
-  back : d.start ≡ block_ptr b o → ms ≡ owner E b o ∷ [] → IsSmall E d → index < length d.values
-      → (at : ℕ) → at ≡ place (sz E) (d.emptied * sz E + o) index
-      → (w : el_x E) → ent 𝓤 (sep 𝓤 (sem 𝓛 ((mem (R E)).own_at w b at)) (sem 𝓛 Rest))
-      (sem 𝓛 ((mem (B E)).own_at (with_values d (set d.values index w)) rb ro))
+  back : (w : el_x E) → ent 𝓤
+      (sep 𝓤 (sem 𝓛 ((mem (R E)).own_at w l.b (index * sz E + l.o))) (sem 𝓛 Rest))
+      (sem 𝓛 ((mem (B E)).own_at (with_values d (set d.values index w)) l.rb l.ro))
   unfolding part_of
-  back e word small lt at here w =
+  back w =
       let long : length (set d.values index w) ≡ length d.values = length-set d.values index w in
-      qed 𝓛 (‵ (part_at (R E) full_share w b at) ∷ ‵ Rest ∷ []) ∵
-      rewrite ! 0 (λ (j : ℕ). ‵ (part_at (R E) full_share w b j)) here refl $
+      let from : ℕ = d.emptied * sz E + l.o in
+      qed 𝓛 (‵ (part_at (R E) full_share w l.b (index * sz E + l.o)) ∷ ‵ Rest ∷ []) ∵
+      rewrite ! 0 (λ (j : ℕ). ‵ (part_at (R E) full_share w l.b j)) l.value.here refl $
       move ! (1 ∷ []) $ fsplit ! $ move ! (2 ∷ 0 ∷ []) $
-      use2 𝓛 (‵ (row (R E) full_share (set d.values index w) b (d.emptied * sz E + o)))
-      (puts (shares (R E)) full_share 𝓛 d.values index w b (d.emptied * sz E + o) lt) $
+      use2 𝓛 (‵ (row (R E) full_share (set d.values index w) l.b from))
+      (puts (shares (R E)) full_share 𝓛 d.values index w l.b from l.value.lt) $
       move ! (1 ∷ []) $ fsplit ! $
       rewrite ! 0 (λ (j : ℕ).
-      ‵ (fsep (room_of (R E) d.emptied b o)
-      (room_of (R E) d.unused b ((d.emptied + j) * sz E + o)))) (sym long) refl $
+      ‵ (fsep (room_of (R E) d.emptied l.b l.o)
+      (room_of (R E) d.unused l.b ((d.emptied + j) * sz E + l.o)))) (sym long) refl $
       move ! (2 ∷ 0 ∷ []) $ fjoin ! $
       flt_i ! ((d.emptied + length (set d.values index w) + d.unused) * sz E) (2 ^ 63)
-      (subst (λ (j : ℕ). (d.emptied + j + d.unused) * sz E < 2 ^ 63) (sym long) small) $ fjoin ! $
-      rewrite ! 0 (λ (p : Ptr). ‵ (block_owns (R E) p d.emptied (set d.values index w) d.unused))
-      (sym e) refl $
-      move ! (1 ∷ []) $ fsplit ! $ move ! (0 ∷ 2 ∷ []) $ fjoin ! $ move ! (1 ∷ []) $
-      rewrite ! 0 (λ (ws : List Val). ‵ (cell_at full_share (B E).mir ws rb ro)) (sym word) refl $
+      (subst (λ (j : ℕ). (d.emptied + j + d.unused) * sz E < 2 ^ 63) (sym long) l.small) $
       fjoin ! $
+      rewrite ! 0 (λ (p : Ptr). ‵ (block_owns (R E) p d.emptied (set d.values index w) d.unused))
+      (sym l.start) refl $
+      move ! (1 ∷ []) $ fsplit ! $ move ! (0 ∷ 2 ∷ []) $ fjoin ! $ move ! (1 ∷ []) $
+      rewrite ! 0 (λ (ws : List Val). ‵ (cell_at full_share (B E).mir ws l.rb l.ro)) (sym l.word)
+      refl $ fjoin ! $
       fpack ! (List Val) (λ (us : List Val).
-      fsep (cell_at full_share (B E).mir us rb ro)
-      ((B E).own_val (with_values d (set d.values index w)) us)) ms $ done !
+      fsep (cell_at full_share (B E).mir us l.rb l.ro)
+      ((B E).own_val (with_values d (set d.values index w)) us)) l.ms $ done !
 
 pub get_mut_spec : {M : Type 1} → statement M
 get_mut_spec 𝓤 𝓛 𝓜 𝓡 wired T L =
@@ -104,33 +118,35 @@ get_mut_spec 𝓤 𝓛 𝓜 𝓡 wired T L =
     enter ! 𝓣.C 𝓣.Λ fn us Post $
     alloc_all ! (λ l. pass_all ! refl ((tt, tt), ((tt, record { fits = are.1.0.1 }), tt)) $
     block_in E ! tt d rb ro (λ b o ms e word small.
-    let lt : index < length xs = asked.1 in let from : ℕ = k * s + o in
-    let at : ℕ = index * s + o in
-    let some_value : el_x E = (not-empty xs (omega (arith, lt))).0 in
-    let x : el_x E = get_or xs index some_value in
-    let here : at ≡ place s from index =
-    ap (λ (j : ℕ). index * s + j) (sym (ap (λ (j : ℕ). j * s + o) asked.0 ∙ first-place s o))
-    ∙ sym (place_is s from index) in
-    let tiny : s < 2 ^ 64 =
-    omega (arith, one_below (k + length xs + n) s (2 ^ 63) (omega (arith, lt)) small) in
-    let far : index * s < 2 ^ 64 =
-    omega (arith, times_below index (k + length xs + n) s (2 ^ 63) (omega (arith, lt)) small) in
-    let way = back E 𝓛 d index rb ro b o ms e word small lt at here in
-    let kept : Fml = Rest E 𝓛 d index rb ro b o ms in
+    let i = inside E k n xs index o asked small in let from : ℕ = k * s + o in
+    let at : ℕ = index * s + o in let x : el_x E = get_or xs index i.some_value in
+    let one : Lent E d index = record {
+      rb = rb;
+      ro = ro;
+      b = b;
+      o = o;
+      ms = ms;
+      start = e;
+      word = word;
+      small = small;
+      value = i;
+    } in
+    let way = back E 𝓛 one in let kept : Fml = Rest E 𝓛 one in
     let with : el_x E → (B E).Denot = λ w. with_values d (set xs index w) in
     let was = (B E).coded.code d in
     move ! (2 ∷ []) $ use1 𝓛
     (‵ (part_at (R E) full_share x b (place s from index)) ⊛ ‵
     (others (shares (R E)) full_share xs index b from))
-    (takes (shares (R E)) full_share 𝓛 xs index some_value b from lt) $ split ! $
-    rewrite ! 0 (λ (j : ℕ). ‵ (part_at (R E) full_share x b j)) (sym here) refl $
+    (takes (shares (R E)) full_share 𝓛 xs index i.some_value b from i.lt) $ split ! $
+    rewrite ! 0 (λ (j : ℕ). ‵ (part_at (R E) full_share x b j)) (sym i.here) refl $
     -- [the value; the other values; the room behind them, and that before them; the block's cell;
     -- its fields]
     first ! $ blocks ! $
     sets ! (of_opd ! (load ! (through ! refl (fld ! refl (stop !)))
     (look_in ! 4 (sub ! 0 refl (whole !))))) refl (tt, tt) $
-    sets ! (bin ! (get ! refl) (size_lit ! (record { fits = tiny })) (record { fits = far })) refl
-    (tt, record { fits = far }) $
+    sets ! (bin ! (get ! refl) (size_lit ! (record { fits = i.tiny })) (record { fits = i.far }))
+    refl
+    (tt, record { fits = i.far }) $
     sets ! (bin ! (get ! refl) (get ! refl) tt) refl (tt, tt) $
     sets_last ! (addr ! (through ! refl (stop !))) refl (tt, tt) $
     exec ! 𝓣.C 𝓣.Λ (env fn.locals l) (after 1 fn.body) (at_ret _ Post) $
@@ -147,7 +163,7 @@ get_mut_spec 𝓤 𝓛 𝓜 𝓡 wired T L =
     use1 𝓛 (‵ ((MutRef (named 0) κ (R E)).own_val r (vptr b at ∷ [])) ⊛
     (‵ (flft κ q) ⊛ ‵ (follows (B E) (R E) γ δ with))) (id⊢ 𝓤 _) $ split ! $
     move ! (1 ∷ []) $ split ! $ move ! (0 ∷ 3 ∷ []) $ join ! $
-    use0 𝓛 (raw (fact 𝓤 Told)) (fact_i 𝓤 Told (emp 𝓤) (same-read xs index some_value x lt)) $
+    use0 𝓛 (raw (fact 𝓤 Told)) (fact_i 𝓤 Told (emp 𝓤) (same-read xs index i.some_value x i.lt)) $
     move ! (2 ∷ 0 ∷ []) $ join ! $
     nothing ! $ nothing ! $ fjoin ! $ nothing ! $ fjoin ! $ move ! (2 ∷ 0 ∷ 3 ∷ 1 ∷ []) $
     by ! (leaves 𝓛 Ed hs c z (vptr b at) r (tt, (tt, tt)) (tt, (tt, tt)))))))))
