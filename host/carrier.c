@@ -28,10 +28,13 @@ static void on_error(
     natsConnection *connection, natsSubscription *subscription, natsStatus error, void *closure)
 {
     const carrier_events *events = closure;
+    natsStatus last;
     (void)connection;
     (void)subscription;
     if (error == NATS_NOT_PERMITTED) {
-        events->forbidden(events->context);
+        // (libnats sets this thread's last error before it calls.)
+        const char *text = nats_GetLastError(&last);
+        events->forbidden(events->context, text != NULL ? text : "");
     }
 }
 

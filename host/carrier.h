@@ -16,8 +16,8 @@ typedef struct carrier_options {
 typedef struct carrier_events {
     void (*connected)(void *context); // for the first time, or again
     void (*closed)(void *context);    // for ever: the server refuses the user, for example
-    // The server doesn't let this user publish or subscribe to something.
-    void (*forbidden)(void *context);
+    // The server doesn't let this user publish or subscribe to something. `text` is what it says.
+    void (*forbidden)(void *context, const char *text);
     void *context;
 } carrier_events;
 
