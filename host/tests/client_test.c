@@ -311,6 +311,8 @@ static void test_arguments(void)
     HOLDS(markring_remote_connect(&other, &options, "a.b") == MARKRING_REMOTE_BAD_ARGUMENT);
     HOLDS(markring_remote_connect(&other, &options, "") == MARKRING_REMOTE_BAD_ARGUMENT);
     HOLDS(asks == before && it == NULL && other == NULL);
+    HOLDS(open_program(INT64_MAX) == MARKRING_REMOTE_OK && ask(WAIT, INT64_MAX) == 0);
+    HOLDS(open_program(INT64_MIN) == MARKRING_REMOTE_TIMEOUT);
 }
 
 int main(void)
