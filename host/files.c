@@ -10,7 +10,7 @@
 static int make_folder(void *context, const char *path)
 {
     (void)context;
-    return mkdir(path, 0777) == 0 ? 0 : -errno;
+    return mkdir(path, 0700) == 0 ? 0 : -errno;
 }
 
 static int open_folder(void *context, const char *path)
@@ -58,7 +58,7 @@ static int sync_names(void *context, int folder)
 static int open_file(void *context, int folder, const char *name, int create)
 {
     (void)context;
-    int file = openat(folder, name, O_RDWR | O_CLOEXEC | (create ? O_CREAT : 0), 0666);
+    int file = openat(folder, name, O_RDWR | O_CLOEXEC | (create ? O_CREAT : 0), 0600);
     return file >= 0 ? file : -errno;
 }
 

@@ -89,7 +89,8 @@ typedef struct store_value {
     int whole;
 } store_value;
 
-// Makes the folder, unless it exists, and saves the first value in it. The folder is locked then,
+// Makes the folder, unless it exists, and saves the first value in it. Only this user can read the
+// folder and its files. The folder is locked then,
 // and the number of the save is 1. After any other status the store is closed.
 // STORE_EXISTS; STORE_LOCKED; STORE_FAILED; STORE_UNKNOWN. After the last two the folder may have
 // slots that aren't whole: remove it, and create it again.
