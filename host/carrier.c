@@ -5,8 +5,7 @@ enum { RECONNECT_MS = 100, CONNECT_MS = 2000, PING_MS = 5000, BACKLOG = 1 << 20,
 static void on_connected(natsConnection *connection, void *closure)
 {
     const carrier_events *events = closure;
-    (void)connection;
-    events->connected(events->context);
+    events->connected(events->context, connection);
 }
 
 // With a callback, libnats tries in another thread; without one the call would wait.
@@ -20,8 +19,7 @@ static void on_first_connection(natsConnection *connection, void *closure)
 static void on_closed(natsConnection *connection, void *closure)
 {
     const carrier_events *events = closure;
-    (void)connection;
-    events->closed(events->context);
+    events->closed(events->context, connection);
 }
 
 static void on_error(
@@ -29,12 +27,11 @@ static void on_error(
 {
     const carrier_events *events = closure;
     natsStatus last;
-    (void)connection;
     (void)subscription;
     if (error == NATS_NOT_PERMITTED) {
         // (libnats sets this thread's last error before it calls.)
         const char *text = nats_GetLastError(&last);
-        events->forbidden(events->context, text != NULL ? text : "");
+        events->forbidden(events->context, connection, text != NULL ? text : "");
     }
 }
 

@@ -90,8 +90,8 @@ typedef struct store_value {
 } store_value;
 
 // Makes the folder, unless it exists, and saves the first value in it. Only this user can read the
-// folder and its files. The folder is locked then,
-// and the number of the save is 1. After any other status the store is closed.
+// folder and its files. It is locked then, and the number of the save is 1. After any other status
+// the store is closed.
 // STORE_EXISTS; STORE_LOCKED; STORE_FAILED; STORE_UNKNOWN. After the last two the folder may have
 // slots that aren't whole: remove it, and create it again.
 store_status store_create(
