@@ -295,6 +295,22 @@ static void test_words(void)
     HOLDS(markring_remote_ask(space, 2, "status", text, 9, SHORT) == MARKRING_REMOTE_TIMEOUT);
 }
 
+// A server that takes no message as long as the answer.
+static void test_payload(void)
+{
+    behave();
+    HOLDS(open_program(LONG) == MARKRING_REMOTE_OK);
+    model.max_payload = ANSWER_HEAD + EVENTS * RESULT_BYTES - 1;
+    unsigned long before = asks;
+    HOLDS(read_registers(LONG) == MARKRING_REMOTE_CARRIER);
+    HOLDS(perform(LONG, false) == MARKRING_REMOTE_CARRIER && asks == before);
+    HOLDS(perform(LONG, false) == MARKRING_REMOTE_UNFINISHED);
+    HOLDS(wait_for_letter(LONG) == MARKRING_REMOTE_OK);
+    model.max_payload++;
+    HOLDS(perform(LONG, true) == MARKRING_REMOTE_OK && read_registers(LONG) == MARKRING_REMOTE_OK);
+    model.max_payload = 1048576;
+}
+
 static void test_arguments(void)
 {
     static markring_event events[REQUEST_EVENTS + 1];
@@ -326,6 +342,7 @@ int main(void)
     test_others();
     test_rounds();
     test_words();
+    test_payload();
     test_arguments();
     markring_remote_close(program);
     markring_remote_disconnect(space);

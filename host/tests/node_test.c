@@ -188,6 +188,19 @@ static void test_late_calls(void)
     HOLDS(strcmp(model.subscribed, "markring.test.node.0.>") == 0);
 }
 
+// A server that doesn't take the longest answers: the node says so, once.
+static void test_payload(void)
+{
+    begin_hearing();
+    for (int i = 0; i < 4; i++) {
+        model.max_payload = i < 3 ? ANSWER_BYTES - 1 : ANSWER_BYTES;
+        disconnect_node(&at);
+        HOLDS(connect_node(&at, &carrier) == NATS_OK && go_on(2 * CYCLE) == USABLE);
+    }
+    HOLDS(end_hearing("max_payload") == 1);
+    model.max_payload = 1048576;
+}
+
 // More messages than the loop takes: what finds no room is lost, and nothing else.
 static void test_floods(void)
 {
@@ -281,6 +294,7 @@ int main(void)
     test_addresses();
     test_denials();
     test_late_calls();
+    test_payload();
     test_floods();
     test_saves();
     end_saver(&at, saves);

@@ -77,9 +77,9 @@ class Unfinished(Failure):
 
 
 class NoCarrier(Failure, ConnectionError):
-    """The connection to the server can't be made."""
+    """The connection to the server can't be made, or the server takes no message as long as the answer."""
 
-    status, text = 6, "the connection to the server can't be made"
+    status, text = 6, "the connection can't be made, or the server takes no message as long as the answer"
 
 
 class Confused(Failure):
