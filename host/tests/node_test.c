@@ -188,6 +188,44 @@ static void test_late_calls(void)
     HOLDS(strcmp(model.subscribed, "markring.test.node.0.>") == 0);
 }
 
+static void refuse(natsStatus status, int count)
+{
+    model.attempts = 0;
+    model.connects_count = count;
+    for (int i = 0; i < count; i++) {
+        model.connects[i] = status;
+    }
+}
+
+// A server that refuses a connection for a while, for whatever reason.
+static void test_refusals(void)
+{
+    static const natsStatus passing[] = {NATS_ERR, NATS_PROTOCOL_ERROR, NATS_IO_ERROR,
+        NATS_CONNECTION_CLOSED, NATS_STALE_CONNECTION, NATS_SYS_ERROR, NATS_CONNECTION_AUTH_FAILED};
+    begin_hearing();
+    for (size_t i = 0; i < sizeof passing / sizeof *passing; i++) {
+        refuse(passing[i], 40);
+        HOLDS(connect_again(&at, &carrier) == NATS_OK && go_on(2 * CYCLE) == USABLE);
+        disconnect_node(&at);
+        refuse(passing[i], 40);
+        HOLDS(connect_patiently(&at, &carrier) == NATS_OK && go_on(2 * CYCLE) == USABLE);
+    }
+    HOLDS(end_hearing("trying again") == 2 * sizeof passing / sizeof *passing);
+    begin_hearing();
+    refuse(NATS_CONNECTION_AUTH_FAILED, 64);
+    HOLDS(connect_again(&at, &carrier) == NATS_CONNECTION_AUTH_FAILED && at.connection == NULL);
+    refuse(NATS_SSL_ERROR, 1);
+    HOLDS(connect_again(&at, &carrier) == NATS_SSL_ERROR && model.attempts == 1);
+    // It can be asked to stop meanwhile.
+    refuse(NATS_CONNECTION_AUTH_FAILED, 10);
+    at.stop = true;
+    HOLDS(connect_again(&at, &carrier) == NATS_OK && model.attempts == 1 && at.connection == NULL);
+    at.stop = false;
+    HOLDS(end_hearing("trying again") == 1);
+    refuse(NATS_OK, 0);
+    HOLDS(connect_again(&at, &carrier) == NATS_OK && go_on(2 * CYCLE) == USABLE);
+}
+
 // A server that doesn't take the longest answers: the node says so, once.
 static void test_payload(void)
 {
@@ -273,7 +311,7 @@ static void start(void)
     run_options options;
     memset(&options, 0, sizeof options);
     options.host.cycle_every = CYCLE;
-    char folder[PATH];
+    char folder[PATH + 8];
     snprintf(folder, sizeof folder, "%s/node", place);
     words[0] = strdup(folder);
     HOLDS(create(7, words) == 0);
@@ -294,6 +332,7 @@ int main(void)
     test_addresses();
     test_denials();
     test_late_calls();
+    test_refusals();
     test_payload();
     test_floods();
     test_saves();
