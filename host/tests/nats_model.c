@@ -399,17 +399,6 @@ void natsMsg_Destroy(natsMsg *it)
 
 // ## The rest
 
-natsStatus natsInbox_Create(natsInbox **it)
-{
-    *it = need(strdup("_INBOX.model"));
-    return NATS_OK;
-}
-
-void natsInbox_Destroy(natsInbox *it)
-{
-    free(it);
-}
-
 void nats_Sleep(int64_t time)
 {
     (void)time;
