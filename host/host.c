@@ -100,7 +100,7 @@ int host_create(const host_shape *shape, store_value *value)
     }
     if (status == MARKRING_OK) {
         writer to = writer_of(value->buffer + STORE_HEAD, value->length);
-        status = write_saved(it, &to, image) ? MARKRING_OK : MARKRING_MEMORY;
+        status = write_saved(it, &to, image);
         if (status != MARKRING_OK) {
             free(value->buffer);
         }
@@ -228,7 +228,7 @@ static int take_batch(host *it)
     }
     it->value.is_entry = true;
     writer to = writer_of(it->value.buffer + STORE_HEAD, length);
-    return write_entry(it, &to, batch) ? MARKRING_OK : MARKRING_MEMORY;
+    return write_entry(it, &to, batch);
 }
 
 // Takes an image, with what else lasts.
@@ -244,11 +244,11 @@ static int take_image(host *it)
     }
     it->value.is_entry = false;
     writer to = writer_of(it->value.buffer + STORE_HEAD, it->value.length);
-    if (!write_saved(it, &to, image)) {
-        return MARKRING_MEMORY;
+    status = write_saved(it, &to, image);
+    if (status == MARKRING_OK) {
+        it->size = image;
     }
-    it->size = image;
-    return MARKRING_OK;
+    return status;
 }
 
 static void save(host *it, uint64_t now)
@@ -266,9 +266,14 @@ static void save(host *it, uint64_t now)
             "again, and let programs drop references and accept letters first");
         return;
     }
-    if (status != MARKRING_OK) {
+    if (status == MARKRING_MEMORY) {
         it->counts.failed_saves++;
         it->save_at = now + RETRY;
+        return;
+    }
+    if (status != MARKRING_OK) {
+        end_with(it, HOST_BROKEN, "the library gave no image or batch: %s",
+            markring_status_text(status));
         return;
     }
     it->changed = false;

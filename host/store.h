@@ -29,10 +29,10 @@ typedef enum store_status {
     STORE_LOCKED,
     // Neither slot is whole, or both have the same number.
     STORE_DAMAGED,
-    // A call failed, and what counted still counts. The same may be tried again.
+    // A call failed, and what counted still counts. The same may be tried again. `cause` says why.
     STORE_FAILED,
     // A sync failed: nobody knows whether the new value or the old one is on the disk. The process
-    // has to end, since another sync could succeed without having written.
+    // has to end, since another sync could succeed without having written. `cause` says why.
     STORE_UNKNOWN
 } store_status;
 
@@ -71,6 +71,7 @@ typedef struct store {
     uint64_t end;    // the offset of the next entry, in the slot that counts
     uint64_t seal;   // the checksum before that
     uint64_t size;   // of the file of that slot, at least
+    int cause;       // the errno of the last call that failed, also after the store was closed
 } store;
 
 // A value with room around it: it begins at `buffer + STORE_HEAD`. `room` counts the value and the

@@ -375,7 +375,7 @@ static void test_failed_saves(void)
         for (int i = 0; i < 3; i++) {
             make(&it);
             let_fail(WRITE, name, 0, errors[i]);
-            HOLDS(save(&it, 2, is_entry) == STORE_FAILED);
+            HOLDS(save(&it, 2, is_entry) == STORE_FAILED && it.cause == errors[i]);
             HOLDS(last_of(SYNC, name) < 0);
             begin();
             HOLDS(save(&it, 3, false) == STORE_OK);
@@ -383,10 +383,10 @@ static void test_failed_saves(void)
             HOLDS(found() == 3);
             make(&it);
             let_fail(SYNC, name, 1, errors[i]);
-            HOLDS(save(&it, 2, is_entry) == STORE_UNKNOWN);
+            HOLDS(save(&it, 2, is_entry) == STORE_UNKNOWN && it.cause == errors[i]);
             store_close(&it);
             let_fail(SYNC, name, 1, errors[i]);
-            HOLDS(open_at(&it, folder, &number) == STORE_UNKNOWN);
+            HOLDS(open_at(&it, folder, &number) == STORE_UNKNOWN && it.cause == errors[i]);
         }
         // Writes that are cut short or interrupted go on.
         make(&it);
@@ -429,12 +429,16 @@ static void test_openings(void)
     HOLDS(open_at(&it, folder, &number) == STORE_OK && number == 2);
     store_close(&it);
     let_fail(READ, "/a", 1, EIO);
-    HOLDS(open_at(&it, folder, &number) == STORE_FAILED);
-    let_fail(FORGET, "/b", 1, EIO);
-    HOLDS(open_at(&it, folder, &number) == STORE_FAILED);
+    HOLDS(open_at(&it, folder, &number) == STORE_FAILED && it.cause == EIO);
+    let_fail(FORGET, "/b", 1, ESPIPE);
+    HOLDS(open_at(&it, folder, &number) == STORE_FAILED && it.cause == ESPIPE);
     let_fail(OPEN, "a", 1, EMFILE);
-    HOLDS(open_at(&it, folder, &number) == STORE_FAILED);
-    HOLDS(found() == 2);
+    HOLDS(open_at(&it, folder, &number) == STORE_FAILED && it.cause == EMFILE);
+    let_fail(SYNC_FOLDER, "/d", 1, EDQUOT);
+    HOLDS(open_at(&it, folder, &number) == STORE_UNKNOWN && it.cause == EDQUOT);
+    let_fail(LOCK, "/d", 1, ENOLCK);
+    HOLDS(open_at(&it, folder, &number) == STORE_FAILED && it.cause == ENOLCK);
+    HOLDS(found() == 2 && open_at(&it, "/nowhere/at/all", &number) == STORE_ABSENT);
 }
 
 // An opening makes no file.
