@@ -56,7 +56,14 @@ static store_status close_with(store *it, store_status status)
     return status;
 }
 
-// Opens and locks the folder.
+static store_status lock(store *it, int descriptor)
+{
+    int locked = it->calls.lock(it->calls.context, descriptor);
+    return locked == 0 ? STORE_OK : locked == -EWOULDBLOCK ? STORE_LOCKED : fail(it, locked);
+}
+
+// Opens the folder, and locks it as earlier versions do. That isn't possible on every file system;
+// the lock that counts is that of the first slot.
 static store_status enter(store *it, const char *path)
 {
     it->folder = it->calls.open_folder(it->calls.context, path);
@@ -64,10 +71,10 @@ static store_status enter(store *it, const char *path)
         return it->folder == -ENOENT || it->folder == -ENOTDIR ? STORE_ABSENT
                                                                : fail(it, it->folder);
     }
-    int locked = it->calls.lock_folder(it->calls.context, it->folder);
-    return locked == 0 ? STORE_OK : locked == -EWOULDBLOCK ? STORE_LOCKED : fail(it, locked);
+    return lock(it, it->folder) == STORE_LOCKED ? STORE_LOCKED : STORE_OK;
 }
 
+// Opens the slots, and locks the first one.
 static store_status open_slots(store *it, int create)
 {
     for (int i = 0; i < 2; i++) {
@@ -76,7 +83,7 @@ static store_status open_slots(store *it, int create)
             return fail(it, it->slots[i]);
         }
     }
-    return STORE_OK;
+    return it->slots[0] >= 0 ? lock(it, it->slots[0]) : STORE_OK;
 }
 
 static store_status sync_file(store *it, int file)

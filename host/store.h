@@ -42,10 +42,11 @@ typedef struct store_calls {
     void *context;
     int (*make_folder)(void *context, const char *path);
     int (*open_folder)(void *context, const char *path);
-    // Takes the lock of an open folder, without waiting. Its end is that of the process, or
-    // closing the folder.
-    int (*lock_folder)(void *context, int folder);
+    // Takes the lock of an open folder or file, without waiting. Its end is that of the process, or
+    // closing the descriptor.
+    int (*lock)(void *context, int descriptor);
     // Writes the names in the folder, and those of the folder and of all above it, to the disk.
+    // Above it, a file system may have nothing to write.
     int (*sync_names)(void *context, int folder);
     // Opens a file in a folder, and makes it if `create` isn't 0.
     int (*open_file)(void *context, int folder, const char *name, int create);

@@ -436,8 +436,6 @@ static void test_openings(void)
     HOLDS(open_at(&it, folder, &number) == STORE_FAILED && it.cause == EMFILE);
     let_fail(SYNC_FOLDER, "/d", 1, EDQUOT);
     HOLDS(open_at(&it, folder, &number) == STORE_UNKNOWN && it.cause == EDQUOT);
-    let_fail(LOCK, "/d", 1, ENOLCK);
-    HOLDS(open_at(&it, folder, &number) == STORE_FAILED && it.cause == ENOLCK);
     HOLDS(found() == 2 && open_at(&it, "/nowhere/at/all", &number) == STORE_ABSENT);
 }
 
@@ -456,6 +454,86 @@ static void test_missing(void)
     }
 }
 
+// Folders above the node's may have nothing to sync; its own has.
+static void test_above(void)
+{
+    static const int nothing[] = {EINVAL, EROFS, ENOTSUP};
+    store it;
+    int number;
+    make(&it);
+    store_close(&it);
+    char above[PATH];
+    snprintf(above, sizeof above, "%s", folder);
+    *strrchr(above, '/') = 0;
+    for (int i = 0; i < 3; i++) {
+        let_fail(SYNC_FOLDER, above, 0, nothing[i]);
+        HOLDS(open_at(&it, folder, &number) == STORE_OK && number == 1);
+        HOLDS(last_of(SYNC_FOLDER, place) >= 0);
+        store_close(&it);
+        let_fail(SYNC_FOLDER, folder, 0, nothing[i]);
+        HOLDS(open_at(&it, folder, &number) == STORE_UNKNOWN && it.cause == nothing[i]);
+        let_fail(SYNC_FOLDER, "/", 0, nothing[i]);
+        HOLDS(open_at(&it, folder, &number) == STORE_OK);
+        store_close(&it);
+    }
+    let_fail(SYNC_FOLDER, above, 1, EINTR);
+    HOLDS(open_at(&it, folder, &number) == STORE_OK && last_of(SYNC_FOLDER, above) >= 0);
+    store_close(&it);
+    let_fail(SYNC_FOLDER, above, 0, EIO);
+    HOLDS(open_at(&it, folder, &number) == STORE_UNKNOWN && it.cause == EIO);
+    // A folder that this user can't read ends the way up.
+    let_fail(OPEN, "..", 1, EACCES);
+    HOLDS(open_at(&it, folder, &number) == STORE_OK && last_of(SYNC_FOLDER, above) < 0);
+    store_close(&it);
+    let_fail(OPEN, "..", 1, EMFILE);
+    HOLDS(open_at(&it, folder, &number) == STORE_UNKNOWN && it.cause == EMFILE);
+    // Each folder is synced once in an opening.
+    begin();
+    HOLDS(open_at(&it, folder, &number) == STORE_OK);
+    int synced = 0;
+    for (int i = 0; i < count; i++) {
+        synced += calls[i].kind == SYNC_FOLDER;
+    }
+    HOLDS(synced == DEPTH + 3);
+    store_close(&it);
+}
+
+// Opens a file or a folder and locks it, as another process would.
+static int lock_as_other(const char *path, int flags)
+{
+    int file = open(path, flags);
+    HOLDS(file >= 0 && __real_flock(file, LOCK_EX | LOCK_NB) == 0);
+    return file;
+}
+
+// One process at a time, also one of an earlier version, and if the file system can't lock folders.
+static void test_locks(void)
+{
+    store it, other;
+    int number;
+    char path[PATH + 8];
+    make(&it);
+    HOLDS(open_at(&other, folder, &number) == STORE_LOCKED);
+    let_fail(LOCK, "/d", 0, EBADF);
+    HOLDS(open_at(&other, folder, &number) == STORE_LOCKED);
+    HOLDS(create(&other) == STORE_LOCKED);
+    store_close(&it);
+    HOLDS(open_at(&it, folder, &number) == STORE_OK && number == 1);
+    HOLDS(open_at(&other, folder, &number) == STORE_LOCKED);
+    store_close(&it);
+    begin();
+    path_in(path, "a");
+    int file = lock_as_other(path, O_RDWR);
+    HOLDS(open_at(&other, folder, &number) == STORE_LOCKED);
+    close(file);
+    file = lock_as_other(folder, O_RDONLY);
+    HOLDS(open_at(&other, folder, &number) == STORE_LOCKED);
+    close(file);
+    let_fail(LOCK, "/a", 0, ENOLCK);
+    HOLDS(open_at(&other, folder, &number) == STORE_FAILED && other.cause == ENOLCK);
+    HOLDS(found() == 1);
+}
+
 int main(void)
 {
     HOLDS(mkdtemp(place) != NULL);
@@ -464,6 +542,8 @@ int main(void)
     test_failed_saves();
     test_openings();
     test_missing();
+    test_above();
+    test_locks();
     remove_all(place);
     HOLDS(rmdir(place) == 0);
     printf("%lu passed, %lu failed\n", passed, failed);
