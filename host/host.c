@@ -401,8 +401,11 @@ uint64_t host_wait(host *it, uint64_t now)
     return wait;
 }
 
+// What was heard of other nodes' processes doesn't count as a change before: it is saved with the
+// next one, or now.
 void host_leave(host *it)
 {
+    it->changed = it->changed || (!it->stopping && knows_more(it));
     it->stopping = true;
 }
 

@@ -126,4 +126,7 @@ int write_entry(host *it, writer *to, size_t batch);
 
 int read_saved(host *it, const store_value *value);
 
+// Whether more is known of other nodes' processes than in the last save.
+bool knows_more(const host *it);
+
 #endif

@@ -28,6 +28,16 @@ static bool is_known_new(const peer *at)
         || at->known.saves != at->saved_known.saves;
 }
 
+bool knows_more(const host *it)
+{
+    for (int i = 0; i < it->shape.nodes; i++) {
+        if (is_known_new(&it->peers[i])) {
+            return true;
+        }
+    }
+    return false;
+}
+
 size_t saved_size(const host *it, size_t image)
 {
     size_t size = FIXED + strlen(it->shape.name) + it->shape.nodes * (size_t)KNOWN + 1 + 8 + image;

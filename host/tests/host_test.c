@@ -132,6 +132,23 @@ static void settle(station *at, store_status status)
     }
 }
 
+// A packet of a process of node 1, which knows this of the process of node 0.
+static void deliver(station *at, process sender, uint64_t known_nonce, uint64_t known_saves)
+{
+    uint8_t bytes[PACKET_HEAD];
+    writer to = writer_of(bytes, sizeof bytes);
+    packet_head head = {{0}, 1, 0, sender, known_nonce, known_saves, 0, 0};
+    memcpy(head.space, SPACE, SPACE_ID);
+    write_packet_head(&to, &head);
+    HOLDS(to.ok);
+    host_packet(at->host, at->now, 1, bytes, to.length);
+}
+
+static bool is_process(const process *it, uint64_t nonce, uint64_t run, uint64_t saves)
+{
+    return it->nonce == nonce && it->run == run && it->saves == saves;
+}
+
 // ## Tests
 
 // An image that hasn't the size that the library said: no attempt to save again.
@@ -154,9 +171,60 @@ static void test_sizes(void)
     }
 }
 
+// A host that leaves saves what it heard last of the others, also if saves fail at first.
+static void test_leaving(void)
+{
+    for (int way = 0; way < 4; way++) {
+        station at;
+        make(&at);
+        settle(&at, STORE_OK);
+        deliver(&at, (process){9, 5, 7}, NONCE, 11);
+        settle(&at, STORE_OK);
+        HOLDS(host_counted(at.host)->saves == 1);
+        if (way == 1) {
+            // A save is under way, without what comes now.
+            note_change(at.host);
+            host_turn(at.host, at.now += 10);
+            HOLDS(at.job != NULL);
+            deliver(&at, (process){9, 5, 8}, NONCE, 11);
+        }
+        if (way == 2) {
+            host_leave(at.host);
+        }
+        host_control(at.host, at.now, "stop", 4, "r");
+        deliver(&at, (process){9, 5, 1000}, NONCE, 11);
+        if (way == 1) {
+            host_turn(at.host, at.now += 10);
+            HOLDS(at.answers == 0 && host_ended(at.host) == HOST_RUNS);
+            finish_save(&at, STORE_OK);
+        }
+        if (way == 3) {
+            settle(&at, STORE_FAILED);
+            HOLDS(at.answers == 0 && host_ended(at.host) == HOST_RUNS);
+        }
+        settle(&at, STORE_OK);
+        HOLDS(at.answers == 1 && host_ended(at.host) == HOST_LEFT);
+        drop(&at);
+        open_host(&at);
+        HOLDS(is_process(&at.host->peers[1].known, 9, 5, way == 1 ? 8 : 7));
+        drop(&at);
+        free(at.stored);
+    }
+    // Nothing new: no save.
+    station at;
+    make(&at);
+    settle(&at, STORE_OK);
+    host_leave(at.host);
+    settle(&at, STORE_OK);
+    HOLDS(host_ended(at.host) == HOST_LEFT && host_counted(at.host)->saves == 1);
+    drop(&at);
+    free(at.stored);
+}
+
 int main(void)
 {
     test_sizes();
+    test_leaving();
     printf("%lu passed, %lu failed\n", passed, failed);
     return failed != 0 || passed == 0;
 }
