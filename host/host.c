@@ -109,6 +109,14 @@ int host_create(const host_shape *shape, store_value *value)
     return status;
 }
 
+// What was heard of other nodes' processes is saved again only when they show themselves.
+static void forget_processes(host *it)
+{
+    for (int i = 0; i < it->shape.nodes; i++) {
+        it->peers[i].known = (process){0, 0, 0};
+    }
+}
+
 // Nothing was sent by this process yet, and each node is told that it has begun.
 static void begin_links(host *it)
 {
@@ -152,6 +160,9 @@ int host_open(host **opened, const store_value *value, uint64_t number, uint64_t
     if (status != MARKRING_OK) {
         host_free(it);
         return status;
+    }
+    if (options->trusts_folder) {
+        forget_processes(it);
     }
     begin_links(it);
     *opened = it;

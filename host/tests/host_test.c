@@ -221,10 +221,51 @@ static void test_leaving(void)
     free(at.stored);
 }
 
+// A packet that knows as many saves as there can be, of this process or of the sender's.
+static void test_lies(void)
+{
+    for (int way = 0; way < 3; way++) {
+        station at;
+        options.trusts_folder = way > 0;
+        make(&at);
+        settle(&at, STORE_OK);
+        deliver(&at, (process){9, 5, UINT64_MAX}, NONCE, 11);
+        HOLDS(host_ended(at.host) == HOST_RUNS);
+        settle(&at, STORE_OK);
+        deliver(&at, (process){9, 5, UINT64_MAX}, NONCE + 1, UINT64_MAX);
+        HOLDS(host_ended(at.host) == (way > 0 ? HOST_RUNS : HOST_OLDER));
+        HOLDS(way > 0 || strstr(host_reason(at.host), "node 1 knows save 18446744073709551615"));
+        HOLDS(way > 0 || strstr(host_reason(at.host), "--trust-folder"));
+        // Packets like this one aren't answered, which would go on for ever.
+        settle(&at, STORE_OK);
+        int packets = at.packets;
+        deliver(&at, (process){9, 5, UINT64_MAX}, NONCE + 1, UINT64_MAX);
+        settle(&at, STORE_OK);
+        HOLDS(at.packets == packets);
+        if (way > 0) {
+            host_leave(at.host);
+            settle(&at, STORE_OK);
+            drop(&at);
+            // What that node's next process says is believed again, if the old one is forgotten.
+            options.trusts_folder = way == 2;
+            open_host(&at);
+            HOLDS(is_process(&at.host->peers[1].known, 0, 0, 0) == (way == 2));
+            settle(&at, STORE_OK);
+            deliver(&at, (process){10, 8, 8}, NONCE, 11);
+            HOLDS(is_process(&at.host->peers[1].known, 10, 8, 8) == (way == 2));
+            HOLDS(host_counted(at.host)->outdated == (way != 2));
+        }
+        drop(&at);
+        free(at.stored);
+    }
+    options.trusts_folder = false;
+}
+
 int main(void)
 {
     test_sizes();
     test_leaving();
+    test_lies();
     printf("%lu passed, %lu failed\n", passed, failed);
     return failed != 0 || passed == 0;
 }
