@@ -7,7 +7,7 @@
 #include <stdio.h>
 #include <stdlib.h>
 
-enum { TURNS = 200, ROOM = 4096 };
+enum { TURNS = 200, ROOM = 12000, NODES_HERE = 3, LETTERS = 300 };
 
 static unsigned long passed, failed;
 
@@ -46,7 +46,9 @@ typedef struct station {
     size_t length;
     int packets, answers;
     packet_head last; // of the last packet that was sent
-    char text[ROOM];  // the last answer
+    size_t told;      // bytes of the last answer, and these
+    uint8_t text[ROOM];
+    struct station *other; // the node 1 of node 0, or the other way round, if it takes packets
 } station;
 
 static host_options options;
@@ -59,13 +61,17 @@ static void on_send(void *context, uint8_t to, const uint8_t *bytes, size_t leng
     reader from = reader_of(bytes, length);
     HOLDS(read_packet_head(&from, &at->last) && at->last.to == to);
     at->packets++;
+    if (at->other != NULL && to < 2) {
+        host_packet(at->other->host, at->now, at->last.from, bytes, length);
+    }
 }
 
 static void on_answer(void *context, const char *reply, const uint8_t *bytes, size_t length)
 {
     station *at = context;
     HOLDS(reply[0] == 'r' && length < ROOM);
-    memcpy(at->text, bytes, length < ROOM ? length : 0);
+    at->told = length < ROOM ? length : 0;
+    memcpy(at->text, bytes, at->told);
     at->answers++;
 }
 
@@ -84,10 +90,10 @@ static void open_host(station *at)
     HOLDS(host_open(&at->host, &value, at->number, NONCE, &options, &calls, at->now) == MARKRING_OK);
 }
 
-static void make(station *at)
+static void make_node(station *at, uint8_t own)
 {
     store_value value = {NULL, 0, 0, false, 0, 0};
-    host_shape shape = {"test", {0}, 0, 3, 8, 64, 0};
+    host_shape shape = {"test", {0}, own, NODES_HERE, 8, 64, 0};
     memset(at, 0, sizeof *at);
     memcpy(shape.space, SPACE, SPACE_ID);
     at->now = 1000;
@@ -96,6 +102,11 @@ static void make(station *at)
     at->stored = value.buffer;
     at->length = value.length;
     open_host(at);
+}
+
+static void make(station *at)
+{
+    make_node(at, 0);
 }
 
 static void drop(station *at)
@@ -120,15 +131,20 @@ static void finish_save(station *at, store_status status)
     host_saved(at->host, at->now, status, at->number);
 }
 
+static void turn(station *at, uint64_t time, store_status status)
+{
+    at->now += time;
+    host_turn(at->host, at->now);
+    if (at->job != NULL) {
+        finish_save(at, status);
+    }
+}
+
 // Turns, until there is nothing to save; all saves end like this.
 static void settle(station *at, store_status status)
 {
     for (int i = 0; i < TURNS && host_ended(at->host) == HOST_RUNS; i++) {
-        at->now += 10;
-        host_turn(at->host, at->now);
-        if (at->job != NULL) {
-            finish_save(at, status);
-        }
+        turn(at, 10, status);
     }
 }
 
@@ -261,11 +277,261 @@ static void test_lies(void)
     options.trusts_folder = false;
 }
 
+// Which saves of a process make it the later one, and which end it: exactly.
+static void test_ages(void)
+{
+    for (uint64_t known = 10; known <= 12; known++) {
+        station at;
+        make(&at);
+        settle(&at, STORE_OK);
+        // It began with save 11.
+        HOLDS(at.number == 11);
+        deliver(&at, (process){9, 5, 7}, 0, known);
+        HOLDS(host_ended(at.host) == HOST_RUNS);
+        deliver(&at, (process){9, 5, 7}, NONCE, known);
+        HOLDS(host_ended(at.host) == HOST_RUNS);
+        deliver(&at, (process){9, 5, 7}, NONCE + 1, known);
+        HOLDS(host_ended(at.host) == (known >= 11 ? HOST_OLDER : HOST_RUNS));
+        drop(&at);
+        free(at.stored);
+    }
+    station at;
+    make(&at);
+    settle(&at, STORE_OK);
+    deliver(&at, (process){9, 5, 7}, NONCE, 11);
+    deliver(&at, (process){10, 7, 8}, NONCE, 11);
+    HOLDS(is_process(&at.host->peers[1].known, 9, 5, 7) && host_counted(at.host)->outdated == 1);
+    settle(&at, STORE_OK);
+    // That process is told of the later one.
+    HOLDS(at.last.known_nonce == 9 && at.last.known_saves == 7);
+    deliver(&at, (process){9, 5, 6}, NONCE, 11);
+    HOLDS(is_process(&at.host->peers[1].known, 9, 5, 7));
+    deliver(&at, (process){10, 8, 8}, NONCE, 11);
+    HOLDS(is_process(&at.host->peers[1].known, 10, 8, 8) && host_counted(at.host)->outdated == 1);
+    drop(&at);
+    free(at.stored);
+}
+
+// ## Requests
+
+// Asks, and settles. Returns how many answers came; `*head` is that of the last one.
+static int ask(station *at, request_head request, int length, answer_head *head)
+{
+    uint8_t bytes[REQUEST_BYTES + 1] = {0};
+    writer to = writer_of(bytes, sizeof bytes);
+    write_request_head(&to, &request);
+    for (int i = 0; i < request.count && request.kind == REQUEST_PERFORM; i++) {
+        markring_event event = {.kind = MARKRING_EVENT_ALLOC, .reg = 1, .place = 1};
+        write_event(&to, &event);
+    }
+    if (request.kind == REQUEST_READ) {
+        write_number(&to, 1, 2);
+    }
+    HOLDS(to.ok);
+    at->answers = 0;
+    host_request(at->host, at->now, bytes, length >= 0 ? (size_t)length : to.length, "r");
+    settle(at, STORE_OK);
+    reader from = reader_of(at->text, at->told);
+    if (at->answers > 0) {
+        HOLDS(read_answer_head(&from, head) && from.left == head->count * (size_t)RESULT_BYTES);
+        HOLDS(head->kind == request.kind && head->program == request.program);
+        HOLDS(head->session == request.session && head->number == request.number);
+    }
+    return at->answers;
+}
+
+static uint32_t live(station *at)
+{
+    markring_state state = {0};
+    HOLDS(markring_node_state(host_node(at->host), &state) == MARKRING_OK);
+    return state.live;
+}
+
+// The request that is next is done, once, and no other one; nothing of a request that is cut.
+static void test_requests(void)
+{
+    station at;
+    answer_head head;
+    make(&at);
+    settle(&at, STORE_OK);
+    request_head request = {REQUEST_PERFORM, 3, 100, 1, 2};
+    HOLDS(ask(&at, request, -1, &head) == 1 && head.verdict == VERDICT_SUPERSEDED);
+    HOLDS(ask(&at, (request_head){REQUEST_OPEN, 3, 0, 1, 0}, -1, &head) == 1);
+    HOLDS(head.verdict == VERDICT_MALFORMED);
+    HOLDS(ask(&at, (request_head){REQUEST_OPEN, 3, 100, 2, 0}, -1, &head) == 1);
+    HOLDS(head.verdict == VERDICT_STALE && head.round == 0);
+    HOLDS(ask(&at, (request_head){REQUEST_OPEN, 3, 100, 1, 0}, -1, &head) == 1);
+    HOLDS(head.verdict == VERDICT_DONE && head.round == 1 && head.last == 0);
+    int whole = REQUEST_HEAD + 2 * EVENT_BYTES;
+    for (int length = 0; length <= whole + 1; length++) {
+        if (length != whole) {
+            int answers = ask(&at, request, length, &head);
+            HOLDS(answers == (length >= REQUEST_HEAD));
+            HOLDS(answers == 0 || head.verdict == VERDICT_MALFORMED);
+        }
+    }
+    HOLDS(live(&at) == 0);
+    for (uint64_t number = 0; number < 5; number++) {
+        request.number = number;
+        HOLDS(ask(&at, request, -1, &head) == 1);
+        HOLDS(head.verdict == (number == 0 ? VERDICT_MALFORMED : VERDICT_DONE));
+        HOLDS(head.last == number && head.count == (number == 0 ? 0 : 2));
+        HOLDS(ask(&at, request, -1, &head) == 1 && head.count == (number == 0 ? 0 : 2));
+        request.number = number + 2;
+        HOLDS(ask(&at, request, -1, &head) == 1 && head.verdict == VERDICT_AHEAD);
+        HOLDS(live(&at) == 2 * number);
+    }
+    request.number = 3;
+    HOLDS(ask(&at, request, -1, &head) == 1 && head.verdict == VERDICT_STALE && live(&at) == 8);
+    request_head reading = {REQUEST_READ, 3, 100, 1, 1};
+    HOLDS(ask(&at, reading, -1, &head) == 1 && head.verdict == VERDICT_DONE && head.count == 1);
+    HOLDS(ask(&at, reading, REQUEST_HEAD + 1, &head) == 1 && head.verdict == VERDICT_MALFORMED);
+    HOLDS(ask(&at, (request_head){5, 3, 100, 1, 0}, -1, &head) == 1);
+    HOLDS(head.verdict == VERDICT_MALFORMED);
+    drop(&at);
+    free(at.stored);
+}
+
+// More answers than a host keeps wait for a save: the others are lost, and the first ones come.
+static void test_held(void)
+{
+    station at;
+    make(&at);
+    settle(&at, STORE_OK);
+    note_change(at.host);
+    host_turn(at.host, at.now += 10);
+    HOLDS(at.job != NULL);
+    for (uint64_t number = 1; number <= HELD_ANSWERS + 100; number++) {
+        uint8_t bytes[REQUEST_HEAD];
+        writer to = writer_of(bytes, sizeof bytes);
+        request_head request = {REQUEST_READ, 3, 100, number, 0};
+        write_request_head(&to, &request);
+        host_request(at.host, at.now, bytes, to.length, "r");
+    }
+    HOLDS(at.answers == 0 && host_counted(at.host)->dropped == 100);
+    finish_save(&at, STORE_OK);
+    settle(&at, STORE_OK);
+    HOLDS(at.answers == HELD_ANSWERS);
+    drop(&at);
+    free(at.stored);
+}
+
+// ## Two nodes
+
+static station pair[2];
+
+static void make_pair(void)
+{
+    for (uint8_t own = 0; own < 2; own++) {
+        make_node(&pair[own], own);
+        pair[own].other = &pair[1 - own];
+    }
+}
+
+static void drop_pair(void)
+{
+    for (int own = 0; own < 2; own++) {
+        drop(&pair[own]);
+        free(pair[own].stored);
+    }
+}
+
+// Turns of both, of this many milliseconds, at the same time.
+static void go_on(int turns, uint64_t time)
+{
+    for (int i = 0; i < turns; i++) {
+        turn(&pair[0], time, STORE_OK);
+        turn(&pair[1], time, STORE_OK);
+    }
+}
+
+static void give(int from, uint32_t label)
+{
+    markring_answer answer;
+    int status = markring_node_give(host_node(pair[from].host), (uint8_t)(1 - from), label, 0, &answer);
+    HOLDS(status == MARKRING_OK);
+    host_changed(pair[from].host);
+}
+
+// No packet is lost, so nothing is sent again or comes twice.
+static void test_pace(void)
+{
+    make_pair();
+    go_on(20, 10);
+    for (uint32_t label = 0; label < LETTERS; label++) {
+        give((int)(label & 1), label);
+        go_on(label % 7 == 0 ? 10 : 1, 5);
+    }
+    go_on(100, 10);
+    for (int own = 0; own < 2; own++) {
+        const host_counts *counts = host_counted(pair[own].host);
+        markring_link link;
+        HOLDS(counts->resends == 0 && counts->repeats == 0 && counts->outdated == 0);
+        HOLDS(counts->frames_out >= LETTERS / 2 && counts->packets_out < 4 * LETTERS);
+        HOLDS(markring_node_link(host_node(pair[own].host), (uint8_t)(1 - own), &link) == MARKRING_OK
+            && link.acknowledged == LETTERS / 2);
+    }
+    drop_pair();
+}
+
+// A node that is away: pauses grow up to 1.6 s, and no further.
+static void test_absence(void)
+{
+    make_pair();
+    go_on(20, 10);
+    pair[0].other = NULL;
+    give(0, 1);
+    uint64_t before = host_counted(pair[0].host)->resends;
+    for (int i = 0; i < 1000; i++) {
+        turn(&pair[0], 10, STORE_OK);
+    }
+    uint64_t first = host_counted(pair[0].host)->resends - before;
+    HOLDS(first >= 8 && first <= 12);
+    int packets = pair[0].packets;
+    for (int i = 0; i < 36000; i++) {
+        turn(&pair[0], 100, STORE_OK);
+    }
+    uint64_t all = host_counted(pair[0].host)->resends - before - first;
+    HOLDS(all >= 2100 && all <= 2251 && (uint64_t)(pair[0].packets - packets) <= all + 1);
+    // It is back, and says so: what it misses is sent at once.
+    pair[0].other = &pair[1];
+    host_connected(pair[1].host, pair[1].now);
+    host_connected(pair[0].host, pair[0].now);
+    go_on(3, 10);
+    markring_link link;
+    HOLDS(markring_node_link(host_node(pair[0].host), 1, &link) == MARKRING_OK && link.acknowledged == 1);
+    drop_pair();
+}
+
+// A process waits for a letter, and then another one opens its program: the answer is for the first.
+static void test_waiting(void)
+{
+    answer_head head;
+    make_pair();
+    go_on(20, 10);
+    HOLDS(ask(&pair[1], (request_head){REQUEST_OPEN, 0, 100, 1, 0}, -1, &head) == 1);
+    HOLDS(ask(&pair[1], (request_head){REQUEST_WAIT, 0, 100, 7, 0}, -1, &head) == 0);
+    HOLDS(ask(&pair[1], (request_head){REQUEST_OPEN, 0, 200, 2, 0}, -1, &head) == 1);
+    pair[1].answers = 0;
+    give(0, 1);
+    go_on(20, 10);
+    reader from = reader_of(pair[1].text, pair[1].told);
+    HOLDS(pair[1].answers == 1 && read_answer_head(&from, &head) && head.kind == REQUEST_WAIT);
+    HOLDS(head.session == 100 && head.number == 7 && head.count == 1);
+    drop_pair();
+}
+
 int main(void)
 {
     test_sizes();
     test_leaving();
     test_lies();
+    test_ages();
+    test_requests();
+    test_held();
+    test_pace();
+    test_absence();
+    test_waiting();
     printf("%lu passed, %lu failed\n", passed, failed);
     return failed != 0 || passed == 0;
 }
