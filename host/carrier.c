@@ -5,8 +5,7 @@ enum { RECONNECT_MS = 100, CONNECT_MS = 2000, PING_MS = 5000, BACKLOG = 1 << 20,
 static void on_connected(natsConnection *connection, void *closure)
 {
     const carrier_events *events = closure;
-    (void)connection;
-    events->connected(events->context);
+    events->connected(events->context, connection);
 }
 
 // With a callback, libnats tries in another thread; without one the call would wait.
@@ -20,18 +19,19 @@ static void on_first_connection(natsConnection *connection, void *closure)
 static void on_closed(natsConnection *connection, void *closure)
 {
     const carrier_events *events = closure;
-    (void)connection;
-    events->closed(events->context);
+    events->closed(events->context, connection);
 }
 
 static void on_error(
     natsConnection *connection, natsSubscription *subscription, natsStatus error, void *closure)
 {
     const carrier_events *events = closure;
-    (void)connection;
+    natsStatus last;
     (void)subscription;
     if (error == NATS_NOT_PERMITTED) {
-        events->forbidden(events->context);
+        // (libnats sets this thread's last error before it calls.)
+        const char *text = nats_GetLastError(&last);
+        events->forbidden(events->context, connection, text != NULL ? text : "");
     }
 }
 

@@ -12,12 +12,15 @@ typedef struct carrier_options {
     const char *credentials;       // a file of NATS credentials
 } carrier_options;
 
-// What is called from threads of libnats, as long as the connection exists.
+// What is called from threads of libnats. A call may come late, when the connection was destroyed,
+// so each says which one it is of. No other connection has the same address until the call is over.
 typedef struct carrier_events {
-    void (*connected)(void *context); // for the first time, or again
-    void (*closed)(void *context);    // for ever: the server refuses the user, for example
-    // The server doesn't let this user publish or subscribe to something.
-    void (*forbidden)(void *context);
+    // For the first time, or again.
+    void (*connected)(void *context, const natsConnection *of);
+    // For ever: the server refuses the user, for example.
+    void (*closed)(void *context, const natsConnection *of);
+    // The server doesn't let this user publish or subscribe to something. `text` is what it says.
+    void (*forbidden)(void *context, const natsConnection *of, const char *text);
     void *context;
 } carrier_events;
 

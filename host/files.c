@@ -10,7 +10,7 @@
 static int make_folder(void *context, const char *path)
 {
     (void)context;
-    return mkdir(path, 0777) == 0 ? 0 : -errno;
+    return mkdir(path, 0700) == 0 ? 0 : -errno;
 }
 
 static int open_folder(void *context, const char *path)
@@ -20,45 +20,74 @@ static int open_folder(void *context, const char *path)
     return folder >= 0 ? folder : -errno;
 }
 
-static int lock_folder(void *context, int folder)
+static int lock(void *context, int descriptor)
 {
     (void)context;
-    return flock(folder, LOCK_EX | LOCK_NB) == 0 ? 0 : -errno;
+    return flock(descriptor, LOCK_EX | LOCK_NB) == 0 ? 0 : -errno;
 }
 
-// Syncs a folder, and says whether the folder above is another one.
-static int sync_folder(int folder, int above)
+// Syncs a folder. One above the node's may be of a file system that has nothing to sync, or that
+// can't be written.
+static int sync_folder(int folder, bool is_own)
+{
+    int status;
+    do {
+        status = fsync(folder) == 0 ? 0 : errno;
+    } while (status == EINTR);
+    bool has_nothing = status == EINVAL || status == EROFS || status == ENOTSUP;
+    return !is_own && has_nothing ? 0 : -status;
+}
+
+// 1 if the folder above is another one, 0 if it is the root itself.
+static int is_other(int folder, int above)
 {
     struct stat here, there;
-    if (fsync(folder) != 0 || fstat(folder, &here) != 0 || fstat(above, &there) != 0) {
+    if (fstat(folder, &here) != 0 || fstat(above, &there) != 0) {
         return -errno;
     }
     return here.st_ino != there.st_ino || here.st_dev != there.st_dev;
 }
 
-// Goes up to the root, or to a folder that this user can't read and so didn't make.
+// Syncs a folder, and opens the one above. `*above` is -1 if there isn't one, or if this user can't
+// read it and so didn't make it.
+static int sync_and_climb(int folder, bool is_own, int *above)
+{
+    *above = -1;
+    int status = sync_folder(folder, is_own);
+    if (status != 0) {
+        return status;
+    }
+    *above = openat(folder, "..", O_RDONLY | O_DIRECTORY | O_CLOEXEC);
+    if (*above < 0) {
+        return errno == EACCES ? 0 : -errno;
+    }
+    status = is_other(folder, *above);
+    if (status != 1) {
+        close(*above);
+        *above = -1;
+    }
+    return status < 0 ? status : 0;
+}
+
 static int sync_names(void *context, int folder)
 {
     (void)context;
-    int at = dup(folder), status = at >= 0 ? 1 : -errno;
-    while (status == 1) {
-        int above = openat(at, "..", O_RDONLY | O_DIRECTORY | O_CLOEXEC);
-        int failed = above >= 0 ? 0 : errno;
-        status = failed == 0 ? sync_folder(at, above) : fsync(at) != 0 ? -errno : 0;
-        status = failed != 0 && failed != EACCES && status == 0 ? -failed : status;
-        close(at);
+    int at = folder, status = 0;
+    do {
+        int above;
+        status = sync_and_climb(at, at == folder, &above);
+        if (at != folder) {
+            close(at);
+        }
         at = above;
-    }
-    if (at >= 0) {
-        close(at);
-    }
+    } while (status == 0 && at >= 0);
     return status;
 }
 
 static int open_file(void *context, int folder, const char *name, int create)
 {
     (void)context;
-    int file = openat(folder, name, O_RDWR | O_CLOEXEC | (create ? O_CREAT : 0), 0666);
+    int file = openat(folder, name, O_RDWR | O_CLOEXEC | (create ? O_CREAT : 0), 0600);
     return file >= 0 ? file : -errno;
 }
 
@@ -102,5 +131,5 @@ static void close_descriptor(void *context, int descriptor)
     close(descriptor);
 }
 
-const store_calls STORE_SYSTEM = {NULL, make_folder, open_folder, lock_folder, sync_names,
+const store_calls STORE_SYSTEM = {NULL, make_folder, open_folder, lock, sync_names,
     open_file, size, read_at, write_at, sync_data, forget_cached, close_descriptor};

@@ -100,13 +100,21 @@ int host_create(const host_shape *shape, store_value *value)
     }
     if (status == MARKRING_OK) {
         writer to = writer_of(value->buffer + STORE_HEAD, value->length);
-        status = write_saved(it, &to, image) ? MARKRING_OK : MARKRING_MEMORY;
+        status = write_saved(it, &to, image);
         if (status != MARKRING_OK) {
             free(value->buffer);
         }
     }
     host_free(it);
     return status;
+}
+
+// What was heard of other nodes' processes is saved again only when they show themselves.
+static void forget_processes(host *it)
+{
+    for (int i = 0; i < it->shape.nodes; i++) {
+        it->peers[i].known = (process){0, 0, 0};
+    }
 }
 
 // Nothing was sent by this process yet, and each node is told that it has begun.
@@ -152,6 +160,9 @@ int host_open(host **opened, const store_value *value, uint64_t number, uint64_t
     if (status != MARKRING_OK) {
         host_free(it);
         return status;
+    }
+    if (options->trusts_folder) {
+        forget_processes(it);
     }
     begin_links(it);
     *opened = it;
@@ -228,7 +239,7 @@ static int take_batch(host *it)
     }
     it->value.is_entry = true;
     writer to = writer_of(it->value.buffer + STORE_HEAD, length);
-    return write_entry(it, &to, batch) ? MARKRING_OK : MARKRING_MEMORY;
+    return write_entry(it, &to, batch);
 }
 
 // Takes an image, with what else lasts.
@@ -244,11 +255,11 @@ static int take_image(host *it)
     }
     it->value.is_entry = false;
     writer to = writer_of(it->value.buffer + STORE_HEAD, it->value.length);
-    if (!write_saved(it, &to, image)) {
-        return MARKRING_MEMORY;
+    status = write_saved(it, &to, image);
+    if (status == MARKRING_OK) {
+        it->size = image;
     }
-    it->size = image;
-    return MARKRING_OK;
+    return status;
 }
 
 static void save(host *it, uint64_t now)
@@ -266,9 +277,14 @@ static void save(host *it, uint64_t now)
             "again, and let programs drop references and accept letters first");
         return;
     }
-    if (status != MARKRING_OK) {
+    if (status == MARKRING_MEMORY) {
         it->counts.failed_saves++;
         it->save_at = now + RETRY;
+        return;
+    }
+    if (status != MARKRING_OK) {
+        end_with(it, HOST_BROKEN, "the library gave no image or batch: %s",
+            markring_status_text(status));
         return;
     }
     it->changed = false;
@@ -396,8 +412,11 @@ uint64_t host_wait(host *it, uint64_t now)
     return wait;
 }
 
+// What was heard of other nodes' processes doesn't count as a change before: it is saved with the
+// next one, or now.
 void host_leave(host *it)
 {
+    it->changed = it->changed || (!it->stopping && knows_more(it));
     it->stopping = true;
 }
 

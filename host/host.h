@@ -25,7 +25,7 @@ enum {
     HOST_NAME = 32, // of a space, at most; letters, digits, '-' and '_'
     // Packets and requests that one turn should take.
     HOST_TAKES = 512,
-    HOST_REASON = 320,
+    HOST_REASON = 640,
     // An image has at most 67,108,864 bytes. It has at most 19 for a letter; what is left above
     // both limits is for the collector.
     LETTERS_MOST = 800000,
@@ -72,6 +72,9 @@ typedef struct host_options {
     // The entries behind a whole value may have as many bytes as the value, or this many; 0 for
     // ENTRIES_LEAST.
     size_t entries_least;
+    // The folder is the newest one, whatever other nodes know; and what was heard of their processes
+    // is forgotten. For an operator who knows that a node has lied.
+    bool trusts_folder;
 } host_options;
 
 typedef struct host_calls {

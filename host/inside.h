@@ -115,14 +115,18 @@ void answer_programs(host *it);
 // All objects of the space, as far as node 0 knows.
 uint64_t count_objects(const host *it, uint32_t own_live);
 
-// The value that is saved: all of the host that lasts, and the image.
+// The value that is saved: all of the host that lasts, and the image. Writing returns what the
+// library returns; MARKRING_SHORT_BUFFER if the room isn't exactly right.
 size_t saved_size(const host *it, size_t image);
-bool write_saved(host *it, writer *to, size_t image);
+int write_saved(host *it, writer *to, size_t image);
 
 // An entry behind it: what of that has changed since the last save, and a batch.
 size_t entry_size(const host *it, size_t batch);
-bool write_entry(host *it, writer *to, size_t batch);
+int write_entry(host *it, writer *to, size_t batch);
 
 int read_saved(host *it, const store_value *value);
+
+// Whether more is known of other nodes' processes than in the last save.
+bool knows_more(const host *it);
 
 #endif

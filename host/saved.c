@@ -28,6 +28,16 @@ static bool is_known_new(const peer *at)
         || at->known.saves != at->saved_known.saves;
 }
 
+bool knows_more(const host *it)
+{
+    for (int i = 0; i < it->shape.nodes; i++) {
+        if (is_known_new(&it->peers[i])) {
+            return true;
+        }
+    }
+    return false;
+}
+
 size_t saved_size(const host *it, size_t image)
 {
     size_t size = FIXED + strlen(it->shape.name) + it->shape.nodes * (size_t)KNOWN + 1 + 8 + image;
@@ -93,7 +103,7 @@ static void note_written(host *it)
     }
 }
 
-bool write_entry(host *it, writer *to, size_t batch)
+int write_entry(host *it, writer *to, size_t batch)
 {
     size_t needed = 0;
     uint8_t count = 0;
@@ -109,16 +119,20 @@ bool write_entry(host *it, writer *to, size_t batch)
     }
     write_programs(it, to, is_program_new);
     write_number(to, batch, 8);
-    bool done = to->ok && to->room - to->length == batch
-        && markring_node_batch(&it->node, to->start + to->length, batch, &needed, &it->mark)
-            == MARKRING_OK;
-    if (done) {
+    int status = MARKRING_SHORT_BUFFER;
+    if (to->ok && to->room - to->length == batch) {
+        status = markring_node_batch(&it->node, to->start + to->length, batch, &needed, &it->mark);
+    }
+    if (status == MARKRING_OK && needed != batch) {
+        status = MARKRING_SHORT_BUFFER;
+    }
+    if (status == MARKRING_OK) {
         note_written(it);
     }
-    return done;
+    return status;
 }
 
-bool write_saved(host *it, writer *to, size_t image)
+int write_saved(host *it, writer *to, size_t image)
 {
     size_t name = strlen(it->shape.name), needed = 0;
     write_number(to, name, 1);
@@ -132,13 +146,17 @@ bool write_saved(host *it, writer *to, size_t image)
     }
     write_programs(it, to, is_opened);
     write_number(to, image, 8);
-    bool done = to->ok && to->room - to->length == image
-        && markring_node_image(&it->node, to->start + to->length, image, &needed, &it->mark)
-            == MARKRING_OK;
-    if (done) {
+    int status = MARKRING_SHORT_BUFFER;
+    if (to->ok && to->room - to->length == image) {
+        status = markring_node_image(&it->node, to->start + to->length, image, &needed, &it->mark);
+    }
+    if (status == MARKRING_OK && needed != image) {
+        status = MARKRING_SHORT_BUFFER;
+    }
+    if (status == MARKRING_OK) {
         note_written(it);
     }
-    return done;
+    return status;
 }
 
 static bool read_shape(host_shape *it, reader *from)

@@ -43,32 +43,47 @@ void store_close(store *it)
     forget(it);
 }
 
+// A call failed with this negative errno; or with 0, if it moved nothing.
+static store_status fail(store *it, int64_t error)
+{
+    it->cause = error < 0 ? (int)-error : EIO;
+    return STORE_FAILED;
+}
+
 static store_status close_with(store *it, store_status status)
 {
     store_close(it);
     return status;
 }
 
-// Opens and locks the folder.
+static store_status lock(store *it, int descriptor)
+{
+    int locked = it->calls.lock(it->calls.context, descriptor);
+    return locked == 0 ? STORE_OK : locked == -EWOULDBLOCK ? STORE_LOCKED : fail(it, locked);
+}
+
+// Opens the folder, and locks it as earlier versions do. That isn't possible on every file system;
+// the lock that counts is that of the first slot.
 static store_status enter(store *it, const char *path)
 {
     it->folder = it->calls.open_folder(it->calls.context, path);
     if (it->folder < 0) {
-        return it->folder == -ENOENT || it->folder == -ENOTDIR ? STORE_ABSENT : STORE_FAILED;
+        return it->folder == -ENOENT || it->folder == -ENOTDIR ? STORE_ABSENT
+                                                               : fail(it, it->folder);
     }
-    int locked = it->calls.lock_folder(it->calls.context, it->folder);
-    return locked == 0 ? STORE_OK : locked == -EWOULDBLOCK ? STORE_LOCKED : STORE_FAILED;
+    return lock(it, it->folder) == STORE_LOCKED ? STORE_LOCKED : STORE_OK;
 }
 
+// Opens the slots, and locks the first one.
 static store_status open_slots(store *it, int create)
 {
     for (int i = 0; i < 2; i++) {
         it->slots[i] = it->calls.open_file(it->calls.context, it->folder, NAMES[i], create);
         if (it->slots[i] < 0 && (it->slots[i] != -ENOENT || create)) {
-            return STORE_FAILED;
+            return fail(it, it->slots[i]);
         }
     }
-    return STORE_OK;
+    return it->slots[0] >= 0 ? lock(it, it->slots[0]) : STORE_OK;
 }
 
 static store_status sync_file(store *it, int file)
@@ -77,7 +92,21 @@ static store_status sync_file(store *it, int file)
     do {
         status = it->calls.sync(it->calls.context, file);
     } while (status == -EINTR);
-    return status == 0 ? STORE_OK : STORE_UNKNOWN;
+    if (status == 0) {
+        return STORE_OK;
+    }
+    (void)fail(it, status);
+    return STORE_UNKNOWN;
+}
+
+static store_status sync_names(store *it)
+{
+    int status = it->calls.sync_names(it->calls.context, it->folder);
+    if (status == 0) {
+        return STORE_OK;
+    }
+    (void)fail(it, status);
+    return STORE_UNKNOWN;
 }
 
 static store_status write_all(
@@ -88,7 +117,7 @@ static store_status write_all(
         int64_t count = it->calls.write_at(
             it->calls.context, file, bytes + done, length - done, offset + done);
         if (count == 0 || (count < 0 && count != -EINTR)) {
-            return STORE_FAILED;
+            return fail(it, count);
         }
         done += count > 0 ? (size_t)count : 0;
     }
@@ -164,37 +193,39 @@ store_status store_save(store *it, store_value *value)
     return value->is_entry ? add_entry(it, value, it->number) : replace(it, value, it->number);
 }
 
-// Whether the folder has no slot with a byte in it.
-static int is_empty(store *it)
+// Refuses a folder that has a slot with a byte in it.
+static store_status test_empty(store *it)
 {
     for (int i = 0; i < 2; i++) {
-        if (it->slots[i] >= 0 && it->calls.size(it->calls.context, it->slots[i]) != 0) {
-            return 0;
+        int64_t size = it->calls.size(it->calls.context, it->slots[i]);
+        if (size != 0) {
+            return size > 0 ? STORE_EXISTS : fail(it, size);
         }
     }
-    return 1;
+    return STORE_OK;
 }
 
 store_status store_create(store *it, const store_calls *calls, const char *path, store_value *value)
 {
     it->calls = *calls;
+    it->cause = 0;
     forget(it);
     int made = calls->make_folder(calls->context, path);
     if (made != 0 && made != -EEXIST) {
-        return STORE_FAILED;
+        return fail(it, made);
     }
     store_status status = enter(it, path);
     if (status == STORE_OK) {
         status = open_slots(it, 1);
     }
-    if (status == STORE_OK && !is_empty(it)) {
-        status = STORE_EXISTS;
+    if (status == STORE_OK) {
+        status = test_empty(it);
     }
     if (status == STORE_OK) {
         status = store_save(it, value);
     }
-    if (status == STORE_OK && calls->sync_names(calls->context, it->folder) != 0) {
-        status = STORE_UNKNOWN;
+    if (status == STORE_OK) {
+        status = sync_names(it);
     }
     return status == STORE_OK ? STORE_OK : close_with(it, status);
 }
@@ -206,7 +237,7 @@ static store_status read_all(store *it, int file, uint8_t *bytes, size_t length)
         int64_t count =
             it->calls.read_at(it->calls.context, file, bytes + done, length - done, done);
         if (count == 0 || (count < 0 && count != -EINTR)) {
-            return STORE_FAILED;
+            return fail(it, count);
         }
         done += count > 0 ? (size_t)count : 0;
     }
@@ -268,7 +299,7 @@ static store_status read_slot(store *it, int file, slot *found)
     memset(found, 0, sizeof *found);
     int64_t size = file < 0 ? 0 : it->calls.size(it->calls.context, file);
     if (size < 0) {
-        return STORE_FAILED;
+        return fail(it, size);
     }
     if (size < STORE_HEAD + STORE_TAIL) {
         return STORE_OK;
@@ -290,8 +321,9 @@ static store_status read_slot(store *it, int file, slot *found)
 static store_status read_synced(store *it, int file, slot *found)
 {
     store_status status = file < 0 ? STORE_OK : sync_file(it, file);
-    if (status == STORE_OK && file >= 0 && it->calls.forget(it->calls.context, file) != 0) {
-        status = STORE_FAILED;
+    if (status == STORE_OK && file >= 0) {
+        int forgotten = it->calls.forget(it->calls.context, file);
+        status = forgotten == 0 ? STORE_OK : fail(it, forgotten);
     }
     return status == STORE_OK ? read_slot(it, file, found) : status;
 }
@@ -326,8 +358,8 @@ static store_status read_both(store *it, store_value *value)
         status = read_synced(it, it->slots[i], &found[i]);
     }
     // Names are synced after the files: a name without its file's bytes would be a torn slot.
-    if (status == STORE_OK && it->calls.sync_names(it->calls.context, it->folder) != 0) {
-        status = STORE_UNKNOWN;
+    if (status == STORE_OK) {
+        status = sync_names(it);
     }
     if (status == STORE_OK) {
         status = choose(it, found, value);
@@ -340,6 +372,7 @@ static store_status read_both(store *it, store_value *value)
 store_status store_open(store *it, const store_calls *calls, const char *path, store_value *value)
 {
     it->calls = *calls;
+    it->cause = 0;
     forget(it);
     store_value found;
     memset(&found, 0, sizeof found);

@@ -29,10 +29,10 @@ typedef enum store_status {
     STORE_LOCKED,
     // Neither slot is whole, or both have the same number.
     STORE_DAMAGED,
-    // A call failed, and what counted still counts. The same may be tried again.
+    // A call failed, and what counted still counts. The same may be tried again. `cause` says why.
     STORE_FAILED,
     // A sync failed: nobody knows whether the new value or the old one is on the disk. The process
-    // has to end, since another sync could succeed without having written.
+    // has to end, since another sync could succeed without having written. `cause` says why.
     STORE_UNKNOWN
 } store_status;
 
@@ -42,10 +42,11 @@ typedef struct store_calls {
     void *context;
     int (*make_folder)(void *context, const char *path);
     int (*open_folder)(void *context, const char *path);
-    // Takes the lock of an open folder, without waiting. Its end is that of the process, or
-    // closing the folder.
-    int (*lock_folder)(void *context, int folder);
+    // Takes the lock of an open folder or file, without waiting. Its end is that of the process, or
+    // closing the descriptor.
+    int (*lock)(void *context, int descriptor);
     // Writes the names in the folder, and those of the folder and of all above it, to the disk.
+    // Above it, a file system may have nothing to write.
     int (*sync_names)(void *context, int folder);
     // Opens a file in a folder, and makes it if `create` isn't 0.
     int (*open_file)(void *context, int folder, const char *name, int create);
@@ -71,6 +72,7 @@ typedef struct store {
     uint64_t end;    // the offset of the next entry, in the slot that counts
     uint64_t seal;   // the checksum before that
     uint64_t size;   // of the file of that slot, at least
+    int cause;       // the errno of the last call that failed, also after the store was closed
 } store;
 
 // A value with room around it: it begins at `buffer + STORE_HEAD`. `room` counts the value and the
@@ -89,8 +91,9 @@ typedef struct store_value {
     int whole;
 } store_value;
 
-// Makes the folder, unless it exists, and saves the first value in it. The folder is locked then,
-// and the number of the save is 1. After any other status the store is closed.
+// Makes the folder, unless it exists, and saves the first value in it. Only this user can read the
+// folder and its files. It is locked then, and the number of the save is 1. After any other status
+// the store is closed.
 // STORE_EXISTS; STORE_LOCKED; STORE_FAILED; STORE_UNKNOWN. After the last two the folder may have
 // slots that aren't whole: remove it, and create it again.
 store_status store_create(

@@ -10,12 +10,17 @@ static bool may_go_on(host *it, const packet_head *head)
         return true;
     }
     if (head->known_nonce != 0 && head->known_saves >= it->run) {
+        if (it->options.trusts_folder) {
+            return true;
+        }
         end_with(it, HOST_OLDER,
             "node %d knows save %llu of this node, made by another process, but this process began "
             "at save %llu. So this folder is an older copy, or another process uses a copy of it. "
             "Use the newest folder of this node, or restore the folders of all nodes from one "
-            "moment",
-            head->from, (unsigned long long)head->known_saves, (unsigned long long)it->run);
+            "moment. If neither is so, node %d is wrong: `run --trust-folder` once, on both, makes "
+            "that node forget it and this one go on",
+            head->from, (unsigned long long)head->known_saves, (unsigned long long)it->run,
+            head->from);
         return false;
     }
     // That node doesn't know this process yet.

@@ -34,7 +34,8 @@ enum markring_remote_status {
     MARKRING_REMOTE_BAD_ARGUMENT = 4,
     // A request isn't answered yet: call markring_remote_finish first.
     MARKRING_REMOTE_UNFINISHED = 5,
-    // libnats failed: the address or a certificate is wrong, or the server refuses the password.
+    // libnats failed: the address or a certificate is wrong, or the server refuses the password. Or
+    // the server takes no message as long as the answer (its max_payload is too small).
     MARKRING_REMOTE_CARRIER = 6,
     // The node's answer doesn't fit the request: the folder of the node is older than what this
     // program was told, or it belongs to another space.
@@ -93,7 +94,8 @@ int markring_remote_last(
     markring_remote *program, markring_result *results, size_t room, size_t *count);
 
 // Performs events, and writes a result for each. After MARKRING_REMOTE_TIMEOUT nobody knows yet
-// whether they were performed, or will be: call markring_remote_finish until that succeeds.
+// whether they were performed, or will be: call markring_remote_finish until that succeeds. After
+// MARKRING_REMOTE_CARRIER too.
 // MARKRING_REMOTE_UNFINISHED, MARKRING_REMOTE_BAD_ARGUMENT: nothing was sent.
 int markring_remote_perform(markring_remote *program, const markring_event *events, size_t count,
     markring_result *results, int64_t timeout);

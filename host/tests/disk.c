@@ -136,15 +136,15 @@ static int open_folder(void *context, const char *path)
     return status != 0 ? status : it->has_folder ? FOLDER : -ENOENT;
 }
 
-static int lock_folder(void *context, int folder)
+static int lock(void *context, int descriptor)
 {
     disk *it = context;
+    bool *locked = descriptor == FOLDER ? &it->locked : &it->files[descriptor].locked;
     int status = enter(it);
-    (void)folder;
-    if (status == 0 && it->locked) {
+    if (status == 0 && *locked) {
         status = -EWOULDBLOCK;
     }
-    it->locked = it->locked || status == 0;
+    *locked = *locked || status == 0;
     return status;
 }
 
@@ -260,14 +260,14 @@ static int forget(void *context, int file)
 static void close_descriptor(void *context, int descriptor)
 {
     disk *it = context;
-    if (descriptor == FOLDER && !it->dead) {
-        it->locked = false;
+    if (!it->dead) {
+        *(descriptor == FOLDER ? &it->locked : &it->files[descriptor].locked) = false;
     }
 }
 
 store_calls disk_calls(disk *it)
 {
-    store_calls calls = {it, make_folder, open_folder, lock_folder, sync_names, open_file, size,
+    store_calls calls = {it, make_folder, open_folder, lock, sync_names, open_file, size,
         read_at, write_at, sync_file, forget, close_descriptor};
     return calls;
 }
@@ -276,7 +276,7 @@ store_calls disk_calls(disk *it)
 
 void disk_kill(disk *it)
 {
-    it->locked = false;
+    it->locked = it->files[0].locked = it->files[1].locked = false;
     it->dead = false;
     it->dies_in = 0;
 }

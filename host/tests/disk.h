@@ -16,7 +16,7 @@ typedef struct disk_write {
 } disk_write;
 
 typedef struct disk_file {
-    bool exists, name_synced;
+    bool exists, name_synced, locked;
     // What a process reads, and what is on the disk.
     uint8_t *seen, *durable;
     size_t seen_length, durable_length;

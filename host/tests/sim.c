@@ -214,6 +214,9 @@ typedef struct station {
     disk copy;
     uint64_t copy_number;
     bool has_copy;
+    // It was asked to stop, and did. What it knew then is in its folder.
+    bool has_left;
+    process known[MOST];
 } station;
 
 // A program of a node, and the request that waits for its answer.
@@ -246,7 +249,7 @@ static packet net[NET];
 static int in_net;
 static unsigned long full, tight, readings;
 static unsigned long crashes, powers, cycles, answered, lost, requests, checkpoints, mixed,
-    failed_saves, failed_calls;
+    failed_saves, failed_calls, stops, stopped;
 
 static void drop_packet(int at)
 {
@@ -293,6 +296,13 @@ static void on_send(void *context, uint8_t to, const uint8_t *bytes, size_t leng
 static void on_answer(void *context, const char *reply, const uint8_t *bytes, size_t length)
 {
     station *at = station_of(context);
+    if (!at->disk.dead && reply[0] == 's') {
+        // All is saved, and no save is under way.
+        uint8_t unsaved = 1;
+        HOLDS(at->job == NULL && !at->host->changed && at->host->kept > 0);
+        HOLDS(markring_node_unsaved(&at->host->node, &unsaved) == MARKRING_OK && unsaved == 0);
+        stopped++;
+    }
     if (!at->disk.dead && reply[0] == 'p') {
         put_in_net(
             2, (uint8_t)(at - stations), (uint8_t)strtoul(reply + 1, NULL, 10), bytes, length);
@@ -331,6 +341,7 @@ static void stop(station *at, bool power)
         disk_kill(&at->disk);
     }
     at->starts_at = now + (is_calm ? 0 : below(below(4) == 0 ? 4000 : 100));
+    at->has_left = false;
     crashes++;
 }
 
@@ -374,7 +385,12 @@ static void expect_end(station *at)
     if (!HOLDS(host_ended(at->host) == HOST_UNSURE || host_ended(at->host) == HOST_LEFT)) {
         printf("node %d: %s\n", (int)(at - stations), host_reason(at->host));
     }
-    stop(at, false);
+    bool has_left = host_ended(at->host) == HOST_LEFT;
+    for (uint8_t node = 0; node < nodes; node++) {
+        at->known[node] = at->host->peers[node].known;
+    }
+    stop(at, has_left && below(2) == 0);
+    at->has_left = has_left;
 }
 
 static host_options options;
@@ -391,6 +407,10 @@ static int start(station *at)
         opened =
             host_open(&at->host, &value, at->store.number, random_nonce(), &options, &events, now);
         HOLDS(opened == MARKRING_OK || opened == MARKRING_MEMORY);
+        for (uint8_t node = 0; node < nodes && at->has_left && opened == MARKRING_OK; node++) {
+            const process *known = &at->host->peers[node].known, *left = &at->known[node];
+            HOLDS(known->nonce == left->nonce && known->saves == left->saves);
+        }
     } else if (!at->disk.dead) {
         HOLDS(status == STORE_MEMORY || status == STORE_FAILED || status == STORE_UNKNOWN);
     }
@@ -831,7 +851,7 @@ static void forge(void)
     station *to = &stations[below(nodes)];
     uint8_t bytes[200];
     size_t length = below(sizeof bytes);
-    if (to->host == NULL) {
+    if (to->host == NULL || to->host->stopping) {
         return;
     }
     for (size_t i = 0; i < length; i++) {
@@ -863,6 +883,11 @@ static void step(void)
         take_turn(&stations[node]);
         if (stations[node].host != NULL && !is_calm && below(900) == 0) {
             stop(&stations[node], below(2) == 0);
+        }
+        if (stations[node].host != NULL && !is_calm && below(1200) == 0) {
+            host_control(stations[node].host, now, "stop", 4, "s");
+            stations[node].touched = true;
+            stops++;
         }
     }
     if (!is_calm && below(50) == 0) {
@@ -913,6 +938,7 @@ static void mix_up(uint8_t node)
     disk_copy(&newest, &at->disk);
     disk_copy(&at->disk, &at->copy);
     disk_kill(&at->disk);
+    at->has_left = false;
     is_calm = true;
     at->starts_at = now;
     mixed_node = node;
@@ -1212,7 +1238,7 @@ static void run(unsigned long steps)
 {
     nodes = (uint8_t)(2 + below(MOST - 1));
     limit = below(2) == 0 ? 0 : 8 + below(60);
-    options = (host_options){0, 40, 0, 0, 0};
+    options = (host_options){0, 40, 0, 0, 0, false};
     // Whole values now and then.
     options.entries_least = below(3) != 0 ? 1 + below(8000) : 0;
     if (below(3) == 0) {
@@ -1259,13 +1285,13 @@ int main(int count, char **given)
     printf("%lu seeds: %lu requests, %lu answers, %lu crashes, %lu of them with the machine, %lu "
            "failed saves, %lu failed calls, %lu refused allocations, %lu packets lost, %lu cycles "
            "asked for, %lu checkpoints, %lu folders mixed up, %lu frames not taken, %lu events "
-           "refused by full nodes, %lu readings\n",
+           "refused by full nodes, %lu readings, %lu of %lu stops answered\n",
         run_seed - first, requests, answered, crashes, powers, failed_saves, failed_calls, refused,
-        lost, cycles, checkpoints, mixed, full, tight, readings);
+        lost, cycles, checkpoints, mixed, full, tight, readings, stopped, stops);
     bool all = failures == 0
         && (seeds < 40
             || (crashes && powers && failed_saves && refused && mixed && lost && full && tight
-                && readings));
+                && readings && stopped));
     printf("%lu passed, %d failed\n", run_seed - first - (failures != 0), !all);
     free(objects);
     free(letters);

@@ -32,6 +32,7 @@ NAME = "libmarkring-remote.so"
 EVENTS = 256
 NOT_DONE = 150
 SECONDS = 10.0
+LONGEST = 1e9
 TEXT = 8192
 
 
@@ -76,9 +77,9 @@ class Unfinished(Failure):
 
 
 class NoCarrier(Failure, ConnectionError):
-    """The connection to the server can't be made."""
+    """The connection to the server can't be made, or the server takes no message as long as the answer."""
 
-    status, text = 6, "the connection to the server can't be made"
+    status, text = 6, "the connection can't be made, or the server takes no message as long as the answer"
 
 
 class Confused(Failure):
@@ -297,8 +298,22 @@ def _check(status: int) -> None:
         raise _FAILURES.get(status, Failure)()
 
 
+def _fits(number: int, bits: int) -> int:
+    # Otherwise ctypes would cut off what a number has too much.
+    if not 0 <= number < 1 << bits:
+        raise BadRequest()
+    return number
+
+
+def _raw_event(event: Event) -> RawEvent:
+    raw = RawEvent()
+    for field, number in zip(("kind", "node", "place", "reg", "source", "object", "label", "word"), event):
+        setattr(raw, field, _fits(number, 8 * getattr(RawEvent, field).size))
+    return raw
+
+
 def _milliseconds(seconds: float) -> int:
-    return max(0, int(seconds * 1000))
+    return int(min(max(0.0, seconds), LONGEST) * 1000)
 
 
 class Space:
@@ -334,7 +349,7 @@ class Space:
         text = ctypes.create_string_buffer(TEXT)
         with self._lock:
             at, wait = self._handle(), _milliseconds(timeout)
-            _check(_LIBRARY.markring_remote_ask(at, node, word.encode(), text, len(text), wait))
+            _check(_LIBRARY.markring_remote_ask(at, _fits(node, 8), word.encode(), text, len(text), wait))
         return json.loads(text.value)
 
     def close(self) -> None:
@@ -365,12 +380,9 @@ class Program:
         self._space, self._at, self._count = space, c_void_p(), 0
         self.timeout = timeout
         facts = RawFacts()
+        numbers = _fits(node, 8), _fits(number, 8), _milliseconds(timeout)
         with space._lock:
-            _check(
-                _LIBRARY.markring_remote_open(
-                    byref(self._at), space._handle(), node, number, _milliseconds(timeout), byref(facts)
-                )
-            )
+            _check(_LIBRARY.markring_remote_open(byref(self._at), space._handle(), *numbers, byref(facts)))
         self.facts = Facts(*(getattr(facts, it) for it in Facts._fields))
 
     def last(self) -> list[Result]:
@@ -384,10 +396,7 @@ class Program:
         """Performs events, in order, up to the first one that is refused."""
         if len(events) > EVENTS:
             raise BadRequest()
-        given = (RawEvent * len(events))()
-        for raw, it in zip(given, events):
-            raw.kind, raw.node, raw.place, raw.reg = it.kind, it.node, it.place, it.register
-            raw.source, raw.object, raw.label, raw.word = it.source, it.object, it.label, it.word
+        given = (RawEvent * len(events))(*map(_raw_event, events))
         raw_results = (RawResult * EVENTS)()
         with self._space._lock:
             status = _LIBRARY.markring_remote_perform(
@@ -408,7 +417,9 @@ class Program:
     def registers(self, numbers: list[int], timeout: Optional[float] = None) -> list[Optional[Ref]]:
         """What registers hold."""
         raw = (RawResult * EVENTS)()
-        given = (c_uint16 * len(numbers))(*numbers)
+        if len(numbers) > EVENTS:
+            raise BadRequest()
+        given = (c_uint16 * len(numbers))(*(_fits(it, 16) for it in numbers))
         with self._space._lock:
             at, count = self._handle(), len(numbers)
             _check(_LIBRARY.markring_remote_read(at, given, count, raw, self._wait(timeout)))

@@ -1,0 +1,537 @@
+// One host, whose packets, saves and time are the test's: what it does when the library, a peer or
+// a folder isn't as it should be.
+//
+//     host_test
+#include "../inside.h"
+
+#include <stdio.h>
+#include <stdlib.h>
+
+enum { TURNS = 200, ROOM = 12000, NODES_HERE = 3, LETTERS = 300 };
+
+static unsigned long passed, failed;
+
+static void check(bool holds, const char *text, int line)
+{
+    if (holds) {
+        passed++;
+    } else if (failed++ < 20) {
+        printf("FAILED: host_test.c:%d: %s\n", line, text);
+    }
+}
+
+#define HOLDS(condition) check((condition), #condition, __LINE__)
+
+// ## The library
+
+static size_t wrong_size;
+
+int __real_markring_node_image_size(markring_node *node, size_t *size);
+int __wrap_markring_node_image_size(markring_node *node, size_t *size);
+
+int __wrap_markring_node_image_size(markring_node *node, size_t *size)
+{
+    int status = __real_markring_node_image_size(node, size);
+    *size += wrong_size;
+    return status;
+}
+
+// ## A node
+
+typedef struct station {
+    host *host;
+    uint64_t now, number;
+    store_value *job;
+    uint8_t *stored; // the value that was saved last, with the room around it
+    size_t length;
+    int packets, answers;
+    packet_head last; // of the last packet that was sent
+    size_t told;      // bytes of the last answer, and these
+    uint8_t text[ROOM];
+    struct station *other; // the node 1 of node 0, or the other way round, if it takes packets
+} station;
+
+static host_options options;
+static const uint8_t SPACE[SPACE_ID] = {1, 2, 3, 4, 5, 6, 7, 8};
+enum { NONCE = 77 };
+
+static void on_send(void *context, uint8_t to, const uint8_t *bytes, size_t length)
+{
+    station *at = context;
+    reader from = reader_of(bytes, length);
+    HOLDS(read_packet_head(&from, &at->last) && at->last.to == to);
+    at->packets++;
+    if (at->other != NULL && to < 2) {
+        host_packet(at->other->host, at->now, at->last.from, bytes, length);
+    }
+}
+
+static void on_answer(void *context, const char *reply, const uint8_t *bytes, size_t length)
+{
+    station *at = context;
+    HOLDS(reply[0] == 'r' && length < ROOM);
+    at->told = length < ROOM ? length : 0;
+    memcpy(at->text, bytes, at->told);
+    at->answers++;
+}
+
+static void on_save(void *context, store_value *value)
+{
+    station *at = context;
+    at->job = value;
+}
+
+// Opens what is stored. All saves are whole values.
+static void open_host(station *at)
+{
+    store_value value = {at->stored, at->length, STORE_HEAD + at->length + STORE_TAIL, false,
+        STORE_HEAD + at->length + STORE_TAIL, 1000000};
+    host_calls calls = {at, on_send, on_answer, on_save};
+    HOLDS(host_open(&at->host, &value, at->number, NONCE, &options, &calls, at->now) == MARKRING_OK);
+}
+
+static void make_node(station *at, uint8_t own)
+{
+    store_value value = {NULL, 0, 0, false, 0, 0};
+    host_shape shape = {"test", {0}, own, NODES_HERE, 8, 64, 0};
+    memset(at, 0, sizeof *at);
+    memcpy(shape.space, SPACE, SPACE_ID);
+    at->now = 1000;
+    at->number = 10;
+    HOLDS(host_create(&shape, &value) == MARKRING_OK);
+    at->stored = value.buffer;
+    at->length = value.length;
+    open_host(at);
+}
+
+static void make(station *at)
+{
+    make_node(at, 0);
+}
+
+static void drop(station *at)
+{
+    host_free(at->host);
+    at->host = NULL;
+}
+
+// Stores what is being saved.
+static void finish_save(station *at, store_status status)
+{
+    store_value *job = at->job;
+    at->job = NULL;
+    at->number++;
+    if (status == STORE_OK) {
+        HOLDS(!job->is_entry);
+        free(at->stored);
+        at->length = job->length;
+        at->stored = malloc(STORE_HEAD + job->length + STORE_TAIL);
+        memcpy(at->stored, job->buffer, STORE_HEAD + job->length);
+    }
+    host_saved(at->host, at->now, status, at->number);
+}
+
+static void turn(station *at, uint64_t time, store_status status)
+{
+    at->now += time;
+    host_turn(at->host, at->now);
+    if (at->job != NULL) {
+        finish_save(at, status);
+    }
+}
+
+// Turns, until there is nothing to save; all saves end like this.
+static void settle(station *at, store_status status)
+{
+    for (int i = 0; i < TURNS && host_ended(at->host) == HOST_RUNS; i++) {
+        turn(at, 10, status);
+    }
+}
+
+// A packet of a process of node 1, which knows this of the process of node 0.
+static void deliver(station *at, process sender, uint64_t known_nonce, uint64_t known_saves)
+{
+    uint8_t bytes[PACKET_HEAD];
+    writer to = writer_of(bytes, sizeof bytes);
+    packet_head head = {{0}, 1, 0, sender, known_nonce, known_saves, 0, 0};
+    memcpy(head.space, SPACE, SPACE_ID);
+    write_packet_head(&to, &head);
+    HOLDS(to.ok);
+    host_packet(at->host, at->now, 1, bytes, to.length);
+}
+
+static bool is_process(const process *it, uint64_t nonce, uint64_t run, uint64_t saves)
+{
+    return it->nonce == nonce && it->run == run && it->saves == saves;
+}
+
+// ## Tests
+
+// An image that hasn't the size that the library said: no attempt to save again.
+static void test_sizes(void)
+{
+    for (int i = 0; i < 2; i++) {
+        station at;
+        make(&at);
+        settle(&at, STORE_OK);
+        HOLDS(host_ended(at.host) == HOST_RUNS && host_counted(at.host)->saves == 1);
+        wrong_size = i == 0 ? 1 : SIZE_MAX;
+        note_change(at.host);
+        settle(&at, STORE_OK);
+        wrong_size = 0;
+        HOLDS(host_ended(at.host) == HOST_BROKEN);
+        HOLDS(strstr(host_reason(at.host), "no image or batch") != NULL);
+        HOLDS(host_counted(at.host)->failed_saves == 0);
+        drop(&at);
+        free(at.stored);
+    }
+}
+
+// A host that leaves saves what it heard last of the others, also if saves fail at first.
+static void test_leaving(void)
+{
+    for (int way = 0; way < 4; way++) {
+        station at;
+        make(&at);
+        settle(&at, STORE_OK);
+        deliver(&at, (process){9, 5, 7}, NONCE, 11);
+        settle(&at, STORE_OK);
+        HOLDS(host_counted(at.host)->saves == 1);
+        if (way == 1) {
+            // A save is under way, without what comes now.
+            note_change(at.host);
+            host_turn(at.host, at.now += 10);
+            HOLDS(at.job != NULL);
+            deliver(&at, (process){9, 5, 8}, NONCE, 11);
+        }
+        if (way == 2) {
+            host_leave(at.host);
+        }
+        host_control(at.host, at.now, "stop", 4, "r");
+        deliver(&at, (process){9, 5, 1000}, NONCE, 11);
+        if (way == 1) {
+            host_turn(at.host, at.now += 10);
+            HOLDS(at.answers == 0 && host_ended(at.host) == HOST_RUNS);
+            finish_save(&at, STORE_OK);
+        }
+        if (way == 3) {
+            settle(&at, STORE_FAILED);
+            HOLDS(at.answers == 0 && host_ended(at.host) == HOST_RUNS);
+        }
+        settle(&at, STORE_OK);
+        HOLDS(at.answers == 1 && host_ended(at.host) == HOST_LEFT);
+        drop(&at);
+        open_host(&at);
+        HOLDS(is_process(&at.host->peers[1].known, 9, 5, way == 1 ? 8 : 7));
+        drop(&at);
+        free(at.stored);
+    }
+    // Nothing new: no save.
+    station at;
+    make(&at);
+    settle(&at, STORE_OK);
+    host_leave(at.host);
+    settle(&at, STORE_OK);
+    HOLDS(host_ended(at.host) == HOST_LEFT && host_counted(at.host)->saves == 1);
+    drop(&at);
+    free(at.stored);
+}
+
+// A packet that knows as many saves as there can be, of this process or of the sender's.
+static void test_lies(void)
+{
+    for (int way = 0; way < 3; way++) {
+        station at;
+        options.trusts_folder = way > 0;
+        make(&at);
+        settle(&at, STORE_OK);
+        deliver(&at, (process){9, 5, UINT64_MAX}, NONCE, 11);
+        HOLDS(host_ended(at.host) == HOST_RUNS);
+        settle(&at, STORE_OK);
+        deliver(&at, (process){9, 5, UINT64_MAX}, NONCE + 1, UINT64_MAX);
+        HOLDS(host_ended(at.host) == (way > 0 ? HOST_RUNS : HOST_OLDER));
+        HOLDS(way > 0 || strstr(host_reason(at.host), "node 1 knows save 18446744073709551615"));
+        HOLDS(way > 0 || strstr(host_reason(at.host), "--trust-folder"));
+        // Packets like this one aren't answered, which would go on for ever.
+        settle(&at, STORE_OK);
+        int packets = at.packets;
+        deliver(&at, (process){9, 5, UINT64_MAX}, NONCE + 1, UINT64_MAX);
+        settle(&at, STORE_OK);
+        HOLDS(at.packets == packets);
+        if (way > 0) {
+            host_leave(at.host);
+            settle(&at, STORE_OK);
+            drop(&at);
+            // What that node's next process says is believed again, if the old one is forgotten.
+            options.trusts_folder = way == 2;
+            open_host(&at);
+            HOLDS(is_process(&at.host->peers[1].known, 0, 0, 0) == (way == 2));
+            settle(&at, STORE_OK);
+            deliver(&at, (process){10, 8, 8}, NONCE, 11);
+            HOLDS(is_process(&at.host->peers[1].known, 10, 8, 8) == (way == 2));
+            HOLDS(host_counted(at.host)->outdated == (way != 2));
+        }
+        drop(&at);
+        free(at.stored);
+    }
+    options.trusts_folder = false;
+}
+
+// Which saves of a process make it the later one, and which end it: exactly.
+static void test_ages(void)
+{
+    for (uint64_t known = 10; known <= 12; known++) {
+        station at;
+        make(&at);
+        settle(&at, STORE_OK);
+        // It began with save 11.
+        HOLDS(at.number == 11);
+        deliver(&at, (process){9, 5, 7}, 0, known);
+        HOLDS(host_ended(at.host) == HOST_RUNS);
+        deliver(&at, (process){9, 5, 7}, NONCE, known);
+        HOLDS(host_ended(at.host) == HOST_RUNS);
+        deliver(&at, (process){9, 5, 7}, NONCE + 1, known);
+        HOLDS(host_ended(at.host) == (known >= 11 ? HOST_OLDER : HOST_RUNS));
+        drop(&at);
+        free(at.stored);
+    }
+    station at;
+    make(&at);
+    settle(&at, STORE_OK);
+    deliver(&at, (process){9, 5, 7}, NONCE, 11);
+    deliver(&at, (process){10, 7, 8}, NONCE, 11);
+    HOLDS(is_process(&at.host->peers[1].known, 9, 5, 7) && host_counted(at.host)->outdated == 1);
+    settle(&at, STORE_OK);
+    // That process is told of the later one.
+    HOLDS(at.last.known_nonce == 9 && at.last.known_saves == 7);
+    deliver(&at, (process){9, 5, 6}, NONCE, 11);
+    HOLDS(is_process(&at.host->peers[1].known, 9, 5, 7));
+    deliver(&at, (process){10, 8, 8}, NONCE, 11);
+    HOLDS(is_process(&at.host->peers[1].known, 10, 8, 8) && host_counted(at.host)->outdated == 1);
+    drop(&at);
+    free(at.stored);
+}
+
+// ## Requests
+
+// Asks, and settles. Returns how many answers came; `*head` is that of the last one.
+static int ask(station *at, request_head request, int length, answer_head *head)
+{
+    uint8_t bytes[REQUEST_BYTES + 1] = {0};
+    writer to = writer_of(bytes, sizeof bytes);
+    write_request_head(&to, &request);
+    for (int i = 0; i < request.count && request.kind == REQUEST_PERFORM; i++) {
+        markring_event event = {.kind = MARKRING_EVENT_ALLOC, .reg = 1, .place = 1};
+        write_event(&to, &event);
+    }
+    if (request.kind == REQUEST_READ) {
+        write_number(&to, 1, 2);
+    }
+    HOLDS(to.ok);
+    at->answers = 0;
+    host_request(at->host, at->now, bytes, length >= 0 ? (size_t)length : to.length, "r");
+    settle(at, STORE_OK);
+    reader from = reader_of(at->text, at->told);
+    if (at->answers > 0) {
+        HOLDS(read_answer_head(&from, head) && from.left == head->count * (size_t)RESULT_BYTES);
+        HOLDS(head->kind == request.kind && head->program == request.program);
+        HOLDS(head->session == request.session && head->number == request.number);
+    }
+    return at->answers;
+}
+
+static uint32_t live(station *at)
+{
+    markring_state state = {0};
+    HOLDS(markring_node_state(host_node(at->host), &state) == MARKRING_OK);
+    return state.live;
+}
+
+// The request that is next is done, once, and no other one; nothing of a request that is cut.
+static void test_requests(void)
+{
+    station at;
+    answer_head head;
+    make(&at);
+    settle(&at, STORE_OK);
+    request_head request = {REQUEST_PERFORM, 3, 100, 1, 2};
+    HOLDS(ask(&at, request, -1, &head) == 1 && head.verdict == VERDICT_SUPERSEDED);
+    HOLDS(ask(&at, (request_head){REQUEST_OPEN, 3, 0, 1, 0}, -1, &head) == 1);
+    HOLDS(head.verdict == VERDICT_MALFORMED);
+    HOLDS(ask(&at, (request_head){REQUEST_OPEN, 3, 100, 2, 0}, -1, &head) == 1);
+    HOLDS(head.verdict == VERDICT_STALE && head.round == 0);
+    HOLDS(ask(&at, (request_head){REQUEST_OPEN, 3, 100, 1, 0}, -1, &head) == 1);
+    HOLDS(head.verdict == VERDICT_DONE && head.round == 1 && head.last == 0);
+    int whole = REQUEST_HEAD + 2 * EVENT_BYTES;
+    for (int length = 0; length <= whole + 1; length++) {
+        if (length != whole) {
+            int answers = ask(&at, request, length, &head);
+            HOLDS(answers == (length >= REQUEST_HEAD));
+            HOLDS(answers == 0 || head.verdict == VERDICT_MALFORMED);
+        }
+    }
+    HOLDS(live(&at) == 0);
+    for (uint64_t number = 0; number < 5; number++) {
+        request.number = number;
+        HOLDS(ask(&at, request, -1, &head) == 1);
+        HOLDS(head.verdict == (number == 0 ? VERDICT_MALFORMED : VERDICT_DONE));
+        HOLDS(head.last == number && head.count == (number == 0 ? 0 : 2));
+        HOLDS(ask(&at, request, -1, &head) == 1 && head.count == (number == 0 ? 0 : 2));
+        request.number = number + 2;
+        HOLDS(ask(&at, request, -1, &head) == 1 && head.verdict == VERDICT_AHEAD);
+        HOLDS(live(&at) == 2 * number);
+    }
+    request.number = 3;
+    HOLDS(ask(&at, request, -1, &head) == 1 && head.verdict == VERDICT_STALE && live(&at) == 8);
+    request_head reading = {REQUEST_READ, 3, 100, 1, 1};
+    HOLDS(ask(&at, reading, -1, &head) == 1 && head.verdict == VERDICT_DONE && head.count == 1);
+    HOLDS(ask(&at, reading, REQUEST_HEAD + 1, &head) == 1 && head.verdict == VERDICT_MALFORMED);
+    HOLDS(ask(&at, (request_head){5, 3, 100, 1, 0}, -1, &head) == 1);
+    HOLDS(head.verdict == VERDICT_MALFORMED);
+    drop(&at);
+    free(at.stored);
+}
+
+// More answers than a host keeps wait for a save: the others are lost, and the first ones come.
+static void test_held(void)
+{
+    station at;
+    make(&at);
+    settle(&at, STORE_OK);
+    note_change(at.host);
+    host_turn(at.host, at.now += 10);
+    HOLDS(at.job != NULL);
+    for (uint64_t number = 1; number <= HELD_ANSWERS + 100; number++) {
+        uint8_t bytes[REQUEST_HEAD];
+        writer to = writer_of(bytes, sizeof bytes);
+        request_head request = {REQUEST_READ, 3, 100, number, 0};
+        write_request_head(&to, &request);
+        host_request(at.host, at.now, bytes, to.length, "r");
+    }
+    HOLDS(at.answers == 0 && host_counted(at.host)->dropped == 100);
+    finish_save(&at, STORE_OK);
+    settle(&at, STORE_OK);
+    HOLDS(at.answers == HELD_ANSWERS);
+    drop(&at);
+    free(at.stored);
+}
+
+// ## Two nodes
+
+static station pair[2];
+
+static void make_pair(void)
+{
+    for (uint8_t own = 0; own < 2; own++) {
+        make_node(&pair[own], own);
+        pair[own].other = &pair[1 - own];
+    }
+}
+
+static void drop_pair(void)
+{
+    for (int own = 0; own < 2; own++) {
+        drop(&pair[own]);
+        free(pair[own].stored);
+    }
+}
+
+// Turns of both, of this many milliseconds, at the same time.
+static void go_on(int turns, uint64_t time)
+{
+    for (int i = 0; i < turns; i++) {
+        turn(&pair[0], time, STORE_OK);
+        turn(&pair[1], time, STORE_OK);
+    }
+}
+
+static void give(int from, uint32_t label)
+{
+    markring_answer answer;
+    int status = markring_node_give(host_node(pair[from].host), (uint8_t)(1 - from), label, 0, &answer);
+    HOLDS(status == MARKRING_OK);
+    host_changed(pair[from].host);
+}
+
+// No packet is lost, so nothing is sent again or comes twice.
+static void test_pace(void)
+{
+    make_pair();
+    go_on(20, 10);
+    for (uint32_t label = 0; label < LETTERS; label++) {
+        give((int)(label & 1), label);
+        go_on(label % 7 == 0 ? 10 : 1, 5);
+    }
+    go_on(100, 10);
+    for (int own = 0; own < 2; own++) {
+        const host_counts *counts = host_counted(pair[own].host);
+        markring_link link;
+        HOLDS(counts->resends == 0 && counts->repeats == 0 && counts->outdated == 0);
+        HOLDS(counts->frames_out >= LETTERS / 2 && counts->packets_out < 4 * LETTERS);
+        HOLDS(markring_node_link(host_node(pair[own].host), (uint8_t)(1 - own), &link) == MARKRING_OK
+            && link.acknowledged == LETTERS / 2);
+    }
+    drop_pair();
+}
+
+// A node that is away: pauses grow up to 1.6 s, and no further.
+static void test_absence(void)
+{
+    make_pair();
+    go_on(20, 10);
+    pair[0].other = NULL;
+    give(0, 1);
+    uint64_t before = host_counted(pair[0].host)->resends;
+    for (int i = 0; i < 1000; i++) {
+        turn(&pair[0], 10, STORE_OK);
+    }
+    uint64_t first = host_counted(pair[0].host)->resends - before;
+    HOLDS(first >= 8 && first <= 12);
+    int packets = pair[0].packets;
+    for (int i = 0; i < 36000; i++) {
+        turn(&pair[0], 100, STORE_OK);
+    }
+    uint64_t all = host_counted(pair[0].host)->resends - before - first;
+    HOLDS(all >= 2100 && all <= 2251 && (uint64_t)(pair[0].packets - packets) <= all + 1);
+    // It is back, and says so: what it misses is sent at once.
+    pair[0].other = &pair[1];
+    host_connected(pair[1].host, pair[1].now);
+    host_connected(pair[0].host, pair[0].now);
+    go_on(3, 10);
+    markring_link link;
+    HOLDS(markring_node_link(host_node(pair[0].host), 1, &link) == MARKRING_OK && link.acknowledged == 1);
+    drop_pair();
+}
+
+// A process waits for a letter, and then another one opens its program: the answer is for the first.
+static void test_waiting(void)
+{
+    answer_head head;
+    make_pair();
+    go_on(20, 10);
+    HOLDS(ask(&pair[1], (request_head){REQUEST_OPEN, 0, 100, 1, 0}, -1, &head) == 1);
+    HOLDS(ask(&pair[1], (request_head){REQUEST_WAIT, 0, 100, 7, 0}, -1, &head) == 0);
+    HOLDS(ask(&pair[1], (request_head){REQUEST_OPEN, 0, 200, 2, 0}, -1, &head) == 1);
+    pair[1].answers = 0;
+    give(0, 1);
+    go_on(20, 10);
+    reader from = reader_of(pair[1].text, pair[1].told);
+    HOLDS(pair[1].answers == 1 && read_answer_head(&from, &head) && head.kind == REQUEST_WAIT);
+    HOLDS(head.session == 100 && head.number == 7 && head.count == 1);
+    drop_pair();
+}
+
+int main(void)
+{
+    test_sizes();
+    test_leaving();
+    test_lies();
+    test_ages();
+    test_requests();
+    test_held();
+    test_pace();
+    test_absence();
+    test_waiting();
+    printf("%lu passed, %lu failed\n", passed, failed);
+    return failed != 0 || passed == 0;
+}

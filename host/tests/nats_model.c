@@ -1,0 +1,410 @@
+#include "nats_model.h"
+
+#include <stdio.h>
+#include <stdlib.h>
+#include <string.h>
+
+nats_model model = {.max_payload = 1048576};
+
+struct __natsOptions {
+    natsConnectionHandler closed, reconnected, connected;
+    natsErrHandler error;
+    void *closed_closure, *reconnected_closure, *connected_closure, *error_closure;
+};
+
+struct __natsConnection {
+    struct __natsOptions options;
+    int holders;
+    bool closed;
+};
+
+struct __natsMsg {
+    struct __natsMsg *next;
+    char *subject, *reply, *bytes;
+    int length;
+};
+
+struct __natsSubscription {
+    natsConnection *connection;
+    natsMsgHandler handler;
+    void *closure;
+    natsMsg *first, **last;
+};
+
+static natsSubscription *subscription;
+
+static void *need(void *block)
+{
+    if (block == NULL) {
+        fputs("the test itself ran out of memory\n", stderr);
+        exit(2);
+    }
+    return block;
+}
+
+// ## Options
+
+natsStatus natsOptions_Create(natsOptions **it)
+{
+    *it = need(calloc(1, sizeof **it));
+    return NATS_OK;
+}
+
+void natsOptions_Destroy(natsOptions *it)
+{
+    free(it);
+}
+
+natsStatus natsOptions_SetURL(natsOptions *it, const char *url)
+{
+    (void)it;
+    return url != NULL ? NATS_OK : NATS_INVALID_ARG;
+}
+
+natsStatus natsOptions_SetName(natsOptions *it, const char *name)
+{
+    (void)it;
+    return name != NULL ? NATS_OK : NATS_INVALID_ARG;
+}
+
+natsStatus natsOptions_SetReconnectedCB(
+    natsOptions *it, natsConnectionHandler handler, void *closure)
+{
+    it->reconnected = handler;
+    it->reconnected_closure = closure;
+    return NATS_OK;
+}
+
+natsStatus natsOptions_SetClosedCB(natsOptions *it, natsConnectionHandler handler, void *closure)
+{
+    it->closed = handler;
+    it->closed_closure = closure;
+    return NATS_OK;
+}
+
+natsStatus natsOptions_SetErrorHandler(natsOptions *it, natsErrHandler handler, void *closure)
+{
+    it->error = handler;
+    it->error_closure = closure;
+    return NATS_OK;
+}
+
+natsStatus natsOptions_SetRetryOnFailedConnect(
+    natsOptions *it, bool retry, natsConnectionHandler handler, void *closure)
+{
+    it->connected = retry ? handler : NULL;
+    it->connected_closure = closure;
+    return NATS_OK;
+}
+
+natsStatus natsOptions_SetSecure(natsOptions *it, bool secure)
+{
+    (void)it;
+    (void)secure;
+    return NATS_OK;
+}
+
+natsStatus natsOptions_LoadCATrustedCertificates(natsOptions *it, const char *file)
+{
+    (void)it;
+    (void)file;
+    return NATS_OK;
+}
+
+natsStatus natsOptions_LoadCertificatesChain(natsOptions *it, const char *file, const char *key)
+{
+    (void)it;
+    (void)file;
+    (void)key;
+    return NATS_OK;
+}
+
+natsStatus natsOptions_SetUserCredentialsFromFiles(
+    natsOptions *it, const char *file, const char *seed)
+{
+    (void)it;
+    (void)file;
+    (void)seed;
+    return NATS_OK;
+}
+
+natsStatus natsOptions_SetSendAsap(natsOptions *it, bool asap)
+{
+    (void)it;
+    (void)asap;
+    return NATS_OK;
+}
+
+natsStatus natsOptions_SetTimeout(natsOptions *it, int64_t time)
+{
+    (void)it;
+    (void)time;
+    return NATS_OK;
+}
+
+natsStatus natsOptions_SetWriteDeadline(natsOptions *it, int64_t time)
+{
+    (void)it;
+    (void)time;
+    return NATS_OK;
+}
+
+natsStatus natsOptions_SetPingInterval(natsOptions *it, int64_t time)
+{
+    (void)it;
+    (void)time;
+    return NATS_OK;
+}
+
+natsStatus natsOptions_SetMaxReconnect(natsOptions *it, int most)
+{
+    (void)it;
+    (void)most;
+    return NATS_OK;
+}
+
+natsStatus natsOptions_SetReconnectWait(natsOptions *it, int64_t time)
+{
+    (void)it;
+    (void)time;
+    return NATS_OK;
+}
+
+natsStatus natsOptions_SetReconnectBufSize(natsOptions *it, int size)
+{
+    (void)it;
+    (void)size;
+    return NATS_OK;
+}
+
+// ## Connections
+
+natsStatus natsConnection_Connect(natsConnection **it, natsOptions *options)
+{
+    natsStatus status = NATS_OK;
+    if (model.attempts < model.connects_count) {
+        status = model.connects[model.attempts];
+    }
+    model.attempts++;
+    if (status != NATS_OK && !(status == NATS_NO_SERVER && options->connected != NULL)) {
+        return status;
+    }
+    *it = model.last = need(calloc(1, sizeof **it));
+    (*it)->options = *options;
+    (*it)->holders = 1;
+    return status == NATS_OK ? NATS_OK : NATS_NOT_YET_CONNECTED;
+}
+
+void natsConnection_Close(natsConnection *it)
+{
+    if (it != NULL) {
+        it->closed = true;
+    }
+}
+
+void model_hold(natsConnection *it)
+{
+    it->holders++;
+}
+
+void model_release(natsConnection *it)
+{
+    if (--it->holders == 0) {
+        free(it);
+    }
+}
+
+void natsConnection_Destroy(natsConnection *it)
+{
+    if (it != NULL) {
+        model_release(it);
+    }
+}
+
+bool natsConnection_IsClosed(natsConnection *it)
+{
+    return it == NULL || it->closed;
+}
+
+natsStatus natsConnection_GetLastError(natsConnection *it, const char **text)
+{
+    (void)it;
+    *text = model.text;
+    return NATS_OK;
+}
+
+const char *nats_GetLastError(natsStatus *status)
+{
+    *status = NATS_OK;
+    return model.text;
+}
+
+int64_t natsConnection_GetMaxPayload(natsConnection *it)
+{
+    return it != NULL ? model.max_payload : 0;
+}
+
+natsStatus natsConnection_FlushTimeout(natsConnection *it, int64_t time)
+{
+    (void)time;
+    return it != NULL ? NATS_OK : NATS_INVALID_ARG;
+}
+
+natsStatus natsConnection_PublishRequest(
+    natsConnection *it, const char *subject, const char *reply, const void *bytes, int length)
+{
+    if (it == NULL) {
+        return NATS_INVALID_ARG;
+    }
+    if (length > model.max_payload) {
+        return NATS_MAX_PAYLOAD;
+    }
+    if (model.published != NULL) {
+        model.published(subject, reply, bytes, length);
+    }
+    return NATS_OK;
+}
+
+natsStatus natsConnection_Publish(
+    natsConnection *it, const char *subject, const void *bytes, int length)
+{
+    return natsConnection_PublishRequest(it, subject, NULL, bytes, length);
+}
+
+void model_close(natsConnection *it)
+{
+    it->closed = true;
+    it->options.closed(it, it->options.closed_closure);
+}
+
+void model_error(natsConnection *it, natsStatus status)
+{
+    it->options.error(it, subscription, status, it->options.error_closure);
+}
+
+// ## Subscriptions and messages
+
+natsStatus natsConnection_Subscribe(natsSubscription **it, natsConnection *connection,
+    const char *subject, natsMsgHandler handler, void *closure)
+{
+    if (connection == NULL) {
+        return NATS_INVALID_ARG;
+    }
+    snprintf(model.subscribed, sizeof model.subscribed, "%s", subject);
+    *it = subscription = need(calloc(1, sizeof **it));
+    subscription->connection = connection;
+    subscription->handler = handler;
+    subscription->closure = closure;
+    subscription->last = &subscription->first;
+    return NATS_OK;
+}
+
+natsStatus natsConnection_SubscribeSync(
+    natsSubscription **it, natsConnection *connection, const char *subject)
+{
+    return natsConnection_Subscribe(it, connection, subject, NULL, NULL);
+}
+
+natsStatus natsSubscription_SetPendingLimits(natsSubscription *it, int messages, int bytes)
+{
+    (void)it;
+    (void)messages;
+    (void)bytes;
+    return NATS_OK;
+}
+
+natsStatus natsSubscription_NextMsg(natsMsg **message, natsSubscription *it, int64_t time)
+{
+    (void)time;
+    if (it == NULL) {
+        return NATS_INVALID_ARG;
+    }
+    *message = it->first;
+    if (it->first == NULL) {
+        return NATS_TIMEOUT;
+    }
+    it->first = it->first->next;
+    if (it->first == NULL) {
+        it->last = &it->first;
+    }
+    return NATS_OK;
+}
+
+void natsSubscription_Destroy(natsSubscription *it)
+{
+    if (it == NULL) {
+        return;
+    }
+    while (it->first != NULL) {
+        natsMsg *next = it->first->next;
+        natsMsg_Destroy(it->first);
+        it->first = next;
+    }
+    if (it == subscription) {
+        subscription = NULL;
+    }
+    free(it);
+}
+
+void model_deliver(const char *subject, const char *reply, const void *bytes, size_t length)
+{
+    natsMsg *it = need(calloc(1, sizeof *it));
+    it->subject = need(strdup(subject));
+    it->reply = reply != NULL ? need(strdup(reply)) : NULL;
+    // Exactly as many bytes as there are, so that reading beyond is noticed.
+    it->bytes = need(malloc(length + (length == 0)));
+    if (length > 0) {
+        memcpy(it->bytes, bytes, length);
+    }
+    it->length = (int)length;
+    if (subscription == NULL) {
+        natsMsg_Destroy(it);
+    } else if (subscription->handler != NULL) {
+        subscription->handler(subscription->connection, subscription, it, subscription->closure);
+    } else {
+        *subscription->last = it;
+        subscription->last = &it->next;
+    }
+}
+
+const char *natsMsg_GetSubject(const natsMsg *it)
+{
+    return it->subject;
+}
+
+const char *natsMsg_GetReply(const natsMsg *it)
+{
+    return it->reply;
+}
+
+const char *natsMsg_GetData(const natsMsg *it)
+{
+    return it->bytes;
+}
+
+int natsMsg_GetDataLength(const natsMsg *it)
+{
+    return it->length;
+}
+
+void natsMsg_Destroy(natsMsg *it)
+{
+    if (it != NULL) {
+        free(it->subject);
+        free(it->reply);
+        free(it->bytes);
+        free(it);
+    }
+}
+
+// ## The rest
+
+void nats_Sleep(int64_t time)
+{
+    (void)time;
+}
+
+const char *natsStatus_GetText(natsStatus status)
+{
+    return status == NATS_CONNECTION_AUTH_FAILED ? "Authentication Violation" : "a status";
+}

@@ -1,0 +1,41 @@
+// What the host calls of libnats, over no server: a test sees what is published, and says what comes
+// and how connections go. All that is made and not destroyed is a leak, which the sanitizers find.
+#ifndef TESTS_NATS_MODEL_H
+#define TESTS_NATS_MODEL_H
+
+#include <nats/nats.h>
+
+#include <stdbool.h>
+#include <stddef.h>
+
+enum { MODEL_CONNECTS = 64 };
+
+typedef struct nats_model {
+    // What the next attempts to connect give, in order; NATS_OK after them.
+    natsStatus connects[MODEL_CONNECTS];
+    int connects_count, attempts;
+    int64_t max_payload;
+    // Is called for each message that is published. `reply` may be NULL.
+    void (*published)(const char *subject, const char *reply, const void *bytes, int length);
+    // The last error, as nats_GetLastError gives it.
+    const char *text;
+    // The last connection that was made, and what it subscribed to.
+    natsConnection *last;
+    char subscribed[160];
+} nats_model;
+
+extern nats_model model;
+
+// A message comes in, for the last subscription.
+void model_deliver(const char *subject, const char *reply, const void *bytes, size_t length);
+
+// Calls what a connection's options name.
+void model_close(natsConnection *it);
+void model_error(natsConnection *it, natsStatus status);
+
+// Makes that a connection stays after it was destroyed, as it does while libnats has a call of it
+// waiting; and frees it.
+void model_hold(natsConnection *it);
+void model_release(natsConnection *it);
+
+#endif

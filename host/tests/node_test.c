@@ -1,0 +1,356 @@
+// The program markring-node over a model of libnats and a real folder: what addresses it answers,
+// what it makes of connections that end and come late, and of saves that fail.
+//
+//     node_test
+#define main node_main
+#include "../node.c"
+#undef main
+
+#include "nats_model.h"
+
+#include <fcntl.h>
+#include <sys/stat.h>
+#include <unistd.h>
+
+enum { PATH = 64, CYCLE = 10, HEARD = 64 };
+
+static unsigned long passed, failed;
+
+static void check(bool holds, const char *text, int line)
+{
+    if (holds) {
+        passed++;
+    } else if (failed++ < 20) {
+        printf("FAILED: node_test.c:%d: %s\n", line, text);
+    }
+}
+
+#define HOLDS(condition) check((condition), #condition, __LINE__)
+
+static char place[PATH] = "/tmp/node-XXXXXX";
+static running at;
+static carrier_options carrier = {"nats://none", NULL, NULL, NULL, NULL};
+
+// What was published since the last call of `listen`, except packets; and all of it.
+static char heard[HEARD][SUBJECT];
+static int heard_count;
+static unsigned long published;
+
+static void on_published(const char *subject, const char *reply, const void *bytes, int length)
+{
+    (void)reply;
+    (void)bytes;
+    (void)length;
+    published++;
+    if (strncmp(subject, "markring.", 9) != 0 && heard_count < HEARD) {
+        snprintf(heard[heard_count++], SUBJECT, "%s", subject);
+    }
+}
+
+static void listen(void)
+{
+    heard_count = 0;
+}
+
+static bool was_heard(const char *subject)
+{
+    for (int i = 0; i < heard_count; i++) {
+        if (strcmp(heard[i], subject) == 0) {
+            return true;
+        }
+    }
+    return false;
+}
+
+// Rounds, until this time is over. Returns the last one's state.
+static carrier_state go_on(uint64_t time)
+{
+    uint64_t end = now_ms() + time;
+    carrier_state state;
+    do {
+        state = go_round(&at);
+    } while (now_ms() < end && host_ended(at.host) == HOST_RUNS);
+    return state;
+}
+
+// Rounds, until this was published. Returns whether it was.
+static bool hears(const char *subject)
+{
+    for (int i = 0; i < 500 && !was_heard(subject); i++) {
+        (void)go_round(&at);
+    }
+    return was_heard(subject);
+}
+
+// ## What the node says on stderr
+
+static int said_before = -1;
+
+static void begin_hearing(void)
+{
+    char path[PATH + 8];
+    snprintf(path, sizeof path, "%s/said", place);
+    said_before = dup(2);
+    int file = open(path, O_RDWR | O_CREAT | O_TRUNC, 0600);
+    HOLDS(file >= 0 && dup2(file, 2) == 2);
+    close(file);
+}
+
+// How often this was said since.
+static int end_hearing(const char *text)
+{
+    static char said[65536];
+    int count = 0;
+    fflush(stderr);
+    ssize_t length = pread(2, said, sizeof said - 1, 0);
+    said[length > 0 ? length : 0] = 0;
+    dup2(said_before, 2);
+    close(said_before);
+    for (const char *it = strstr(said, text); it != NULL; it = strstr(it + 1, text)) {
+        count++;
+    }
+    return count;
+}
+
+// ## Tests
+
+static void ask_status(const char *reply)
+{
+    model_deliver("markring.test.node.0.control", reply, "status", 6);
+}
+
+static void test_addresses(void)
+{
+    static const char *const wrong[] = {"_INBOX.", "_INBOX.a..b", "_INBOX.a.", "_INBOX..a", "_INBOX.*",
+        "_INBOX.a.>", "_INBOX.*.a", "_INBOX", "_INBOXa.b", "_INBOX.a b", "_INBOX.a\tb", "_INBOX.a\x7f",
+        "markring.test.node.1.from.0", "a.b", ""};
+    static const char *const right[] = {"_INBOX.a", "_INBOX.a.b.c", "_INBOX.program.0123.1"};
+    listen();
+    ask_status(NULL);
+    for (size_t i = 0; i < sizeof wrong / sizeof *wrong; i++) {
+        ask_status(wrong[i]);
+    }
+    (void)go_on(2 * CYCLE);
+    HOLDS(heard_count == 0);
+    for (size_t i = 0; i < sizeof right / sizeof *right; i++) {
+        ask_status(right[i]);
+        HOLDS(hears(right[i]));
+    }
+    // Other subjects, and packets of nodes that there aren't.
+    listen();
+    model_deliver("markring.test.node.1.control", "_INBOX.a", "status", 6);
+    model_deliver("markring.test.node.0.controls", "_INBOX.a", "status", 6);
+    model_deliver("markring.test.node.0.from.64", "_INBOX.a", "x", 1);
+    model_deliver("markring.test.node.0.from.", "_INBOX.a", "x", 1);
+    (void)go_on(2 * CYCLE);
+    HOLDS(heard_count == 0 && host_counted(at.host)->foreign == 0);
+    model_deliver("markring.test.node.0.from.1", NULL, "x", 1);
+    (void)go_on(2 * CYCLE);
+    HOLDS(host_counted(at.host)->foreign == 1);
+}
+
+static void test_denials(void)
+{
+    model.text = "Permissions Violation for Publish to \"_INBOX.a\"";
+    model_error(model.last, NATS_NOT_PERMITTED);
+    HOLDS(go_on(2 * CYCLE) == USABLE);
+    model.text = "Permissions Violation for Subscription to \"markring.test.node.0.>\"";
+    model_error(model.last, NATS_SLOW_CONSUMER);
+    HOLDS(go_on(2 * CYCLE) == USABLE);
+    model_error(model.last, NATS_NOT_PERMITTED);
+    HOLDS(go_on(2 * CYCLE) == FORBIDDEN);
+    at.forbidden = false;
+    model.text = "Permissions Violation for Publish to \"markring.test.node.1.from.0\"";
+    model_error(model.last, NATS_NOT_PERMITTED);
+    HOLDS(go_on(2 * CYCLE) == FORBIDDEN);
+    at.forbidden = false;
+    model.text = NULL;
+}
+
+// What an earlier connection says late changes nothing.
+static void test_late_calls(void)
+{
+    natsConnection *old = model.last;
+    model_hold(old);
+    disconnect_node(&at);
+    HOLDS(connect_node(&at, &carrier) == NATS_OK && model.last != old);
+    HOLDS(go_on(2 * CYCLE) == USABLE);
+    model_close(old);
+    model.text = "Permissions Violation for Subscription to \"markring.test.node.0.>\"";
+    model_error(old, NATS_NOT_PERMITTED);
+    HOLDS(go_on(2 * CYCLE) == USABLE);
+    model.text = NULL;
+    model_release(old);
+    model_close(model.last);
+    HOLDS(go_on(2 * CYCLE) == CLOSED);
+    disconnect_node(&at);
+    HOLDS(connect_node(&at, &carrier) == NATS_OK && go_on(2 * CYCLE) == USABLE);
+    HOLDS(strcmp(model.subscribed, "markring.test.node.0.>") == 0);
+}
+
+static void refuse(natsStatus status, int count)
+{
+    model.attempts = 0;
+    model.connects_count = count;
+    for (int i = 0; i < count; i++) {
+        model.connects[i] = status;
+    }
+}
+
+// A server that refuses a connection for a while, for whatever reason.
+static void test_refusals(void)
+{
+    static const natsStatus passing[] = {NATS_ERR, NATS_PROTOCOL_ERROR, NATS_IO_ERROR,
+        NATS_CONNECTION_CLOSED, NATS_STALE_CONNECTION, NATS_SYS_ERROR, NATS_CONNECTION_AUTH_FAILED};
+    begin_hearing();
+    for (size_t i = 0; i < sizeof passing / sizeof *passing; i++) {
+        refuse(passing[i], 40);
+        HOLDS(connect_again(&at, &carrier) == NATS_OK && go_on(2 * CYCLE) == USABLE);
+        disconnect_node(&at);
+        refuse(passing[i], 40);
+        HOLDS(connect_patiently(&at, &carrier) == NATS_OK && go_on(2 * CYCLE) == USABLE);
+    }
+    HOLDS(end_hearing("trying again") == 2 * sizeof passing / sizeof *passing);
+    begin_hearing();
+    refuse(NATS_CONNECTION_AUTH_FAILED, 64);
+    HOLDS(connect_again(&at, &carrier) == NATS_CONNECTION_AUTH_FAILED && at.connection == NULL);
+    refuse(NATS_SSL_ERROR, 1);
+    HOLDS(connect_again(&at, &carrier) == NATS_SSL_ERROR && model.attempts == 1);
+    // It can be asked to stop meanwhile.
+    refuse(NATS_CONNECTION_AUTH_FAILED, 10);
+    at.stop = true;
+    HOLDS(connect_again(&at, &carrier) == NATS_OK && model.attempts == 1 && at.connection == NULL);
+    at.stop = false;
+    HOLDS(end_hearing("trying again") == 1);
+    refuse(NATS_OK, 0);
+    HOLDS(connect_again(&at, &carrier) == NATS_OK && go_on(2 * CYCLE) == USABLE);
+}
+
+// A server that doesn't take the longest answers: the node says so, once.
+static void test_payload(void)
+{
+    begin_hearing();
+    for (int i = 0; i < 4; i++) {
+        model.max_payload = i < 3 ? ANSWER_BYTES - 1 : ANSWER_BYTES;
+        disconnect_node(&at);
+        HOLDS(connect_node(&at, &carrier) == NATS_OK && go_on(2 * CYCLE) == USABLE);
+    }
+    HOLDS(end_hearing("max_payload") == 1);
+    model.max_payload = 1048576;
+}
+
+// More messages than the loop takes: what finds no room is lost, and nothing else.
+static void test_floods(void)
+{
+    published = 0;
+    for (int i = 0; i < INBOX_MOST + 100; i++) {
+        model_deliver("markring.test.node.0.control", "_INBOX.flood", "words", 5);
+    }
+    HOLDS(at.waiting == INBOX_MOST);
+    (void)go_round(&at);
+    HOLDS(at.waiting == INBOX_MOST - HOST_TAKES);
+    listen();
+    (void)go_on(20 * CYCLE);
+    HOLDS(at.waiting == 0 && published >= INBOX_MOST && published < INBOX_MOST + 100);
+}
+
+// ## Saves
+
+static int write_error, sync_error;
+static store_calls real;
+
+static int64_t write_or_fail(
+    void *context, int file, const uint8_t *bytes, size_t length, uint64_t offset)
+{
+    return write_error != 0 ? -write_error : real.write_at(context, file, bytes, length, offset);
+}
+
+static int sync_or_fail(void *context, int file)
+{
+    return sync_error != 0 ? -sync_error : real.sync(context, file);
+}
+
+static void ask_to_open(uint64_t session, uint64_t number, const char *reply)
+{
+    uint8_t bytes[REQUEST_HEAD];
+    writer to = writer_of(bytes, sizeof bytes);
+    request_head head = {REQUEST_OPEN, 5, session, number, 0};
+    write_request_head(&to, &head);
+    model_deliver("markring.test.node.0.program", reply, bytes, to.length);
+}
+
+// While saves fail, nobody is answered. A failed sync ends the node.
+static void test_saves(void)
+{
+    real = at.store.calls;
+    at.store.calls.write_at = write_or_fail;
+    at.store.calls.sync = sync_or_fail;
+    listen();
+    ask_to_open(1, 1, "_INBOX.one");
+    HOLDS(hears("_INBOX.one"));
+    for (int i = 0; i < 2; i++) {
+        begin_hearing();
+        write_error = ENOSPC;
+        listen();
+        ask_to_open(2 + (uint64_t)i, 2 + (uint64_t)i, "_INBOX.two");
+        HOLDS(go_on(350) == USABLE && !was_heard("_INBOX.two"));
+        HOLDS(host_counted(at.host)->failed_saves >= 2);
+        HOLDS(end_hearing("can't be saved: No space left on device") == 1);
+        begin_hearing();
+        write_error = 0;
+        HOLDS(hears("_INBOX.two") && go_on(5 * CYCLE) == USABLE);
+        HOLDS(end_hearing("is saved again") == 1);
+    }
+    sync_error = EIO;
+    ask_to_open(4, 4, "_INBOX.three");
+    (void)go_on(2000);
+    HOLDS(host_ended(at.host) == HOST_UNSURE && !was_heard("_INBOX.three"));
+    begin_hearing();
+    HOLDS(leave_with(&at) == LEAVE_UNSURE);
+    HOLDS(end_hearing("start it again: Input/output error") == 1);
+}
+
+// ## Beginning and end
+
+static void start(void)
+{
+    char *words[] = {place, "test", "0123456789abcdef", "0", "2", "8", "64"};
+    run_options options;
+    memset(&options, 0, sizeof options);
+    options.host.cycle_every = CYCLE;
+    char folder[PATH + 8];
+    snprintf(folder, sizeof folder, "%s/node", place);
+    words[0] = strdup(folder);
+    HOLDS(create(7, words) == 0);
+    at.folder = words[0];
+    HOLDS(open_node(&at, &options.host) == 0);
+    name_node(&at);
+    HOLDS(connect_node(&at, &carrier) == NATS_OK);
+    HOLDS(go_on(5 * CYCLE) == USABLE && published > 0);
+}
+
+int main(void)
+{
+    pthread_t saves, signals;
+    model.published = on_published;
+    HOLDS(mkdtemp(place) != NULL);
+    HOLDS(start_threads(&at, &saves, &signals));
+    start();
+    test_addresses();
+    test_denials();
+    test_late_calls();
+    test_refusals();
+    test_payload();
+    test_floods();
+    test_saves();
+    end_saver(&at, saves);
+    disconnect_node(&at);
+    host_free(at.host);
+    store_close(&at.store);
+    free((void *)(uintptr_t)at.folder);
+    char command[PATH + 8];
+    snprintf(command, sizeof command, "rm -r %s", place);
+    HOLDS(system(command) == 0);
+    printf("%lu passed, %lu failed\n", passed, failed);
+    return failed != 0 || passed == 0;
+}
