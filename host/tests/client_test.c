@@ -229,7 +229,8 @@ static void test_verdicts(void)
                     HOLDS(status == MARKRING_REMOTE_BAD_ARGUMENT);
                 } else if (which == PERFORM && said == VERDICT_SUPERSEDED) {
                     HOLDS(status == MARKRING_REMOTE_SUPERSEDED);
-                    HOLDS(perform(LONG, true) == MARKRING_REMOTE_SUPERSEDED);
+                    unsigned long before = asks;
+                    HOLDS(perform(LONG, true) == MARKRING_REMOTE_SUPERSEDED && asks == before);
                 } else {
                     HOLDS(status == MARKRING_REMOTE_CONFUSED);
                 }
@@ -379,6 +380,7 @@ int main(void)
     test_arguments();
     markring_remote_close(program);
     markring_remote_disconnect(space);
+    HOLDS(model.alive == 0);
     printf("%lu passed, %lu failed\n", passed, failed);
     return failed != 0 || passed == 0;
 }

@@ -42,17 +42,30 @@ static void *need(void *block)
     return block;
 }
 
+// Makes something that has to be destroyed.
+static void *made(size_t size)
+{
+    model.alive++;
+    return need(calloc(1, size));
+}
+
+static void destroyed(void *it)
+{
+    model.alive -= it != NULL;
+    free(it);
+}
+
 // ## Options
 
 natsStatus natsOptions_Create(natsOptions **it)
 {
-    *it = need(calloc(1, sizeof **it));
+    *it = made(sizeof **it);
     return NATS_OK;
 }
 
 void natsOptions_Destroy(natsOptions *it)
 {
-    free(it);
+    destroyed(it);
 }
 
 natsStatus natsOptions_SetURL(natsOptions *it, const char *url)
@@ -189,7 +202,7 @@ natsStatus natsConnection_Connect(natsConnection **it, natsOptions *options)
     if (status != NATS_OK && !(status == NATS_NO_SERVER && options->connected != NULL)) {
         return status;
     }
-    *it = model.last = need(calloc(1, sizeof **it));
+    *it = model.last = made(sizeof **it);
     (*it)->options = *options;
     (*it)->holders = 1;
     return status == NATS_OK ? NATS_OK : NATS_NOT_YET_CONNECTED;
@@ -210,7 +223,7 @@ void model_hold(natsConnection *it)
 void model_release(natsConnection *it)
 {
     if (--it->holders == 0) {
-        free(it);
+        destroyed(it);
     }
 }
 
@@ -291,7 +304,7 @@ natsStatus natsConnection_Subscribe(natsSubscription **it, natsConnection *conne
         return NATS_INVALID_ARG;
     }
     snprintf(model.subscribed, sizeof model.subscribed, "%s", subject);
-    *it = subscription = need(calloc(1, sizeof **it));
+    *it = subscription = made(sizeof **it);
     subscription->connection = connection;
     subscription->handler = handler;
     subscription->closure = closure;
@@ -343,12 +356,12 @@ void natsSubscription_Destroy(natsSubscription *it)
     if (it == subscription) {
         subscription = NULL;
     }
-    free(it);
+    destroyed(it);
 }
 
 void model_deliver(const char *subject, const char *reply, const void *bytes, size_t length)
 {
-    natsMsg *it = need(calloc(1, sizeof *it));
+    natsMsg *it = made(sizeof *it);
     it->subject = need(strdup(subject));
     it->reply = reply != NULL ? need(strdup(reply)) : NULL;
     // Exactly as many bytes as there are, so that reading beyond is noticed.
@@ -393,7 +406,7 @@ void natsMsg_Destroy(natsMsg *it)
         free(it->subject);
         free(it->reply);
         free(it->bytes);
-        free(it);
+        destroyed(it);
     }
 }
 

@@ -1,5 +1,5 @@
 // What the host calls of libnats, over no server: a test sees what is published, and says what comes
-// and how connections go. All that is made and not destroyed is a leak, which the sanitizers find.
+// and how connections go.
 #ifndef TESTS_NATS_MODEL_H
 #define TESTS_NATS_MODEL_H
 
@@ -19,6 +19,8 @@ typedef struct nats_model {
     void (*published)(const char *subject, const char *reply, const void *bytes, int length);
     // The last error, as nats_GetLastError gives it.
     const char *text;
+    // How many options, connections, subscriptions and messages were made and not destroyed.
+    long alive;
     // The last connection that was made, and what it subscribed to.
     natsConnection *last;
     char subscribed[160];

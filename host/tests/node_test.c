@@ -2,8 +2,11 @@
 // what it makes of connections that end and come late, and of saves that fail.
 //
 //     node_test
+#ifndef NODE
+#define NODE "../node.c"
+#endif
 #define main node_main
-#include "../node.c"
+#include NODE
 #undef main
 
 #include "nats_model.h"
@@ -310,6 +313,24 @@ static void test_saves(void)
     HOLDS(end_hearing("start it again: Input/output error") == 1);
 }
 
+// A signal saves all and ends the node, also in the next process.
+static void test_signal(void)
+{
+    run_options options;
+    memset(&options, 0, sizeof options);
+    options.host.cycle_every = CYCLE;
+    host_free(at.host);
+    store_close(&at.store);
+    sync_error = 0;
+    HOLDS(open_node(&at, &options.host) == 0 && go_on(5 * CYCLE) == USABLE);
+    listen();
+    ask_to_open(5, 4, "_INBOX.four");
+    HOLDS(hears("_INBOX.four"));
+    HOLDS(kill(getpid(), SIGTERM) == 0);
+    (void)go_on(2000);
+    HOLDS(host_ended(at.host) == HOST_LEFT && leave_with(&at) == 0);
+}
+
 // ## Beginning and end
 
 static void start(void)
@@ -343,10 +364,12 @@ int main(void)
     test_payload();
     test_floods();
     test_saves();
+    test_signal();
     end_saver(&at, saves);
     disconnect_node(&at);
     host_free(at.host);
     store_close(&at.store);
+    HOLDS(model.alive == 0);
     free((void *)(uintptr_t)at.folder);
     char command[PATH + 8];
     snprintf(command, sizeof command, "rm -r %s", place);

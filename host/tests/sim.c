@@ -929,7 +929,7 @@ static void mix_up(uint8_t node)
     station *at = &stations[node];
     disk newest;
     memset(&newest, 0, sizeof newest);
-    if (!at->has_copy || !is_known(node, at->copy_number + 1)) {
+    if (!at->has_copy || !is_known(node, at->copy_number)) {
         return;
     }
     if (at->host != NULL) {
