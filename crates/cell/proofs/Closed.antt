@@ -68,8 +68,8 @@ module _ {D : Type 0} {may_leave : D → Areas → Type 0} {shape : Shaped} {ope
             last.number
             (subst
             (λ (i : ℕ). IsSavedNode (seat_node c.seat) i (known c.seat).pair.saved c.saved)
-            last.width last.of.kept.was));
-        opens = last.of.kept.while_open last.ready x may;
+            last.width last.of.sound.was));
+        opens = last.of.sound.while_open last.ready x may;
       }
 
   saved-count : length (run opening h.once.log).saved ≡ shape.nodes
@@ -98,13 +98,13 @@ module _ {D : Type 0} {may_leave : D → Areas → Type 0} {shape : Shaped} {ope
       (heard-like opening (end_of h.reached) h.reached.by (heard-end h.reached)) to k
 
   was-held : (k to : ℕ) (c : CellView D) → slice_get cells k ≡ Some c
-      → (link_to c.first to).base ≤ acknowledged opening k to
+      → (link_to c.origin to).base ≤ acknowledged opening k to
       → (link_to c.saved to).base ≤ acknowledged (run opening h.once.log) k to
   was-held k to c there first =
       let last = h.each k c there in
       let leads = h.once.each k c there in
       let me : (known c.seat).me ≡ k = sym c.seat.sits.me_is ∙ last.number in
-      ∥∥₁_elim (last.of.kept.saved_dropped.each to) (hlevel props)
+      ∥∥₁_elim (last.of.sound.saved_dropped.each to) (hlevel props)
       (⊎_elim
       (λ before. le_trans before (le_trans first (acked-still k to)))
       (λ f.
@@ -116,12 +116,12 @@ module _ {D : Type 0} {may_leave : D → Areas → Type 0} {shape : Shaped} {ope
 
   -- the first node of the cell, by the number of the cell
   first-held : (k to : ℕ) (c : CellView D) → slice_get cells k ≡ Some c → HasBegun c
-      → to < nodes_of opening → (link_to c.first to).base ≤ acknowledged opening k to
+      → to < nodes_of opening → (link_to c.origin to).base ≤ acknowledged opening k to
   first-held k to c there begun inside =
       let last = h.each k c there in
-      subst (λ (i : ℕ). (link_to c.first to).base ≤ acknowledged opening i to) last.number
+      subst (λ (i : ℕ). (link_to c.origin to).base ≤ acknowledged opening i to) last.number
       (subst
-      (λ (o : World). (link_to c.first to).base ≤ acknowledged o (seat_node c.seat) to)
+      (λ (o : World). (link_to c.origin to).base ≤ acknowledged o (seat_node c.seat) to)
       last.of.began
       (begun to (subst (λ (o : World). to < nodes_of o) (sym last.of.began) inside)))
 
@@ -255,14 +255,14 @@ new-begun cells new ages at k c there to inside =
     (let still : to < nodes_of w = subst (λ (o : World). to < nodes_of o) is.0 inside in
     omega (arith, still, wide)) in
     let m = some_at nodes to below in
-    let kept = (ages.each k to c.node m.0 here m.1).kept in
+    let dropped = (ages.each k to c.node m.0 here m.1).dropped in
     let got : acknowledged w k to ≡ got_from m.0.core.local k =
     ap (λ (s : NodeState). got_from s.local k) (at-place nodes to m.0 m.1) in
-    let first : c.first ≡ c.node.core =
-    ap (λ (v : CellView _). v.first) (subst IsNew (get_or_from_slice_get cells k c c there)
+    let first : c.origin ≡ c.node.core =
+    ap (λ (v : CellView _). v.origin) (subst IsNew (get_or_from_slice_get cells k c c there)
     (All-get_or IsNew cells k c (slice_get_within cells k c there) new)) in
-    subst (λ (o : World). (link_to c.first to).base ≤ acknowledged o (seat_node c.seat) to)
+    subst (λ (o : World). (link_to c.origin to).base ≤ acknowledged o (seat_node c.seat) to)
     (sym is.0)
-    (subst (λ (i : ℕ). (link_to c.first to).base ≤ acknowledged w i to) (sym is.1)
+    (subst (λ (i : ℕ). (link_to c.origin to).base ≤ acknowledged w i to) (sym is.1)
     (subst (λ (v : NodeView). (link_to v to).base ≤ acknowledged w k to) (sym first)
-    (omega (arith, kept, got))))
+    (omega (arith, dropped, got))))

@@ -56,8 +56,8 @@ trimmed-base : (l : Link) (number : ℕ)
 trimmed-base l number =
     let len : ℕ = length l.unacknowledged in
     ⊎_elim
-    (λ before. inl (let none : l.base + min (number - l.base) len ≤ l.base = omega (arith, before) in
-    none))
+    (λ before. inl (let none : l.base + min (number - l.base) len ≤ l.base =
+    omega (arith, before) in none))
     (λ after. inr (let few : l.base + min (number - l.base) len ≤ number = omega (arith, after) in
     few))
     (cases_lt number l.base)
@@ -158,9 +158,9 @@ pub record IsTakenFrame (w : Known) (f : Frame) : Type 0 where
   pub receiver : receiver (plain f) ≡ w.me
 
 -- the performed event: either no acknowledgement, or one that the seat took
-dropped-acked : {first : NodeView} {v w : Known} {n : NodeView} {a : Ack} (m : NodeView) (x : Answer)
-    → TookMore v w → IsTakenFrame w (frame.Ack a) → view_act n (event.Ack a) ≡ Ok (m, x)
-    → HasDropped first v n → HasDropped first w m
+dropped-acked : {first : NodeView} {v w : Known} {n : NodeView} {a : Ack} (m : NodeView)
+    (x : Answer) → TookMore v w → IsTakenFrame w (frame.Ack a)
+    → view_act n (event.Ack a) ≡ Ok (m, x) → HasDropped first v n → HasDropped first w m
 dropped-acked {first} {n = n} {a = a} m x more acked done h = record {
   each = λ to. ⊎_elim
       (λ less.

@@ -35,7 +35,7 @@ stands-read me width s n own nodes shows kept =
       own = own;
       nodes = nodes;
       shows = shows;
-      counted = λ j.
+      released = λ j.
           sym (ap (λ (m : NodeView). (link_to m j).kept) kept)
           ∙ ap (λ (l : Link). l.kept) (get_or-map all_kept n.links j no_link)
           ∙ used-is (link_to n j) (sent_to s j) (shows.links j);

@@ -128,7 +128,7 @@ left-stands shape k width s c whole left read =
     (ap (λ (m : NodeView). m.local.shape.nodes) is ∙ left.saved.nodes)
     (subst (λ (m : NodeView). Shows m s) (sym is) left.saved.shows)
     (kept-found n c found) in
-    record { shows = stands.shows; counted = stands.counted; acks = stands.acks }
+    record { shows = stands.shows; released = stands.released; acks = stands.acks }
 
 pub left-opened : LeftIsOpened
 left-opened shape w nodes width count read = record {

@@ -111,8 +111,8 @@ looked-next {D} {seen} {may_leave} {faults} {shape} {number} {old} {new} {nodes}
 
 -- all disks of a space were read, and nothing was written on them
 pub record AreAllRead {D : Type 0} (seen : D → Areas) (may_leave : D → Areas → Type 0)
-    (moment faults : D → ℕ) (left_since : D → ℕ → Areas → Type 0) (shape : Shaped) (old new : List D)
-    (nodes : List WholeNode) (areas : List (Option Place)) : Type 0 where
+    (moment faults : D → ℕ) (left_since : D → ℕ → Areas → Type 0) (shape : Shaped)
+    (old new : List D) (nodes : List WholeNode) (areas : List (Option Place)) : Type 0 where
   pub quiet : AreUnmoved seen may_leave moment left_since old new
   pub found : AreLookedAt seen may_leave faults shape shape.nodes old new nodes areas
   pub many : length old ≡ shape.nodes
@@ -127,8 +127,8 @@ pub were-read : {D : Type 0} {seen : D → Areas} {may_leave : D → Areas → T
 were-read {seen = seen} {may_leave} {moment} {faults} {left_since} {shape} {new = new} {nodes}
     {areas} same many quiet found = record {
       quiet = subst (λ l. AreUnmoved seen may_leave moment left_since l new) same quiet;
-      found = subst (λ l. AreLookedAt seen may_leave faults shape shape.nodes l new nodes areas) same
-          found;
+      found = subst (λ l. AreLookedAt seen may_leave faults shape shape.nodes l new nodes areas)
+      same found;
       many = many;
     }
 
@@ -267,9 +267,9 @@ pub record AreAt {D : Type 0} (disks : List D) (nodes : List WholeNode)
 
 -- The first of the disks that are left, and what its place in the other lists has.
 pub first-at : {D : Type 0} {seen : D → Areas} {may_leave : D → Areas → Type 0} {shape : Shaped}
-    {disks left : List D} {nodes : List WholeNode} {areas : List (Option Place)} {k place : ℕ} {d : D}
-    {n : WholeNode} → AreOn seen may_leave shape disks nodes areas → k < length nodes → place ≡ k
-    → left ≡ drop k disks → d ≡ get_or left 0 d → n ≡ get_or nodes place n
+    {disks left : List D} {nodes : List WholeNode} {areas : List (Option Place)} {k place : ℕ}
+    {d : D} {n : WholeNode} → AreOn seen may_leave shape disks nodes areas → k < length nodes
+    → place ≡ k → left ≡ drop k disks → d ≡ get_or left 0 d → n ≡ get_or nodes place n
     → AreAt disks nodes areas k d n (get_or areas place None)
 first-at {disks = disks} {nodes = nodes} {areas = areas} {k = k} {place = place} {d = d} {n = n}
     on inside at rest first stands =

@@ -1,19 +1,10 @@
 -- The cell of a new node.
-use Rattle.std.proofs.Common.{◌≡◌, ◌<◌, ℕ, sym, ap, ◌∙◌, subst}
+use Rattle.std.proofs.Common.{◌≡◌, ℕ, sym, ap, ◌∙◌, subst}
 use Rattle.ids.specs.Limits.{Shaped}
-use Rattle.model.specs.State.{new_node}
-use Rattle.model.specs.View.{Shows, new_view}
-use Rattle.model.specs.World.{World, new_world}
-use Rattle.model.proofs.NewNodes.{new-kept, new-shown}
+use Rattle.model.proofs.NewNodes.{new-kept}
 use Rattle.node.specs.Keeping.{WholeNode, alone, new_whole}
 use Rattle.image.specs.Wholes.{saved_whole}
 use Rattle.disk.specs.Areas.{Areas}
-use Rattle.wire.specs.Views.{Known, Pair, pair_at}
-use Rattle.wire.specs.Readers.{known, opened_with, IsSeated}
-use Rattle.wire.specs.declared.seats.Wire.{Wire}
-use Rattle.wire.specs.declared.seats.NodeSeat.{NodeSeat}
-use Rattle.wire.proofs.NewWires.{new-at}
-use Rattle.cell.specs.Desks.{IsAtSeat}
 use Rattle.cell.specs.Disks.{OpensToNode}
 
 -- the disk on which the node was created opens to it

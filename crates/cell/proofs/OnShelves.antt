@@ -11,7 +11,8 @@ use Rattle.wire.proofs.Places.{some_at}
 -- what holds of everything on a shelf holds of each node
 pub found-kept : {S : Type 0} {Lies : WholeNode → S → Type 0} {shape : Shaped}
     {nodes : List WholeNode} {shelves : List S}
-    → ((n : WholeNode) (s : S) → Lies n s → kept_view n.core ≡ n.core) → AreFound Lies shape nodes shelves
+    → ((n : WholeNode) (s : S) → Lies n s → kept_view n.core ≡ n.core)
+    → AreFound Lies shape nodes shelves
     → (k : ℕ) (n : WholeNode) → slice_get nodes k ≡ Some n → kept_view n.core ≡ n.core
 found-kept {nodes = nodes} {shelves = shelves} kept h k n there =
     let inside : k < length shelves = omega (arith, h.same, slice_get_within nodes k n there) in

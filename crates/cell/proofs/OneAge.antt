@@ -59,7 +59,7 @@ begin-of-one-age nodes begins = record {
       let held = begins.1 i j n at_i in
       let fewer = acked-sent w i j begins.0 in
       record {
-        kept = omega (arith, got, held);
+        dropped = omega (arith, got, held);
         sent = omega (arith, got, sent, fewer);
       });
 }
@@ -80,8 +80,8 @@ held-by-age shape w nodes reached opens ages k to n there =
     ∙ ap (λ (l : List NodeState). (node_at l to).local) (sym opens.saved) in
     let got : got_from m.core.local k ≡ acknowledged w k to =
     ap (λ (p : LocalState). got_from p k) local in
-    let kept = (ages.each k to n m there found.1).kept in
-    omega (arith, got, kept))
+    let dropped = (ages.each k to n m there found.1).dropped in
+    omega (arith, got, dropped))
     (λ past.
     let count = node-count w reached in
     let inside : k < reached.shape.nodes =

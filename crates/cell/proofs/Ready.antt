@@ -55,7 +55,7 @@ shown n = record {
 saved-as : (n : NodeView) → kept_view n ≡ n → IsSavedAs n (state_of n)
 saved-as n h = record {
   shows = shown n;
-  counted = λ j.
+  released = λ j.
       ap (λ (v : NodeView). (link_to v j).kept) (sym h)
       ∙ ap (λ (l : Link). l.kept) (get_or-mapped all_kept n.links j no_link)
       ∙ sym (ap length (sent-at n j) ∙ many-sent (link_to n j));

@@ -68,7 +68,7 @@ saved-place {p = p} {n = n} to place x h found =
     let few = length (sent_to p.saved to) in
     let sent = sent_to p.current to in
     let below : l.base + place < length (take few sent) =
-    subst (λ (k : ℕ). l.base + place < k) (h.counted to ∙ sym (ap length (h.behind to)))
+    subst (λ (k : ℕ). l.base + place < k) (h.released to ∙ sym (ap length (h.behind to)))
     at.before in
     ap (λ (xs : List Message). slice_get xs (l.base + place)) (sym (h.behind to))
     ∙ sym (slice_get-take sent few (l.base + place) below)

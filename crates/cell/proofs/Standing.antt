@@ -46,11 +46,11 @@ stands-moved {n = n} {m} t h leaves shows behind = record {
   own = leaves.own ∙ h.own;
   nodes = ap (λ s. s.nodes) leaves.shape ∙ h.nodes;
   shows = shows;
-  counted = λ j.
+  released = λ j.
       sym (get_or-map kept_of m.links j no_link)
       ∙ ap (λ (ks : List ℕ). get_or ks j 0) leaves.kept
       ∙ get_or-map kept_of n.links j no_link
-      ∙ h.counted j;
+      ∙ h.released j;
   acks = leaves.acks ∙ h.acks;
   behind = behind;
 }

@@ -28,7 +28,7 @@ module _ {D : Type 0} (may_leave : D → Areas → Type 0) where
       → (node_at (run opening log).current (seat_node c.seat)).local ≡ c.node.core.local
   local-there opening log c of leads =
       ap (λ (p : Pair). p.current.local) (pair-there opening log c of leads)
-      ∙ sym of.kept.stands.shows.local
+      ∙ sym of.sound.stands.shows.local
 
   inside-there : (opening : World) (log : List Step) (c : CellView D)
       → IsCellOf may_leave opening c → seat_node c.seat < length (run opening log).current

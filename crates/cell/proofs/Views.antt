@@ -7,10 +7,10 @@ use Rattle.cell.specs.Desks.{DeskView}
 
 abbrev pub cell_at : {D : Type 0} → NodeView → D → Bool → Bool → List TraceLine → DeskView
     → CellView D
-cell_at first disk is_open logs trace desk = record {
+cell_at origin disk is_open logs trace desk = record {
   node = desk.node;
   saved = desk.saved;
-  first = first;
+  origin = origin;
   seat = desk.seat;
   places = desk.places;
   unsaved = desk.unsaved;

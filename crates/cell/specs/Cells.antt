@@ -20,7 +20,7 @@ pub record CellView (D : Type 0) : Type 0 where
   -- the last saved node
   pub saved : NodeView
   -- the node with which the cell was made
-  pub first : NodeView
+  pub origin : NodeView
   pub seat : NodeSeat
   -- for each node: the place, in the window to it, of the frame that is sent next
   pub places : List ℕ
@@ -38,7 +38,7 @@ abbrev pub new_cell : {D : Type 0} → WholeNode → NodeSeat → D → Bool →
 new_cell node seat disk logs = record {
   node = node;
   saved = node.core;
-  first = node.core;
+  origin = node.core;
   seat = seat;
   places = replicate GREATEST_NODES 0;
   unsaved = false;
@@ -57,7 +57,7 @@ IsNew c = c ≡ new_cell c.node c.seat c.disk c.logs
 -- current one. Unless saves add events to a log, no log follows the image on the disk, and the last
 -- saved node has an image. Since the cell was made, neither node dropped a message that no frame
 -- acknowledges.
-pub record IsKept {D : Type 0} (may_leave : D → Areas → Type 0) (c : CellView D) : Type 0 where
+pub record IsSound {D : Type 0} (may_leave : D → Areas → Type 0) (c : CellView D) : Type 0 where
   pub stands : StandsAt (seat_node c.seat) c.seat.nodes (known c.seat).pair c.node.core
   pub was : IsSavedNode (seat_node c.seat) c.seat.nodes (known c.seat).pair.saved c.saved
   pub unsaved : IsUnsaved c.unsaved (known c.seat).pair
@@ -66,8 +66,8 @@ pub record IsKept {D : Type 0} (may_leave : D → Areas → Type 0) (c : CellVie
   pub left : (x : Areas) → may_leave c.disk x → ∥ OpensToEither c.saved c.node.core x ∥₁
   pub plain : c.logs ≡ false → StaysPlain (may_leave c.disk)
   pub imaged : c.logs ≡ false → ∥ HasImage c.saved ∥₁
-  pub dropped : HasDropped c.first (known c.seat) c.node.core
-  pub saved_dropped : HasDropped c.first (known c.seat) c.saved
+  pub dropped : HasDropped c.origin (known c.seat) c.node.core
+  pub saved_dropped : HasDropped c.origin (known c.seat) c.saved
 
 -- What a call that gives the node an event or a frame leaves unchanged. The seat is the same, and
 -- the mark says whether an event happened. The saved node, the disk and the places in the windows

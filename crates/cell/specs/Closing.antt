@@ -9,7 +9,7 @@ use Rattle.node.specs.Keeping.{WholeNode}
 use Rattle.disk.specs.Areas.{Areas}
 use Rattle.wire.specs.Readers.{known, seat_node}
 use Rattle.wire.specs.Rule.{nodes_of}
-use Rattle.cell.specs.Cells.{CellView, IsKept}
+use Rattle.cell.specs.Cells.{CellView, IsSound}
 use Rattle.cell.specs.Moments.{AreAtOnce, EachCell}
 use Rattle.cell.specs.Opened.{IsReadFrom}
 use Rattle.cell.specs.Reached.{BeginReached, IsReached}
@@ -18,7 +18,7 @@ use Rattle.cell.specs.Theorems.{AreLeft}
 -- a cell of a wire that began in this world, with what its type guarantees
 pub record IsCellOf {D : Type 0} (may_leave : D → Areas → Type 0) (opening : World)
     (c : CellView D) : Type 0 where
-  pub kept : IsKept may_leave c
+  pub sound : IsSound may_leave c
   pub began : (known c.seat).opening ≡ opening
   pub inside : seat_node c.seat < nodes_of opening
 
@@ -65,7 +65,7 @@ pub record IsLast {D : Type 0} (may_leave : D → Areas → Type 0) (opening : W
 abbrev pub HasBegun : {D : Type 0} → CellView D → Type 0
 HasBegun c =
     (to : ℕ) → to < nodes_of (known c.seat).opening
-    → (link_to c.first to).base ≤ acknowledged (known c.seat).opening (seat_node c.seat) to
+    → (link_to c.origin to).base ≤ acknowledged (known c.seat).opening (seat_node c.seat) to
 
 abbrev pub HaveBegun : {D : Type 0} → List (CellView D) → Type 0
 HaveBegun cells = EachCell (λ k c. HasBegun c) cells
@@ -91,8 +91,8 @@ AreReadAgain {D} may_leave shape cells nodes =
 
 -- the cells of all nodes of a space, in order, at one moment, and the nodes that are read from
 -- their disks
-pub record AreClosed {D : Type 0} (may_leave : D → Areas → Type 0) (shape : Shaped) (opening : World)
-    (cells : List (CellView D)) (nodes : List WholeNode) : Type 0 where
+pub record AreClosed {D : Type 0} (may_leave : D → Areas → Type 0) (shape : Shaped)
+    (opening : World) (cells : List (CellView D)) (nodes : List WholeNode) : Type 0 where
   pub reached : IsReached opening
   pub width : nodes_of opening ≡ shape.nodes
   pub count : length cells ≡ shape.nodes

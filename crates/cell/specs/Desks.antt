@@ -26,7 +26,7 @@ pub record StandsAt (me width : ℕ) (p : Pair) (n : NodeView) : Type 0 where
   pub own : n.local.own ≡ me
   pub nodes : n.local.shape.nodes ≡ width
   pub shows : Shows n p.current
-  pub counted : (j : ℕ) → (link_to n j).kept ≡ length (sent_to p.saved j)
+  pub released : (j : ℕ) → (link_to n j).kept ≡ length (sent_to p.saved j)
   pub acks : n.acks ≡ p.saved.local.got
   pub behind : IsBehind p.saved p.current
 
@@ -52,13 +52,13 @@ pub record AreTaken (taken : List Plain) (es : Rings) : Type 0 where
 -- The node dropped no more messages to node `to` than the first number, or than a frame
 -- acknowledges that its seat took.
 abbrev pub IsDropped : ℕ → Known → ℕ → ℕ → Type 0
-IsDropped first v to base =
-    ∥ ((base ≤ first) ⊎ ((k : ℕ) × (number : ℕ)
+IsDropped origin v to base =
+    ∥ ((base ≤ origin) ⊎ ((k : ℕ) × (number : ℕ)
     × (slice_get v.taken k ≡ Some (ack_frame to v.me number)) × (base ≤ number))) ∥₁
 
 -- The same for each other node; the first numbers are those of the node as its cell was made.
-pub record HasDropped (first : NodeView) (v : Known) (n : NodeView) : Type 0 where
-  pub each : (to : ℕ) → IsDropped (link_to first to).base v to (link_to n to).base
+pub record HasDropped (origin : NodeView) (v : Known) (n : NodeView) : Type 0 where
+  pub each : (to : ℕ) → IsDropped (link_to origin to).base v to (link_to n to).base
 
 -- the node is in the state that its own seat knows, with everything saved
 pub record IsAtSeat (n : NodeView) (s : NodeSeat) : Type 0 where
@@ -92,7 +92,7 @@ new_desk node seat = record {
 
 -- What a desk guarantees between two calls. The node shows the current state that its seat's events
 -- lead to, and the last saved node shows the saved state.
-pub record IsKeptAt (d : DeskView) : Type 0 where
+pub record IsSoundAt (d : DeskView) : Type 0 where
   pub stands : StandsAt (seat_node d.seat) d.seat.nodes (known d.seat).pair d.node.core
   pub was : IsSavedNode (seat_node d.seat) d.seat.nodes (known d.seat).pair.saved d.saved
   pub unsaved : IsUnsaved d.unsaved (known d.seat).pair

@@ -45,9 +45,9 @@ pub struct Cell<D: Disk> {
     store: Store<D>,
     trace: Trace,
     // The node with which the cell was made.
-    first: Snapshot<Core>,
-    ghost dropped: { HasDropped first.value (known desk.seat) desk.node.core },
-    ghost saved_dropped: { HasDropped first.value (known desk.seat) desk.saved },
+    origin: Snapshot<Core>,
+    ghost dropped: { HasDropped origin.value (known desk.seat) desk.node.core },
+    ghost saved_dropped: { HasDropped origin.value (known desk.seat) desk.saved },
     ghost while_open: { IsTrue (is_ready_in store)
         → HoldsSaved (D.may_leave (disk_of store)) desk.saved },
     ghost left: { (c : Areas) → D.may_leave (disk_of store) c
@@ -63,7 +63,7 @@ impl<D: Disk + Drop> Drop for Cell<D> {
             desk: _,
             store: _,
             trace: _,
-            first: _,
+            origin: _,
         } = self;
     }
 }
@@ -77,7 +77,7 @@ impl<D: Disk> Model for Cell<D> {
     ghost view = { λ c. record {
       node = c.desk.node;
       saved = c.desk.saved;
-      first = c.first.value;
+      origin = c.origin.value;
       seat = c.desk.seat;
       places = c.desk.places;
       unsaved = c.desk.unsaved;

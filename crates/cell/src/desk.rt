@@ -4,7 +4,7 @@ ghost use Rattle.std.specs.Prelude.{◌≡◌};
 ghost use Rattle.wire.specs.Readers.{known, seat_node};
 ghost use Rattle.cell.specs.Desks.{
   AreTaken,
-  IsKeptAt,
+  IsSoundAt,
   IsSavedNode,
   IsSeatAt,
   IsUnsaved,
@@ -66,7 +66,7 @@ impl Desk {
     #[inline(always)]
     pub(crate) fn node(&self) -> &Node
         ensures value { result.now ≡ self.now.node }
-        ensures kept { IsKeptAt self.now }
+        ensures sound { IsSoundAt self.now }
     {
         &self.node
     }

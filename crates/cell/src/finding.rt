@@ -54,8 +54,8 @@ fn is_node_of(node: &Node, shape: Shape, own: NodeId) -> bool
 }
 
 // Adds a value to a list.
-fn keep<T: Drop>(values: &mut Vec<T>, value: T) -> Result<(), Unopened>
-    ensures kept { OnOk result (values.new.items ≡ values.old.items ++ value ∷ []) }
+fn add<T: Drop>(values: &mut Vec<T>, value: T) -> Result<(), Unopened>
+    ensures added { OnOk result (values.new.items ≡ values.old.items ++ value ∷ []) }
     ensures refused { IfErr result (λ e. e ≡ fault.Memory) }
 {
     match values.push(value) {
@@ -168,8 +168,8 @@ fn look_at_all<D: Disk>(
     for number in 0..shape.nodes() {
         let disk = &mut disks[usize::from(number)];
         let (node, area) = look_at(alloc, shape, NodeId { number }, disk, saves)?;
-        keep(&mut nodes, node)?;
-        keep(&mut areas, area)?;
+        add(&mut nodes, node)?;
+        add(&mut areas, area)?;
     }
     Ok((nodes, areas))
 }
@@ -241,7 +241,7 @@ fn put_all_on<D: Disk + Drop>(
         let disk = disks.remove(0);
         let place = usize::from(number);
         match put_on(alloc, disk, &nodes[place], areas[place], saves) {
-            Ok(store) => keep(&mut stores, store)?,
+            Ok(store) => add(&mut stores, store)?,
             Err(refusal) => return Err(failed(number, refusal)),
         }
     }

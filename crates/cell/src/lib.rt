@@ -12,7 +12,7 @@
 //! raise      nothing
 //! ```
 //!
-//! These hold between any two calls (`IsKept` in `specs/Cells.antt`, ensured by [`Cell::node`]):
+//! These hold between any two calls (`IsSound` in `specs/Cells.antt`, ensured by [`Cell::node`]):
 //!
 //! - The node shows the state that the seat's events lead to. What it counts as released and
 //! acknowledged is what the last saved state holds.

@@ -116,40 +116,6 @@ impl<D: Disk + Drop, W: Naming> Drop for SharedOn<D, W> {
 pub type Shared<D> = SharedOn<D, Unnamed>;
 
 impl<D: Disk, W: Naming> Held<D, W> {
-    fn act(&mut self, event: Event) -> Result<Answer, Refusal>
-        requires own { is_own event ≡ true }
-        ensures answered { WasAnswered event result }
-        ensures closed { IsErrOf result refusal.Closed ↔ (self.old.cell.is_open ≡ false) }
-    {
-        let Held { cell, wire, .. } = self;
-        cell.act(wire, event)
-    }
-
-    fn pump_in(&mut self, from: u8) -> Result<Inbound, Refusal>
-        ensures closed { IsErrOf result refusal.Closed ↔ (self.old.cell.is_open ≡ false) }
-    {
-        let Held { cell, wire, .. } = self;
-        cell.pump_in(wire, from)
-    }
-
-    fn save(&mut self) -> Result<(), Refusal>
-        ensures others { IfErr result (λ e. (e ≡ refusal.Closed) ⊎ ((e ≡ refusal.ImageTooLarge)
-            ⊎ ((e ≡ refusal.Memory) ⊎ (e ≡ refusal.Disk)))) }
-        ensures closed { IsErrOf result refusal.Closed ↔ (self.old.cell.is_open ≡ false) }
-    {
-        let Held { cell, wire, .. } = self;
-        cell.save(wire)
-    }
-
-    fn pump_out(&mut self, to: u8) -> Result<Outbound, Refusal>
-        ensures others { IfErr result (λ e. (e ≡ refusal.Closed)
-            ⊎ ((e ≡ refusal.NoNode) ⊎ (e ≡ refusal.Memory))) }
-        ensures closed { IsErrOf result refusal.Closed ↔ (self.old.cell.is_open ≡ false) }
-    {
-        let Held { cell, wire, .. } = self;
-        cell.pump_out(wire, to)
-    }
-
     fn reopen(&mut self) -> Result<Reopened, Shut>
         ensures others { IfErr result (λ s. (s.refusal ≡ refusal.Memory)
             ⊎ (s.refusal ≡ refusal.Disk)) }
@@ -161,25 +127,6 @@ impl<D: Disk, W: Naming> Held<D, W> {
             Ok(()) => Ok(Reopened { _found: () }),
             Err(refusal) => Err(Shut { refusal }),
         }
-    }
-
-    fn raise(&mut self) -> Result<Raised, Refusal>
-        ensures raised { IfOk result (λ r. IsNamed W.wire (raised_on r)) }
-        ensures others { IfErr result (λ e. e ≢ refusal.Closed → e ≡ refusal.NotDirector) }
-        ensures closed { IsErrOf result refusal.Closed ↔ (self.old.cell.is_open ≡ false) }
-    {
-        let Held { cell, wire, .. } = self;
-        cell.raise(wire)
-    }
-
-    fn unsaved(&self) -> bool {
-        self.cell.unsaved()
-    }
-
-    fn trace_lines(&self) -> Result<Vec<String>, Refusal>
-        ensures refused { IfErr result (λ e. e ≡ refusal.Memory) }
-    {
-        self.cell.trace_lines()
     }
 }
 
@@ -221,13 +168,17 @@ impl<D: Disk, W: Naming> SharedOn<D, W> {
         requires own { is_own event ≡ true }
         ensures answered { WasAnswered event result }
     {
-        self.held.lock(rt).act(event)
+        let mut held = self.held.lock(rt);
+        let Held { cell, wire, .. } = &mut *held;
+        cell.act(wire, event)
     }
 
     /// Gives the node the waiting message from another node, or else the frame in the mailbox from
     /// there; see [`Cell::pump_in`].
     pub fn pump_in<R: Wait>(&self, rt: &R, from: u8) -> Result<Inbound, Refusal> {
-        self.held.lock(rt).pump_in(from)
+        let mut held = self.held.lock(rt);
+        let Held { cell, wire, .. } = &mut *held;
+        cell.pump_in(wire, from)
     }
 
     /// Saves the node; see [`Cell::save`].
@@ -235,7 +186,9 @@ impl<D: Disk, W: Naming> SharedOn<D, W> {
         ensures others { IfErr result (λ e. (e ≡ refusal.Closed) ⊎ ((e ≡ refusal.ImageTooLarge)
             ⊎ ((e ≡ refusal.Memory) ⊎ (e ≡ refusal.Disk)))) }
     {
-        self.held.lock(rt).save()
+        let mut held = self.held.lock(rt);
+        let Held { cell, wire, .. } = &mut *held;
+        cell.save(wire)
     }
 
     /// Sends the next frame to another node; see [`Cell::pump_out`].
@@ -243,7 +196,9 @@ impl<D: Disk, W: Naming> SharedOn<D, W> {
         ensures others { IfErr result (λ e. (e ≡ refusal.Closed)
             ⊎ ((e ≡ refusal.NoNode) ⊎ (e ≡ refusal.Memory))) }
     {
-        self.held.lock(rt).pump_out(to)
+        let mut held = self.held.lock(rt);
+        let Held { cell, wire, .. } = &mut *held;
+        cell.pump_out(wire, to)
     }
 
     /// Loads the node that the disk holds; see [`Cell::reopen`]. The cell is then open, or closed
@@ -261,12 +216,14 @@ impl<D: Disk, W: Naming> SharedOn<D, W> {
         ensures raised { IfOk result (λ r. IsNamed W.wire (raised_on r)) }
         ensures others { IfErr result (λ e. e ≢ refusal.Closed → e ≡ refusal.NotDirector) }
     {
-        self.held.lock(rt).raise()
+        let mut held = self.held.lock(rt);
+        let Held { cell, wire, .. } = &mut *held;
+        cell.raise(wire)
     }
 
     /// Whether an event happened since the last save or reopening.
     pub fn unsaved<R: Wait>(&self, rt: &R) -> bool {
-        self.held.lock(rt).unsaved()
+        self.held.lock(rt).cell.unsaved()
     }
 
     /// The cell's last calls as text, oldest first, even while the cell is closed; see
@@ -274,7 +231,7 @@ impl<D: Disk, W: Naming> SharedOn<D, W> {
     pub fn trace_lines<R: Wait>(&self, rt: &R) -> Result<Vec<String>, Refusal>
         ensures refused { IfErr result (λ e. e ≡ refusal.Memory) }
     {
-        self.held.lock(rt).trace_lines()
+        self.held.lock(rt).cell.trace_lines()
     }
 }
 

@@ -11,7 +11,7 @@ use Rattle.model.specs.World.{World, acknowledged}
 use Rattle.wire.specs.Readers.{known, opened_with, seat_node, IsSame, IsSeatOf}
 use Rattle.wire.specs.Rule.{nodes_of}
 use Rattle.wire.specs.declared.seats.Wire.{Wire}
-use Rattle.cell.specs.Cells.{CellView, IsKept}
+use Rattle.cell.specs.Cells.{CellView, IsSound}
 use Rattle.cell.specs.Closing.{AreOfOneMoment, HasBegun, HaveBegun, IsLast}
 use Rattle.cell.specs.Moments.{AreAtOnce, EachCell, HasLearned, HaveLearned}
 use Rattle.cell.specs.Names.{IsNamed, Name, name_of, seat_name}
@@ -19,13 +19,13 @@ use Rattle.wire.proofs.Places.{some_at}
 use Rattle.supervisor.specs.Closing.{IsBack, IsRow}
 
 -- a cell that learned something was made with the same node, on the same wire
-still-begun : {D : Type 0} (c d : CellView D) → IsSame c.seat d.seat → d.first ≡ c.first
+still-begun : {D : Type 0} (c d : CellView D) → IsSame c.seat d.seat → d.origin ≡ c.origin
     → HasBegun c → HasBegun d
 still-begun c d same first begun to inside =
-    subst (λ (o : World). (link_to d.first to).base ≤ acknowledged o (seat_node d.seat) to)
+    subst (λ (o : World). (link_to d.origin to).base ≤ acknowledged o (seat_node d.seat) to)
     (sym same.4)
     (subst
-    (λ (i : ℕ). (link_to d.first to).base ≤ acknowledged (known c.seat).opening i to)
+    (λ (i : ℕ). (link_to d.origin to).base ≤ acknowledged (known c.seat).opening i to)
     (sym same.2)
     (subst
     (λ (v : NodeView).
@@ -43,7 +43,7 @@ still-back wire is_begun k c d learned h =
           (λ i. record { table = sym same.0 i; opening = sym same.4 i }) h.name;
       width = same.3 ∙ h.width ∙ ap nodes_of (sym same.4);
       begun = λ is.
-          still-begun c d same (ap (λ (v : CellView _). v.first) learned.stays) (h.begun is);
+          still-begun c d same (ap (λ (v : CellView _). v.origin) learned.stays) (h.begun is);
     }
 
 pub all-back : {D : Type 0} (wire : Option Name) (is_begun : Bool) (old new : List (CellView D))
@@ -78,7 +78,7 @@ pub record AreBack {D : Type 0} (wire : Wire) (may_leave : D → Areas → Type 
   pub rows : EachCell IsRow old
   pub count : length old ≡ nodes_of (opened_with wire)
   pub learned : HaveLearned old new
-  pub kept : EachCell (λ k c. IsKept may_leave c) new
+  pub sound : EachCell (λ k c. IsSound may_leave c) new
   pub begun : IsTrue is_begun
 
 module _ {D : Type 0} {wire : Wire} {may_leave : D → Areas → Type 0} {name : Option Name}
@@ -90,7 +90,7 @@ module _ {D : Type 0} {wire : Wire} {may_leave : D → Areas → Type 0} {name :
       let was = some_at old k
       (let long = h.learned.count in omega (arith, inside, long)) in
       let learned = h.learned.each k was.0 d was.1 there in
-      still-begun was.0 d learned.same (ap (λ (v : CellView D). v.first) learned.stays)
+      still-begun was.0 d learned.same (ap (λ (v : CellView D). v.origin) learned.stays)
       ((h.back k was.0 was.1).begun h.begun)
 
   last-cell : EachCell (IsLast may_leave (opened_with wire) (nodes_of (opened_with wire))) new
@@ -105,7 +105,7 @@ module _ {D : Type 0} {wire : Wire} {may_leave : D → Areas → Type 0} {name :
       let number : seat_node d.seat ≡ k = learned.same.2 ∙ row.number in
       record {
         of = record {
-          kept = h.kept k d there;
+          sound = h.sound k d there;
           began = learned.same.4 ∙ seat.2;
           inside = subst (λ (i : ℕ). i < nodes_of (opened_with wire)) (sym number)
               (let long = h.learned.count in let count = h.count in
@@ -148,10 +148,10 @@ module _ {D : Type 0} where
       ∙ ap (λ (l : List (CellView D)). slice_get l 0) (sym is)
       ∙ slice_get_read left (length left) 0 c refl some first
 
-  pub kept-next : (P : CellView D → Type 0) (all : List (CellView D)) {number : ℕ}
+  pub holds-next : (P : CellView D → Type 0) (all : List (CellView D)) {number : ℕ}
       {c : CellView D} → slice_get all number ≡ Some c → P c
       → EachCell (λ k d. k < number → P d) all → EachCell (λ k d. k < number + 1 → P d) all
-  kept-next P all {number} {c} here kept each k d there below =
+  holds-next P all {number} {c} here kept each k d there below =
       dite (ℕ_discrete k number)
       (λ same.
       let both : ◌≡◌ {A = Option (CellView D)} (Some c) (Some d) =

@@ -37,7 +37,8 @@ pub others-next : {W : Type 0} (node_of : W → ℕ) (ws : List W) (node place :
 others-next node_of ws node place {w} inside is other before k n there below =
     dite (ℕ_discrete k place)
     (λ same.
-    let here = mapped-there node_of ws place w (slice_get_read ws (length ws) place w refl inside is) in
+    let here = mapped-there node_of ws place w
+    (slice_get_read ws (length ws) place w refl inside is) in
     let found : ◌≡◌ {A = Option ℕ} (Some (node_of w)) (Some n) =
     sym here ∙ subst (λ (j : ℕ). slice_get (map node_of ws) j ≡ Some n) same there in
     let one : node_of w ≡ n = cc in
@@ -46,8 +47,8 @@ others-next node_of ws node place {w} inside is other before k n there below =
 
 module _ {W R : Type 0} (of : W → ℕ) (node_of : R → ℕ) where
   -- a worker is joined, and its report comes last
-  pub joined : {ws left : List W} {w : W} {more : List R} {r : R} (rs : List R) → IsPermutation ws (w ∷ left)
-      → more ≡ rs ++ r ∷ [] → node_of r ≡ of w
+  pub joined : {ws left : List W} {w : W} {more : List R} {r : R} (rs : List R)
+      → IsPermutation ws (w ∷ left) → more ≡ rs ++ r ∷ [] → node_of r ≡ of w
       → IsPermutation (map of ws ++ map node_of rs) (map of left ++ map node_of more)
   joined {ws} {left} {w} {more} {r} rs moved last own =
       let front = IsPermutation-append_left (map node_of rs) (map of ws) (map of (w ∷ left))
@@ -92,8 +93,9 @@ report-in plan of r same h =
     (subst (λ (n : ℕ). IsReport n of.plan.nodes of.plan.turns r) (sym h.2.own) h)
 
 -- the worker of one more node, for those that were started before
-pub one-more : (node : ℕ) (before mid working reports : List ℕ) → IsPermutation before (mid ++ reports)
-    → working ≡ mid ++ node ∷ [] → IsPermutation (node ∷ before) (working ++ reports)
+pub one-more : (node : ℕ) (before mid working reports : List ℕ)
+    → IsPermutation before (mid ++ reports) → working ≡ mid ++ node ∷ []
+    → IsPermutation (node ∷ before) (working ++ reports)
 one-more node before mid working reports same last =
     subst (IsPermutation (node ∷ before))
     (sym (append_assoc mid (node ∷ []) reports)

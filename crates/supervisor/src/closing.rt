@@ -5,7 +5,7 @@ ghost use Rattle.std.specs.Prelude.{Some, length, map, vec_len};
 ghost use Rattle.std.specs.Arc.{arc_value};
 ghost use Rattle.wire.specs.Readers.{known, opened_with, seat_node, IsSeatOf};
 ghost use Rattle.wire.specs.Rule.{nodes_of};
-ghost use Rattle.cell.specs.Cells.{CellView, IsKept};
+ghost use Rattle.cell.specs.Cells.{CellView, IsSound};
 ghost use Rattle.cell.specs.Closing.{AreOfOneMoment};
 ghost use Rattle.cell.specs.Moments.{EachCell, HaveLearned};
 ghost use Rattle.cell.specs.Names.{name_of, IsNamed, seat_name};
@@ -110,7 +110,7 @@ fn first_other<D: Disk>(cells: &[Cell<D>], nodes: u8) -> Option<u8>
 // The disks of cells. If there is no memory for their list, the cells come back.
 fn take_disks<D: Disk + Drop>(alloc: Global, mut cells: Vec<Cell<D>>) -> Result<Vec<D>, Unclosed<D>>
     ensures disks { IfOk result (λ v. map (λ c. c.disk) cells.items ≡ v.items) }
-    ensures kept { IfOk result (λ _. EachCell (λ k c. IsKept D.may_leave c) cells.items) }
+    ensures sound { IfOk result (λ _. EachCell (λ k c. IsSound D.may_leave c) cells.items) }
     ensures memory { IfErr result (λ u. u.fault ≡ fault.Memory) }
     ensures back { IfErr result (λ u. u.cells ≡ cells) }
 {

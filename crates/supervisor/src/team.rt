@@ -113,8 +113,8 @@ fn work<O: Ordered, R: Wait, S: Station, G: Gate>(
     run_node(rt, station, gate, node, of.plan.nodes, turns, stop).report
 }
 
-// Starts the thread of a worker, whose order has the name of `O`. The order is in the channel before
-// the thread is created.
+// Starts the thread of a worker, whose order has the name of `O`. The order is in the channel
+// before the thread is created.
 fn start_named<O, R, S, G>(
     rt: &R,
     alloc: Global,

@@ -52,8 +52,8 @@ module _ {S : Type 0} {bytes : S → List ℕ} {opening : World} where
     now : run opening (h.log ++ e ∷ []) ≡ happens (run opening h.log) e
     now = run-push opening h.log e
 
-    mine : NodeOk opening (h.log ++ e ∷ []) (slice_index p.state.words (board_at opening)) h.mail p.id
-        (ticks e q v)
+    mine : NodeOk opening (h.log ++ e ∷ []) (slice_index p.state.words (board_at opening))
+        h.mail p.id (ticks e q v)
     mine = record {
       below = ok.below;
       nodes_is = ok.nodes_is;

@@ -73,7 +73,7 @@ module _ {T : Type 0} (s : Seating T) where
     pub there : slice_get xs from ≡ Some b
     pub noted : HasLearned s b b2
     pub same : known (s.seat b2) ≡ known (s.seat b)
-    pub then : slice_get (set xs from b2) at ≡ Some c
+    pub learner : slice_get (set xs from b2) at ≡ Some c
     pub learned : HasLearned s c d
     pub leads : Learns (known (s.seat b)).seen (known (s.seat c)) (known (s.seat d))
 
@@ -95,7 +95,7 @@ module _ {T : Type 0} (s : Seating T) where
     after-turn = record {
       learned = all-again xs (set xs from b2) (set (set xs from b2) at d)
           (one-learned xs from b b2 t.there t.noted)
-          (one-learned (set xs from b2) at c d t.then t.learned);
+          (one-learned (set xs from b2) at c d t.learner t.learned);
       others = λ k x y was is apart.
           ⊎_elim
           (λ (e : (k ≡ at) × (d ≡ y)). absurd (apart e.0))
@@ -103,7 +103,7 @@ module _ {T : Type 0} (s : Seating T) where
           (set-from (set xs from b2) at k d y is);
       leads = λ x y z first was is.
           (let source : b ≡ x = same-there xs from b x t.there first in
-          let mine : known (s.seat c) ≡ known (s.seat y) = noted-same at y c was t.then in
+          let mine : known (s.seat c) ≡ known (s.seat y) = noted-same at y c was t.learner in
           let learner : d ≡ z =
           ⊎_elim
           (λ (e : (at ≡ at) × (d ≡ z)). e.1)

@@ -106,7 +106,7 @@ fresh-minds k v e = cond-false _ _ _ e.0 ∙ ap is_some e.1
 abbrev Seated : {S : Type 0} → (S → List ℕ) → ℕ → ℕ → List ℕ → Known → List (ℕ × S) → Type 0
 Seated bytes me nodes held v out = Sits bytes me nodes held (v, out)
 
--- a seat of this node that begins to fill or empty this mailbox: what it knew, and what it then knows
+-- a seat of this node that begins to fill or empty this mailbox: what it knew and knows
 record IsFront (me nodes : ℕ) (v w : Known) (at : ℕ) : Type 0 where
   fresh : IsFresh at v
   its : IsOwnBox me nodes at

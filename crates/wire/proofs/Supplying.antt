@@ -1,11 +1,11 @@
 -- The list of events in the rule leads to what each node's seat knows. So some list still does
 -- after each step of the seat.
-use Rattle.std.proofs.Common.{◌≡◌, ℕ, List, [], Some, None, Option, refl, sym, ap, ◌∙◌, subst}
+use Rattle.std.proofs.Common.{◌≡◌, ℕ, List, sym, ap, ◌∙◌, subst}
 use Rattle.std.proofs.Math.Logic.{∥∥₁_map}
 use Rattle.msg.specs.Frames.{Plain}
 use Rattle.model.specs.declared.step.Step.{Step}
 use Rattle.model.specs.World.{World, run, IsInNet}
-use Rattle.wire.specs.Views.{node, Visit, Known, pair_at, node_of_opening}
+use Rattle.wire.specs.Views.{node, Visit, Known, pair_at}
 use Rattle.wire.specs.Rule.{AreEvents}
 use Rattle.wire.specs.Plays.{IsSupplied, LeadsTo}
 use Rattle.wire.proofs.Stays.{Standing, node-of}

@@ -9,7 +9,7 @@ use Rattle.node.specs.Keeping.{WholeNode}
 -- fewer than the sender has dropped because they were acknowledged. At every moment this holds of
 -- saved states, also of those that a crash leaves.
 pub record IsBetween (l : Link) (got : ℕ) : Type 0 where
-  pub kept : l.base ≤ got
+  pub dropped : l.base ≤ got
   pub sent : got ≤ used l
 
 -- so it does of the messages from node i to node j

@@ -119,7 +119,7 @@ IsHeardOf x r =
 -- and it acknowledges all that it received.
 pub record IsSavedAs (n : NodeView) (s : NodeState) : Type 0 where
   pub shows : Shows n s
-  pub counted : (j : ℕ) → (link_to n j).kept ≡ length (sent_to s j)
+  pub released : (j : ℕ) → (link_to n j).kept ≡ length (sent_to s j)
   pub acks : n.acks ≡ s.local.got
 
 -- the nodes of a shape, in order, in the states of a world in which everything is saved

@@ -6,8 +6,8 @@ use Rattle.workers.specs.declared.run.Turns.{Turns}
 use Rattle.workers.specs.declared.stop.Asked.{Asked}
 
 -- A worker's run for a node of a space of this many nodes, ordered to take this many turns. The
--- report agrees with the turns. There are fewer only if the gate ended the worker, or if the workers
--- were found to have been asked to end.
+-- report agrees with the turns. There are fewer only if the gate ended the worker, or if the
+-- workers were found to have been asked to end.
 pub record IsRun (node nodes turns : ℕ) (r : Report) (asked : Option Asked) (past : Turns)
     : Type 0 where
   pub own : r.node ≡ node

@@ -33,7 +33,7 @@ ghost use Rattle.wire.specs.Readers.{
   IsSame,
   IsSeatOf,
 };
-ghost use Rattle.cell.specs.Cells.{new_cell, GoesOn, IsKept};
+ghost use Rattle.cell.specs.Cells.{new_cell, GoesOn, IsSound};
 ghost use Rattle.cell.specs.Desks.{IsAtSeat, IsUnsaved};
 ghost use Rattle.cell.specs.Disks.{OpensToNode};
 ghost use Rattle.cell.specs.Events.{outcome_of, Given};
@@ -74,13 +74,13 @@ impl<D: Disk> Cell<D> {
         let trace = Trace::new(alloc)?;
         // Called for its contract.
         let _ready = store.is_ready();
-        let first = Snapshot::of(node.core());
+        let origin = Snapshot::of(node.core());
         Ok(Cell {
             alloc,
             desk: Desk::new(alloc, node, seat, store.logs()),
             store,
             trace,
-            first,
+            origin,
         })
     }
 
@@ -161,7 +161,7 @@ impl<D: Disk> Cell<D> {
     /// between two calls.
     pub fn node(&self) -> &Node
         ensures value { result.now ≡ self.now.node }
-        ensures kept { IsKept D.may_leave self.now }
+        ensures sound { IsSound D.may_leave self.now }
     {
         // Called for its contract.
         let _logs = self.store.logs();

@@ -1,26 +1,7 @@
 //! What a cell does with its disk. A save releases what the node sent and received. A save in which
 //! the disk fails closes the cell until its disk is opened again.
-ghost use Rattle.std.specs.Prelude.{
-  ◌≡◌,
-  ◌≢◌,
-  ◌↔◌,
-  ◌⊎◌,
-  ◌-◌,
-  ◌<◌,
-  ◌++◌,
-  [],
-  ◌∷◌,
-  length,
-  true,
-  false,
-  IfErr,
-  IfOk,
-  IsErrOf,
-  IsTrue,
-  OnErr,
-  OnOk,
-  replicate,
-};
+ghost use Rattle.std.specs.Prelude.{◌≡◌, ◌≢◌, ◌↔◌, ◌⊎◌, ◌-◌, ◌<◌, ◌++◌, [], ◌∷◌, length};
+ghost use Rattle.std.specs.Prelude.{true, false, IfErr, IfOk, IsErrOf, IsTrue, OnErr, OnOk, replicate};
 ghost use Rattle.circular_buffer.specs.Buffer.{keep_last};
 ghost use Rattle.ids.specs.declared.limits.TheConstants.{GREATEST_IMAGE, GREATEST_NODES};
 ghost use Rattle.ids.specs.declared.limits.TheConstants.{TRACE_EVENTS};
@@ -32,7 +13,7 @@ ghost use Rattle.disk.specs.Crashes.{Grew};
 ghost use Rattle.disk.specs.Memory.{AfterCrash};
 ghost use Rattle.disk.specs.Plan.{fails_from, fails_once};
 ghost use Rattle.wire.specs.Readers.{known, IsSame, IsSeatOf};
-ghost use Rattle.cell.specs.Cells.{IsKept};
+ghost use Rattle.cell.specs.Cells.{IsSound};
 ghost use Rattle.cell.specs.Disks.{is_same_node, HoldsSaved, OpensToNode};
 ghost use Rattle.cell.specs.Events.{done_outcome, found_step, reopened_by, restarted_by, saved_by};
 ghost use Rattle.wire.specs.Entering.{Entered};
@@ -177,7 +158,7 @@ impl<D: Disk> Cell<D> {
     /// that a cell guarantees between two calls.
     pub fn into_disk(self) -> D
         ensures disk { result ≡ self.disk }
-        ensures kept { IsKept D.may_leave self }
+        ensures sound { IsSound D.may_leave self }
     {
         // Called for its contract.
         let _node = self.node();
@@ -186,7 +167,7 @@ impl<D: Disk> Cell<D> {
             desk: _,
             store,
             trace: _,
-            first: _,
+            origin: _,
         } = self;
         store.into_disk()
     }

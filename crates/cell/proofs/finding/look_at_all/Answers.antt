@@ -26,14 +26,14 @@ returns-in_err-node g c =
       chosen = tt;
     })
 
-pub returns-in_err-keep : goal.returns-in_err-keep
-returns-in_err-keep g c =
+pub returns-in_err-add : goal.returns-in_err-add
+returns-in_err-add g c =
     let x = get_or c.loop-number.disks c.from.result c.index-disks-from.result in
     let there = read-there c.from.result c.index-disks-from.result c.loop-number.invariant.looked
     c.loop-number.invariant.quiet.count c.from.ensures (omega (arith, c.requires)) in
-    let exit = c.from_residual-in_err-keep in
+    let exit = c.from_residual-in_err-add in
     let p = err_from_is_err_and exit.result exit.ensures.1 in
-    rw (p.1, p.2, c.in_err-keep.ensures.refused) (record {
+    rw (p.1, p.2, c.in_err-add.ensures.refused) (record {
       untouched = unmoved-at c.loop-number.number c.from.result x c.look_at.new.disk
           c.loop-number.invariant.quiet c.from.ensures there c.look_at.ensures.quiet;
       why = tt;
@@ -41,14 +41,14 @@ returns-in_err-keep g c =
       chosen = tt;
     })
 
-pub returns-in_err-keep-2 : goal.returns-in_err-keep-2
-returns-in_err-keep-2 g c =
+pub returns-in_err-add-2 : goal.returns-in_err-add-2
+returns-in_err-add-2 g c =
     let x = get_or c.loop-number.disks c.from.result c.index-disks-from.result in
     let there = read-there c.from.result c.index-disks-from.result c.loop-number.invariant.looked
     c.loop-number.invariant.quiet.count c.from.ensures (omega (arith, c.requires)) in
-    let exit = c.from_residual-in_err-keep-2 in
+    let exit = c.from_residual-in_err-add-2 in
     let p = err_from_is_err_and exit.result exit.ensures.1 in
-    rw (p.1, p.2, c.in_err-keep-2.ensures.refused) (record {
+    rw (p.1, p.2, c.in_err-add-2.ensures.refused) (record {
       untouched = unmoved-at c.loop-number.number c.from.result x c.look_at.new.disk
           c.loop-number.invariant.quiet c.from.ensures there c.look_at.ensures.quiet;
       why = tt;
@@ -84,11 +84,12 @@ loop-number-preserved g c =
       quiet = unmoved-at c.loop-number.number c.from.result x c.look_at.new.disk
           c.loop-number.invariant.quiet c.from.ensures there c.look_at.ensures.quiet;
       looked = looked-at c.from.result c.loop-number.invariant.looked c.from.ensures there it
-          (c.in_ok-keep.ensures.kept, c.in_ok-keep-2.ensures.kept);
+          (c.in_ok-add.ensures.added, c.in_ok-add-2.ensures.added);
       count = length-set c.loop-number.disks c.from.result c.look_at.new.disk
           ∙ c.loop-number.invariant.count;
       chosen = beside-next
           (λ d place. IsChosen c.args.saves (g.D.Disk.seen d) (logs_at c.args.saves place))
-          c.args.disks.now c.loop-number.areas.items c.loop-number.invariant.chosen c.loop-number.invariant.looked.places_count there
-          c.in_ok-node.ensures.chosen c.in_ok-keep-2.ensures.kept;
+          c.args.disks.now c.loop-number.areas.items c.loop-number.invariant.chosen
+          c.loop-number.invariant.looked.places_count there
+          c.in_ok-node.ensures.chosen c.in_ok-add-2.ensures.added;
     }

@@ -37,13 +37,14 @@ loop-number-preserved g c =
     c.remove-disk.ensures.value c.index-nodes-place.is in
     record {
       logs = beside-next (λ place s. logs_in s ≡ logs_at c.args.saves place) c.args.areas.now
-          c.loop-number.stores.items c.loop-number.invariant.logs c.loop-number.invariant.count it.area c.in-Ok.ensures.logs
-          c.in_ok-keep-in-Ok.ensures.kept;
+          c.loop-number.stores.items c.loop-number.invariant.logs c.loop-number.invariant.count
+          it.area c.in-Ok.ensures.logs
+          c.in_ok-add-in-Ok.ensures.added;
       made = shelf-next
           (λ n s. (is_ready_in s ≡ true) × OpensToNode n (g.D.Disk.seen (disk_of s))) _ _
           c.loop-number.invariant.made c.loop-number.invariant.count it.node
-          (c.in-Ok.ensures.ready, c.in-Ok.ensures.opens) c.in_ok-keep-in-Ok.ensures.kept;
-      count = ap length c.in_ok-keep-in-Ok.ensures.kept
+          (c.in-Ok.ensures.ready, c.in-Ok.ensures.opens) c.in_ok-add-in-Ok.ensures.added;
+      count = ap length c.in_ok-add-in-Ok.ensures.added
           ∙ length-append c.loop-number.stores.items _
           ∙ ap (λ i. i + 1) c.loop-number.invariant.count;
       rest = c.remove-disk.ensures.items ∙ ap (drop 1) c.loop-number.invariant.rest

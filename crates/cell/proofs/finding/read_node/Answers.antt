@@ -13,8 +13,8 @@ returns-in-Err-clause-why g c =
     by-refusal (IsWhyNot g.D.Disk.seen g.D.Disk.moment g.D.Disk.faults c.args.shape own disk) own
     c.in-Err.refusal _ c.failed.ensures tt (λ other. (
       refl,
-      by-cause (IsCause g.D.Disk.seen g.D.Disk.moment g.D.Disk.faults c.args.shape own disk) BadImage
-          c.in-Err.refusal said.refused.others other
+      by-cause (IsCause g.D.Disk.seen g.D.Disk.moment g.D.Disk.faults c.args.shape own disk)
+          BadImage c.in-Err.refusal said.refused.others other
           (λ is. record { written = c.requires; none = said.refused.bad is })
           (λ is. record {
             after = c.read_node.new.disk;

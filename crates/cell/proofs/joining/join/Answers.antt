@@ -8,8 +8,8 @@ use Rattle.cell.proofs.joining.join.Goals as goal
 
 pub new-requires : goal.new-requires
 new-requires g c =
-    subst (λ (l : List WholeNode). AreOpened c.args.shape (cores l) g.opening) (sym c.as_slice.ensures.value)
-    c.requires.1.0
+    subst (λ (l : List WholeNode). AreOpened c.args.shape (cores l) g.opening)
+    (sym c.as_slice.ensures.value) c.requires.1.0
 
 pub seat_all-requires : goal.seat_all-requires
 seat_all-requires g c = made-ready c.requires.1.0 c.requires.1.1 c.in_ok-wire.ensures.made

@@ -1,6 +1,6 @@
 use Rattle.std.proofs.Common.{◌≡◌, ◌∙◌, IfOk, ap, arith, map, subst, sym}
 use Rattle.wire.specs.Readers.{IsSeatOf}
-use Rattle.cell.specs.Cells.{IsKept}
+use Rattle.cell.specs.Cells.{IsSound}
 use Rattle.cell.specs.Moments.{EachCell, HaveLearned}
 use Rattle.supervisor.specs.Closing.{IsBack, IsRow, IsWhy}
 use Rattle.supervisor.proofs.Backs.{AreBack, all-back, back-seats, both-ok, err-then, of-one-moment, written-back}
@@ -20,7 +20,7 @@ returns-clause-once g c =
     let new = c.survey.new.cells in
     let back = written-back c.as_mut_slice.ensures.value c.in_ok-cells.cells.ok.0
     c.survey.ensures.learned.count in
-    both-ok _ _ _ c.take_disks.result (λ disks same kept.
+    both-ok _ _ _ c.take_disks.result (λ disks same sound.
     let all : AreBack c.args.wire.now g.D.Disk.may_leave g.W.Naming.wire g.W.Naming.begun old new =
     record {
       named = c.requires.named;
@@ -29,14 +29,14 @@ returns-clause-once g c =
       count = omega (arith, c.in_ok-cells.ensures.count, c.requires.wide, c.in_ok-cells.cells.ok);
       learned = subst (λ l. HaveLearned l new) c.as_mut_slice.ensures.value
           c.survey.ensures.learned;
-      kept = kept;
+      sound = sound;
       begun = c.requires.begun;
     } in
     of-one-moment all disks.items same c.survey.ensures.at_once)
     (subst (λ l. IfOk c.take_disks.result (λ v. map (λ x. x.disk) l ≡ v.items)) back
     c.take_disks.ensures.disks)
-    (subst (λ l. IfOk c.take_disks.result (λ _. EachCell (λ k x. IsKept g.D.Disk.may_leave x) l)) back
-    c.take_disks.ensures.kept)
+    (subst (λ l. IfOk c.take_disks.result (λ _. EachCell (λ k x. IsSound g.D.Disk.may_leave x) l))
+    back c.take_disks.ensures.sound)
 
 pub returns-clause-why : goal.returns-clause-why
 returns-clause-why g c =

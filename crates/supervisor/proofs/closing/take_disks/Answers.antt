@@ -1,9 +1,9 @@
 use Rattle.std.proofs.Common.{◌≡◌, ◌<◌, ◌∙◌, ap, arith, drop, length, map-id, sym}
 use Rattle.std.proofs.lemmas.List.{drop-drop, length-map}
 use Rattle.std.proofs.lemmas.Option.{slice_get_within}
-use Rattle.cell.specs.Cells.{IsKept}
+use Rattle.cell.specs.Cells.{IsSound}
 use Rattle.cell.proofs.Ready.{handed-on, shift, shifted-by}
-use Rattle.supervisor.proofs.Backs.{first-left, kept-next}
+use Rattle.supervisor.proofs.Backs.{first-left, holds-next}
 use Rattle.supervisor.proofs.closing.take_disks.Goals as goal
 
 pub loop-preserved : goal.loop-preserved
@@ -20,9 +20,9 @@ loop-preserved g c =
       disks = shifted-by (λ d. d) (λ v. v.disk)
           (shift _ _ _ c.push_reserved.ensures.items c.remove.ensures.value some
           c.remove.ensures.items) c.into_disk.ensures.disk was.disks;
-      kept = kept-next (IsKept g.D.Disk.may_leave) c.args.cells.items
+      sound = holds-next (IsSound g.D.Disk.may_leave) c.args.cells.items
           (first-left c.args.cells.items c.loop.cells.items c.loop.counter c.remove.result was.rest
-          some c.remove.ensures.value) c.into_disk.ensures.kept was.kept;
+          some c.remove.ensures.value) c.into_disk.ensures.sound was.sound;
     }
 
 pub returns-clause-disks : goal.returns-clause-disks
@@ -31,8 +31,8 @@ returns-clause-disks g c =
     sym (handed-on _ _ _ c.loop.invariant.disks
     (length-map c.loop.cells.items (λ v. v.disk) ∙ none)) ∙ map-id c.loop.disks.items
 
-pub returns-clause-kept : goal.returns-clause-kept
-returns-clause-kept g c = λ k d there.
-    c.loop.invariant.kept k d there
+pub returns-clause-sound : goal.returns-clause-sound
+returns-clause-sound g c = λ k d there.
+    c.loop.invariant.sound k d there
     (let inside = slice_get_within c.args.cells.items k d there in
     omega (arith, inside, c.loop.invariant.left, c.loop.invariant.all))

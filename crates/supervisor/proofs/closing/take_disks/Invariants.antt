@@ -1,5 +1,5 @@
 use Rattle.std.proofs.Common.{◌≡◌, ◌<◌, ◌≤◌, ◌+◌, ◌++◌, drop, map, vec_capacity, vec_len}
-use Rattle.cell.specs.Cells.{IsKept}
+use Rattle.cell.specs.Cells.{IsSound}
 use Rattle.cell.specs.Moments.{EachCell}
 use Rattle.supervisor.proofs.closing.take_disks.Given as goal
 
@@ -12,5 +12,5 @@ invariant-loop g l = record {
       ≡ map (λ c. c.disk) l.fn.cells.items;
   room : l.end ≤ vec_capacity l.disks;
   made : vec_len l.disks ≡ l.counter;
-  kept : EachCell (λ k c. k < l.counter → IsKept g.D.Disk.may_leave c) l.fn.cells.items;
+  sound : EachCell (λ k c. k < l.counter → IsSound g.D.Disk.may_leave c) l.fn.cells.items;
 }

@@ -36,7 +36,7 @@ returns g c =
       there = slice_get-get_or xs c.args.from c.index-learners-from.result c.requires.from;
       noted = c.note-note.ensures.learned;
       same = c.note-note.ensures.known;
-      then = slice_get-get_or ys c.args.to c.index-learners-to.result
+      learner = slice_get-get_or ys c.args.to c.index-learners-to.result
           (subst (λ (n : ℕ). c.args.to < n)
           (sym (length-set xs c.args.from c.note-note.new.self)) c.requires.to);
       learned = c.learn.ensures.learned;

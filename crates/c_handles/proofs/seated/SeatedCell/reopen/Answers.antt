@@ -11,14 +11,14 @@ returns c =
     let said = c.in_ok-reopened.ensures in
     record {
       opened = read_kept c.reopen-reopened.new.self.node (held_by disk)
-          (c.node-node.ensures.kept.plain old.plain (held_by disk) (reads_left disk.account.state))
+          (c.node-node.ensures.sound.plain old.plain (held_by disk) (reads_left disk.account.state))
           said.opened;
       done = said.done;
       knows = said.known;
       entered = said.entered;
       restarted = said.restarted;
       saved_still = said.saved_still;
-      plain = c.node-node-2.ensures.kept.plain (ap (λ v. v.logs) said.done ∙ old.plain);
+      plain = c.node-node-2.ensures.sound.plain (ap (λ v. v.logs) said.done ∙ old.plain);
       same = said.same;
       refused = said.refused;
       others = said.others;

@@ -20,7 +20,7 @@ invariant_of-self-inside-2 g c =
     let w = known desk.seat in
     let given = c.act-answered.ensures.given in
     let same = ap (λ d. d.saved) c.act-answered.ensures.stays in
-    let first = cell.first.value in (
+    let first = cell.origin.value in (
       given-dropped given (own-none cell.desk.node.early c.args.event c.requires.own)
           cell.dropped,
       (
@@ -50,7 +50,7 @@ returns-clause-goes_on g c =
     record {
       same = said.same;
       marked = marked-after _ _ c.act-answered.result _ _ said.given.acted.known said.unsaved;
-      stays = ap (cell_at cell.first.value (disk_of cell.store) (is_ready_in cell.store)
+      stays = ap (cell_at cell.origin.value (disk_of cell.store) (is_ready_in cell.store)
           (logs_in cell.store) c.push-2.new.self)
           said.stays;
     }

@@ -19,8 +19,8 @@ invariant_of-result g c =
     let seen = g.D.Disk.seen (disk_of c.args.store) in
     let may_leave = g.D.Disk.may_leave (disk_of c.args.store) in
     let desk = c.new-2.result in
-    let first = c.of-first.result.value in
-    let is : c.args.node.core ≡ first = sym (c.of-first.ensures ∙ c.core.ensures.value) in (
+    let first = c.of-origin.result.value in
+    let is : c.args.node.core ≡ first = sym (c.of-origin.ensures ∙ c.core.ensures.value) in (
       dropped-same first desk.node.core (known desk.seat)
           (ap (λ d. d.node.core) c.new-2.ensures ∙ is),
       (

@@ -1,10 +1,10 @@
 use Rattle.std.proofs.Common.{◌∙◌}
 use Rattle.cell.proofs.cell.Cell.node.Goals as goal
 
-pub returns-clause-kept : goal.returns-clause-kept
-returns-clause-kept g c =
+pub returns-clause-sound : goal.returns-clause-sound
+returns-clause-sound g c =
     let cell = c.self.inside in
-    let desk = c.node.ensures.kept in
+    let desk = c.node.ensures.sound in
     rw (← c.self.view_is)
     record {
       stands = desk.stands;

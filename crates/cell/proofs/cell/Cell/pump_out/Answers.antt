@@ -24,14 +24,14 @@ pub returns-clause-stays : goal.returns-clause-stays
 returns-clause-stays g c =
     let cell = c.self.inside in
     rw (← c.self.view_is)
-    (ap (cell_at cell.first.value (disk_of cell.store) (is_ready_in cell.store)
+    (ap (cell_at cell.origin.value (disk_of cell.store) (is_ready_in cell.store)
     (logs_in cell.store) cell.trace) c.send.ensures.stays)
 
 pub returns-in_err-is_sent-clause-stays : goal.returns-in_err-is_sent-clause-stays
 returns-in_err-is_sent-clause-stays g c =
     let cell = c.self.inside in
     rw (← c.self.view_is)
-    (ap (cell_at cell.first.value (disk_of cell.store) (is_ready_in cell.store)
+    (ap (cell_at cell.origin.value (disk_of cell.store) (is_ready_in cell.store)
     (logs_in cell.store) cell.trace) c.send.ensures.stays)
 
 pub returns-in_err-is_sent-clause-refused : goal.returns-in_err-is_sent-clause-refused
@@ -39,7 +39,7 @@ returns-in_err-is_sent-clause-refused g c =
     let cell = c.self.inside in
     let p = err_from_is_err_and c.from_residual.result c.from_residual.ensures.1 in
     rw (p.1, ← c.self.view_is)
-    (ap (cell_at cell.first.value (disk_of cell.store) (is_ready_in cell.store)
+    (ap (cell_at cell.origin.value (disk_of cell.store) (is_ready_in cell.store)
     (logs_in cell.store) cell.trace)
     c.in_err-is_sent.ensures.refused.1)
 

@@ -18,6 +18,6 @@ pub returns-clause-stays : goal.returns-clause-stays
 returns-clause-stays g c =
     let cell = c.self.inside in
     rw (← c.self.view_is)
-    (ap (cell_at cell.first.value (disk_of cell.store) (is_ready_in cell.store)
+    (ap (cell_at cell.origin.value (disk_of cell.store) (is_ready_in cell.store)
     (logs_in cell.store) cell.trace)
     c.raise.ensures.stays)

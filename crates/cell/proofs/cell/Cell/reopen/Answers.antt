@@ -58,7 +58,7 @@ invariant_of-self-inside g c =
     let v = known cell.desk.seat in
     let w = known desk.seat in
     let took = took-same v w (ap (λ u. u.me) said.known) (ap (λ u. u.taken) said.known) in
-    let first = cell.first.value in
+    let first = cell.origin.value in
     let kept = dropped-found found.core took
     (which-found cell.desk.saved cell.desk.node.core found.core was_seen there
     (cell.left was_seen (g.met.D.Disk.reads_left (disk_of cell.store))))
@@ -120,7 +120,7 @@ returns-in-Ok-clause-done g c =
     let desk = c.reopen-in-Ok.new.self in
     let said = c.reopen-in-Ok.ensures in
     let store = c.reopen.new.self in
-    let first = c.self.inside.first.value in
+    let first = c.self.inside.origin.value in
     let trace = c.push.new.self in
     rw (← c.self.view_is)
     (ap (λ (b : Bool). cell_at first (disk_of store) b (logs_in store) trace desk)
@@ -162,10 +162,10 @@ returns-in-Ok-clause-traced g c =
 pub returns-in-Err-clause-refused : goal.returns-in-Err-clause-refused
 returns-in-Err-clause-refused g c =
     rw (← c.self.view_is)
-    (ap (λ (b : Bool). cell_at c.self.inside.first.value (disk_of c.reopen.new.self) b
+    (ap (λ (b : Bool). cell_at c.self.inside.origin.value (disk_of c.reopen.new.self) b
     (logs_in c.reopen.new.self) c.push-in-Err.new.self c.self.inside.desk)
     (c.in-Err.ensures.shut refl)
-    ∙ ap (λ (b : Bool). cell_at c.self.inside.first.value (disk_of c.reopen.new.self) false b
+    ∙ ap (λ (b : Bool). cell_at c.self.inside.origin.value (disk_of c.reopen.new.self) false b
     c.push-in-Err.new.self c.self.inside.desk) c.reopen.ensures.logs)
 
 pub returns-in-Err-clause-same : goal.returns-in-Err-clause-same

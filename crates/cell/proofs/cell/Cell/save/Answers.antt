@@ -69,7 +69,7 @@ invariant_of-self-inside g c =
     let v = known cell.desk.seat in
     let w = known desk.seat in
     let took = took-same v w (ap (λ u. u.me) now.known) (ap (λ u. u.taken) now.known) in
-    let first = cell.first.value in
+    let first = cell.origin.value in
     let kept = dropped-kept first v w n took cell.dropped in
     let was_open : is_ready_in cell.store ≡ true =
     ⊎_elim (λ opens. opens) (λ shut. absurd (ok-no-error (said.after.closed.1 shut)))
@@ -91,7 +91,7 @@ invariant_of-self-inside g c =
 pub returns-in-Ok-clause-done : goal.returns-in-Ok-clause-done
 returns-in-Ok-clause-done g c =
     let store = c.save.new.self in
-    let first = c.self.inside.first.value in
+    let first = c.self.inside.origin.value in
     let trace = c.push.new.self in
     let desk = c.save-in-Ok.new.self in
     rw (← c.self.view_is)

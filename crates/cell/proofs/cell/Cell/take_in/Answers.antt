@@ -51,7 +51,7 @@ invariant_of-self-inside-2 g c =
       taken = at-last u v (plain f) more.taken.1;
       receiver = told.1 ∙ sym more.me;
     } in
-    let first = cell.first.value in (
+    let first = cell.origin.value in (
       handled-dropped f c.handle-answered.result c.take.new.self.node desk.node w said.handled taken
           (dropped-as first u v cell.desk.node.core c.take.new.self.node.core more
           (ap (λ d. d.node.core) took.stays) cell.dropped),
@@ -131,7 +131,7 @@ returns-clause-goes_on g c =
           (ap (λ d. d.unsaved) took.stays)
           (subst (λ (u : Known). IsMarked u (known desk.seat) c.take.new.self.unsaved desk.unsaved)
           c.in_ok-frame.ensures.taken.3.2 said.unsaved);
-      stays = ap (cell_at cell.first.value (disk_of cell.store) (is_ready_in cell.store)
+      stays = ap (cell_at cell.origin.value (disk_of cell.store) (is_ready_in cell.store)
           (logs_in cell.store) c.push.new.self)
           (said.stays ∙ ap (λ (d : DeskView). record d {
             node = desk.node;

@@ -3,8 +3,8 @@ use Rattle.wire.specs.Readers.{known}
 use Rattle.cell.specs.Desks.{IsSavedNode, StandsAt}
 use Rattle.cell.proofs.desk.Desk.node.Goals as goal
 
-pub returns-clause-kept : goal.returns-clause-kept
-returns-clause-kept c =
+pub returns-clause-sound : goal.returns-clause-sound
+returns-clause-sound c =
     let desk = c.self.inside in
     rw (← c.self.view_is)
     record {

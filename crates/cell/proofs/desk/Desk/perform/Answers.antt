@@ -49,7 +49,8 @@ invariant_of-self-inside-2 c =
     let pair_is =
     ap (λ (w : Known). w.pair) known_is
     ∙ pair-after e c.args.step a v found.0 found.1 (may.quiet found.0 a found.1) in
-    facts
+    let after = (known c.enter-counts.new.seat).pair in
+    facts {B = StandsAt desk.own desk.nodes after c.act.new.node.core}
     (record {
       own = c.enter-counts.ensures.same.2 ∙ desk.at.own;
       nodes = c.enter-counts.ensures.same.3 ∙ desk.at.nodes;

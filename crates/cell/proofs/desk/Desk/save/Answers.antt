@@ -55,7 +55,9 @@ invariant_of-self-inside c =
                     (subst (AreTaken (known desk.seat).taken)
                     (sym (ap (λ (m : WholeNode). m.early) c.mark_saved.ensures)) desk.taken),
                 (
-                  subst (λ (m : NodeView). ∥ IsLogged c.begin.new.self m c.mark_saved.new.self.core ∥₁)
+                  subst
+                      (λ (m : NodeView).
+                      ∥ IsLogged c.begin.new.self m c.mark_saved.new.self.core ∥₁)
                       (sym (c.of.ensures ∙ c.core.ensures.value))
                       ∣ begun_log c.begin.new.self desk.logs c.mark_saved.new.self.core
                       c.begin.ensures.kept c.begin.ensures.lost ∣₁,

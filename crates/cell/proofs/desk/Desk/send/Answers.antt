@@ -20,8 +20,8 @@ placed n to places sent from at follows = rw (sent, follows, from, at) refl
 
 -- the frame that is due, by the place that was read
 sent-by : (desk : Inside) (to : ℕ) {place : ℕ} (is : Bool) (w : Known) → place ≡ to
-    → IsSent (outbox desk.seat to) (frame_due desk.node.core to (slice_index_or desk.places place 0))
-    is (known desk.seat) w
+    → IsSent (outbox desk.seat to)
+    (frame_due desk.node.core to (slice_index_or desk.places place 0)) is (known desk.seat) w
     → IsSent (outbox desk.seat to) (frame_due desk.node.core to (slice_index_or desk.places to 0))
     is (known desk.seat) w
 sent-by desk to is w same sent =

@@ -38,5 +38,5 @@ returns-clause-same g c =
     let moved = taken-out team.workers.items _ c.args.place worker
     (omega (arith, c.requires, team.workers.ok.0)) c.swap_remove-worker.ensures.value
     c.swap_remove-worker.ensures.items in
-    joined (λ (w : Worker). w.of.node) (λ (r : Report). r.node) _ moved c.push_reserved.ensures.items
-    c.join.ensures.2.own
+    joined (λ (w : Worker). w.of.node) (λ (r : Report). r.node) _ moved
+    c.push_reserved.ensures.items c.join.ensures.2.own

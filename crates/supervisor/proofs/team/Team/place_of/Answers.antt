@@ -23,7 +23,8 @@ returns c = record {
   within = tt;
   none = λ k n there.
       c.loop-place.invariant k n there
-      (let inside = slice_get_within (map (λ w. w.of.node) c.args.self.now.workers.items) k n there in
-      let long = length-map c.args.self.now.workers.items (λ w. w.of.node) in
+      (let workers = c.args.self.now.workers.items in
+      let inside = slice_get_within (map (λ w. w.of.node) workers) k n there in
+      let long = length-map workers (λ w. w.of.node) in
       omega (arith, inside, long));
 }

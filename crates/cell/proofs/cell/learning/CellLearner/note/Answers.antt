@@ -23,7 +23,7 @@ returns-clause-learned g c =
     rw (← c.self.view_is)
     record {
       same = said.same;
-      stays = ap (cell_at cell.first.value (disk_of cell.store) (is_ready_in cell.store)
+      stays = ap (cell_at cell.origin.value (disk_of cell.store) (is_ready_in cell.store)
           (logs_in cell.store) cell.trace) said.stays;
       known = said.known
           ∙ ap (λ v. learns v.seen (known cell.desk.seat)) (sym said.known);
