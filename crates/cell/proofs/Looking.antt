@@ -128,7 +128,7 @@ were-read {seen = seen} {may_leave} {moment} {faults} {left_since} {shape} {new 
     {areas} same many quiet found = record {
       quiet = subst (λ l. AreUnmoved seen may_leave moment left_since l new) same quiet;
       found = subst (λ l. AreLookedAt seen may_leave faults shape shape.nodes l new nodes areas)
-      same found;
+          same found;
       many = many;
     }
 

@@ -1,5 +1,5 @@
-//! A saved node as bytes, its image. How the parts of an image are spelled is in the crate
-//! `image_parts`, and where images are kept in `node_store`.
+//! A saved node as bytes, its image; `image_parts` spells the parts of an image, and `node_store`
+//! keeps images on disks.
 //!
 //! [`to_bytes`] writes an image, and [`from_bytes`] makes a node of it. docs/FORMATS.md has the
 //! table of its parts ("Images").

@@ -86,9 +86,7 @@ impl fmt::Display for FrameText {
     fn fmt<W: fmt::Write>(&self, f: &mut fmt::Formatter<W>) -> fmt::Result {
         match self.0 {
             Frame::Data(message) => write!(f, "{}", DataText(message)),
-            Frame::Ack(Ack { by, of, number }) => {
-                write!(f, "ack {by} to {of} number {number}")
-            }
+            Frame::Ack(Ack { by, of, number }) => { write!(f, "ack {by} to {of} number {number}") }
         }
     }
 }
