@@ -21,7 +21,7 @@ use Rattle.node_store.specs.Laws.{one_led, one_whole}
 use Rattle.node_store.specs.Values.{LeadsWhole}
 use Rattle.node_log.specs.declared.log.TheConstants.{GREATEST_LOG}
 use Rattle.c_handles.specs.Batches.{AreBatches, GaveBatch, IsStored, LogLeads, batch_of, short}
-use Rattle.c_handles.specs.Images.{counts_of}
+use Rattle.c_handles.specs.Images.{counts_of, marked}
 use Rattle.c_handles.specs.declared.lone.images.Counts.{Counts}
 use Rattle.c_handles.proofs.Logs.{begun_led, within_sent}
 use Rattle.c_handles.specs.Logs.{LedIf, LogsFrom, log_of}
@@ -181,7 +181,8 @@ left_bad {rest = rest} left some none last led = by_batches (left.ahead last led
     by_batches ([], are, more) = omega (arith, some, ap length are)
     by_batches (b ∷ bs, are, more) = some_none are.0 none
 
-module _ {batches rest batch : List ℕ} {first now : WholeNode} (left : IsLeft batches first rest now)
+module _ {batches rest batch : List ℕ} {first now : WholeNode}
+    (left : IsLeft batches first rest now)
     (is : recorded rest ≡ Some batch) where
   -- the first batch that is left leads on
   first_of : (last : WholeNode) → LogLeads rest now last
@@ -221,13 +222,8 @@ module _ {batches rest batch : List ℕ} {first now : WholeNode} (left : IsLeft 
 -- what is kept for its mark
 pub gave_batch : {old new : LoneNode} {mark : ℕ} {bytes : List ℕ} (counts : Vec Counts)
     → batch_of old ≡ Some bytes → counts.items ≡ counts_of old.node.core → IsNode old.node.core
-    → mark ≡ (old.mark + 1) % 2 ^ 64 → new ≡ record old {
-      counts = Some counts;
-      mark = mark;
-      is_changed = false;
-      log = Some [];
-      is_kept = false;
-    } → GaveBatch old new mark bytes
+    → mark ≡ (old.mark + 1) % 2 ^ 64 → new ≡ marked old counts mark (Some [])
+    → GaveBatch old new mark bytes
 gave_batch {old = old} counts is counted node next stays = record {
   counts = counts;
   counted = counted;

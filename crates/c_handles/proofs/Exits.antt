@@ -1,6 +1,6 @@
--- How the calls end that give a node an event or an acknowledgement: a lemma for each way.
-use Rattle.std.proofs.Common.{◌≡◌, ◌≢◌, ◌∙◌, Bool, true, false, Err, IfErr, IfOk, IsTrue, List, ℕ, Ok, OnErr}
-use Rattle.std.proofs.Common.{Option, Result, ap, refl, subst, sym}
+-- How the calls end that give a node or a cell an event or a frame: a lemma for each way.
+use Rattle.std.proofs.Common.{◌≡◌, ◌≢◌, ◌∙◌, true, false, Err, IfErr, IfOk, IsTrue, List, ℕ, Ok, OnErr}
+use Rattle.std.proofs.Common.{Option, Result, ap, inl, refl, subst, sym}
 use Rattle.std.proofs.lemmas.Bool.{true≢false}
 use Rattle.ids.specs.declared.refusal.Refusal.{Refusal}
 use Rattle.ids.specs.declared.refusal.Refusal.TheVariants.{Memory}
@@ -11,14 +11,18 @@ use Rattle.model.specs.declared.event.Answer.{Answer}
 use Rattle.model.specs.declared.event.Answer.TheVariants as answer
 use Rattle.model.specs.declared.event.Event.{Event}
 use Rattle.model.specs.declared.event.Event.TheVariants as events
+use Rattle.c_values.specs.declared.fault.Fault.{Fault}
+use Rattle.frames.specs.Grammar.{Fits, spelling}
+use Rattle.msg.specs.Frames.{plain}
 use Rattle.msg.specs.declared.frame.Ack.{Ack}
+use Rattle.msg.specs.declared.frame.Frame.{Frame}
 use Rattle.node.specs.Keeping.{WholeNode, early_after, met}
 use Rattle.node_log.specs.Noted.{Noted}
 use Rattle.node_store.specs.Acting.{Acts}
 use Rattle.node_store.proofs.Quiet.{quiet-same}
 use Rattle.model.specs.Effects.{is_change}
 use Rattle.c_handles.specs.Logs.{Led}
-use Rattle.c_handles.specs.Lone.{Gave, Heard}
+use Rattle.c_handles.specs.Lone.{Gave, Handled, Heard, TookIn}
 use Rattle.c_handles.specs.declared.lone.LoneNode.{LoneNode}
 use Rattle.c_handles.proofs.Logs.{ack_now, after_counted, after_uncounted, if_kept, if_none, led_noted}
 
@@ -125,3 +129,9 @@ module _ {old : LoneNode} {node : WholeNode} {ack : Ack} {a : Answer} where
         subst (λ n. Led bytes first n old.counts) (sym same) (led bytes is);
     still = tt;
   }
+
+-- bytes that spell a frame were taken in
+pub took_frame : (f : Frame) {bytes : List ℕ} {old new : LoneNode} {r : Result Answer Fault}
+    → Fits (plain f) × (bytes ≡ spelling (plain f)) → Handled f old new r → TookIn bytes old new r
+took_frame f found handled =
+    inl (record { frame = f; fits = found.0; spelled = found.1; handled = handled })

@@ -9,8 +9,6 @@ use Rattle.ids.specs.declared.limits.TheConstants.{GREATEST_IMAGE}
 use Rattle.ids.specs.declared.refusal.Refusal.{Refusal}
 use Rattle.ids.specs.declared.refusal.Refusal.TheVariants as refusal
 use Rattle.node.specs.Keeping.{WholeNode, alone}
-use Rattle.image.specs.Nodes.{IsImageOf}
-use Rattle.image.specs.Wholes.{IsWholeOf}
 use Rattle.disk.specs.Areas.{Areas}
 use Rattle.disk.specs.Memory.{blank, held_by}
 use Rattle.disk_shelf.specs.Shelf.{record_of, recorded}

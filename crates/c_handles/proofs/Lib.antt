@@ -4,6 +4,7 @@ pub mod Crossing
 pub mod Filling
 pub mod Logs
 pub mod Exits
+pub mod Seats
 pub mod Names
 pub mod Packs
 pub mod Parts

@@ -26,7 +26,7 @@ use Rattle.node_store.proofs.Ends.{logged_more, logged_none}
 use Rattle.c_handles.specs.declared.lone.images.Counts.{Counts}
 use Rattle.image.specs.Logged.{IsAnyWholeOf}
 use Rattle.image.specs.Wholes.{saved_whole}
-use Rattle.c_handles.specs.Images.{Took, after_kept, counted, counts_below, counts_of, image_in, keeps, keeps_below}
+use Rattle.c_handles.specs.Images.{Took, after_kept, counted, counts_below, counts_of, image_in, keeps, keeps_below, marked}
 use Rattle.c_handles.specs.Logs.{AreSaved, IsBehind, KeepsLog, Led, LedIf, LogsFrom, begun, no_counts}
 use Rattle.c_handles.specs.declared.lone.LoneNode.{LoneNode}
 use Rattle.c_handles.proofs.Behind.{also, behind_all, behind_kept}
@@ -252,13 +252,7 @@ within_sent n is i = (is.links.links.links i).kept
 pub took : {old new : LoneNode} {mark : ℕ} (counts : Vec Counts)
     → counts.items ≡ counts_of old.node.core → IsNode old.node.core
     → IsAnyWholeOf (image_in old) (saved_whole old.node) → mark ≡ (old.mark + 1) % 2 ^ 64
-    → new ≡ record old {
-      counts = Some counts;
-      mark = mark;
-      is_changed = false;
-      log = begun old.logs;
-      is_kept = false;
-    } → Took old new mark
+    → new ≡ marked old counts mark (begun old.logs) → Took old new mark
 took {old = old} counts counted is read next stays = record {
   counts = counts;
   counted = counted;

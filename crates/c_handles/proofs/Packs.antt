@@ -1,5 +1,5 @@
 -- If no frame fits, nothing is written.
-use Rattle.std.proofs.Common.{◌≡◌, ℕ, ◌+◌, ◌^◌, ◌<◌, ◌≤◌, ◌∙◌, Bool, true, false, cond, nat_lt, nat_le, zero, suc, List, [], length, Option, Some, None, ap, refl, subst, sym, arith}
+use Rattle.std.proofs.Common.{◌≡◌, ℕ, ◌+◌, ◌^◌, ◌<◌, ◌≤◌, Bool, true, false, cond, nat_lt, nat_le, zero, suc, List, [], length, Option, Some, None, ap, refl, subst, sym, arith}
 use Rattle.std.proofs.lemmas.Bool.{cond-false, cond-true, le-ltb, lt-ltb}
 use Rattle.ids.specs.declared.limits.TheConstants.{WINDOW}
 use Rattle.msg.specs.Frames.{Plain}

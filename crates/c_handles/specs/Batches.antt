@@ -14,7 +14,8 @@ use Rattle.node_log.specs.declared.log.TheConstants.{GREATEST_LOG}
 use Rattle.c_values.specs.Bytes.{Wrote}
 use Rattle.c_values.specs.declared.fault.Fault.{Fault}
 use Rattle.c_values.specs.declared.fault.Fault.TheVariants as fault
-use Rattle.c_handles.specs.Images.{HandleWrites, counts_of}
+use Rattle.c_handles.specs.Images.{HandleWrites, counts_of, marked}
+use Rattle.c_handles.specs.Lone.{lone}
 use Rattle.c_handles.specs.Logs.{LogsFrom, log_of}
 use Rattle.c_handles.specs.declared.lone.images.Counts.{Counts}
 use Rattle.c_handles.specs.declared.lone.LoneNode.{LoneNode}
@@ -59,13 +60,7 @@ size_of None = Err fault.NoLog
 pub record GaveBatch (old new : LoneNode) (mark : ℕ) (bytes : List ℕ) : Type 0 where
   pub counts : Vec Counts
   pub counted : counts.items ≡ counts_of old.node.core
-  pub stays : new ≡ record old {
-    counts = Some counts;
-    mark = mark;
-    is_changed = false;
-    log = Some [];
-    is_kept = false;
-  }
+  pub stays : new ≡ marked old counts mark (Some [])
   pub next : mark ≡ (old.mark + 1) % 2 ^ 64
   pub stored : (image batches : List ℕ) (first : WholeNode) → begins_logged image ≡ true
       → IsStored image batches first → LogsFrom first.core old
@@ -99,17 +94,7 @@ HandleBatched = HandleWrites Batched
 -- what is stored counts as saved, and a log was begun; if one may follow the image, the next batch
 -- follows what is stored
 abbrev pub reopened : Bool → WholeNode → ℕ → LoneNode
-reopened logged n limit = record {
-  node = n;
-  limit = limit;
-  mark = 0;
-  counts = None;
-  is_changed = false;
-  is_unsaved = false;
-  logs = true;
-  log = Some [];
-  is_kept = logged;
-}
+reopened logged n limit = record (lone n limit) { logs = true; is_kept = logged }
 
 -- the node of an image and the batches after it, or the reason why there isn't one
 abbrev pub Reopened : List ℕ → List ℕ → ℕ → Result LoneNode Fault → Type 0

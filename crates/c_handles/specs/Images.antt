@@ -61,18 +61,22 @@ SizedAs image (Err e) = ⊥
 abbrev pub Sized : NodeView → Result ℕ Fault → Type 0
 Sized n = SizedAs (image_of n)
 
+-- a node of which an image or a batch with this mark was taken, which holds this of the links
+abbrev pub marked : LoneNode → Vec Counts → ℕ → Option (List ℕ) → LoneNode
+marked n counts mark log = record n {
+  counts = Some counts;
+  mark = mark;
+  is_changed = false;
+  log = log;
+  is_kept = false;
+}
+
 -- What is kept for the mark of an image. The image is read as the node, as it is once it is saved,
 -- and a log begins, if the node is to keep one.
 pub record Took (old new : LoneNode) (mark : ℕ) : Type 0 where
   pub counts : Vec Counts
   pub counted : counts.items ≡ counts_of old.node.core
-  pub stays : new ≡ record old {
-    counts = Some counts;
-    mark = mark;
-    is_changed = false;
-    log = begun old.logs;
-    is_kept = false;
-  }
+  pub stays : new ≡ marked old counts mark (begun old.logs)
   pub next : mark ≡ (old.mark + 1) % 2 ^ 64
   pub read : IsAnyWholeOf (image_in old) (saved_whole old.node)
   pub logs : LogsFrom (kept_view old.node.core) new

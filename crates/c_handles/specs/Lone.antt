@@ -1,5 +1,5 @@
 -- A node whose caller moves its frames and stores its images: what the calls do.
-use Rattle.std.specs.Prelude.{◌≡◌, ◌≢◌, ℕ, ◌<◌, ◌≤◌, Bool, true, false, cond, ◌==◌, ◌||◌, ◌⊎◌, nat_le, length, List, [], Option, Some, None, Result, Ok, Err, IfErr, IfOk, OnErr, IsTrue, slice_get}
+use Rattle.std.specs.Prelude.{◌≡◌, ℕ, ◌<◌, ◌≤◌, Bool, true, false, cond, ◌==◌, ◌||◌, ◌⊎◌, nat_le, length, List, [], Option, Some, None, Result, Ok, Err, OnErr, slice_get}
 use Rattle.ids.specs.Limits.{Shaped, IsShape}
 use Rattle.ids.specs.declared.names.Ref.{Ref}
 use Rattle.ids.specs.declared.refusal.Refusal.{Refusal}

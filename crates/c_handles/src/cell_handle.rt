@@ -11,6 +11,7 @@ ghost use Rattle.node.specs.Summaries.{summary_of};
 ghost use Rattle.c_handles.specs.Cells.{CellActs, HandleImaged, Raised, Received, Reopened, Saved};
 ghost use Rattle.c_handles.specs.Cells.{Sent, SizedSame};
 
+use crate::Marked;
 use crate::held::Held;
 use crate::seated::SeatedCell;
 use c_values::{CLink, Fault};
@@ -142,12 +143,7 @@ impl CellHandle {
     }
 
     /// Writes the node's image; see [`SeatedCell::image`].
-    pub fn image(
-        &mut self,
-        alloc: Global,
-        buffer: &mut [u8],
-        needed: &mut usize,
-    ) -> Result<u64, Fault>
+    pub fn image(&mut self, alloc: Global, buffer: &mut [u8], needed: &mut usize) -> Marked
         ensures { HandleImaged self.old.held self.new.held result buffer.old buffer.new needed.old
             needed.new }
     {
@@ -224,7 +220,8 @@ impl CellHandle {
     /// The reference in a register; see [`SeatedCell::register`].
     pub fn register(&mut self, alloc: Global, register: u16) -> Result<Ref, Fault>
         ensures same { self.new.held ≡ self.old.held }
-        ensures value { result ≡ read (λ c. register_of c.cell.node.core.local register) self.old.held }
+        ensures value { result
+            ≡ read (λ c. register_of c.cell.node.core.local register) self.old.held }
     {
         let Some(cell) = self.take(alloc) else {
             return Err(Fault::NoHandle);

@@ -1,5 +1,6 @@
 //! What C holds: nodes, spaces, cells and watches, each as one pointer. Every call of the C library
-//! is a method here; the crate `markring_c` exports them.
+//! is a method here; the functions that C calls are in the crate `markring_c`, and what crosses by
+//! value in `c_values`.
 //!
 //! ```text
 //! C               exports           here          below
@@ -27,6 +28,7 @@ mod space_handle;
 mod watch_handle;
 mod watching;
 
+use c_values::Fault;
 pub use cell_handle::CellHandle;
 pub use lone::LoneNode;
 pub use lone::reopening::stored_once;
@@ -36,3 +38,7 @@ pub use space::SeatedSpace;
 pub use space_handle::SpaceHandle;
 pub use watch_handle::WatchHandle;
 pub use watching::SeatedWatch;
+
+/// The mark of an image or a batch, by which its caller says that it is stored; or why there is
+/// none.
+pub type Marked = Result<u64, Fault>;

@@ -16,6 +16,7 @@ ghost use Rattle.c_handles.specs.Logs.{logs_in};
 ghost use Rattle.c_handles.specs.Lone.{Made, NodeActs, Read, TookIn};
 ghost use Rattle.c_handles.specs.Reads.{link_of, register_of, waiting_number};
 
+use crate::Marked;
 use crate::held::Held;
 use crate::lone::LoneNode;
 use c_values::{CLink, Fault};
@@ -346,12 +347,7 @@ impl NodeHandle {
     }
 
     /// Writes the node's image; see [`LoneNode::image`].
-    pub fn image(
-        &mut self,
-        alloc: Global,
-        buffer: &mut [u8],
-        needed: &mut usize,
-    ) -> Result<u64, Fault>
+    pub fn image(&mut self, alloc: Global, buffer: &mut [u8], needed: &mut usize) -> Marked
         ensures { HandleImaged self.old.held self.new.held result buffer.old buffer.new needed.old
             needed.new }
     {
@@ -389,12 +385,7 @@ impl NodeHandle {
     }
 
     /// Writes the events since the last image or batch; see [`LoneNode::batch`].
-    pub fn batch(
-        &mut self,
-        alloc: Global,
-        buffer: &mut [u8],
-        needed: &mut usize,
-    ) -> Result<u64, Fault>
+    pub fn batch(&mut self, alloc: Global, buffer: &mut [u8], needed: &mut usize) -> Marked
         ensures { HandleBatched self.old.held self.new.held result buffer.old buffer.new needed.old
             needed.new }
     {

@@ -1,5 +1,5 @@
-//! What a space is opened with: a disk in memory for each node, and for each cell and each watch one
-//! more holder of the wire.
+//! What a space is opened with: a disk in memory for each node, and for each cell and each watch
+//! one more holder of the wire.
 ghost use Rattle.std.specs.Prelude.{◌≡◌, ◌⊎◌, All, IfErr, IfOk, IsErrOf, OnOk, length, map};
 ghost use Rattle.std.specs.Prelude.{None, Some, false, replicate};
 ghost use Rattle.std.specs.Arc.{arc_value};

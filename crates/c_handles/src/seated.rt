@@ -8,6 +8,7 @@ ghost use Rattle.wire.specs.Readers.{IsSeatOf};
 ghost use Rattle.c_handles.specs.Images.{Sized};
 ghost use Rattle.c_handles.specs.Reads.{link_of, register_of};
 
+use crate::Marked;
 use crate::lone::reading::{link_of, register_of};
 use c_values::{CLink, Fault, put};
 use cell::Cell;
@@ -106,12 +107,7 @@ impl SeatedCell {
 
     /// Writes the node's image and returns its mark. Fails with `ImageTooLarge`, with `Memory`, and
     /// with `ShortBuffer`.
-    pub fn image(
-        &mut self,
-        alloc: Global,
-        buffer: &mut [u8],
-        needed: &mut usize,
-    ) -> Result<u64, Fault>
+    pub fn image(&mut self, alloc: Global, buffer: &mut [u8], needed: &mut usize) -> Marked
         ensures { Imaged self.old self.new result buffer.old buffer.new needed.old needed.new }
     {
         let bytes = to_bytes(alloc, self.cell.node())?;

@@ -15,8 +15,8 @@ use c_values::Fault;
 use std::alloc::Global;
 use std::marker::{Model, Send};
 
-/// What C holds of a space. Null is an empty handle. Only C copies its bytes, so it can't be dropped
-/// here.
+/// What C holds of a space. Null is an empty handle. Only C copies its bytes, so it can't be
+/// dropped here.
 #[repr(C)]
 pub struct SpaceHandle {
     at: *mut u8,

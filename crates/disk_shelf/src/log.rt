@@ -1,6 +1,6 @@
 //! The disk calls that keep batches behind an image, and find them again; the crate `disk_journal`
-//! makes them. The byte before a batch, its gate, makes it count; it is written only once the batch is
-//! synced.
+//! makes them. The byte before a batch, its gate, makes it count; it is written only once the batch
+//! is synced.
 ghost use Rattle.std.specs.Prelude.{◌≡◌, ◌+◌, ◌<◌, ◌≤◌, ◌^◌, ◌++◌, ◌⊎◌, List, ℕ, [], ◌∷◌, length, not};
 ghost use Rattle.std.specs.Prelude.{Bool, drop, IfErr, IfOk, IsErr, IsErrOf, OnOk, Some, false};
 ghost use Rattle.ids.specs.declared.limits.TheConstants.{GREATEST_IMAGE};

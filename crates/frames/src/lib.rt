@@ -1,5 +1,5 @@
-//! Frames and messages as bytes. What they are is in the crate `msg`, and which of them a node sends
-//! in `node`.
+//! Frames and messages as bytes. What they are is in the crate `msg`, and which of them a node
+//! sends in `node`.
 //!
 //! A frame is all of its bytes, and its numbers are big-endian. An acknowledgement is the byte 42
 //! hex, the node that acknowledges and the other node in a byte each, and a number in eight bytes.

@@ -7,6 +7,7 @@ ghost use Rattle.c_handles.specs.Batches.{Batched, batch_of, size_of};
 
 use super::LoneNode;
 use super::images::counts_of;
+use crate::Marked;
 use c_values::Fault;
 use disk_shelf::HEAD;
 use node_store::GREATEST_LOG;
@@ -41,12 +42,7 @@ impl LoneNode {
     /// Writes the events since the last image or batch as a batch, and returns its mark. Fails with
     /// `NoLog` if there is no log of them, or what that holds doesn't count as saved; with
     /// `Memory`; and with `ShortBuffer`.
-    pub fn batch(
-        &mut self,
-        alloc: Global,
-        buffer: &mut [u8],
-        needed: &mut usize,
-    ) -> Result<u64, Fault>
+    pub fn batch(&mut self, alloc: Global, buffer: &mut [u8], needed: &mut usize) -> Marked
         ensures { Batched self.old self.new result buffer.old buffer.new needed.old needed.new }
     {
         let Some(events) = self.events() else {

@@ -8,6 +8,7 @@ ghost use Rattle.image.specs.Wholes.{saved_whole};
 ghost use Rattle.c_handles.specs.Images.{Imaged, Kept, SizedAs, counts_of, image_in, keeps, released};
 
 use super::LoneNode;
+use crate::Marked;
 use c_values::{Fault, put};
 use disk_shelf::{HEAD, Persist};
 use ids::Refusal;
@@ -77,12 +78,7 @@ impl LoneNode {
 
     /// Writes the node's image and returns its mark. Fails with `ImageTooLarge`, with `Memory`, and
     /// with `ShortBuffer`.
-    pub fn image(
-        &mut self,
-        alloc: Global,
-        buffer: &mut [u8],
-        needed: &mut usize,
-    ) -> Result<u64, Fault>
+    pub fn image(&mut self, alloc: Global, buffer: &mut [u8], needed: &mut usize) -> Marked
         ensures { Imaged self.old self.new result buffer.old buffer.new needed.old needed.new }
     {
         let bytes = self.image_behind(alloc)?;

@@ -11,7 +11,7 @@ use c_values::Fault;
 use disk_shelf::{HEAD, Persist, Replay};
 use ids::{GREATEST_IMAGE, Refusal};
 use node::Node;
-use node_store::{Log, LoggedImages};
+use node_store::LoggedImages;
 use std::alloc::Global;
 
 /// An image and batches are those of at most one node. The function does nothing; its contract
@@ -32,19 +32,11 @@ impl LoneNode {
     ) -> Result<LoneNode, Fault>
         ensures { Reopened image.now batches.now limit result }
     {
-        let is_kept = LoggedImages::has_log(image);
         let node = stored(alloc, image, batches)?;
-        Ok(LoneNode {
-            node,
-            limit,
-            mark: 0,
-            counts: None,
-            is_changed: false,
-            is_unsaved: false,
-            logs: true,
-            log: Log::new(alloc),
-            is_kept,
-        })
+        let mut lone = LoneNode::of(alloc, node, limit);
+        lone.logs = true;
+        lone.is_kept = LoggedImages::has_log(image);
+        Ok(lone)
     }
 }
 

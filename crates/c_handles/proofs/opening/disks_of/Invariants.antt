@@ -1,7 +1,6 @@
-use Rattle.std.proofs.Common.{◌≡◌, ◌<◌, ℕ, Some, length, map, take}
-use Rattle.std.specs.Prelude.{slice_get}
+use Rattle.std.proofs.Common.{◌≡◌, length, map, take}
 use Rattle.disk.specs.Memory.{held_by}
-use Rattle.c_handles.specs.Opening.{Image, IsShort, areas_in}
+use Rattle.c_handles.specs.Opening.{IsShort, areas_in}
 use Rattle.c_handles.proofs.Lists.{EachBefore}
 use Rattle.c_handles.proofs.opening.disks_of.Given as goal
 

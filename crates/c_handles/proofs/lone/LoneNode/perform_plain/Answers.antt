@@ -1,4 +1,4 @@
-use Rattle.std.proofs.Common.{◌≡◌, ◌∙◌, Ok, subst, sym}
+use Rattle.std.proofs.Common.{◌∙◌, Ok, subst, sym}
 use Rattle.std.proofs.lemmas.Result.{err_from_is_err_and}
 use Rattle.node_store.specs.Acting.{Acts}
 use Rattle.node_store.specs.Logs.{is_turn}

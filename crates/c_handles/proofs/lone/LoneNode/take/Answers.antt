@@ -1,27 +1,16 @@
-use Rattle.std.proofs.Common.{inl, subst, sym}
+use Rattle.std.proofs.Common.{subst, sym}
 use Rattle.c_handles.specs.Lone.{Handled}
+use Rattle.c_handles.proofs.Exits.{took_frame}
 use Rattle.c_handles.proofs.lone.LoneNode.take.Goals as goal
 
 pub returns-in-Data : goal.returns-in-Data
 returns-in-Data c =
-    let found = c.in_ok-data.ensures.found in
-    inl (record {
-      frame = c.in_ok-data.field-0;
-      fits = found.0;
-      spelled = found.1;
-      handled = subst
-          (λ f. Handled f c.args.self.now c.perform.new.self c.perform.result)
-          (sym c.in-Data.is) c.perform.ensures;
-    })
+    took_frame c.in_ok-data.field-0 c.in_ok-data.ensures.found
+    (subst (λ f. Handled f c.args.self.now c.perform.new.self c.perform.result) (sym c.in-Data.is)
+    c.perform.ensures)
 
 pub returns-in-Ack : goal.returns-in-Ack
 returns-in-Ack c =
-    let found = c.in_ok-data.ensures.found in
-    inl (record {
-      frame = c.in_ok-data.field-0;
-      fits = found.0;
-      spelled = found.1;
-      handled = subst
-          (λ f. Handled f c.args.self.now c.acknowledge.new.self c.acknowledge.result)
-          (sym c.in-Ack.is) c.acknowledge.ensures;
-    })
+    took_frame c.in_ok-data.field-0 c.in_ok-data.ensures.found
+    (subst (λ f. Handled f c.args.self.now c.acknowledge.new.self c.acknowledge.result)
+    (sym c.in-Ack.is) c.acknowledge.ensures)

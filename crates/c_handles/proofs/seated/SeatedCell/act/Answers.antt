@@ -7,6 +7,7 @@ use Rattle.wire.specs.Readers.{IsSeatOf}
 use Rattle.wire.specs.declared.seats.Wire.{Wire}
 use Rattle.wire.proofs.Same.{still-of}
 use Rattle.cell.specs.Cells.{CellView}
+use Rattle.c_handles.proofs.Seats.{acted_by}
 use Rattle.c_handles.proofs.Staying.{in-both}
 use Rattle.c_handles.proofs.seated.SeatedCell.act.Goals as goal
 
@@ -46,27 +47,11 @@ pub returns-in_err-answer : goal.returns-in_err-answer
 returns-in_err-answer c =
     let p = err_from_is_err_and c.from_residual.result c.from_residual.ensures.1 in
     let h = c.in_err-answer.ensures in
-    rw (p.1, p.2) (record {
-      given = h.given;
-      memory_free = h.memory_free;
-      closed = h.closed;
-      shut = h.shut;
-      goes_on = h.goes_on;
-      traced = h.traced;
-      keeps = record { wire = refl; mark = refl; imaged = refl };
-      fresh = refl;
-    })
+    rw (p.1, p.2) (acted_by (record { wire = refl; mark = refl; imaged = refl })
+    h.given h.memory_free h.closed h.shut h.goes_on h.traced refl)
 
 pub returns : goal.returns
 returns c =
     let h = c.in_ok-answer.ensures in
-    record {
-      given = h.given;
-      memory_free = h.memory_free;
-      closed = h.closed;
-      shut = h.shut;
-      goes_on = h.goes_on;
-      traced = h.traced;
-      keeps = record { wire = refl; mark = refl; imaged = refl };
-      fresh = refl;
-    }
+    acted_by (record { wire = refl; mark = refl; imaged = refl })
+    h.given h.memory_free h.closed h.shut h.goes_on h.traced refl

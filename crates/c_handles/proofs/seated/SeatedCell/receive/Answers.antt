@@ -7,6 +7,7 @@ use Rattle.wire.specs.Readers.{IsSeatOf}
 use Rattle.wire.specs.declared.seats.Wire.{Wire}
 use Rattle.wire.proofs.Same.{still-of}
 use Rattle.cell.specs.Cells.{CellView}
+use Rattle.c_handles.proofs.Seats.{pumped_by}
 use Rattle.c_handles.proofs.Staying.{still-empty, still-refused}
 use Rattle.c_handles.proofs.seated.SeatedCell.receive.Goals as goal
 
@@ -14,41 +15,20 @@ pub returns-in_err-pump_in : goal.returns-in_err-pump_in
 returns-in_err-pump_in c =
     let p = err_from_is_err_and c.from_residual.result c.from_residual.ensures.1 in
     let h = c.in_err-pump_in.ensures in
-    rw (p.1, p.2) (record {
-      pumped = h.pumped;
-      closed = h.closed;
-      shut = h.shut;
-      no_node = h.no_node;
-      goes_on = h.goes_on;
-      keeps = record { wire = refl; mark = refl; imaged = refl };
-      fresh = refl;
-    })
+    rw (p.1, p.2) (pumped_by (record { wire = refl; mark = refl; imaged = refl })
+    h.pumped h.closed h.shut h.no_node h.goes_on refl)
 
 pub returns-in-Empty : goal.returns-in-Empty
 returns-in-Empty c =
     let h = rw c.in-Empty.is at c.in_ok-pump_in.ensures in
-    record {
-      pumped = h.pumped;
-      closed = h.closed;
-      shut = h.shut;
-      no_node = h.no_node;
-      goes_on = h.goes_on;
-      keeps = record { wire = refl; mark = refl; imaged = refl };
-      fresh = refl;
-    }
+    pumped_by (record { wire = refl; mark = refl; imaged = refl })
+    h.pumped h.closed h.shut h.no_node h.goes_on refl
 
 pub returns-in-Event : goal.returns-in-Event
 returns-in-Event c =
     let h = rw c.in-Event.is at c.in_ok-pump_in.ensures in
-    record {
-      pumped = h.pumped;
-      closed = h.closed;
-      shut = h.shut;
-      no_node = h.no_node;
-      goes_on = h.goes_on;
-      keeps = record { wire = refl; mark = refl; imaged = refl };
-      fresh = refl;
-    }
+    pumped_by (record { wire = refl; mark = refl; imaged = refl })
+    h.pumped h.closed h.shut h.no_node h.goes_on refl
 
 pub pump_in-requires : goal.pump_in-requires
 pump_in-requires c = record {

@@ -4,20 +4,27 @@ use Rattle.std.proofs.lemmas.List.{set-get_or}
 use Rattle.wire.proofs.NewWires.{there}
 use Rattle.c_handles.specs.Opening.{Seat}
 use Rattle.c_handles.proofs.space.SeatedSpace.cell.Goals as goal
+use Rattle.c_handles.proofs.space.SeatedSpace.cell.Goals.{After-from}
 
-pub returns-in-Some : goal.returns-in-Some
-returns-in-Some c =
+-- the node has a place among the cells
+inside : (c : After-from) → c.from.result < length c.args.self.now.cells.items
+inside c =
     let old = c.args.self.now in
-    let place = c.from.result in
-    let inside : place < length old.cells.items = omega (
+    omega (
       arith,
       c.from.ensures,
       c.if-node-nodes.false,
       c.nodes.ensures.value,
       old.seated,
       old.cells.ok.0,
-    ) in
-    let found = there old.cells.items place c.index_mut.result.now inside c.index_mut.ensures.value in
+    )
+
+pub returns-in-Some : goal.returns-in-Some
+returns-in-Some c =
+    let old = c.args.self.now in
+    let place = c.from.result in
+    let within = inside (goal.at.returns-in-Some c).After-from in
+    let found = there old.cells.items place c.index_mut.result.now within c.index_mut.ensures.value in
     record {
       box = c.in-Some.cell;
       is = refl;
@@ -33,16 +40,9 @@ pub returns-in-None : goal.returns-in-None
 returns-in-None c =
     let old = c.args.self.now in
     let place = c.from.result in
-    let inside : place < length old.cells.items = omega (
-      arith,
-      c.from.ensures,
-      c.if-node-nodes.false,
-      c.nodes.ensures.value,
-      old.seated,
-      old.cells.ok.0,
-    ) in
+    let within = inside (goal.at.returns-in-None c).After-from in
     let was = c.index_mut.result.now in
-    let found = there old.cells.items place was inside c.index_mut.ensures.value in
+    let found = there old.cells.items place was within c.index_mut.ensures.value in
     let none : None ≡ was = c.in-None.ensures.value in
     let same : c.take.new.self ≡ get_or old.cells.items place was =
     c.in-None.ensures.after ∙ none ∙ c.index_mut.ensures.value in
