@@ -4,7 +4,7 @@ use Rattle.std.proofs.lemmas.List.{length-map}
 use Rattle.std.proofs.Math.ListN.{get_or-map}
 use Rattle.ids.specs.Limits.{Shaped}
 use Rattle.ids.specs.declared.limits.TheConstants.{GREATEST_SLOTS}
-use Rattle.arena.specs.Arena.{Arena, plain, IsSound}
+use Rattle.arena.specs.Arena.{plain, IsSound}
 use Rattle.arena_slot.specs.Slot as entries
 use Rattle.arena_slot.specs.declared.Slot as stored
 use Rattle.arena_slot.specs.declared.Slot.TheVariants.{Free, Occupied, Retired}

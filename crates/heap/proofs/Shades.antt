@@ -1,12 +1,10 @@
 -- Many references are shaded one after another.
-use Rattle.std.proofs.Common.{◌≡◌, ℕ, ◌+◌, ◌<◌, Bool, true, false, ◌||◌, List, [], ◌∷◌, ◌++◌, length, drop, get_or, Option, Some, None, option_to_list, refl, sym, ap, ◌∙◌, add-one, drop-cons, ◌==◌, ⊎_elim}
-use Rattle.std.specs.List.{list_any}
+use Rattle.std.proofs.Common.{◌≡◌, ℕ, ◌+◌, ◌<◌, List, [], ◌∷◌, ◌++◌, length, drop, get_or, Option, Some, None, option_to_list, refl, sym, ap, ◌∙◌, add-one, drop-cons, ◌==◌, ⊎_elim}
 use Rattle.std.proofs.lemmas.Bool.{cases_Bool, cond-true, cond-false}
-use Rattle.std.proofs.lemmas.List.Folds.{list_any-append}
 use Rattle.ids.specs.declared.names.Ref.{Ref}
 use Rattle.model.specs.State.{Heap}
 use Rattle.model.specs.Heaps.{object_at}
-use Rattle.model.specs.Shading.{is_unmarked, wakes, make_grey, make_all_grey, filled, roots}
+use Rattle.model.specs.Shading.{is_unmarked, make_grey, make_all_grey, filled, roots}
 use Rattle.model.proofs.Shading.{make_all_grey-append}
 
 -- the next reference, and those after it

@@ -25,7 +25,7 @@ use Rattle.cycles.proofs.Bounds.{bounded_more}
 use Rattle.link.specs.Links.{LinksView, IsLinks, for_others}
 use Rattle.remote_marks.specs.Asked.{AreSent, all_appended}
 use Rattle.node.specs.Cycles.{begins}
-use Rattle.node.specs.Errands.{HasEnds, IsFit, IsRun, MayJoin, errand_here, extra_ring, extra_sends, extra_work, is_nothing, listed, unlisted, with_extra}
+use Rattle.node.specs.Errands.{IsFit, IsRun, MayJoin, errand_here, extra_ring, extra_sends, extra_work, is_nothing, listed, unlisted, with_extra}
 use Rattle.node.specs.Invariant.{IsNode, links_of, number_sum}
 use Rattle.node.specs.declared.node_core.errands.Extra.{Extra}
 use Rattle.node.specs.declared.node_core.errands.Extra.TheVariants as extra

@@ -1,16 +1,16 @@
 -- The lists of a saved node that name each thing once, as their loops traverse them.
-use Rattle.std.proofs.Common.{◌≡◌, ◌≢◌, ℕ, ◌+◌, ◌<◌, ◌≤◌, Bool, true, false, not, List}
+use Rattle.std.proofs.Common.{◌≡◌, ◌≢◌, ℕ, ◌+◌, ◌<◌, Bool, true, false, not, List}
 use Rattle.std.proofs.Common.{length, get_or, set, take, refl, sym, ap, ◌∙◌, inl, inr, arith}
 use Rattle.std.proofs.Common.{true≢false, below_more}
 use Rattle.std.specs.List.{list_all}
 use Rattle.std.proofs.lemmas.Bool.{cases_eq}
 use Rattle.std.proofs.lemmas.List.{get_or-set_same, get_or-set_other}
-use Rattle.std.proofs.lemmas.List.Folds.{list_all_at, list_all_more}
+use Rattle.std.proofs.lemmas.List.Folds.{list_all_at}
 use Rattle.ids.specs.Limits.{Shaped}
 use Rattle.ids.specs.declared.names.Ref.{Ref}
 use Rattle.model.specs.Shading.{is_in}
 use Rattle.model.specs.State.{Slot}
-use Rattle.node.specs.Parts.{is_foreign, is_marked_in, AreAsked, AreGreyIn}
+use Rattle.node.specs.Parts.{is_foreign, is_marked_in, AreAsked}
 
 -- ---- the grey list
 

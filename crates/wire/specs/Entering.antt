@@ -1,5 +1,5 @@
 -- Events of a node that enter the history of the space once the node has answered them.
-use Rattle.std.specs.Prelude.{ℕ, Bool, cond, Result, Ok, Err}
+use Rattle.std.specs.Prelude.{ℕ, cond, Result, Ok, Err}
 use Rattle.ids.specs.declared.refusal.Refusal.{Refusal}
 use Rattle.model.specs.declared.event.Answer.{Answer}
 use Rattle.model.specs.declared.event.Event.{Event}

@@ -7,7 +7,6 @@ use Rattle.msg.specs.declared.body.Message.{Message}
 use Rattle.model.specs.declared.event.Answer.{Answer}
 use Rattle.model.specs.declared.step.Step as model
 use Rattle.model.specs.declared.step.Step.TheVariants as step
-use Rattle.model.specs.declared.step.Outcome.TheVariants as outcome
 use Rattle.model.specs.Effects.{is_change}
 use Rattle.model.specs.State.{NodeState, got_from, sent_to}
 use Rattle.model.specs.Steps.{act, receive, is_own}

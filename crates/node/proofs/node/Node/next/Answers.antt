@@ -1,4 +1,4 @@
-use Rattle.std.proofs.Common.{◌∙◌, ap, sym, Ok, Some}
+use Rattle.std.proofs.Common.{◌∙◌, ap, sym, Ok}
 use Rattle.model.specs.declared.event.Event.TheVariants as event
 use Rattle.node.specs.Keeping.{Rings, waiting}
 use Rattle.node.proofs.Held.{handled-kept, next-handled, emptied-kept}
