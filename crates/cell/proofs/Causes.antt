@@ -65,7 +65,8 @@ by-cause P x e which other its disk =
 -- for a disk on which no call failed before
 pub earlier-cause : {D : Type 0} {seen : D → Areas} {may_leave : D → Areas → Type 0}
     {moment : D → ℕ} {left_since : D → ℕ → Areas → Type 0} {old new : D} (faults : D → ℕ)
-    (shape : Shaped) (own : ℕ) (e : Refusal) → Unmoved seen may_leave moment left_since old new → faults new ≡ faults old
+    (shape : Shaped) (own : ℕ) (e : Refusal)
+    → Unmoved seen may_leave moment left_since old new → faults new ≡ faults old
     → IsCause seen moment faults shape own new e → IsCause seen moment faults shape own old e
 earlier-cause faults shape own Disk quiet fine is = record {
   after = is.after;
