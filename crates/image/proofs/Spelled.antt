@@ -16,7 +16,7 @@ use Rattle.image_parts.proofs.Formats.{stored_grows}
 use Rattle.image_parts.proofs.Kept.{stored_back}
 use Rattle.image_parts.proofs.Readings.{own_below, reports_count, links_count}
 use Rattle.image_parts.proofs.Readings.{no_spelling_begins_another}
-use Rattle.image.specs.Nodes.{link_of, received_of, node_of, Spells, HasImage, IsImageOf}
+use Rattle.image.specs.Nodes.{link_of, received_of, node_of, Spells, IsImageOf}
 use Rattle.image.specs.Images.{stored_by, image_of}
 use Rattle.image.proofs.Elements.{map-insert}
 
