@@ -371,6 +371,8 @@ int main(void)
     test_inboxes();
     HOLDS(markring_remote_connect(&space, &options, "test") == MARKRING_REMOTE_OK);
     test_right();
+    // The connection, and the subscription.
+    HOLDS(model.alive == 2);
     test_last();
     test_verdicts();
     test_others();
