@@ -92,7 +92,8 @@ static void open_host(station *at)
     store_value value = {
         at->stored, at->length, at->end, false, at->end, at->has_entries ? 0 : 1000000};
     host_calls calls = {at, on_send, on_answer, on_save};
-    HOLDS(host_open(&at->host, &value, at->number, NONCE, &options, &calls, at->now) == MARKRING_OK);
+    int status = host_open(&at->host, &value, at->number, NONCE, &options, &calls, at->now);
+    HOLDS(status == MARKRING_OK);
 }
 
 static void make_node(station *at, uint8_t own, uint8_t nodes, bool has_entries)
@@ -555,9 +556,19 @@ static void go_on(int turns, uint64_t time)
 static void give(int from, uint32_t label)
 {
     markring_answer answer;
-    int status = markring_node_give(host_node(pair[from].host), (uint8_t)(1 - from), label, 0, &answer);
+    markring_node *node = host_node(pair[from].host);
+    int status = markring_node_give(node, (uint8_t)(1 - from), label, 0, &answer);
     HOLDS(status == MARKRING_OK);
     host_changed(pair[from].host);
+}
+
+// The last message to the other node that it has acknowledged.
+static uint64_t acknowledged(int from)
+{
+    markring_link link = {0};
+    markring_node *node = host_node(pair[from].host);
+    HOLDS(markring_node_link(node, (uint8_t)(1 - from), &link) == MARKRING_OK);
+    return link.acknowledged;
 }
 
 // No packet is lost, so nothing is sent again or comes twice.
@@ -572,11 +583,9 @@ static void test_pace(void)
     go_on(100, 10);
     for (int own = 0; own < 2; own++) {
         const host_counts *counts = host_counted(pair[own].host);
-        markring_link link;
         HOLDS(counts->resends == 0 && counts->repeats == 0 && counts->outdated == 0);
         HOLDS(counts->frames_out >= LETTERS / 2 && counts->packets_out < 4 * LETTERS);
-        HOLDS(markring_node_link(host_node(pair[own].host), (uint8_t)(1 - own), &link) == MARKRING_OK
-            && link.acknowledged == LETTERS / 2);
+        HOLDS(acknowledged(own) == LETTERS / 2);
     }
     drop_pair();
 }
@@ -607,16 +616,8 @@ static void test_absence(void)
     host_connected(pair[1].host, pair[1].now);
     host_connected(pair[0].host, pair[0].now);
     go_on(3, 10);
-    markring_link link;
-    HOLDS(markring_node_link(host_node(pair[0].host), 1, &link) == MARKRING_OK && link.acknowledged == 1);
+    HOLDS(acknowledged(0) == 1);
     drop_pair();
-}
-
-static uint64_t acknowledged(int from)
-{
-    markring_link link = {0};
-    HOLDS(markring_node_link(host_node(pair[from].host), (uint8_t)(1 - from), &link) == MARKRING_OK);
-    return link.acknowledged;
 }
 
 // Acknowledgements are lost, or frames: what is sent again is acknowledged again.
@@ -680,7 +681,7 @@ static void test_letters(void)
     options.letters_most = 0;
 }
 
-// A process waits for a letter, and then another one opens its program: the answer is for the first.
+// A process waits for a letter, and then another one opens its program: the first one is answered.
 static void test_waiting(void)
 {
     for (uint8_t program = 0; program < 2; program++) {

@@ -124,9 +124,9 @@ static void ask_status(const char *reply)
 
 static void test_addresses(void)
 {
-    static const char *const wrong[] = {"_INBOX.", "_INBOX.a..b", "_INBOX.a.", "_INBOX..a", "_INBOX.*",
-        "_INBOX.a.>", "_INBOX.*.a", "_INBOX", "_INBOXa.b", "_INBOX.a b", "_INBOX.a\tb", "_INBOX.a\x7f",
-        "markring.test.node.1.from.0", "a.b", ""};
+    static const char *const wrong[] = {"_INBOX.", "_INBOX.a..b", "_INBOX.a.", "_INBOX..a",
+        "_INBOX.*", "_INBOX.a.>", "_INBOX.*.a", "_INBOX", "_INBOXa.b", "_INBOX.a b", "_INBOX.a\tb",
+        "_INBOX.a\x7f", "markring.test.node.1.from.0", "a.b", ""};
     static const char *const right[] = {"_INBOX.a", "_INBOX.a.b.c", "_INBOX.program.0123.1"};
     listen();
     ask_status(NULL);
