@@ -72,8 +72,8 @@ typedef struct host_options {
     // The entries behind a whole value may have as many bytes as the value, or this many; 0 for
     // ENTRIES_LEAST.
     size_t entries_least;
-    // The folder is the newest one, whatever other nodes know; and what was heard of their processes
-    // is forgotten. For an operator who knows that a node has lied.
+    // The folder is the newest one, whatever other nodes know; and what was heard of their
+    // processes is forgotten. For an operator who knows that a node has lied.
     bool trusts_folder;
 } host_options;
 

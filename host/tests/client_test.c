@@ -86,7 +86,8 @@ static void on_request(const char *at, const char *reply, const void *bytes, int
         request_length = (size_t)length;
         write_answer(&to);
     }
-    size_t left = node.length >= 0 && (size_t)node.length < to.length ? (size_t)node.length : to.length;
+    size_t cut = node.length >= 0 ? (size_t)node.length : SIZE_MAX;
+    size_t left = cut < to.length ? cut : to.length;
     if (!node.silent) {
         HOLDS(to.ok);
         model_deliver(address, NULL, room, left);
@@ -323,8 +324,9 @@ static void test_arguments(void)
     behave();
     HOLDS(markring_remote_open(&it, space, 64, 0, LONG, NULL) == MARKRING_REMOTE_BAD_ARGUMENT);
     HOLDS(markring_remote_open(&it, space, 0, 64, LONG, NULL) == MARKRING_REMOTE_BAD_ARGUMENT);
-    HOLDS(markring_remote_perform(program, events, 257, NULL, LONG) == MARKRING_REMOTE_BAD_ARGUMENT);
-    HOLDS(markring_remote_read(program, registers, 257, NULL, LONG) == MARKRING_REMOTE_BAD_ARGUMENT);
+    int performed = markring_remote_perform(program, events, 257, NULL, LONG);
+    int read = markring_remote_read(program, registers, 257, NULL, LONG);
+    HOLDS(performed == MARKRING_REMOTE_BAD_ARGUMENT && read == MARKRING_REMOTE_BAD_ARGUMENT);
     HOLDS(markring_remote_connect(&other, &options, "a.b") == MARKRING_REMOTE_BAD_ARGUMENT);
     HOLDS(markring_remote_connect(&other, &options, "") == MARKRING_REMOTE_BAD_ARGUMENT);
     HOLDS(asks == before && it == NULL && other == NULL);
@@ -371,6 +373,8 @@ int main(void)
     test_inboxes();
     HOLDS(markring_remote_connect(&space, &options, "test") == MARKRING_REMOTE_OK);
     test_right();
+    // The connection, and the subscription.
+    HOLDS(model.alive == 2);
     test_last();
     test_verdicts();
     test_others();

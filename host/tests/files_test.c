@@ -282,6 +282,12 @@ static void remove_all(const char *path)
     HOLDS(system(command) == 0);
 }
 
+static mode_t mode_of(const char *path)
+{
+    struct stat it;
+    return stat(path, &it) == 0 ? it.st_mode & 0777 : 0;
+}
+
 // A new node in a folder below some others. It was saved once more, in the slot b.
 static void make(store *it)
 {
@@ -293,17 +299,12 @@ static void make(store *it)
         HOLDS(i == DEPTH - 1 || mkdir(folder, 0755) == 0);
     }
     HOLDS(create(it) == STORE_OK);
+    HOLDS((mode_of(folder) & 077) == 0);
 }
 
 static void path_in(char *path, const char *name)
 {
     snprintf(path, PATH + 8, "%s/%s", folder, name);
-}
-
-static mode_t mode_of(const char *path)
-{
-    struct stat it;
-    return stat(path, &it) == 0 ? it.st_mode & 0777 : 0;
 }
 
 // Whether the folder and all above it were synced after this call.

@@ -7,7 +7,7 @@
 #include <stdio.h>
 #include <stdlib.h>
 
-enum { TURNS = 200, ROOM = 12000, NODES_HERE = 3, LETTERS = 300 };
+enum { TURNS = 200, ROOM = 12000, LETTERS = 300, ENTRY_HEAD = 16 };
 
 static unsigned long passed, failed;
 
@@ -42,8 +42,11 @@ typedef struct station {
     host *host;
     uint64_t now, number;
     store_value *job;
-    uint8_t *stored; // the value that was saved last, with the room around it
-    size_t length;
+    int saves; // that the host began
+    // The value that was saved last, with the room around it, and entries behind it; up to `end`.
+    uint8_t *stored;
+    size_t length, end;
+    bool has_entries; // saves may be entries
     int packets, answers;
     packet_head last; // of the last packet that was sent
     size_t told;      // bytes of the last answer, and these
@@ -78,22 +81,25 @@ static void on_answer(void *context, const char *reply, const uint8_t *bytes, si
 static void on_save(void *context, store_value *value)
 {
     station *at = context;
+    HOLDS(at->job == NULL);
     at->job = value;
+    at->saves++;
 }
 
-// Opens what is stored. All saves are whole values.
+// Opens what is stored.
 static void open_host(station *at)
 {
-    store_value value = {at->stored, at->length, STORE_HEAD + at->length + STORE_TAIL, false,
-        STORE_HEAD + at->length + STORE_TAIL, 1000000};
+    store_value value = {
+        at->stored, at->length, at->end, false, at->end, at->has_entries ? 0 : 1000000};
     host_calls calls = {at, on_send, on_answer, on_save};
-    HOLDS(host_open(&at->host, &value, at->number, NONCE, &options, &calls, at->now) == MARKRING_OK);
+    int status = host_open(&at->host, &value, at->number, NONCE, &options, &calls, at->now);
+    HOLDS(status == MARKRING_OK);
 }
 
-static void make_node(station *at, uint8_t own)
+static void make_node(station *at, uint8_t own, uint8_t nodes, bool has_entries)
 {
     store_value value = {NULL, 0, 0, false, 0, 0};
-    host_shape shape = {"test", {0}, own, NODES_HERE, 8, 64, 0};
+    host_shape shape = {"test", {0}, own, nodes, 8, 64, 0};
     memset(at, 0, sizeof *at);
     memcpy(shape.space, SPACE, SPACE_ID);
     at->now = 1000;
@@ -101,12 +107,14 @@ static void make_node(station *at, uint8_t own)
     HOLDS(host_create(&shape, &value) == MARKRING_OK);
     at->stored = value.buffer;
     at->length = value.length;
+    at->end = STORE_HEAD + value.length + STORE_TAIL;
+    at->has_entries = has_entries;
     open_host(at);
 }
 
 static void make(station *at)
 {
-    make_node(at, 0);
+    make_node(at, 0, 3, false);
 }
 
 static void drop(station *at)
@@ -121,11 +129,22 @@ static void finish_save(station *at, store_status status)
     store_value *job = at->job;
     at->job = NULL;
     at->number++;
-    if (status == STORE_OK) {
-        HOLDS(!job->is_entry);
+    if (status == STORE_OK && job->is_entry) {
+        HOLDS(at->has_entries);
+        size_t length = ENTRY_HEAD + job->length + STORE_TAIL;
+        at->stored = realloc(at->stored, at->end + length);
+        writer to = writer_of(at->stored + at->end, length);
+        write_number(&to, job->length, 8);
+        write_number(&to, at->number, 8);
+        write_bytes(&to, job->buffer + STORE_HEAD, job->length);
+        write_number(&to, 0, STORE_TAIL);
+        HOLDS(to.ok);
+        at->end += length;
+    } else if (status == STORE_OK) {
         free(at->stored);
         at->length = job->length;
-        at->stored = malloc(STORE_HEAD + job->length + STORE_TAIL);
+        at->end = STORE_HEAD + job->length + STORE_TAIL;
+        at->stored = calloc(1, at->end);
         memcpy(at->stored, job->buffer, STORE_HEAD + job->length);
     }
     host_saved(at->host, at->now, status, at->number);
@@ -317,7 +336,7 @@ static void test_ages(void)
 // Asks, and settles. Returns how many answers came; `*head` is that of the last one.
 static int ask(station *at, request_head request, int length, answer_head *head)
 {
-    uint8_t bytes[REQUEST_BYTES + 1] = {0};
+    uint8_t bytes[REQUEST_BYTES + EVENT_BYTES] = {0};
     writer to = writer_of(bytes, sizeof bytes);
     write_request_head(&to, &request);
     for (int i = 0; i < request.count && request.kind == REQUEST_PERFORM; i++) {
@@ -386,10 +405,99 @@ static void test_requests(void)
     request_head reading = {REQUEST_READ, 3, 100, 1, 1};
     HOLDS(ask(&at, reading, -1, &head) == 1 && head.verdict == VERDICT_DONE && head.count == 1);
     HOLDS(ask(&at, reading, REQUEST_HEAD + 1, &head) == 1 && head.verdict == VERDICT_MALFORMED);
+    HOLDS(ask(&at, reading, REQUEST_HEAD, &head) == 1 && head.verdict == VERDICT_MALFORMED);
     HOLDS(ask(&at, (request_head){5, 3, 100, 1, 0}, -1, &head) == 1);
     HOLDS(head.verdict == VERDICT_MALFORMED);
+    // One beyond each limit, and at it.
+    HOLDS(ask(&at, (request_head){REQUEST_PERFORM, 3, 100, 5, 256}, -1, &head) == 1);
+    HOLDS(head.verdict == VERDICT_DONE && head.count == 256 && live(&at) == 64);
+    HOLDS(ask(&at, (request_head){REQUEST_OPEN, 63, 100, 1, 0}, -1, &head) == 1);
+    HOLDS(head.verdict == VERDICT_DONE);
+    HOLDS(ask(&at, (request_head){REQUEST_READ, 64, 100, 1, 1}, -1, &head) == 1);
+    HOLDS(head.verdict == VERDICT_MALFORMED);
+    HOLDS(ask(&at, (request_head){REQUEST_OPEN, 64, 100, 1, 0}, -1, &head) == 1);
+    HOLDS(head.verdict == VERDICT_MALFORMED);
+    HOLDS(ask(&at, (request_head){REQUEST_PERFORM, 3, 100, 6, 257}, -1, &head) == 1);
+    HOLDS(head.verdict == VERDICT_MALFORMED && head.count == 0);
+    HOLDS(head.last == 5);
     drop(&at);
     free(at.stored);
+}
+
+// No answer comes before what it shows is stored, and one save is made at a time.
+static void test_order(void)
+{
+    static const request_head requests[] = {{REQUEST_OPEN, 3, 100, 1, 0},
+        {REQUEST_PERFORM, 3, 100, 1, 2}, {REQUEST_READ, 3, 100, 1, 0},
+        {REQUEST_OPEN, 3, 200, 2, 0}, {REQUEST_PERFORM, 3, 200, 2, 1}};
+    station at;
+    make(&at);
+    settle(&at, STORE_OK);
+    for (size_t i = 0; i < sizeof requests / sizeof *requests; i++) {
+        uint8_t bytes[REQUEST_BYTES] = {0};
+        writer to = writer_of(bytes, sizeof bytes);
+        request_head request = requests[i];
+        write_request_head(&to, &request);
+        for (int k = 0; k < request.count; k++) {
+            write_event(&to, &(markring_event){.kind = MARKRING_EVENT_ALLOC, .reg = 1, .place = 1});
+        }
+        at.answers = 0;
+        note_change(at.host);
+        host_request(at.host, at.now, bytes, to.length, "r");
+        host_turn(at.host, at.now += 10);
+        int saves = at.saves;
+        HOLDS(at.job != NULL && at.answers == 0);
+        // What changes meanwhile is for the next save.
+        note_change(at.host);
+        for (int k = 0; k < 3; k++) {
+            host_turn(at.host, at.now += 1000);
+        }
+        HOLDS(at.answers == 0 && at.saves == saves);
+        finish_save(&at, STORE_FAILED);
+        host_turn(at.host, at.now += 10);
+        HOLDS(at.answers == 0);
+        settle(&at, STORE_OK);
+        HOLDS(at.answers == 1);
+    }
+    drop(&at);
+    free(at.stored);
+}
+
+// The next process knows what was done, from whole values and from entries: programs, and objects.
+static void test_restarts(void)
+{
+    for (int way = 0; way < 2; way++) {
+        station at;
+        answer_head head;
+        make_node(&at, 0, 3, way == 1);
+        settle(&at, STORE_OK);
+        HOLDS(ask(&at, (request_head){REQUEST_OPEN, 3, 100, 1, 0}, -1, &head) == 1);
+        for (uint64_t number = 1; number <= 3; number++) {
+            request_head request = {REQUEST_PERFORM, 3, 100, number, 2};
+            HOLDS(ask(&at, request, -1, &head) == 1 && head.verdict == VERDICT_DONE);
+            if (number % 2 == 1) {
+                drop(&at);
+                open_host(&at);
+                settle(&at, STORE_OK);
+            }
+            HOLDS(live(&at) == 2 * number);
+            HOLDS(ask(&at, request, -1, &head) == 1 && head.count == 2 && head.last == number);
+            HOLDS(live(&at) == 2 * number);
+        }
+        HOLDS((at.end > STORE_HEAD + at.length + STORE_TAIL) == (way == 1));
+        HOLDS(ask(&at, (request_head){REQUEST_OPEN, 3, 200, 2, 0}, -1, &head) == 1);
+        HOLDS(head.verdict == VERDICT_DONE && head.last == 3 && head.round == 2);
+        // The opening lasts, too.
+        drop(&at);
+        open_host(&at);
+        settle(&at, STORE_OK);
+        HOLDS(ask(&at, (request_head){REQUEST_PERFORM, 3, 100, 4, 2}, -1, &head) == 1);
+        HOLDS(head.verdict == VERDICT_SUPERSEDED && head.round == 2);
+        HOLDS(ask(&at, (request_head){REQUEST_PERFORM, 3, 200, 4, 2}, -1, &head) == 1);
+        HOLDS(head.verdict == VERDICT_DONE && live(&at) == 8);
+        drop(&at);
+        free(at.stored);
+    }
 }
 
 // More answers than a host keeps wait for a save: the others are lost, and the first ones come.
@@ -423,7 +531,7 @@ static station pair[2];
 static void make_pair(void)
 {
     for (uint8_t own = 0; own < 2; own++) {
-        make_node(&pair[own], own);
+        make_node(&pair[own], own, 2, true);
         pair[own].other = &pair[1 - own];
     }
 }
@@ -448,9 +556,19 @@ static void go_on(int turns, uint64_t time)
 static void give(int from, uint32_t label)
 {
     markring_answer answer;
-    int status = markring_node_give(host_node(pair[from].host), (uint8_t)(1 - from), label, 0, &answer);
+    markring_node *node = host_node(pair[from].host);
+    int status = markring_node_give(node, (uint8_t)(1 - from), label, 0, &answer);
     HOLDS(status == MARKRING_OK);
     host_changed(pair[from].host);
+}
+
+// The last message to the other node that it has acknowledged.
+static uint64_t acknowledged(int from)
+{
+    markring_link link = {0};
+    markring_node *node = host_node(pair[from].host);
+    HOLDS(markring_node_link(node, (uint8_t)(1 - from), &link) == MARKRING_OK);
+    return link.acknowledged;
 }
 
 // No packet is lost, so nothing is sent again or comes twice.
@@ -465,11 +583,9 @@ static void test_pace(void)
     go_on(100, 10);
     for (int own = 0; own < 2; own++) {
         const host_counts *counts = host_counted(pair[own].host);
-        markring_link link;
         HOLDS(counts->resends == 0 && counts->repeats == 0 && counts->outdated == 0);
         HOLDS(counts->frames_out >= LETTERS / 2 && counts->packets_out < 4 * LETTERS);
-        HOLDS(markring_node_link(host_node(pair[own].host), (uint8_t)(1 - own), &link) == MARKRING_OK
-            && link.acknowledged == LETTERS / 2);
+        HOLDS(acknowledged(own) == LETTERS / 2);
     }
     drop_pair();
 }
@@ -492,33 +608,97 @@ static void test_absence(void)
         turn(&pair[0], 100, STORE_OK);
     }
     uint64_t all = host_counted(pair[0].host)->resends - before - first;
-    HOLDS(all >= 2100 && all <= 2251 && (uint64_t)(pair[0].packets - packets) <= all + 1);
+    uint64_t sent = (uint64_t)(pair[0].packets - packets);
+    HOLDS(all >= 2100 && all <= 2251);
+    HOLDS(sent >= all && sent <= all + 1);
     // It is back, and says so: what it misses is sent at once.
     pair[0].other = &pair[1];
     host_connected(pair[1].host, pair[1].now);
     host_connected(pair[0].host, pair[0].now);
     go_on(3, 10);
-    markring_link link;
-    HOLDS(markring_node_link(host_node(pair[0].host), 1, &link) == MARKRING_OK && link.acknowledged == 1);
+    HOLDS(acknowledged(0) == 1);
     drop_pair();
 }
 
-// A process waits for a letter, and then another one opens its program: the answer is for the first.
-static void test_waiting(void)
+// Acknowledgements are lost, or frames: what is sent again is acknowledged again.
+static void test_losses(void)
 {
-    answer_head head;
     make_pair();
     go_on(20, 10);
-    HOLDS(ask(&pair[1], (request_head){REQUEST_OPEN, 0, 100, 1, 0}, -1, &head) == 1);
-    HOLDS(ask(&pair[1], (request_head){REQUEST_WAIT, 0, 100, 7, 0}, -1, &head) == 0);
-    HOLDS(ask(&pair[1], (request_head){REQUEST_OPEN, 0, 200, 2, 0}, -1, &head) == 1);
-    pair[1].answers = 0;
-    give(0, 1);
-    go_on(20, 10);
-    reader from = reader_of(pair[1].text, pair[1].told);
-    HOLDS(pair[1].answers == 1 && read_answer_head(&from, &head) && head.kind == REQUEST_WAIT);
-    HOLDS(head.session == 100 && head.number == 7 && head.count == 1);
+    for (uint32_t label = 1; label <= 6; label++) {
+        int deaf = label % 2 == 0;
+        pair[deaf].other = NULL;
+        give(0, label);
+        go_on(30, 10);
+        HOLDS(acknowledged(0) == label - 1);
+        pair[deaf].other = &pair[1 - deaf];
+        go_on(200, 10);
+        HOLDS(acknowledged(0) == label);
+    }
+    HOLDS(host_counted(pair[0].host)->resends >= 6 && host_counted(pair[1].host)->repeats >= 3);
     drop_pair();
+}
+
+// A cycle goes round, and frees what nobody holds.
+static void test_cycle(void)
+{
+    markring_answer answer;
+    make_pair();
+    go_on(20, 10);
+    for (int own = 0; own < 2; own++) {
+        markring_node *node = host_node(pair[own].host);
+        HOLDS(markring_node_alloc(node, 0, 1, &answer) == MARKRING_OK);
+        HOLDS(markring_node_alloc(node, 0, 1, &answer) == MARKRING_OK);
+        host_changed(pair[own].host);
+    }
+    for (int i = 0; i < 2; i++) {
+        host_control(pair[0].host, pair[0].now, "begin", 5, "r");
+        go_on(200, 10);
+    }
+    for (int own = 0; own < 2; own++) {
+        markring_state state = {0};
+        HOLDS(markring_node_state(host_node(pair[own].host), &state) == MARKRING_OK);
+        HOLDS(state.swept == 2 && state.live == 1);
+    }
+    drop_pair();
+}
+
+// While a node has too many letters, it takes no more.
+static void test_letters(void)
+{
+    options.letters_most = 5;
+    make_pair();
+    go_on(20, 10);
+    for (uint32_t label = 0; label < LETTERS; label++) {
+        give(0, label);
+    }
+    go_on(200, 10);
+    markring_state state = {0};
+    HOLDS(markring_node_state(host_node(pair[1].host), &state) == MARKRING_OK);
+    HOLDS(state.letters >= 5 && state.letters < 5 + 64);
+    HOLDS(host_counted(pair[1].host)->full > 0 && acknowledged(0) == state.letters);
+    drop_pair();
+    options.letters_most = 0;
+}
+
+// A process waits for a letter, and then another one opens its program: the first one is answered.
+static void test_waiting(void)
+{
+    for (uint8_t program = 0; program < 2; program++) {
+        answer_head head;
+        make_pair();
+        go_on(20, 10);
+        HOLDS(ask(&pair[1], (request_head){REQUEST_OPEN, program, 100, 1, 0}, -1, &head) == 1);
+        HOLDS(ask(&pair[1], (request_head){REQUEST_WAIT, program, 100, 7, 0}, -1, &head) == 0);
+        HOLDS(ask(&pair[1], (request_head){REQUEST_OPEN, program, 200, 2, 0}, -1, &head) == 1);
+        pair[1].answers = 0;
+        give(0, 1);
+        go_on(20, 10);
+        reader from = reader_of(pair[1].text, pair[1].told);
+        HOLDS(pair[1].answers == 1 && read_answer_head(&from, &head) && head.kind == REQUEST_WAIT);
+        HOLDS(head.session == 100 && head.number == 7 && head.count == 1);
+        drop_pair();
+    }
 }
 
 int main(void)
@@ -528,9 +708,14 @@ int main(void)
     test_lies();
     test_ages();
     test_requests();
+    test_order();
+    test_restarts();
     test_held();
     test_pace();
     test_absence();
+    test_losses();
+    test_cycle();
+    test_letters();
     test_waiting();
     printf("%lu passed, %lu failed\n", passed, failed);
     return failed != 0 || passed == 0;

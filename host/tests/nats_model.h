@@ -1,5 +1,5 @@
-// What the host calls of libnats, over no server: a test sees what is published, and says what comes
-// and how connections go.
+// What the host calls of libnats, over no server: a test sees what is published, and says what
+// comes and how connections go.
 #ifndef TESTS_NATS_MODEL_H
 #define TESTS_NATS_MODEL_H
 

@@ -339,6 +339,7 @@ static void test_versions(void)
         store_value value = {NULL, 0, 0, false, 0, 0}, next = value_of((uint8_t)(4 - whole));
         HOLDS(store_open(&at, &calls, "folder", &value) == STORE_OK);
         HOLDS(number_in(&value) == 3 - whole && value.whole == whole);
+        HOLDS((value.whole > 0) == (whole > 0));
         HOLDS(store_save(&at, &next) == STORE_OK);
         store_close(&at);
         free(value.buffer);
