@@ -1,5 +1,5 @@
 -- What a disk holds of a node, with a log or without one.
-use Rattle.std.proofs.Common.{◌≡◌, ◌≢◌, inl, inr, ⊎_elim, ℕ, Bool, true, false, List, [], ◌∷◌, Option, Some, None}
+use Rattle.std.proofs.Common.{◌≡◌, inl, inr, ⊎_elim, ℕ, Bool, true, false, List, [], ◌∷◌, Option, Some, None}
 use Rattle.std.proofs.Common.{refl, sym, ap, ◌∙◌, subst, map, arith, drop, length, ◌+◌}
 use Rattle.std.proofs.Common.{Result, Ok, Err}
 use Rattle.std.specs.Option.{option_map}
