@@ -6,7 +6,7 @@ use Rattle.ids.specs.declared.refusal.Refusal.{Refusal}
 use Rattle.ids.specs.declared.refusal.Refusal.TheVariants.{Memory, ImageTooLarge}
 use Rattle.model.specs.declared.step.Step.{Step}
 use Rattle.model.specs.declared.step.Outcome.{Outcome}
-use Rattle.model.specs.World.{World, FollowsStep, new_world, take_step, outcome_of, world_after, is_shading_step, happens, run}
+use Rattle.model.specs.World.{World, FollowsStep, new_world, take_step, outcome_of, world_after, happens, run}
 use Rattle.model.specs.Cuts.{cut}
 use Rattle.laws.specs.Objects.{new_space, Sight, IsRun, after}
 use Rattle.laws.specs.Sights.{observed_in_step, choice_at_start, observed_in_cut, LooksLike}

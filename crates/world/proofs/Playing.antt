@@ -9,12 +9,10 @@ use Rattle.ids.specs.Limits.{Shaped, IsShape}
 use Rattle.ids.specs.declared.refusal.Refusal.{Refusal}
 use Rattle.ids.specs.declared.refusal.Refusal.TheVariants.{Memory, ImageTooLarge}
 use Rattle.ids.specs.declared.limits.TheConstants.{GREATEST_NUMBER}
-use Rattle.model.specs.declared.event.Event.TheVariants as event
 use Rattle.model.specs.declared.step.Step.{Step}
-use Rattle.model.specs.declared.step.Step.TheVariants as step
 use Rattle.model.specs.declared.step.Outcome.{Outcome}
 use Rattle.model.specs.State.{LocalState, new_node}
-use Rattle.model.specs.World.{World, new_world, FollowsStep, take_step, outcome_of, world_after, is_shading_step, is_own_step, run, outcomes}
+use Rattle.model.specs.World.{World, new_world, FollowsStep, take_step, outcome_of, world_after, run, outcomes}
 use Rattle.laws.specs.Strategy.{now, is_collectors, next_steps, played, play}
 use Rattle.laws.specs.Progress.{IsSwept, Comes, current_cycle}
 use Rattle.laws.specs.Bounds.{cycle_moves}

@@ -6,7 +6,7 @@ use Rattle.model.specs.declared.event.Event.TheVariants as event
 use Rattle.model.specs.declared.step.Step.{Step}
 use Rattle.model.specs.declared.step.Step.TheVariants as step
 use Rattle.model.specs.declared.step.Outcome.{Outcome}
-use Rattle.model.specs.World.{World, FollowsStep, take_step, outcome_of, world_after, is_shading_step, happens, run, outcomes}
+use Rattle.model.specs.World.{World, FollowsStep, take_step, outcome_of, world_after, happens, run, outcomes}
 use Rattle.node.specs.Keeping.{Rings}
 use Rattle.laws.specs.Strategy.{is_collectors, played}
 use Rattle.world.specs.Spaces.{SpaceView, ShowsSpace, step_met}

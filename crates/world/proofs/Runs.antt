@@ -3,7 +3,7 @@ use Rattle.std.proofs.Common.{◌≡◌, List, [], ◌∷◌, ◌++◌, Result, 
 use Rattle.ids.specs.declared.refusal.Refusal.{Refusal}
 use Rattle.model.specs.declared.step.Step.{Step}
 use Rattle.model.specs.declared.step.Outcome.{Outcome}
-use Rattle.model.specs.World.{World, new_world, take_step, is_shading_step, world_after, happens, run}
+use Rattle.model.specs.World.{World, new_world, world_after, happens, run}
 use Rattle.world.specs.Spaces.{SpaceView, ShowsSpace, FollowsSpace, ExtendsSpace, step_met}
 use Rattle.model.proofs.Refusals.{refused-as}
 use Rattle.world.proofs.Refusals.{step-first}

@@ -4,7 +4,7 @@ use Rattle.std.proofs.lemmas.List.{length-drop, length_push, length-replicate, m
 use Rattle.std.proofs.Math.ListN.{get_or-map}
 use Rattle.std.proofs.Math.Nat.{min-eq_left, sub-add-eq-max}
 use Rattle.ids.specs.Limits.{Shaped}
-use Rattle.std.specs.Prelude.{IsTrue, IfOk, IfErr, OnErr}
+use Rattle.std.specs.Prelude.{IsTrue, IfOk, IfErr}
 use Rattle.std.proofs.lemmas.Result.{MatchResult-weaker}
 use Rattle.ids.specs.declared.refusal.Refusal.{Refusal}
 use Rattle.ids.specs.declared.refusal.Refusal.TheVariants.{Memory}
@@ -14,7 +14,7 @@ use Rattle.model.specs.declared.event.Event.{Event}
 use Rattle.model.specs.declared.event.Event.TheVariants as event
 use Rattle.model.specs.declared.event.Answer.{Answer}
 use Rattle.model.specs.Steps.{ack_of, is_memory_free, is_shading}
-use Rattle.model.specs.View.{Link, NodeView, Performed, Performs, Leaves, no_link, link_to, used, appended, append_to, trimmed, let_go, view_act, new_view, all_kept, kept_view, base_of, kept_of}
+use Rattle.model.specs.View.{Link, NodeView, Performed, Leaves, no_link, link_to, used, appended, append_to, trimmed, let_go, view_act, new_view, all_kept, kept_view, base_of, kept_of}
 use Rattle.model.proofs.Lookups.{at_set_if}
 use Rattle.model.proofs.NewNodes.{new-link}
 use Rattle.model.proofs.Shown.{view-ok, ack-done}

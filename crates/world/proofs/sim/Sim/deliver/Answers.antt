@@ -1,4 +1,4 @@
-use Rattle.std.proofs.Common.{◌≡◌, inl, inr, refl, subst, sym, arith}
+use Rattle.std.proofs.Common.{◌≡◌, refl, subst, sym, arith}
 use Rattle.world.specs.Shows.{IsSim}
 use Rattle.world.specs.Spaces.{SpaceView}
 use Rattle.std.proofs.lemmas.Result.{err_from_is_err_and}

@@ -1,6 +1,3 @@
-use Rattle.std.proofs.Common.{map}
-use Rattle.node.specs.Keeping.{met}
-use Rattle.world.specs.Outboxes.{released_frames}
 use Rattle.world.proofs.SiteLemmas.{acts, site_acted}
 use Rattle.world.proofs.site.Site.act.Goals as goal
 
