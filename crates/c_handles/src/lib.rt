@@ -39,6 +39,6 @@ pub use space_handle::SpaceHandle;
 pub use watch_handle::WatchHandle;
 pub use watching::SeatedWatch;
 
-/// The mark of an image or a batch, by which its caller says that it is stored; or why there is
-/// none.
+/// The mark of an image or a batch, by which its caller says that it is stored; or why nothing was
+/// made.
 pub type Marked = Result<u64, Fault>;
