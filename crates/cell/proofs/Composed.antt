@@ -1,22 +1,17 @@
 -- The theorems on lists of steps, applied to what cells do.
-use Rattle.std.proofs.Common.{◌≡◌, ◌⊎◌, ℕ, ◌+◌, ◌<◌, Bool, true, false, List, map, length, Ok, Err, refl, sym, ap, ◌∙◌, subst}
-use Rattle.ids.specs.declared.limits.TheConstants.{WINDOW}
-use Rattle.ids.specs.declared.names.Ref.{Ref}
+use Rattle.std.proofs.Common.{◌≡◌, ℕ, true, List, map, length, Ok, Err, refl, sym, ap, ◌∙◌, subst}
 use Rattle.ids.specs.declared.refusal.Refusal.{Refusal}
-use Rattle.ids.specs.declared.refusal.Refusal.TheVariants.{LinkSpent, OutOfOrder}
-use Rattle.msg.specs.Frames.{data_frame, plain, plain_data}
-use Rattle.msg.specs.declared.body.Body.{Body}
+use Rattle.msg.specs.Frames.{plain, plain_data}
 use Rattle.msg.specs.declared.body.Message.{Message}
 use Rattle.msg.specs.declared.frame.Data.{Data}
 use Rattle.msg.specs.declared.frame.Frame.{Frame}
 use Rattle.msg.specs.declared.frame.Frame.TheVariants as frame
 use Rattle.model.specs.declared.event.Event.TheVariants as event
 use Rattle.model.specs.declared.event.Answer.{Answer}
-use Rattle.model.specs.State.{LocalState, NodeState, Object, Occupied, got_from, node_at, slot_at}
+use Rattle.model.specs.State.{LocalState, NodeState, node_at, slot_at}
 use Rattle.model.specs.Steps.{act, made, receive}
 use Rattle.model.specs.Collecting.{swept_slots}
 use Rattle.model.specs.World.{World, acknowledged, run, IsInNet}
-use Rattle.model.specs.Cuts.{cut, Reachable}
 use Rattle.model.proofs.Refusals.{refused-as}
 use Rattle.laws.proofs.StepFacts.{act-ok}
 use Rattle.laws.proofs.Live as laws
@@ -29,7 +24,6 @@ use Rattle.cell.specs.Events.{Handled}
 use Rattle.laws.specs.Statements.{IsSpentOrEarly, NoneRefusedInTurn, SweepsFreeNoneReachable}
 use Rattle.cell.specs.Laws.{CellsFreeNoneReachable, CellsRefuseNoneInTurn}
 use Rattle.cell.specs.Theorems.{OfEveryReached}
-use Rattle.cell.specs.Reached.{IsReached}
 use Rattle.cell.proofs.Alike.{act-like, other-answer, other-refusal}
 use Rattle.cell.proofs.AlikeCuts.{reached-too}
 use Rattle.cell.proofs.AlikeRuns.{AreReleased, also-released, given-like}

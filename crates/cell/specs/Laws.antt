@@ -2,19 +2,17 @@
 -- that the node shows the seat's state (as each cell guarantees), and that a run reaches the world
 -- in which the wire was made, except perhaps for messages that are acknowledged (`IsReached`). In
 -- that world the nodes were new, or as a run had saved them.
-use Rattle.std.specs.Prelude.{◌≡◌, ◌≢◌, ◌⊎◌, ℕ, ◌+◌, ◌<◌, Bool, false, List, [], ◌∷◌, ◌++◌, length, slice_get, Some, Ok, Err}
+use Rattle.std.specs.Prelude.{◌≡◌, ◌≢◌, ℕ, List, [], ◌∷◌, ◌++◌, length, slice_get, Some, Ok, Err}
 use Rattle.ids.specs.Limits.{Shaped}
-use Rattle.ids.specs.declared.names.Ref.{Ref}
-use Rattle.ids.specs.declared.limits.TheConstants.{WINDOW}
 use Rattle.ids.specs.declared.refusal.Refusal.{Refusal}
-use Rattle.ids.specs.declared.refusal.Refusal.TheVariants.{LinkSpent, Memory, OutOfOrder}
+use Rattle.ids.specs.declared.refusal.Refusal.TheVariants.{LinkSpent, Memory}
 use Rattle.msg.specs.declared.frame.Data.{Data}
 use Rattle.msg.specs.declared.frame.Frame.TheVariants as frame
 use Rattle.model.specs.declared.event.Event.TheVariants as event
 use Rattle.model.specs.declared.event.Answer.{Answer}
 use Rattle.model.specs.declared.step.Step.{Step}
 use Rattle.model.specs.declared.step.Step.TheVariants as step
-use Rattle.model.specs.State.{NodeState, Object, Occupied, got_from, node_at, slot_at}
+use Rattle.model.specs.State.{NodeState, node_at}
 use Rattle.model.specs.View.{NodeView, Shows}
 use Rattle.model.specs.World.{World, new_world, run}
 use Rattle.laws.specs.Statements.{IsSpentOrEarly, KeepsReachable}
