@@ -220,6 +220,12 @@ static void test_refusals(void)
     refuse(NATS_CONNECTION_AUTH_FAILED, 64);
     HOLDS(connect_again(&at, &carrier) == NATS_CONNECTION_AUTH_FAILED);
     HOLDS(model.attempts == REFUSALS + 1 && at.connection == NULL);
+    refuse(NATS_ERR, 64);
+    HOLDS(connect_again(&at, &carrier) == NATS_ERR && model.attempts == REFUSALS + 1);
+    model.text = "(conn.c:1): maximum connections exceeded";
+    refuse(NATS_ERR, 64);
+    HOLDS(connect_again(&at, &carrier) == NATS_OK && model.attempts == 65);
+    model.text = NULL;
     refuse(NATS_SSL_ERROR, 1);
     HOLDS(connect_again(&at, &carrier) == NATS_SSL_ERROR && model.attempts == 1);
     // It can be asked to stop meanwhile.
@@ -227,7 +233,7 @@ static void test_refusals(void)
     at.stop = true;
     HOLDS(connect_again(&at, &carrier) == NATS_OK && model.attempts == 1 && at.connection == NULL);
     at.stop = false;
-    HOLDS(end_hearing("trying again") == 1);
+    HOLDS(end_hearing("trying again") == 3);
     refuse(NATS_OK, 0);
     HOLDS(connect_again(&at, &carrier) == NATS_OK && go_on(2 * CYCLE) == USABLE);
 }
