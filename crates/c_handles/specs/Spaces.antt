@@ -132,6 +132,14 @@ taken (Err e) = Err e
 
 -- ---- The same for what handles hold
 
+-- The space is taken out of its handle if the test of another was passed. Else it stays.
+abbrev pub TakenTested : Result (Unit {0}) Fault → Option SeatedSpace → Option SeatedSpace
+    → Result (Box SeatedSpace) Fault → Type 0
+TakenTested tested None now r = (now ≡ None) × (r ≡ Err fault.NoHandle)
+TakenTested (Err e) (Some space) now r = (now ≡ Some space) × (r ≡ Err e)
+TakenTested (Ok u) (Some space) now (Ok box) = (now ≡ None) × (box_value box ≡ space)
+TakenTested (Ok u) (Some space) now (Err e) = ⊥
+
 -- What a call takes out of a space goes into an empty handle. If either handle isn't as the call
 -- needs it, or if there is nothing to take, all stays as it is.
 abbrev pub Moved : {X : Type 0} → (SeatedSpace → SeatedSpace → Result X Fault → Type 0)

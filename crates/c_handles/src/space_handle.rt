@@ -5,7 +5,8 @@ ghost use Rattle.c_handles.specs.Holds.{unboxed};
 ghost use Rattle.c_handles.specs.declared.space.SeatedSpace.{SeatedSpace};
 ghost use Rattle.c_handles.specs.contracts.space.SeatedSpace.{the_row as Row};
 ghost use Rattle.c_values.specs.Faults.{Filled, Freed, Through, empty};
-ghost use Rattle.c_handles.specs.Spaces.{Given, Made, Moved, Opens, TakesCell, TakesWatch};
+ghost use Rattle.c_handles.specs.Spaces.{Given, Made, Moved, Opens, TakenTested, TakesCell};
+ghost use Rattle.c_handles.specs.Spaces.{TakesWatch};
 
 use crate::cell_handle::CellHandle;
 use crate::held::Held;
@@ -131,19 +132,32 @@ impl SpaceHandle {
         done
     }
 
+    // Takes the space if the handle for what comes out of it was tested to be empty. Fails with
+    // `NoHandle` if there is no space, and then as that test did.
+    fn take_tested(
+        &mut self,
+        alloc: Global,
+        tested: Result<(), Fault>,
+    ) -> Result<Box<SeatedSpace>, Fault>
+        ensures { TakenTested tested self.old.held self.new.held result }
+    {
+        let Some(space) = self.take(alloc) else {
+            return Err(Fault::NoHandle);
+        };
+        if let Err(fault) = tested {
+            self.put(alloc, space);
+            return Err(fault);
+        }
+        Ok(space)
+    }
+
     /// Moves the cell of a node into an empty handle; see [`SeatedSpace::cell`]. Fails with
     /// `NoHandle` if there is no space, and then with `InUse` if the cell's handle isn't empty.
     pub fn cell(&mut self, alloc: Global, node: u8, to: &mut CellHandle) -> Result<(), Fault>
         ensures { Moved (TakesCell node) self.old.held self.new.held to.old.held to.new.held
             result }
     {
-        let Some(mut space) = self.take(alloc) else {
-            return Err(Fault::NoHandle);
-        };
-        if let Err(fault) = to.test_empty(alloc) {
-            self.put(alloc, space);
-            return Err(fault);
-        }
+        let mut space = self.take_tested(alloc, to.test_empty(alloc))?;
         let taken = space.cell(node);
         self.put(alloc, space);
         to.put(alloc, taken?);
@@ -155,13 +169,7 @@ impl SpaceHandle {
     pub fn watch(&mut self, alloc: Global, to: &mut WatchHandle) -> Result<(), Fault>
         ensures { Moved TakesWatch self.old.held self.new.held to.old.held to.new.held result }
     {
-        let Some(mut space) = self.take(alloc) else {
-            return Err(Fault::NoHandle);
-        };
-        if let Err(fault) = to.test_empty(alloc) {
-            self.put(alloc, space);
-            return Err(fault);
-        }
+        let mut space = self.take_tested(alloc, to.test_empty(alloc))?;
         let taken = space.watch();
         self.put(alloc, space);
         to.put(alloc, taken?);
