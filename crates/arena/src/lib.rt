@@ -1,4 +1,4 @@
-//! Values under keys that are never reused. What one slot holds, and how it lies in memory, is in
+//! Values under keys that are never reused; what one slot holds, and how it lies in memory, is in
 //! the crate `arena_slot`.
 //!
 //! An [`Arena`] keeps values of one type in numbered slots. A slot whose value was removed is

@@ -1,6 +1,6 @@
-//! What C holds: nodes, spaces, cells and watches, each as one pointer. Every call of the C library
-//! is a method here; the functions that C calls are in the crate `markring_c`, and what crosses by
-//! value in `c_values`.
+//! What C holds: nodes, spaces, cells and watches, each as one pointer, with a method for every
+//! call of the C library; the functions that C calls are in the crate `markring_c`, and what
+//! crosses by value in `c_values`.
 //!
 //! ```text
 //! C               exports           here          below

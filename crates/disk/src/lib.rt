@@ -1,4 +1,4 @@
-//! Disks of three areas in which a crash may tear writes: in memory, and in files. What is kept in
+//! Disks of three areas in which a crash may tear writes: in memory, and in files; what is kept in
 //! the areas, and how it survives a crash, is in the crates `disk_shelf` and `disk_journal`.
 //!
 //! Ghost members of [`Disk`] say what a disk does: what a read gives, what a crash now may leave,

@@ -1,4 +1,4 @@
-//! Events as bytes, one after another: what a log of a node's events holds. The log is in the crate
+//! Events as bytes, one after another: what a log of a node's events holds; the log is in the crate
 //! `node_log`, and what performs its events again in `node_store`.
 //!
 //! Each event is a tag in one byte and what the event says; numbers are big-endian. A message and

@@ -1,4 +1,4 @@
-//! Frames and messages as bytes. What they are is in the crate `msg`, and which of them a node
+//! Frames and messages as bytes; what they are is in the crate `msg`, and which of them a node
 //! sends in `node`.
 //!
 //! A frame is all of its bytes, and its numbers are big-endian. An acknowledgement is the byte 42

@@ -1,6 +1,7 @@
 //! The names and limits that every crate of the object space shares: node numbers, references,
-//! cycle numbers, the shape of a space, the limits, and the reasons for a refusal. Nothing here has
-//! a state. A value of one of these types is within the limits by construction, except a reference.
+//! cycle numbers, the shape of a space, the limits, and the reasons for a refusal, and nothing that
+//! has a state. A value of one of these types is within the limits by construction, except a
+//! reference.
 #![tactic(auto)]
 
 mod limits;

@@ -1,4 +1,4 @@
-//! The grammar of images: the parts that an image says about a node, and their bytes. Which parts
+//! The grammar of images: the parts that an image says about a node, and their bytes; which parts
 //! form a node, and which node that is, is in the crate `image`.
 //!
 //! [`whole`] reads the parts; [`put_start`], [`put_front`] and the others write them, in the order

@@ -1,5 +1,5 @@
 //! What the C library exports: for each function of `include/markring.h` one that calls the method
-//! of its handle and writes what it returns to the places that C passed. What the methods do is in
+//! of its handle and writes what it returns to the places that C passed; what the methods do is in
 //! the crate `c_handles`. No export has a `requires`; what a C caller owes is at the head of the
 //! header.
 //!

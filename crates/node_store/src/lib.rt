@@ -1,4 +1,4 @@
-//! Nodes on disks, and events that are noted for the next save. How a disk keeps a value is in the
+//! Nodes on disks, and events that are noted for the next save; how a disk keeps a value is in the
 //! crates `disk_shelf` and `disk_journal`, and the bytes are in `image` and `event_bytes`.
 //!
 //! A [`Store`] keeps a node: it is a shelf, which holds the image alone, or a journal, to which a

@@ -1,5 +1,5 @@
 //! One line of a script, on one thread or on node threads: what it says, and how its outcome is
-//! printed. What performs it is in the crates `commands` and `markring`.
+//! printed; what performs it is in the crates `commands` and `markring`.
 #![tactic(auto)]
 
 mod asking;

@@ -1,4 +1,4 @@
-//! What the program's arguments ask for, and its exit statuses. The commands are in the crates
+//! What the program's arguments ask for, and its exit statuses; the commands are in the crates
 //! `commands` and `markring`.
 #![tactic(auto)]
 
