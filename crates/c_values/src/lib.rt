@@ -1,6 +1,5 @@
-//! What crosses to C by value: answers, events and numbers of nodes as structs of plain numbers,
-//! why a call did nothing, and how a result is written to the places that C gave for it; what C
-//! holds by a pointer is in the crate `c_handles`.
+//! What crosses to C by value: answers, events, numbers of nodes, why a call did nothing, and how
+//! results are written to the places that C gave; what C holds by a pointer is in `c_handles`.
 //!
 //! It is below the crates of nodes, and is proved beside them.
 #![tactic(auto)]
