@@ -1,3 +1,4 @@
+#![tactic(auto)]
 //! Theorems on what may happen in a space of nodes, over the definitions of crate `model`; no code
 //! here does anything. They hold for every shape and every list of a program's events, deliveries,
 //! saves and restarts.
@@ -38,6 +39,5 @@
 //! still has is in it unchanged, and it has no object under a reference that its node hasn't given
 //! out yet. All live objects are compared, not only the reachable ones. So each step preserves the
 //! comparison by itself, and no lemma says what a step makes reachable.
-#![tactic(auto)]
 
 pub mod progress;

@@ -54,14 +54,14 @@ pub fn laws()
     // A step that isn't an event changes nothing: for example reading a word, a repeat, or a
     // refused step.
     ensures events { OnlyEventsChange }
-    // A cut is a choice of a state of each node, the current or the saved one. Each cut of any later
-    // moment of a run is a cut of this moment, followed by steps without saves and restarts.
+    // A cut is a choice of a state of each node, the current or the saved one. Each cut of any
+    // later moment of a run is a cut of this moment, followed by steps without saves and restarts.
     ensures cuts_extend { OfEveryRun CutsExtend }
     // In each cut, every reference that is reachable from a register, a letter or a message in
     // flight names an object that its owner still has.
     ensures live { OfEveryRun ReachIsLive }
-    // In each cut with the current state of a sweeping node, that node's reachable objects are there
-    // before the sweep, and the same after it.
+    // In each cut with the current state of a sweeping node, that node's reachable objects are
+    // there before the sweep, and the same after it.
     ensures frees_none_reachable { OfEveryRun SweepsFreeNoneReachable }
     // In each cut, if a node counts a cycle's marking as ended, so does node 0, and so does every
     // node in a later cycle. All nodes have joined the cycle, no node in it has a grey object, and
