@@ -14,6 +14,8 @@ use words::REFUSED;
 /// Runs the script in this file, or the one on standard input, as [`sim`] does. The replies go to
 /// standard output, through a buffer. Returns the exit status: that of [`sim`], or 1 if there is no
 /// memory for the buffer or the output fails.
+// (Not inlined: a program that does more would share processor registers with the loop over lines.)
+#[inline(never)]
 pub fn run_script<R>(rt: &R, script: Option<&str>) -> u8
 where
     R: Files + Input + Print + AllocGlobal,
