@@ -5,6 +5,9 @@
 #include <stdio.h>
 #include <stdlib.h>
 
+// What moves at least before the image is looked at; and as many messages as may be early.
+enum { LEAST_MOVED = 4096, EARLY = 32 };
+
 void end_with(host *it, host_end end, const char *format, ...)
 {
     if (it->end != HOST_RUNS) {
@@ -49,27 +52,92 @@ void hold_answer(host *it, uint64_t due, const char *reply, const uint8_t *bytes
     it->held_count++;
 }
 
-bool is_full(host *it)
+// ## The size of the image
+
+// Looks at how many bytes the image has. That takes as long as writing it.
+static void measure(host *it)
 {
-    if (it->size <= it->options.image_most) {
-        return false;
-    }
     size_t size = 0;
     if (markring_node_image_size(&it->node, &size) == MARKRING_OK) {
-        it->size = size;
+        it->measured = it->size = size;
     }
-    return it->size > it->options.image_most;
+    it->is_measured = true;
+    it->moved = 0;
 }
 
-void note_change(host *it)
+// Whether the image may have more bytes than this.
+static bool may_exceed(host *it, size_t most)
+{
+    if (it->size > most && !it->is_measured) {
+        measure(it);
+    }
+    return it->size > most;
+}
+
+bool is_full(host *it)
+{
+    return may_exceed(it, it->options.image_most);
+}
+
+// How many bytes the image grows by, at most, if the node joins the next cycle.
+static size_t growth_of_joining(const markring_state *state)
+{
+    return state->swept == state->cycle
+        ? JOINING * ((size_t)state->letters + state->registers)
+        : 0;
+}
+
+// The node may have joined a cycle since this was looked at. One message, and those that were early,
+// may have brought letters before.
+static void note_joining(host *it, const markring_state *state)
+{
+    size_t letters = it->letters + EARLY > state->letters ? it->letters + EARLY : state->letters;
+    if (state->cycle != it->joined) {
+        it->joined = state->cycle;
+        it->size += JOINING * (letters + state->registers);
+        it->moved += JOINING * (letters + state->registers);
+    }
+    it->letters = state->letters;
+}
+
+bool is_tight(host *it)
+{
+    markring_state state;
+    if (markring_node_state(&it->node, &state) != MARKRING_OK) {
+        return true;
+    }
+    note_joining(it, &state);
+    size_t joining = growth_of_joining(&state), most = it->options.image_tight;
+    return may_exceed(it, joining < most ? most - joining : 0);
+}
+
+bool takes_messages(host *it)
+{
+    markring_state state;
+    return markring_node_state(&it->node, &state) == MARKRING_OK
+        && state.letters < it->options.letters_most && !is_tight(it);
+}
+
+// A turn begins. The image is looked at if half of it may be new or gone, so that this takes no more
+// time than the events did.
+static void begin_measuring(host *it)
+{
+    it->is_measured = it->moved == 0;
+    if (it->moved > it->measured / 2 + LEAST_MOVED) {
+        measure(it);
+    }
+}
+
+void note_change(host *it, size_t grown, size_t gone)
 {
     it->changed = true;
-    it->size += GROWTH;
+    it->size += grown;
+    it->moved += 1 + grown + gone;
 }
 
 void host_changed(host *it)
 {
-    note_change(it);
+    note_change(it, GROWTH, 0);
 }
 
 // ## Opening
@@ -81,6 +149,7 @@ int host_create(const host_shape *shape, store_value *value)
         return MARKRING_MEMORY;
     }
     it->shape = *shape;
+    forget_line(it);
     size_t image = 0;
     int status = markring_node_new(
         &it->node, shape->nodes, shape->registers, shape->slots, shape->own, shape->limit);
@@ -143,6 +212,9 @@ int host_open(host **opened, const store_value *value, uint64_t number, uint64_t
     if (options->image_most == 0) {
         it->options.image_most = IMAGE_MOST;
     }
+    if (options->image_tight == 0) {
+        it->options.image_tight = IMAGE_TIGHT;
+    }
     if (options->entries_least == 0) {
         it->options.entries_least = ENTRIES_LEAST;
     }
@@ -156,6 +228,7 @@ int host_open(host **opened, const store_value *value, uint64_t number, uint64_t
     // Each process begins with a save, whose number is its own.
     it->changed = true;
     it->has_work = true;
+    forget_line(it);
     int status = read_saved(it, value);
     if (status != MARKRING_OK) {
         host_free(it);
@@ -163,7 +236,9 @@ int host_open(host **opened, const store_value *value, uint64_t number, uint64_t
     }
     if (options->trusts_folder) {
         forget_processes(it);
+        forget_line(it);
     }
+    begin_line(it);
     begin_links(it);
     *opened = it;
     return MARKRING_OK;
@@ -225,7 +300,8 @@ static int take_batch(host *it)
     }
     int status = markring_node_batch_size(&it->node, &batch);
     if (status == MARKRING_OK && it->size > IMAGE_LIMIT) {
-        status = markring_node_image_size(&it->node, &it->size);
+        status = markring_node_image_size(&it->node, &it->measured);
+        it->size = it->measured;
     }
     if (status != MARKRING_OK) {
         return status;
@@ -257,7 +333,8 @@ static int take_image(host *it)
     writer to = writer_of(it->value.buffer + STORE_HEAD, it->value.length);
     status = write_saved(it, &to, image);
     if (status == MARKRING_OK) {
-        it->size = image;
+        it->measured = it->size = image;
+        it->moved = 0;
     }
     return status;
 }
@@ -353,6 +430,14 @@ static bool is_settled(const host *it)
     return !it->saving && !it->changed && it->kept > 0;
 }
 
+// The other nodes hear of the last save before this one leaves.
+static void tell_all(host *it)
+{
+    for (uint8_t to = 0; to < it->shape.nodes; to++) {
+        it->peers[to].due = it->peers[to].due || it->peers[to].told != it->stored;
+    }
+}
+
 static void leave_if_settled(host *it)
 {
     if (!it->stopping || !is_settled(it) || it->end != HOST_RUNS) {
@@ -369,7 +454,11 @@ static void leave_if_settled(host *it)
 
 void host_turn(host *it, uint64_t now)
 {
-    if (it->end == HOST_RUNS && !it->stopping) {
+    if (it->end != HOST_RUNS) {
+        return;
+    }
+    begin_measuring(it);
+    if (!it->stopping) {
         collect(it, now);
     }
     if (it->end == HOST_RUNS) {
@@ -378,6 +467,9 @@ void host_turn(host *it, uint64_t now)
     // Before the first save, other nodes couldn't know this process from an earlier one.
     if (it->end == HOST_RUNS && it->kept > 0) {
         answer_programs(it);
+        if (it->stopping && is_settled(it)) {
+            tell_all(it);
+        }
         send_packets(it, now);
         leave_if_settled(it);
     }
@@ -407,6 +499,9 @@ uint64_t host_wait(host *it, uint64_t now)
     for (uint8_t to = 0; to < it->shape.nodes; to++) {
         if (it->peers[to].resend_at != 0) {
             wait = sooner(wait, now, it->peers[to].resend_at);
+        }
+        if (it->peers[to].tell_at != 0) {
+            wait = sooner(wait, now, it->peers[to].tell_at);
         }
     }
     return wait;

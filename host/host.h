@@ -26,10 +26,12 @@ enum {
     // Packets and requests that one turn should take.
     HOST_TAKES = 512,
     HOST_REASON = 640,
-    // An image has at most 67,108,864 bytes. It has at most 19 for a letter; what is left above
-    // both limits is for the collector.
+    // An image has at most 67,108,864 bytes. Programs may let it grow up to IMAGE_MOST; messages and
+    // the collector, up to IMAGE_TIGHT. What is left is for messages that came before their turn,
+    // and for the ends of cycles.
     LETTERS_MOST = 800000,
     IMAGE_MOST = 41943040,
+    IMAGE_TIGHT = 62914560,
     ENTRIES_LEAST = 1 << 20
 };
 
@@ -69,6 +71,9 @@ typedef struct host_options {
     // While the node's image has more bytes, events of programs that make it grow are refused; 0
     // for IMAGE_MOST.
     size_t image_most;
+    // While it has more, or could have more by joining a cycle, the node takes no messages; 0 for
+    // IMAGE_TIGHT.
+    size_t image_tight;
     // The entries behind a whole value may have as many bytes as the value, or this many; 0 for
     // ENTRIES_LEAST.
     size_t entries_least;
@@ -96,7 +101,8 @@ typedef struct host_counts {
     uint64_t foreign, malformed;
     // Packets of earlier processes, and frames that came again or were sent again.
     uint64_t outdated, repeats, resends;
-    // Frames that weren't taken because too many letters wait; what was dropped for lack of memory.
+    // Frames that weren't taken because too many letters wait or the image is too large; what was
+    // dropped for lack of memory.
     uint64_t full, dropped;
 } host_counts;
 

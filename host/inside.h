@@ -11,15 +11,32 @@ enum {
     FIRST_PAUSE = 50,
     LONGEST_PAUSE = 1600,
     RETRY = 100,
+    // How soon another node is told of a save.
+    TELL = 1000,
     // Steps of the collector in one turn.
     SCANS = 256,
     SWEEPS = 4096,
-    // What one event or one message adds to an image, at most.
-    GROWTH = 320,
+    // What any event adds to an image, at most, if the node doesn't join a cycle; what a message
+    // from another node does; and what joining does, for each register and each letter.
+    GROWTH = 640,
+    MESSAGE_GROWTH = 128,
+    JOINING = 40,
+    // What an object and a message have in an image, about.
+    OBJECT_BYTES = 64,
+    MESSAGE_BYTES = 32,
     // An image has at most this many bytes.
     IMAGE_LIMIT = 67108864,
-    HELD_ANSWERS = 1024
+    // A large image is scanned only while fewer messages aren't acknowledged.
+    SCAN_MESSAGES = 32768,
+    HELD_ANSWERS = 1024,
+    LINE = 256
 };
+
+// A process that ran this node, and the number of its first save. If the nonce is 0, nobody knows
+// any more which processes ran it from that save on.
+typedef struct ancestor {
+    uint64_t nonce, run;
+} ancestor;
 
 typedef struct peer {
     process known, saved_known; // now, and in the last save
@@ -30,6 +47,10 @@ typedef struct peer {
     uint32_t live;
     bool needs_cycle;
     bool due; // a packet has to go, whether or not there are frames
+    // Its last word on a process of this node that fits the folder, and whether it knows this one.
+    uint64_t heard;
+    bool knows_this;
+    uint64_t told, tell_at; // the last save that it was told of, and when it is told of another one
 } peer;
 
 typedef struct program {
@@ -70,6 +91,11 @@ struct host {
     held *first, **last;
     size_t held_count;
     uint64_t nonce, run, stored; // of this process: its number, its first save, its last one
+    // The processes that ran this node, up to this one. The first element has neither nonce nor
+    // run. `line_saved`: the last save holds it.
+    ancestor line[LINE];
+    size_t line_count;
+    bool line_saved;
     // Images are numbered by this host. `images` were taken, and what the one numbered `kept`
     // holds is stored.
     uint64_t images, kept, mark;
@@ -80,7 +106,13 @@ struct host {
     // be whole values.
     size_t whole, entries;
     int whole_due;
-    size_t size;        // of the last image, with what may have been added since
+    // The image had `measured` bytes when that was looked at last, and has at most `size`. Since
+    // then about `moved` bytes have come or gone. It isn't looked at twice in one turn, nor before
+    // something has happened.
+    size_t measured, size, moved;
+    bool is_measured;
+    // The cycle and the letters, when this was looked at last.
+    uint64_t joined, letters;
     uint32_t told_live; // as last told to node 0
     bool needs_cycle;
     uint64_t needed_in; // the cycle in which a program found the node full
@@ -102,10 +134,25 @@ void hold_answer(host *it, uint64_t due, const char *reply, const uint8_t *bytes
 // Whether the image of the node is so large that programs may not let it grow.
 bool is_full(host *it);
 
-// An event that was Ok has changed the node.
-void note_change(host *it);
+// Whether it is so large that the node takes no messages, nor scans.
+bool is_tight(host *it);
+
+// Messages of this node that aren't acknowledged.
+uint64_t count_unacknowledged(host *it);
+
+// Whether the node takes messages: if not, programs have to accept letters or to clear places.
+bool takes_messages(host *it);
+
+// An event that was Ok has changed the node. `grown` is how many bytes the image has got, at most;
+// `gone`, about how many it has lost.
+void note_change(host *it, size_t grown, size_t gone);
 
 bool copy_reply(char *to, const char *reply);
+
+// This process is the last one in the line.
+void begin_line(host *it);
+// What was known of the processes before this one is forgotten.
+void forget_line(host *it);
 
 void collect(host *it, uint64_t now);
 void send_packets(host *it, uint64_t now);

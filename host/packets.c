@@ -23,8 +23,7 @@ void write_packet_head(writer *to, const packet_head *it)
     write_number(to, it->known_saves, 8);
     write_number(to, it->live, 4);
     write_number(to, it->needs_cycle, 1);
-    // Room for what a later version adds.
-    write_number(to, 0, 8);
+    write_number(to, it->fits, 8);
 }
 
 bool read_packet_head(reader *from, packet_head *it)
@@ -44,7 +43,7 @@ bool read_packet_head(reader *from, packet_head *it)
     it->known_saves = read_number(from, 8);
     it->live = (uint32_t)read_number(from, 4);
     it->needs_cycle = (uint8_t)read_number(from, 1);
-    (void)read_bytes(from, 8);
+    it->fits = read_number(from, 8);
     return from->ok && it->sender.nonce != 0 && it->sender.run != 0
         && it->sender.run <= it->sender.saves && it->needs_cycle <= 1;
 }

@@ -39,7 +39,13 @@ typedef struct packet_head {
     uint64_t known_nonce, known_saves;
     uint32_t live;       // objects of the sender
     uint8_t needs_cycle; // 1 if a program of the sender found its node full, else 0
+    // What the receiver knew, when it spoke last, of an earlier process of the sender, if that fits
+    // the sender's folder: the nonce and the save, as one number. NO_WORD if nothing was heard; 0
+    // from a host of an earlier version.
+    uint64_t fits;
 } packet_head;
+
+enum { NO_WORD = 1 };
 
 void write_packet_head(writer *to, const packet_head *it);
 bool read_packet_head(reader *from, packet_head *it);

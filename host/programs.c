@@ -66,7 +66,7 @@ static void open_program(host *it, const request_head *request, const char *repl
         at->session = request->session;
         at->round++;
         at->waits = false;
-        note_change(it);
+        it->changed = true;
     }
     size_t length = write_last(it, request, bytes, sizeof bytes);
     hold_answer(it, due_image(it), reply, bytes, length);
@@ -79,11 +79,28 @@ static bool is_of_program(uint8_t kind)
     return kind >= MARKRING_EVENT_ALLOC && kind <= MARKRING_EVENT_GET;
 }
 
-static bool grows(uint8_t kind)
+// How many bytes an event of a program adds to the image, at most, and how many of it may be gone:
+// a reference has 13, a letter up to 19, an object without references up to 34. Loading may add a
+// request to mark.
+typedef struct moves {
+    uint8_t grown, gone;
+} moves;
+
+static moves moves_of(uint8_t kind)
 {
-    return kind != MARKRING_EVENT_DROP && kind != MARKRING_EVENT_CLEAR
-        && kind != MARKRING_EVENT_WORD && kind != MARKRING_EVENT_SET_WORD
-        && kind != MARKRING_EVENT_ACCEPT;
+    switch (kind) {
+    case MARKRING_EVENT_ALLOC: return (moves){64, 0};
+    case MARKRING_EVENT_COPY: return (moves){16, 0};
+    case MARKRING_EVENT_DROP: return (moves){0, 16};
+    case MARKRING_EVENT_LOAD: return (moves){64, 0};
+    case MARKRING_EVENT_STORE: return (moves){16, 0};
+    case MARKRING_EVENT_CLEAR: return (moves){0, 16};
+    case MARKRING_EVENT_GIVE: return (moves){32, 0};
+    case MARKRING_EVENT_ACCEPT: return (moves){0, 32};
+    case MARKRING_EVENT_PUT: return (moves){48, 0};
+    case MARKRING_EVENT_GET: return (moves){32, 0};
+    default: return (moves){0, 0};
+    }
 }
 
 static void note_full(host *it)
@@ -102,12 +119,16 @@ static int perform_event(host *it, const markring_event *event, markring_answer 
     if (!is_of_program(event->kind)) {
         return MARKRING_BAD_ARGUMENT;
     }
-    if (grows(event->kind) && is_full(it)) {
+    if (moves_of(event->kind).grown > 0 && is_full(it)) {
         return MARKRING_IMAGE_TOO_LARGE;
+    }
+    // Answers to Get become letters here. If they aren't taken, they pile up at the other node.
+    if (event->kind == MARKRING_EVENT_GET && !takes_messages(it)) {
+        return MARKRING_CONGESTED;
     }
     int status = markring_node_act(&it->node, event, answer);
     if (status == MARKRING_OK && event->kind != MARKRING_EVENT_WORD) {
-        note_change(it);
+        note_change(it, moves_of(event->kind).grown, moves_of(event->kind).gone);
     }
     if (status == MARKRING_ARENA_FULL) {
         note_full(it);
@@ -149,7 +170,7 @@ static void perform(host *it, const request_head *request, reader *from)
     at->results = results;
     at->count = request->count;
     at->number = request->number;
-    note_change(it);
+    it->changed = true;
     at->due = due_image(it);
     it->counts.requests++;
 }
@@ -328,14 +349,7 @@ static int write_counts(const host_counts *it, char *to, size_t room)
 static int write_status(host *it, uint64_t now, char *to, size_t room)
 {
     markring_state state = {0};
-    unsigned long long unacknowledged = 0;
     (void)markring_node_state(&it->node, &state);
-    for (uint8_t other = 0; other < it->shape.nodes; other++) {
-        markring_link link;
-        if (markring_node_link(&it->node, other, &link) == MARKRING_OK) {
-            unacknowledged += link.appended - link.acknowledged;
-        }
-    }
     return snprintf(to, room,
         "{\"space\": \"%s\", \"node\": %d, \"nodes\": %d, \"registers\": %d, \"slots\": %lu, "
         "\"cycle\": %llu, \"ended\": %llu, \"swept\": %llu, \"live\": %lu, \"letters\": %llu, "
@@ -344,7 +358,8 @@ static int write_status(host *it, uint64_t now, char *to, size_t room)
         it->shape.name, it->shape.own, it->shape.nodes, it->shape.registers,
         (unsigned long)it->shape.slots, (unsigned long long)state.cycle,
         (unsigned long long)state.ended, (unsigned long long)state.swept, (unsigned long)state.live,
-        (unsigned long long)state.letters, unacknowledged, it->size, (unsigned long long)it->stored,
+        (unsigned long long)state.letters, (unsigned long long)count_unacknowledged(it),
+        it->measured, (unsigned long long)it->stored,
         (unsigned long long)(now - it->saved_at), (unsigned long long)it->save_took,
         (unsigned long long)it->run);
 }

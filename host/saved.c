@@ -4,7 +4,9 @@
 
 #include <stdlib.h>
 
-enum { FIXED = 1 + SPACE_ID + 1 + 1 + 8, KNOWN = 24, RECORD = 27 };
+// A value begins with its version, which isn't the length of a name; one of the first version has
+// none. Its entries are of the same version.
+enum { VERSION = 0x82, FIXED = 1 + 1 + SPACE_ID + 1 + 1 + 8, KNOWN = 24, RECORD = 27, PART = 16 };
 
 static size_t program_size(const program *at)
 {
@@ -38,9 +40,16 @@ bool knows_more(const host *it)
     return false;
 }
 
+// What the line has besides its first element, which isn't written.
+static size_t line_size(const host *it)
+{
+    return 2 + (it->line_count - 1) * (size_t)PART;
+}
+
 size_t saved_size(const host *it, size_t image)
 {
     size_t size = FIXED + strlen(it->shape.name) + it->shape.nodes * (size_t)KNOWN + 1 + 8 + image;
+    size += line_size(it);
     for (int i = 0; i < PROGRAMS; i++) {
         if (is_opened(&it->programs[i])) {
             size += program_size(&it->programs[i]);
@@ -51,7 +60,7 @@ size_t saved_size(const host *it, size_t image)
 
 size_t entry_size(const host *it, size_t batch)
 {
-    size_t size = 1 + 1 + 8 + batch;
+    size_t size = 1 + 1 + 8 + batch + (it->line_saved ? 2 : line_size(it));
     for (int i = 0; i < it->shape.nodes; i++) {
         size += is_known_new(&it->peers[i]) ? 1 + (size_t)KNOWN : 0;
     }
@@ -89,9 +98,19 @@ static void write_known(writer *to, const process *known)
     write_number(to, known->saves, 8);
 }
 
+static void write_line(writer *to, const host *it)
+{
+    write_number(to, it->line_count - 1, 2);
+    for (size_t i = 1; i < it->line_count; i++) {
+        write_number(to, it->line[i].nonce, 8);
+        write_number(to, it->line[i].run, 8);
+    }
+}
+
 // The save that was written has all that lasts. If it fails, the next one is a whole value.
 static void note_written(host *it)
 {
+    it->line_saved = true;
     for (int i = 0; i < it->shape.nodes; i++) {
         it->peers[i].saved_known = it->peers[i].known;
     }
@@ -117,6 +136,11 @@ int write_entry(host *it, writer *to, size_t batch)
             write_known(to, &it->peers[i].known);
         }
     }
+    if (it->line_saved) {
+        write_number(to, 0, 2);
+    } else {
+        write_line(to, it);
+    }
     write_programs(it, to, is_program_new);
     write_number(to, batch, 8);
     int status = MARKRING_SHORT_BUFFER;
@@ -135,6 +159,7 @@ int write_entry(host *it, writer *to, size_t batch)
 int write_saved(host *it, writer *to, size_t image)
 {
     size_t name = strlen(it->shape.name), needed = 0;
+    write_number(to, VERSION, 1);
     write_number(to, name, 1);
     write_bytes(to, it->shape.name, name);
     write_bytes(to, it->shape.space, SPACE_ID);
@@ -144,6 +169,7 @@ int write_saved(host *it, writer *to, size_t image)
     for (int i = 0; i < it->shape.nodes; i++) {
         write_known(to, &it->peers[i].known);
     }
+    write_line(to, it);
     write_programs(it, to, is_opened);
     write_number(to, image, 8);
     int status = MARKRING_SHORT_BUFFER;
@@ -183,6 +209,24 @@ static void read_known(host *it, uint64_t node, reader *from)
     known->saves = read_number(from, 8);
 }
 
+// Reads the line, if it has changed. The saves of its processes are before those of this one.
+static int read_line(host *it, reader *from)
+{
+    uint64_t count = read_number(from, 2);
+    if (count >= LINE) {
+        return MARKRING_BAD_IMAGE;
+    }
+    for (uint64_t i = 1; i <= count; i++) {
+        uint64_t nonce = read_number(from, 8), run = read_number(from, 8);
+        if (!from->ok || run <= it->line[i - 1].run || run >= it->run) {
+            return MARKRING_BAD_IMAGE;
+        }
+        it->line[i] = (ancestor){nonce, run};
+    }
+    it->line_count = count > 0 ? count + 1 : it->line_count;
+    return from->ok ? MARKRING_OK : MARKRING_BAD_IMAGE;
+}
+
 // Reads a program, which replaces what was read of it before.
 static int read_program(host *it, reader *from)
 {
@@ -200,7 +244,7 @@ static int read_program(host *it, reader *from)
     uint16_t count = (uint16_t)read_number(from, 2);
     size_t length = count * (size_t)RESULT_BYTES;
     const uint8_t *results = read_bytes(from, length);
-    if (results == NULL || at->session == 0) {
+    if (results == NULL || at->session == 0 || count > REQUEST_EVENTS) {
         return MARKRING_BAD_IMAGE;
     }
     if (count > 0) {
@@ -231,8 +275,8 @@ static const uint8_t *read_last(reader *from, size_t *length)
     return from->ok && *length == from->left ? read_bytes(from, *length) : NULL;
 }
 
-// Reads an entry, whose batch goes behind the others.
-static int read_entry(host *it, reader *from, writer *batches)
+// Reads an entry, whose batch goes behind the others. One of the first version has no line.
+static int read_entry(host *it, reader *from, bool has_line, writer *batches)
 {
     size_t length = 0;
     uint64_t count = read_number(from, 1);
@@ -243,7 +287,8 @@ static int read_entry(host *it, reader *from, writer *batches)
         }
         read_known(it, node, from);
     }
-    int status = read_programs(it, from);
+    int status = has_line ? read_line(it, from) : MARKRING_OK;
+    status = status == MARKRING_OK ? read_programs(it, from) : status;
     const uint8_t *batch = status == MARKRING_OK ? read_last(from, &length) : NULL;
     if (status == MARKRING_OK && batch == NULL) {
         return MARKRING_BAD_IMAGE;
@@ -267,11 +312,15 @@ static int read_node(host *it, const uint8_t *image, size_t length, const writer
     }
     it->shape.registers = state.registers;
     it->shape.slots = state.slots;
-    return status == MARKRING_OK ? markring_node_image_size(&it->node, &it->size) : status;
+    it->joined = state.cycle;
+    status = status == MARKRING_OK ? markring_node_image_size(&it->node, &it->size) : status;
+    it->measured = it->size;
+    return status;
 }
 
 // Reads the entries behind a value, and makes the node.
-static int read_entries(host *it, const store_value *value, const uint8_t *image, size_t length)
+static int read_entries(
+    host *it, const store_value *value, bool has_line, const uint8_t *image, size_t length)
 {
     size_t at = 0, size = 0;
     int status = MARKRING_OK;
@@ -283,7 +332,7 @@ static int read_entries(host *it, const store_value *value, const uint8_t *image
     const uint8_t *entry = store_next(value, &at, &size);
     while (entry != NULL && status == MARKRING_OK) {
         reader from = reader_of(entry, size);
-        status = read_entry(it, &from, &batches);
+        status = read_entry(it, &from, has_line, &batches);
         entry = store_next(value, &at, &size);
     }
     if (status == MARKRING_OK) {
@@ -297,22 +346,27 @@ int read_saved(host *it, const store_value *value)
 {
     size_t image_length = 0;
     reader from = reader_of(value->buffer + STORE_HEAD, value->length);
+    bool has_line = value->length > 0 && *from.at == VERSION;
+    if (has_line) {
+        (void)read_number(&from, 1);
+    }
     if (!read_shape(&it->shape, &from)) {
         return MARKRING_BAD_IMAGE;
     }
     for (int i = 0; i < it->shape.nodes; i++) {
         read_known(it, (uint64_t)i, &from);
     }
-    int status = read_programs(it, &from);
+    int status = has_line ? read_line(it, &from) : MARKRING_OK;
+    status = status == MARKRING_OK ? read_programs(it, &from) : status;
     const uint8_t *image = status == MARKRING_OK ? read_last(&from, &image_length) : NULL;
     if (status == MARKRING_OK && image == NULL) {
         status = MARKRING_BAD_IMAGE;
     }
     it->whole = value->length;
-    it->whole_due = value->whole;
+    it->whole_due = value->whole > 0 || has_line ? value->whole : 1;
     it->entries = value->end - STORE_HEAD - value->length - STORE_TAIL;
     if (status == MARKRING_OK) {
-        status = read_entries(it, value, image, image_length);
+        status = read_entries(it, value, has_line, image, image_length);
     }
     if (status == MARKRING_OK) {
         note_written(it);

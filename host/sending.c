@@ -29,7 +29,8 @@ static void write_head(host *it, uint8_t to, writer *packet)
 {
     markring_state state = {0};
     packet_head head = {{0}, it->shape.own, to, {it->nonce, it->run, it->stored},
-        it->peers[to].known.nonce, it->peers[to].known.saves, 0, it->needs_cycle};
+        it->peers[to].known.nonce, it->peers[to].known.saves, 0, it->needs_cycle,
+        it->peers[to].heard != 0 ? it->peers[to].heard : NO_WORD};
     memcpy(head.space, it->shape.space, SPACE_ID);
     if (markring_node_state(&it->node, &state) == MARKRING_OK) {
         head.live = state.live;
@@ -85,16 +86,29 @@ static void send_packet(host *it, uint8_t to)
     }
     if (packet.ok) {
         at->due = false;
+        at->told = it->stored;
+        at->tell_at = 0;
         it->counts.packets_out++;
         it->counts.bytes_out += packet.length;
         it->calls.send(it->calls.context, to, bytes, packet.length);
     }
 }
 
+// A node that hasn't heard of a save for a while is told of it, so that it would know an older
+// folder.
+static void tell_in_time(const host *it, peer *at, uint64_t now)
+{
+    if (at->told != it->stored && at->tell_at == 0) {
+        at->tell_at = now + TELL;
+    }
+    at->due = at->due || (at->tell_at != 0 && now >= at->tell_at);
+}
+
 // Goes back to the window's begin if its time has come.
 static void run_timer(host *it, peer *at, const markring_link *link, uint64_t now)
 {
     if (link->acknowledged != at->acknowledged) {
+        it->moved += MESSAGE_BYTES * (size_t)(link->acknowledged - at->acknowledged);
         at->acknowledged = link->acknowledged;
         at->pause = FIRST_PAUSE;
         at->resend_at = 0;
@@ -141,6 +155,7 @@ void send_packets(host *it, uint64_t now)
         }
         peer *at = &it->peers[to];
         run_timer(it, at, &link, now);
+        tell_in_time(it, at, now);
         send_packet(it, to);
         if (link.released != link.acknowledged && at->resend_at == 0) {
             at->resend_at = now + at->pause;
@@ -175,13 +190,14 @@ static bool is_cycle_due(const host *it, uint64_t objects, uint64_t now)
         && objects >= 2 * after;
 }
 
-// Begins a cycle at node 0, if one is due. While another runs, it stays due.
-static void begin_if_due(host *it, uint64_t now)
+// Begins a cycle at node 0, if one is due. While another runs, it stays due. Returns whether the
+// image has to become smaller first.
+static bool begin_if_due(host *it, uint64_t now)
 {
     markring_answer answer;
     markring_state state;
     if (it->shape.own != 0 || markring_node_state(&it->node, &state) != MARKRING_OK) {
-        return;
+        return false;
     }
     uint64_t objects = count_objects(it, state.live);
     if (state.swept == state.cycle && objects < it->objects_after) {
@@ -191,8 +207,11 @@ static void begin_if_due(host *it, uint64_t now)
     if (it->options.cycle_every > 0 && now >= it->cycle_at) {
         it->cycle_at = now + it->options.cycle_every;
     }
+    if (it->asked && state.swept == state.cycle && is_tight(it)) {
+        return true;
+    }
     if (it->asked && markring_node_begin(&it->node, &answer) == MARKRING_OK) {
-        note_change(it);
+        note_change(it, GROWTH, 0);
         it->asked = false;
         it->needs_cycle = false;
         it->objects_after = objects;
@@ -201,17 +220,34 @@ static void begin_if_due(host *it, uint64_t now)
             it->peers[node].needs_cycle = false;
         }
     }
+    return false;
 }
 
-// Scans. Returns the status of the last step.
+uint64_t count_unacknowledged(host *it)
+{
+    uint64_t count = 0;
+    for (uint8_t to = 0; to < it->shape.nodes; to++) {
+        markring_link link;
+        if (markring_node_link(&it->node, to, &link) == MARKRING_OK) {
+            count += link.appended - link.acknowledged;
+        }
+    }
+    return count;
+}
+
+// Scans. Returns the status of the last step; MARKRING_IMAGE_TOO_LARGE if the image has to become
+// smaller first. Requests to mark are messages: if they filled the images of two nodes, neither
+// would take those of the other one.
 static int scan(host *it)
 {
     markring_answer answer;
-    int status = MARKRING_OK;
+    int status = is_full(it) && count_unacknowledged(it) >= SCAN_MESSAGES
+        ? MARKRING_IMAGE_TOO_LARGE
+        : MARKRING_OK;
     for (int i = 0; i < SCANS && status == MARKRING_OK; i++) {
-        status = markring_node_scan(&it->node, &answer);
+        status = is_tight(it) ? MARKRING_IMAGE_TOO_LARGE : markring_node_scan(&it->node, &answer);
         if (status == MARKRING_OK) {
-            note_change(it);
+            note_change(it, GROWTH, 0);
         }
     }
     return status;
@@ -220,17 +256,17 @@ static int scan(host *it)
 void collect(host *it, uint64_t now)
 {
     markring_answer answer;
-    begin_if_due(it, now);
+    bool is_late = begin_if_due(it, now);
     int scanned = scan(it), passed = markring_node_pass(&it->node, &answer);
     if (passed == MARKRING_OK) {
-        note_change(it);
+        note_change(it, GROWTH, 0);
     }
     int swept = markring_node_sweep(&it->node, SWEEPS, &answer);
     if (swept == MARKRING_OK) {
-        note_change(it);
+        note_change(it, MESSAGE_BYTES, OBJECT_BYTES * (size_t)answer.count);
     }
-    bool refused =
-        scanned == MARKRING_MEMORY || passed == MARKRING_MEMORY || swept == MARKRING_MEMORY;
+    bool refused = is_late || scanned == MARKRING_IMAGE_TOO_LARGE || scanned == MARKRING_MEMORY
+        || passed == MARKRING_MEMORY || swept == MARKRING_MEMORY;
     it->has_work = refused || scanned == MARKRING_OK || (swept == MARKRING_OK && !answer.done);
     it->work_at = refused ? now + RETRY : now;
 }

@@ -3,29 +3,121 @@
 
 enum { DATA_FRAME = 0x45, FRAME_ADDRESSES = 3 };
 
+// ## The processes that ran this node
+//
+// Each process begins with a save, so the numbers of saves are one line, in which each process has
+// a part: from its first save on, up to the first one of the next process. The folder has that
+// line. So another node's word, "I know the process n, which made save s", is true only if save s is
+// in the part of n. Otherwise the folder is an older copy, which another process continued, even if
+// this one has made more saves since. Nothing leaves a process before its first save is stored, and
+// with it the line up to this process; so no word is wrong of a folder that is the newest one.
+//
+// Once all other nodes know this process, the line before it may be forgotten: any older word is
+// that of a node that has forgotten the newer one. If the line becomes too long before, its middle
+// is forgotten: what shows a copy are the processes that began right after it, and the last ones.
+
+void forget_line(host *it)
+{
+    it->line[0] = (ancestor){0, 0};
+    it->line_count = 1;
+    it->line_saved = false;
+}
+
+void begin_line(host *it)
+{
+    if (it->line_count == LINE) {
+        ancestor *middle = &it->line[LINE / 2];
+        middle->nonce = 0;
+        memmove(middle + 1, middle + 2, (LINE - LINE / 2 - 2) * sizeof *middle);
+        it->line_count--;
+    }
+    it->line[it->line_count++] = (ancestor){it->nonce, it->run};
+    it->line_saved = false;
+}
+
+// Whether a process with this nonce made this save, as far as the folder knows.
+static bool is_in_line(const host *it, uint64_t nonce, uint64_t save)
+{
+    size_t at = it->line_count - 1;
+    while (at > 0 && it->line[at].run > save) {
+        at--;
+    }
+    return it->line[at].nonce == 0 || it->line[at].nonce == nonce;
+}
+
+// Another node knows this process.
+static void note_known(host *it, peer *by)
+{
+    bool all = true;
+    if (by->knows_this) {
+        return;
+    }
+    by->knows_this = true;
+    for (uint8_t node = 0; node < it->shape.nodes; node++) {
+        all = all && (node == it->shape.own || it->peers[node].knows_this);
+    }
+    if (all) {
+        forget_line(it);
+        begin_line(it);
+    }
+}
+
+// What a node knows of another node's process, as one number. Nonces are random, so two of these
+// numbers are hardly ever the same, nor NO_WORD or 0.
+static uint64_t word_on_process(uint64_t nonce, uint64_t saves)
+{
+    return nonce ^ saves;
+}
+
+// That node doesn't know this process yet, and takes nothing of it before it hears that its word
+// fits this folder.
+static void note_word(host *it, const packet_head *head)
+{
+    peer *from = &it->peers[head->from];
+    uint64_t word = word_on_process(head->known_nonce, head->known_saves);
+    if (from->heard != word && !from->knows_this) {
+        send_again(it, head->from);
+    }
+    from->heard = word;
+    from->due = true;
+}
+
 // What another node knows of this one shows whether this process may go on.
 static bool may_go_on(host *it, const packet_head *head)
 {
-    if (head->known_nonce == it->nonce) {
+    bool is_own = head->known_nonce == it->nonce;
+    if (is_own && head->known_saves <= it->stored) {
+        note_known(it, &it->peers[head->from]);
         return true;
     }
-    if (head->known_nonce != 0 && head->known_saves >= it->run) {
-        if (it->options.trusts_folder) {
-            return true;
-        }
-        end_with(it, HOST_OLDER,
-            "node %d knows save %llu of this node, made by another process, but this process began "
-            "at save %llu. So this folder is an older copy, or another process uses a copy of it. "
-            "Use the newest folder of this node, or restore the folders of all nodes from one "
-            "moment. If neither is so, node %d is wrong: `run --trust-folder` once, on both, makes "
-            "that node forget it and this one go on",
-            head->from, (unsigned long long)head->known_saves, (unsigned long long)it->run,
-            head->from);
-        return false;
+    if (head->known_nonce == 0
+        || (!is_own && is_in_line(it, head->known_nonce, head->known_saves))) {
+        note_word(it, head);
+        return true;
     }
-    // That node doesn't know this process yet.
-    it->peers[head->from].due = true;
-    return true;
+    if (it->options.trusts_folder) {
+        return true;
+    }
+    end_with(it, HOST_OLDER,
+        "node %d knows save %llu of this node, which %s. So this folder or this process is an older "
+        "copy, or another process uses a copy of the folder. Use the newest folder of this node, "
+        "or restore the folders of all nodes from one moment. If neither is so, node %d is wrong: "
+        "`run --trust-folder` once, on both, makes that node forget it and this one go on",
+        head->from, (unsigned long long)head->known_saves,
+        is_own ? "this process hasn't made" : "a process made that this folder doesn't know",
+        head->from);
+    return false;
+}
+
+// ## The processes that run other nodes
+
+// Whether the process is later than the one that is known. One of this version also has to show
+// that what is known fits its folder.
+static bool is_later(const process *known, const packet_head *head)
+{
+    return head->sender.run > known->saves
+        && (known->nonce == 0 || head->fits == 0
+            || head->fits == word_on_process(known->nonce, known->saves));
 }
 
 // Whether the packet is from the latest process of that node that is known. If a later one shows
@@ -36,16 +128,19 @@ static bool is_latest(host *it, const packet_head *head)
     if (head->sender.nonce == from->known.nonce) {
         if (head->sender.saves > from->known.saves) {
             from->known.saves = head->sender.saves;
+        } else if (head->sender.saves < from->known.saves) {
+            // A late packet, or an older state of that process, which has to hear of it.
+            from->told = 0;
         }
         return true;
     }
-    if (head->sender.run > from->known.saves) {
+    if (is_later(&from->known, head)) {
         from->known = head->sender;
         send_again(it, head->from);
         return true;
     }
-    // The answer says to that process that there is a later one.
-    it->counts.outdated++;
+    // The answer says to that process what is known.
+    it->counts.outdated += head->sender.run <= from->known.saves;
     from->due = true;
     return false;
 }
@@ -65,7 +160,7 @@ static void receive_early(host *it, uint8_t from)
         if (markring_node_next(&it->node, from, &answer) != MARKRING_OK) {
             return;
         }
-        note_change(it);
+        note_change(it, MESSAGE_GROWTH, 0);
     }
 }
 
@@ -74,8 +169,9 @@ static void note_taken(host *it, uint8_t from, int status, const markring_answer
     switch (status) {
     case MARKRING_OK:
         it->counts.frames_in++;
+        it->moved++;
         if (answer->kind == MARKRING_ANSWER_RECEIVED) {
-            note_change(it);
+            note_change(it, MESSAGE_GROWTH, 0);
         } else if (answer->kind == MARKRING_ANSWER_REPEAT) {
             it->counts.repeats++;
             it->peers[from].due = true;
@@ -95,14 +191,6 @@ static void note_taken(host *it, uint8_t from, int status, const markring_answer
     }
 }
 
-// Then programs have to accept letters before the node takes any message.
-static bool has_too_many_letters(host *it)
-{
-    markring_state state;
-    return markring_node_state(&it->node, &state) == MARKRING_OK
-        && state.letters >= it->options.letters_most;
-}
-
 static void take_frame(host *it, uint8_t from, const uint8_t *frame, size_t length)
 {
     markring_answer answer;
@@ -110,7 +198,7 @@ static void take_frame(host *it, uint8_t from, const uint8_t *frame, size_t leng
         it->counts.malformed++;
         return;
     }
-    if (frame[0] == DATA_FRAME && has_too_many_letters(it)) {
+    if (frame[0] == DATA_FRAME && !takes_messages(it)) {
         it->counts.full++;
         return;
     }

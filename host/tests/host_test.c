@@ -7,7 +7,7 @@
 #include <stdio.h>
 #include <stdlib.h>
 
-enum { TURNS = 200, ROOM = 12000, LETTERS = 300, ENTRY_HEAD = 16 };
+enum { TURNS = 200, ROOM = 12000, LETTERS = 300, ENTRY_HEAD = 16, STARTS = LINE + 60 };
 
 static unsigned long passed, failed;
 
@@ -40,6 +40,7 @@ int __wrap_markring_node_image_size(markring_node *node, size_t *size)
 
 typedef struct station {
     host *host;
+    uint64_t nonce; // of the next process
     uint64_t now, number;
     store_value *job;
     int saves; // that the host began
@@ -92,7 +93,7 @@ static void open_host(station *at)
     store_value value = {
         at->stored, at->length, at->end, false, at->end, at->has_entries ? 0 : 1000000};
     host_calls calls = {at, on_send, on_answer, on_save};
-    int status = host_open(&at->host, &value, at->number, NONCE, &options, &calls, at->now);
+    int status = host_open(&at->host, &value, at->number, at->nonce, &options, &calls, at->now);
     HOLDS(status == MARKRING_OK);
 }
 
@@ -102,6 +103,7 @@ static void make_node(station *at, uint8_t own, uint8_t nodes, bool has_entries)
     host_shape shape = {"test", {0}, own, nodes, 8, 64, 0};
     memset(at, 0, sizeof *at);
     memcpy(shape.space, SPACE, SPACE_ID);
+    at->nonce = NONCE;
     at->now = 1000;
     at->number = 10;
     HOLDS(host_create(&shape, &value) == MARKRING_OK);
@@ -167,16 +169,21 @@ static void settle(station *at, store_status status)
     }
 }
 
-// A packet of a process of node 1, which knows this of the process of node 0.
-static void deliver(station *at, process sender, uint64_t known_nonce, uint64_t known_saves)
+// A packet of a node to node 0.
+static void deliver_head(station *at, packet_head head)
 {
     uint8_t bytes[PACKET_HEAD];
     writer to = writer_of(bytes, sizeof bytes);
-    packet_head head = {{0}, 1, 0, sender, known_nonce, known_saves, 0, 0};
     memcpy(head.space, SPACE, SPACE_ID);
     write_packet_head(&to, &head);
     HOLDS(to.ok);
-    host_packet(at->host, at->now, 1, bytes, to.length);
+    host_packet(at->host, at->now, head.from, bytes, to.length);
+}
+
+// A packet of a process of node 1, of an earlier version, which knows this of the process of node 0.
+static void deliver(station *at, process sender, uint64_t known_nonce, uint64_t known_saves)
+{
+    deliver_head(at, (packet_head){{0}, 1, 0, sender, known_nonce, known_saves, 0, 0, 0});
 }
 
 static bool is_process(const process *it, uint64_t nonce, uint64_t run, uint64_t saves)
@@ -195,7 +202,7 @@ static void test_sizes(void)
         settle(&at, STORE_OK);
         HOLDS(host_ended(at.host) == HOST_RUNS && host_counted(at.host)->saves == 1);
         wrong_size = i == 0 ? 1 : SIZE_MAX;
-        note_change(at.host);
+        host_changed(at.host);
         settle(&at, STORE_OK);
         wrong_size = 0;
         HOLDS(host_ended(at.host) == HOST_BROKEN);
@@ -218,7 +225,7 @@ static void test_leaving(void)
         HOLDS(host_counted(at.host)->saves == 1);
         if (way == 1) {
             // A save is under way, without what comes now.
-            note_change(at.host);
+            host_changed(at.host);
             host_turn(at.host, at.now += 10);
             HOLDS(at.job != NULL);
             deliver(&at, (process){9, 5, 8}, NONCE, 11);
@@ -307,8 +314,6 @@ static void test_ages(void)
         HOLDS(at.number == 11);
         deliver(&at, (process){9, 5, 7}, 0, known);
         HOLDS(host_ended(at.host) == HOST_RUNS);
-        deliver(&at, (process){9, 5, 7}, NONCE, known);
-        HOLDS(host_ended(at.host) == HOST_RUNS);
         deliver(&at, (process){9, 5, 7}, NONCE + 1, known);
         HOLDS(host_ended(at.host) == (known >= 11 ? HOST_OLDER : HOST_RUNS));
         drop(&at);
@@ -327,6 +332,260 @@ static void test_ages(void)
     HOLDS(is_process(&at.host->peers[1].known, 9, 5, 7));
     deliver(&at, (process){10, 8, 8}, NONCE, 11);
     HOLDS(is_process(&at.host->peers[1].known, 10, 8, 8) && host_counted(at.host)->outdated == 1);
+    drop(&at);
+    free(at.stored);
+}
+
+// A snapshot of a machine with its memory: another node knows saves that this process didn't make.
+static void test_snapshots(void)
+{
+    for (uint64_t known = 11; known <= 13; known++) {
+        station at;
+        make(&at);
+        settle(&at, STORE_OK);
+        host_changed(at.host);
+        settle(&at, STORE_OK);
+        HOLDS(at.number == 12);
+        deliver(&at, (process){9, 5, 7}, NONCE, known);
+        HOLDS(host_ended(at.host) == (known > 12 ? HOST_OLDER : HOST_RUNS));
+        HOLDS(known <= 12 || strstr(host_reason(at.host), "this process hasn't made") != NULL);
+        drop(&at);
+        free(at.stored);
+    }
+    // Of two packets of one process, the one with fewer saves is late, or of a snapshot, which is
+    // told.
+    station at;
+    make(&at);
+    settle(&at, STORE_OK);
+    deliver(&at, (process){9, 5, 7}, NONCE, 11);
+    settle(&at, STORE_OK);
+    int packets = at.packets;
+    deliver(&at, (process){9, 5, 7}, NONCE, 11);
+    settle(&at, STORE_OK);
+    HOLDS(at.packets == packets);
+    deliver(&at, (process){9, 5, 6}, NONCE, 11);
+    settle(&at, STORE_OK);
+    HOLDS(at.packets == packets + 1 && at.last.to == 1 && at.last.known_saves == 7);
+    drop(&at);
+    free(at.stored);
+}
+
+// The nonces and the saves of the processes on one folder.
+static struct {
+    uint64_t nonce, run, last;
+} ran[STARTS];
+static int ran_count;
+
+// Another process on this folder, which makes some saves.
+static void start_again(station *at, int saves)
+{
+    drop(at);
+    at->nonce++;
+    open_host(at);
+    ran[ran_count].nonce = at->nonce;
+    ran[ran_count].run = at->number + 1;
+    settle(at, STORE_OK);
+    for (int i = 1; i < saves; i++) {
+        host_changed(at->host);
+        settle(at, STORE_OK);
+    }
+    ran[ran_count++].last = at->number;
+}
+
+// Whether the process goes on when node 1 says that it knows this. If not, it is opened again.
+static bool accepts(station *at, uint64_t nonce, uint64_t save)
+{
+    deliver(at, (process){9, 5, 7}, nonce, save);
+    if (host_ended(at->host) == HOST_RUNS) {
+        return true;
+    }
+    HOLDS(host_ended(at->host) == HOST_OLDER && !options.trusts_folder);
+    start_again(at, 1);
+    return false;
+}
+
+// What another node may know of a folder that is the newest one is taken; everything else ends the
+// process, as long as the folder knows all of its processes.
+static void test_line(void)
+{
+    for (int way = 0; way < 2; way++) {
+        station at;
+        ran_count = 0;
+        make_node(&at, 0, 3, way == 1);
+        start_again(&at, 3);
+        for (int i = 0; i < 6; i++) {
+            start_again(&at, 1 + i % 3);
+        }
+        for (int i = 0; i < 7; i++) {
+            for (uint64_t save = ran[0].run; save <= ran[6].last; save++) {
+                bool is_own = save >= ran[i].run && save <= ran[i].last;
+                HOLDS(accepts(&at, ran[i].nonce, save) == is_own);
+                HOLDS(!accepts(&at, 5, save));
+            }
+            // The first process, and no process.
+            HOLDS(accepts(&at, NONCE, ran[0].run - 1) && accepts(&at, 0, 0));
+        }
+        drop(&at);
+        free(at.stored);
+    }
+}
+
+// A folder with very many processes: no true word is refused, and those of the first processes and
+// of the last ones are told from wrong ones.
+static void test_long_line(void)
+{
+    station at;
+    ran_count = 0;
+    make_node(&at, 0, 3, true);
+    for (int i = 0; i < LINE + 40; i++) {
+        start_again(&at, 1 + (i % 50 == 0));
+    }
+    HOLDS(at.host->line_count <= LINE);
+    for (int i = 0; i < LINE + 40; i++) {
+        HOLDS(accepts(&at, ran[i].nonce, ran[i].run) && accepts(&at, ran[i].nonce, ran[i].last));
+    }
+    HOLDS(ran_count == LINE + 40);
+    // What is forgotten is in the middle.
+    HOLDS(accepts(&at, 5, ran[LINE / 2 + 10].run));
+    HOLDS(!accepts(&at, 5, ran[0].run) && !accepts(&at, 5, ran[LINE / 4].run));
+    HOLDS(!accepts(&at, ran[3].nonce, ran[4].run) && !accepts(&at, 5, ran[LINE].run));
+    // Once all know the process that runs, nothing before it has to be known.
+    HOLDS(at.host->line_count == LINE);
+    for (uint8_t node = 1; node < 3; node++) {
+        packet_head head = {{0}, node, 0, {node, 1, 1}, at.nonce, at.number, 0, 0, NO_WORD};
+        deliver_head(&at, head);
+        HOLDS(at.host->line_count == (node == 1 ? LINE : 2));
+    }
+    host_changed(at.host);
+    settle(&at, STORE_OK);
+    start_again(&at, 1);
+    HOLDS(at.host->line_count == 3 && accepts(&at, 5, ran[0].run));
+    drop(&at);
+    free(at.stored);
+}
+
+// Another process of node 1 shows itself: nothing of it is taken before it says that it has heard
+// what is known of that node, unless it is of an earlier version.
+static void test_meeting(void)
+{
+    static const uint64_t fits[] = {NO_WORD, 9 ^ 6, 10 ^ 7, 9 ^ 7, 0};
+    for (size_t i = 0; i < sizeof fits / sizeof *fits; i++) {
+        station at;
+        bool is_taken = i >= 3;
+        make(&at);
+        settle(&at, STORE_OK);
+        HOLDS(at.last.fits == NO_WORD);
+        deliver(&at, (process){9, 5, 7}, NONCE, 11);
+        settle(&at, STORE_OK);
+        int packets = at.packets;
+        deliver_head(&at, (packet_head){{0}, 1, 0, {20, 8, 9}, NONCE + 1, 10, 0, 0, fits[i]});
+        HOLDS(is_process(&at.host->peers[1].known, 20, 8, 9) == is_taken);
+        settle(&at, STORE_OK);
+        HOLDS(at.packets == packets + 1 && at.last.to == 1);
+        HOLDS(at.last.known_nonce == (is_taken ? 20 : 9));
+        HOLDS(at.last.fits == ((NONCE + 1) ^ 10));
+        // It says so, having heard that.
+        deliver_head(&at, (packet_head){{0}, 1, 0, {20, 8, 9}, NONCE, 11, 0, 0, 9 ^ 7});
+        HOLDS(is_process(&at.host->peers[1].known, 20, 8, 9));
+        HOLDS(host_counted(at.host)->outdated == 0 && host_ended(at.host) == HOST_RUNS);
+        drop(&at);
+        free(at.stored);
+    }
+}
+
+// A value with two entries, as a host of the first version saved it: of node 0 of 2, with one object;
+// a program was opened and made a request; save 7 of a process of node 1 was heard of.
+static const char *const OLD[] = {
+    "036f6c64010203040506070800020000000000000000000000000000000000000000000000000000000000000000"
+    "00000000000000000000000000000000000000000000000000000000000000006a4d520302000001000000020000"
+    "00000000000000000000000000000000000000000000000000000000000000000000000000000000000000000000"
+    "00000000000000000000000000000000000000000000000000000000000000000000000000000000000000000000"
+    "00",
+    "000000000000000000080000000000000000",
+    "01010000000000000009000000000000000500000000000000070103000000000000006400000000000000010000"
+    "00000000000100010000010000000000000000000000000000000000000000000000000000000000000000000000"
+    "0000000001000000000000000c000000000000000401000001"};
+
+static void write_hex(writer *to, const char *text)
+{
+    for (; text[0] != 0; text += 2) {
+        char pair[3] = {text[0], text[1], 0};
+        write_number(to, strtoul(pair, NULL, 16), 1);
+    }
+}
+
+// What a host of the first version saved is opened, and saved again as a whole value.
+static void test_old_folder(void)
+{
+    uint8_t bytes[1024] = {0};
+    station at;
+    memset(&at, 0, sizeof at);
+    at.now = 1000;
+    at.nonce = NONCE;
+    at.number = 3;
+    at.length = strlen(OLD[0]) / 2;
+    writer to = writer_of(bytes, sizeof bytes);
+    to.length = STORE_HEAD;
+    write_hex(&to, OLD[0]);
+    to.length += STORE_TAIL;
+    for (uint64_t number = 2; number <= 3; number++) {
+        write_number(&to, strlen(OLD[number - 1]) / 2, 8);
+        write_number(&to, number, 8);
+        write_hex(&to, OLD[number - 1]);
+        to.length += STORE_TAIL;
+    }
+    at.stored = malloc(sizeof bytes);
+    memcpy(at.stored, bytes, sizeof bytes);
+    at.end = to.length;
+    at.has_entries = true;
+    for (int i = 0; i < 2; i++) {
+        open_host(&at);
+        HOLDS(is_process(&at.host->peers[1].known, 9, 5, 7));
+        HOLDS(at.host->programs[3].number == 1 && at.host->programs[3].session == 100);
+        HOLDS(at.host->programs[3].count == 1 && at.host->line_count == 2u + (unsigned)i);
+        markring_state state = {0};
+        HOLDS(markring_node_state(host_node(at.host), &state) == MARKRING_OK && state.live == 1);
+        settle(&at, STORE_OK);
+        HOLDS(at.end > STORE_HEAD + at.length + STORE_TAIL || i == 0);
+        HOLDS(at.stored[STORE_HEAD] == 0x82);
+        drop(&at);
+        at.nonce++;
+    }
+    free(at.stored);
+}
+
+// Each node is told of a save within a second; of many saves, once a second; of none, never.
+static void test_telling(void)
+{
+    station at;
+    make(&at);
+    for (int i = 0; i < 300; i++) {
+        turn(&at, 10, STORE_OK);
+    }
+    int packets = at.packets;
+    HOLDS(host_wait(at.host, at.now) > 1000000);
+    for (int i = 0; i < 300; i++) {
+        turn(&at, 10, STORE_OK);
+    }
+    HOLDS(at.packets == packets);
+    host_changed(at.host);
+    turn(&at, 10, STORE_OK);
+    turn(&at, 10, STORE_OK);
+    HOLDS(at.packets == packets && host_wait(at.host, at.now) <= 1000);
+    turn(&at, 1000, STORE_OK);
+    HOLDS(at.packets == packets + 2 && at.last.sender.saves == at.number);
+    packets = at.packets;
+    for (int i = 0; i < 1000; i++) {
+        host_changed(at.host);
+        turn(&at, 10, STORE_OK);
+        turn(&at, 0, STORE_OK);
+    }
+    HOLDS(at.packets >= packets + 2 * 9 && at.packets <= packets + 2 * 11);
+    // A process that leaves says to the others which save is the last.
+    host_changed(at.host);
+    host_leave(at.host);
+    settle(&at, STORE_OK);
+    HOLDS(host_ended(at.host) == HOST_LEFT && at.last.sender.saves == at.number);
     drop(&at);
     free(at.stored);
 }
@@ -442,13 +701,13 @@ static void test_order(void)
             write_event(&to, &(markring_event){.kind = MARKRING_EVENT_ALLOC, .reg = 1, .place = 1});
         }
         at.answers = 0;
-        note_change(at.host);
+        host_changed(at.host);
         host_request(at.host, at.now, bytes, to.length, "r");
         host_turn(at.host, at.now += 10);
         int saves = at.saves;
         HOLDS(at.job != NULL && at.answers == 0);
         // What changes meanwhile is for the next save.
-        note_change(at.host);
+        host_changed(at.host);
         for (int k = 0; k < 3; k++) {
             host_turn(at.host, at.now += 1000);
         }
@@ -506,7 +765,7 @@ static void test_held(void)
     station at;
     make(&at);
     settle(&at, STORE_OK);
-    note_change(at.host);
+    host_changed(at.host);
     host_turn(at.host, at.now += 10);
     HOLDS(at.job != NULL);
     for (uint64_t number = 1; number <= HELD_ANSWERS + 100; number++) {
@@ -522,6 +781,65 @@ static void test_held(void)
     HOLDS(at.answers == HELD_ANSWERS);
     drop(&at);
     free(at.stored);
+}
+
+static unsigned long long image_of(station *at)
+{
+    host_control(at->host, at->now, "status", 6, "r");
+    at->text[at->told] = 0;
+    const char *found = strstr((const char *)at->text, "\"image\": ");
+    HOLDS(found != NULL);
+    return found != NULL ? strtoull(found + 9, NULL, 10) : 0;
+}
+
+// The status says how many bytes the image has, and that stays so when events change none of them.
+static void test_image(void)
+{
+    station at;
+    markring_answer answer;
+    size_t size = 0;
+    make_node(&at, 0, 3, true);
+    settle(&at, STORE_OK);
+    markring_node *node = host_node(at.host);
+    HOLDS(markring_node_alloc(node, 0, 8, &answer) == MARKRING_OK);
+    for (uint64_t word = 0; word < 5000; word++) {
+        HOLDS(markring_node_set_word(node, 0, word, &answer) == MARKRING_OK);
+        host_changed(at.host);
+        turn(&at, 10, STORE_OK);
+    }
+    HOLDS(markring_node_image_size(node, &size) == MARKRING_OK && image_of(&at) == size);
+    for (int i = 0; i < 1000; i++) {
+        HOLDS(markring_node_give(node, 1, 1, 0, &answer) == MARKRING_OK);
+        host_changed(at.host);
+        turn(&at, 10, STORE_OK);
+    }
+    HOLDS(markring_node_image_size(node, &size) == MARKRING_OK && size > 20000);
+    HOLDS(image_of(&at) <= size && image_of(&at) > size / 2);
+    drop(&at);
+    free(at.stored);
+}
+
+// A saved value whose program had more results than a request has events isn't one.
+static void test_results(void)
+{
+    for (uint16_t count = REQUEST_EVENTS; count <= REQUEST_EVENTS + 1; count++) {
+        station at;
+        answer_head head;
+        make(&at);
+        settle(&at, STORE_OK);
+        HOLDS(ask(&at, (request_head){REQUEST_OPEN, 3, 100, 1, 0}, -1, &head) == 1);
+        at.host->programs[3].results = calloc(count, RESULT_BYTES);
+        at.host->programs[3].count = count;
+        host_changed(at.host);
+        settle(&at, STORE_OK);
+        drop(&at);
+        store_value value = {at.stored, at.length, at.end, false, at.end, 0};
+        host_calls calls = {&at, on_send, on_answer, on_save};
+        int status = host_open(&at.host, &value, at.number, NONCE, &options, &calls, at.now);
+        HOLDS(status == (count > REQUEST_EVENTS ? MARKRING_BAD_IMAGE : MARKRING_OK));
+        drop(&at);
+        free(at.stored);
+    }
 }
 
 // ## Two nodes
@@ -681,6 +999,138 @@ static void test_letters(void)
     options.letters_most = 0;
 }
 
+static markring_state state_of(int own)
+{
+    markring_state state = {0};
+    HOLDS(markring_node_state(host_node(pair[own].host), &state) == MARKRING_OK);
+    return state;
+}
+
+static void accept(int own, uint64_t count)
+{
+    markring_answer answer;
+    for (; count > 0; count--) {
+        HOLDS(markring_node_accept(host_node(pair[own].host), 0, &answer) == MARKRING_OK);
+        host_changed(pair[own].host);
+    }
+}
+
+// While a node's image is too large for messages, it takes none; but what it holds is enough for
+// the next cycle.
+static void test_tight(void)
+{
+    options.image_tight = 4000;
+    make_pair();
+    go_on(20, 10);
+    for (uint32_t label = 0; label < LETTERS; label++) {
+        give(0, label);
+    }
+    go_on(300, 10);
+    uint64_t letters = state_of(1).letters;
+    HOLDS(letters > 20 && letters < 4000 / JOINING && acknowledged(0) == letters);
+    HOLDS(host_counted(pair[1].host)->full > 0);
+    // The same after a restart.
+    drop(&pair[1]);
+    pair[1].nonce++;
+    open_host(&pair[1]);
+    go_on(300, 10);
+    HOLDS(state_of(1).letters == letters);
+    // No cycle begins at a node that has no room for it.
+    drop_pair();
+    options.image_tight = 0;
+    make_pair();
+    go_on(20, 10);
+    for (uint32_t label = 0; label < LETTERS; label++) {
+        give(1, label);
+    }
+    go_on(300, 10);
+    HOLDS(state_of(0).letters == LETTERS);
+    pair[0].host->options.image_tight = 8000;
+    host_control(pair[0].host, pair[0].now, "begin", 5, "r");
+    go_on(100, 10);
+    HOLDS(state_of(0).cycle == 0 && host_wait(pair[0].host, pair[0].now) <= RETRY);
+    accept(0, LETTERS);
+    go_on(100, 10);
+    HOLDS(state_of(0).cycle == 1 && state_of(0).swept == 1);
+    for (int own = 0; own < 2; own++) {
+        HOLDS(host_ended(pair[own].host) == HOST_RUNS);
+    }
+    drop_pair();
+}
+
+// Letters that nobody accepts are as many as fit, and then come one after another as there is room.
+static void test_room(void)
+{
+    options.image_tight = 4000;
+    make_pair();
+    go_on(20, 10);
+    for (uint32_t label = 0; label < LETTERS; label++) {
+        give(0, label);
+    }
+    for (uint64_t accepted = 0; accepted < LETTERS;) {
+        go_on(200, 10);
+        uint64_t letters = state_of(1).letters;
+        HOLDS(letters > 0);
+        accept(1, letters);
+        accepted = letters > 0 ? accepted + letters : LETTERS;
+    }
+    go_on(100, 10);
+    HOLDS(acknowledged(0) == LETTERS && state_of(1).letters == 0);
+    options.image_tight = 0;
+    drop_pair();
+}
+
+// A request of program 0 of node 1 for as many Gets as fit. Returns the status of the last one.
+static int ask_gets(uint64_t number)
+{
+    uint8_t bytes[REQUEST_BYTES];
+    writer to = writer_of(bytes, sizeof bytes);
+    write_request_head(&to, &(request_head){REQUEST_PERFORM, 0, 100, number, REQUEST_EVENTS});
+    for (int i = 0; i < REQUEST_EVENTS; i++) {
+        write_event(&to, &(markring_event){.kind = MARKRING_EVENT_GET, .object = 1});
+    }
+    pair[1].answers = 0;
+    host_request(pair[1].host, pair[1].now, bytes, to.length, "r");
+    go_on(30, 10);
+    HOLDS(pair[1].answers == 1 && pair[1].told >= RESULT_BYTES);
+    reader last = reader_of(pair[1].text + pair[1].told - RESULT_BYTES, RESULT_BYTES);
+    markring_result found;
+    read_result(&last, &found);
+    return found.status;
+}
+
+// A program asks another node for what places hold, again and again, and nobody accepts answers.
+static void test_gets(void)
+{
+    markring_answer answer;
+    answer_head head;
+    options.letters_most = 20;
+    make_pair();
+    go_on(20, 10);
+    HOLDS(markring_node_alloc(host_node(pair[0].host), 1, 1, &answer) == MARKRING_OK);
+    HOLDS(markring_node_give(host_node(pair[0].host), 1, 1, 1, &answer) == MARKRING_OK);
+    host_changed(pair[0].host);
+    go_on(30, 10);
+    HOLDS(markring_node_accept(host_node(pair[1].host), 1, &answer) == MARKRING_OK);
+    host_changed(pair[1].host);
+    HOLDS(ask(&pair[1], (request_head){REQUEST_OPEN, 0, 100, 1, 0}, -1, &head) == 1);
+    uint64_t number = 1;
+    for (; number <= 50; number++) {
+        int status = ask_gets(number);
+        HOLDS(status == (number == 1 ? MARKRING_OK : MARKRING_NOT_DONE));
+    }
+    size_t size = 0;
+    HOLDS(markring_node_image_size(host_node(pair[0].host), &size) == MARKRING_OK && size < 30000);
+    HOLDS(host_ended(pair[0].host) == HOST_RUNS && host_ended(pair[1].host) == HOST_RUNS);
+    for (int i = 0; i < 20; i++) {
+        accept(1, state_of(1).letters);
+        go_on(30, 10);
+    }
+    HOLDS(state_of(1).letters == 0 && ask_gets(number) == MARKRING_OK);
+    options.letters_most = 0;
+    drop_pair();
+}
+
 // A process waits for a letter, and then another one opens its program: the first one is answered.
 static void test_waiting(void)
 {
@@ -707,15 +1157,26 @@ int main(void)
     test_leaving();
     test_lies();
     test_ages();
+    test_snapshots();
+    test_line();
+    test_long_line();
+    test_meeting();
+    test_old_folder();
+    test_telling();
     test_requests();
     test_order();
     test_restarts();
     test_held();
+    test_image();
+    test_results();
     test_pace();
     test_absence();
     test_losses();
     test_cycle();
     test_letters();
+    test_tight();
+    test_room();
+    test_gets();
     test_waiting();
     printf("%lu passed, %lu failed\n", passed, failed);
     return failed != 0 || passed == 0;

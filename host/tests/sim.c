@@ -1,8 +1,8 @@
 // Several hosts in one thread, by seed, with their programs. The net loses, repeats and reorders
 // packets. Calls of the disks fail, and their writes are lost or torn. Processes and machines stop
-// at any call, allocations fail, and the clock jumps. Each answer is compared with a
-// model of the programs; at checkpoints, each node comes to have exactly the objects that the model
-// reaches.
+// at any call, allocations fail, and the clock jumps. Older folders and snapshots of machines are put
+// back, nodes are stopped, and programs flood nodes. Each answer is compared with a model of the
+// programs; at checkpoints, each node comes to have exactly the objects that the model reaches.
 //
 //     sim SEEDS [FIRST [STEPS]]
 #include "../inside.h"
@@ -24,7 +24,10 @@ enum {
     OPERATIONS = 48,  // of a request
     NET = 512,
     CHECKPOINTS = 3,
-    OLDEST = 3 // copies of disks, for mixing up
+    STARTS_MOST = 6,   // of an older folder, while the other nodes are away
+    MIXED = 200,
+    FLOOD = 150,       // requests
+    TIGHT = 60000      // bytes of an image that takes no messages
 };
 
 // ## Random numbers and checks
@@ -211,8 +214,10 @@ typedef struct station {
     uint64_t job_ends;
     uint64_t starts_at; // if it has no host
     bool touched;       // something came since the last turn
+    uint64_t full_until; // its disk has no room
     disk copy;
     uint64_t copy_number;
+    process copied; // that had the folder then
     bool has_copy;
     // It was asked to stop, and did. What it knew then is in its folder.
     bool has_left;
@@ -244,12 +249,15 @@ static station stations[MOST];
 static part parts[MOST][PARTS];
 static uint8_t nodes;
 static uint64_t now, limit;
-static bool is_calm; // no faults
+static bool is_calm;  // no faults
+static bool is_quick; // saves take a few milliseconds
+static bool is_still; // nobody asks for cycles
 static packet net[NET];
 static int in_net;
 static unsigned long full, tight, readings;
 static unsigned long crashes, powers, cycles, answered, lost, requests, checkpoints, mixed,
-    failed_saves, failed_calls, stops, stopped;
+    failed_saves, failed_calls, stops, stopped, barely, again, snapshots, floods, absences,
+    congested;
 
 static void drop_packet(int at)
 {
@@ -315,7 +323,7 @@ static void on_save(void *context, store_value *value)
     // The value of a save that is under way is the caller's.
     HOLDS(at->job == NULL);
     at->job = value;
-    at->job_ends = now + (below(3) == 0 ? below(60) : 0);
+    at->job_ends = now + (is_quick ? below(10) : below(3) == 0 ? below(60) : 0);
 }
 
 static uint64_t due_after(const station *at)
@@ -349,7 +357,7 @@ static void arm(station *at)
 {
     bool wild = !is_calm && below(40) == 0;
     at->disk.failing = wild ? 1 + below(200) : 0;
-    at->disk.without_memory = !is_calm && below(60) == 0;
+    at->disk.without_memory = !is_calm && (now < at->full_until || below(60) == 0);
     at->disk.dies_in = !is_calm && below(400) == 0 ? 1 + below(6) : 0;
     refuse_in = !is_calm && below(60) == 0 ? 1 + below(12) : 0;
     in_host = true;
@@ -372,6 +380,8 @@ static void disarm(station *at)
 // The node whose folder is an older copy, and whether its process has ended for that.
 static int mixed_node = -1;
 static bool mixed_found;
+static uint64_t mixed_nonces[MIXED]; // of the processes that ran on it
+static int mixed_count;
 
 static void expect_end(station *at)
 {
@@ -404,8 +414,11 @@ static int start(station *at)
     store_status status = store_open(&at->store, &calls, "folder", &value);
     int opened = MARKRING_MEMORY;
     if (status == STORE_OK) {
-        opened =
-            host_open(&at->host, &value, at->store.number, random_nonce(), &options, &events, now);
+        uint64_t nonce = random_nonce();
+        opened = host_open(&at->host, &value, at->store.number, nonce, &options, &events, now);
+        if (at - stations == mixed_node && mixed_count < MIXED) {
+            mixed_nonces[mixed_count++] = nonce;
+        }
         HOLDS(opened == MARKRING_OK || opened == MARKRING_MEMORY);
         for (uint8_t node = 0; node < nodes && at->has_left && opened == MARKRING_OK; node++) {
             const process *known = &at->host->peers[node].known, *left = &at->known[node];
@@ -665,6 +678,10 @@ static void check_done(part *it, const markring_event *event, const markring_ans
 static bool is_right_refusal(const part *it, const markring_event *event, int status)
 {
     bool is_tight = options.image_most > 0;
+    if (is_tight && status == MARKRING_CONGESTED && event->kind == MARKRING_EVENT_GET) {
+        congested++;
+        return true;
+    }
     if (is_tight && status == MARKRING_IMAGE_TOO_LARGE && event->kind != MARKRING_EVENT_ACCEPT
         && event->kind != MARKRING_EVENT_DROP) {
         tight++;
@@ -885,6 +902,8 @@ static void step(void)
             stop(&stations[node], below(2) == 0);
         }
         if (stations[node].host != NULL && !is_calm && below(1200) == 0) {
+            // Perhaps its disk is full.
+            stations[node].full_until = now + (below(3) == 0 ? below(2000) : 0);
             host_control(stations[node].host, now, "stop", 4, "s");
             stations[node].touched = true;
             stops++;
@@ -893,73 +912,10 @@ static void step(void)
     if (!is_calm && below(50) == 0) {
         forge();
     }
-    if (stations[0].host != NULL && below(400) == 0) {
+    if (stations[0].host != NULL && !is_still && below(400) == 0) {
         host_control(stations[0].host, now, "begin", 5, "c");
         stations[0].touched = true;
     }
-}
-
-// ## Folders that are mixed up
-
-// Whether each other node knows a save of this node that is later than the copy's.
-static bool is_known(uint8_t node, uint64_t number)
-{
-    for (uint8_t other = 0; other < nodes; other++) {
-        host *it = stations[other].host;
-        if (other != node && (it == NULL || it->peers[node].known.saves <= number)) {
-            return false;
-        }
-    }
-    return true;
-}
-
-// Until the process has ended, a program could be told what no newer folder knows.
-static void drop_requests(uint8_t node)
-{
-    for (int at = in_net; at-- > 0;) {
-        if (net[at].kind == 1 && net[at].to == node) {
-            drop_packet(at);
-        }
-    }
-}
-
-// An older copy of a node's folder takes its place. Its process has to end, and to say why.
-static void mix_up(uint8_t node)
-{
-    station *at = &stations[node];
-    disk newest;
-    memset(&newest, 0, sizeof newest);
-    if (!at->has_copy || !is_known(node, at->copy_number)) {
-        return;
-    }
-    if (at->host != NULL) {
-        stop(at, false);
-    }
-    disk_copy(&newest, &at->disk);
-    disk_copy(&at->disk, &at->copy);
-    disk_kill(&at->disk);
-    at->has_left = false;
-    is_calm = true;
-    at->starts_at = now;
-    mixed_node = node;
-    mixed_found = false;
-    for (int i = 0; i < 4000 && !mixed_found && failures == 0; i++) {
-        now++;
-        drop_requests(node);
-        deliver_due();
-        for (uint8_t other = 0; other < nodes && !mixed_found; other++) {
-            take_turn(&stations[other]);
-        }
-    }
-    HOLDS(mixed_found);
-    mixed_node = -1;
-    is_calm = false;
-    mixed++;
-    stop(at, false);
-    disk_copy(&at->disk, &newest);
-    disk_kill(&at->disk);
-    disk_free(&newest);
-    at->has_copy = false;
 }
 
 // ## Checkpoints
@@ -1109,6 +1065,7 @@ static void checkpoint(void)
 static void drop_all(void)
 {
     is_calm = true;
+    accept_all();
     for (uint8_t node = 0; node < nodes && failures == 0; node++) {
         for (uint16_t reg = 0; reg < REGISTERS && failures == 0; reg++) {
             part *it = &parts[node][reg >= 5];
@@ -1125,23 +1082,419 @@ static void drop_all(void)
     }
 }
 
+// ## Folders that are mixed up
+
+// Whether each other node knows a save of this node that is later than the copy's.
+static bool is_known(uint8_t node, uint64_t number)
+{
+    for (uint8_t other = 0; other < nodes; other++) {
+        host *it = stations[other].host;
+        if (other != node && (it == NULL || it->peers[node].known.saves <= number)) {
+            return false;
+        }
+    }
+    return true;
+}
+
+// Until the process has ended, a program could be told what no newer folder knows.
+static void drop_requests(uint8_t node)
+{
+    for (int at = in_net; at-- > 0;) {
+        if (net[at].kind == 1 && net[at].to == node) {
+            drop_packet(at);
+        }
+    }
+}
+
+// The last save of a node that another one knows.
+static uint64_t last_known(uint8_t node)
+{
+    uint64_t last = 0;
+    for (uint8_t other = 0; other < nodes; other++) {
+        host *it = stations[other].host;
+        uint64_t saves = it != NULL && other != node ? it->peers[node].known.saves : 0;
+        last = saves > last ? saves : last;
+    }
+    return last;
+}
+
+// No other node takes a process on the older folder for the latest one.
+static void expect_unknown(uint8_t node)
+{
+    for (uint8_t other = 0; other < nodes; other++) {
+        host *it = stations[other].host;
+        for (int i = 0; i < mixed_count && it != NULL && other != node; i++) {
+            HOLDS(it->peers[node].known.nonce != mixed_nonces[i]);
+        }
+    }
+}
+
+// The process of a copy works for a while. Packets to it and of it are lost.
+static void work_alone(station *at, int changes)
+{
+    for (int i = 0; i < (changes < 0 ? 3 : 40) && failures == 0; i++) {
+        now++;
+        if (at->host != NULL && i % 4 == 3 && changes-- > 0) {
+            host_changed(at->host);
+        }
+        at->touched = true;
+        take_turn(at);
+        while (in_net > 0) {
+            drop_packet(0);
+        }
+    }
+}
+
+// While the others are away, processes begin on a copy of the folder, one after another, until one
+// has made more saves than the others know of. Any of them may crash before its first save.
+static void start_again(station *at)
+{
+    int starts = 1 + (int)below(STARTS_MOST);
+    uint64_t last = last_known((uint8_t)(at - stations));
+    for (int i = 0; i < starts || (at->store.number <= last && i < 100); i++) {
+        if (at->host != NULL) {
+            stop(at, false);
+        }
+        at->starts_at = now;
+        work_alone(at, below(5) == 0 ? -1 : (int)below(10));
+    }
+    again++;
+    if (below(2) == 0) {
+        // The next process is the first to speak; else the others are.
+        stop(at, false);
+        at->starts_at = now;
+        return;
+    }
+    for (uint8_t other = 0; other < nodes; other++) {
+        if (&stations[other] != at && stations[other].host != NULL) {
+            host_connected(stations[other].host, now);
+            stations[other].touched = true;
+        }
+    }
+}
+
+// The process of the copy goes on as the one that the copy was made of.
+static void restore_memory(station *at, const process *was)
+{
+    host *it = at->host;
+    if (!HOLDS(it != NULL)) {
+        return;
+    }
+    it->nonce = was->nonce;
+    it->run = was->run;
+    it->kept = it->images = 1;
+    it->changed = false;
+    it->line_count--;
+    snapshots++;
+}
+
+typedef enum mixing { OLDER, OLDER_AGAIN, OLDER_MEMORY } mixing;
+
+// All but the one station that is mixed up work; what programs ask of it is lost.
+static void await_end(uint8_t node)
+{
+    for (int i = 0; i < 6000 && !mixed_found && failures == 0; i++) {
+        now++;
+        drop_requests(node);
+        deliver_due();
+        for (uint8_t other = 0; other < nodes && !mixed_found; other++) {
+            take_turn(&stations[other]);
+        }
+    }
+    HOLDS(mixed_found);
+}
+
+// An older copy of a node's folder takes its place, or an older state of its machine. The process
+// has to end, and to say why; and no other node takes it for the latest.
+static void mix_up(uint8_t node, mixing how)
+{
+    station *at = &stations[node];
+    disk newest;
+    memset(&newest, 0, sizeof newest);
+    if (!at->has_copy || !is_known(node, at->copy_number)) {
+        return;
+    }
+    if (at->host != NULL) {
+        stop(at, false);
+    }
+    disk_copy(&newest, &at->disk);
+    disk_copy(&at->disk, &at->copy);
+    disk_kill(&at->disk);
+    at->has_left = false;
+    is_calm = true;
+    at->starts_at = now;
+    mixed_node = node;
+    mixed_found = false;
+    mixed_count = 0;
+    if (how == OLDER_AGAIN) {
+        start_again(at);
+    } else if (how == OLDER_MEMORY) {
+        (void)start(at);
+        restore_memory(at, &at->copied);
+    }
+    await_end(node);
+    expect_unknown(node);
+    mixed_node = -1;
+    is_calm = false;
+    mixed++;
+    stop(at, false);
+    disk_copy(&at->disk, &newest);
+    disk_kill(&at->disk);
+    disk_free(&newest);
+    at->has_copy = false;
+}
+
+static void keep_copy(uint8_t node)
+{
+    station *at = &stations[node];
+    if (at->host != NULL && at->job == NULL && at->host->kept > 0) {
+        disk_copy(&at->copy, &at->disk);
+        at->copy_number = at->store.number;
+        at->copied = (process){at->host->nonce, at->host->run, at->host->stored};
+        at->has_copy = true;
+    }
+}
+
+// A node's folder as it was before its last save, or before some more. Everything is at rest, so
+// the others hear of the last one only because they are told within a second.
+static void mix_up_at_rest(uint8_t node)
+{
+    station *at = &stations[node];
+    uint32_t saves = below(2) == 0 ? 1 : 1 + below(30);
+    is_calm = is_still = true;
+    keep_copy(node);
+    for (uint32_t i = 0; i < saves && at->host != NULL; i++) {
+        at->host->changed = true;
+        for (int k = 0; k < (i + 1 == saves ? 1100 : 100); k++) {
+            step();
+        }
+    }
+    HOLDS(at->host != NULL && at->has_copy && is_known(node, at->copy_number + saves - 1));
+    barely += at->store.number == at->copy_number + 1;
+    mix_up(node, (mixing)below(3));
+    is_calm = true;
+    settle();
+    is_calm = is_still = false;
+}
+
+// ## What holds at rest
+
+// What this node has sent again, what came again, and what came of earlier processes.
+static uint64_t count_waste(uint8_t node)
+{
+    const host_counts *counts = host_counted(stations[node].host);
+    return counts->resends + counts->repeats + counts->outdated;
+}
+
+// A program gives some letters.
+static void give_letters(part *it)
+{
+    it->count = 0;
+    plan_gives(it, random_register(it));
+    it->asks = true;
+    requests++;
+    ask(it);
+}
+
+// Nothing is lost or late, so nothing is sent again.
+static void expect_pace(void)
+{
+    uint64_t before[MOST];
+    is_calm = is_quick = true;
+    if (!settle()) {
+        return;
+    }
+    for (uint8_t node = 0; node < nodes; node++) {
+        before[node] = count_waste(node);
+    }
+    for (int i = 0; i < 20 && failures == 0; i++) {
+        part *it = &parts[below(nodes)][0];
+        if (!it->asks) {
+            give_letters(it);
+        }
+        for (uint32_t steps = below(30); steps > 0; steps--) {
+            step();
+        }
+    }
+    settle();
+    for (uint8_t node = 0; node < nodes && failures == 0; node++) {
+        HOLDS(count_waste(node) == before[node]);
+    }
+    is_calm = is_quick = false;
+}
+
+// The clock goes on to the next thing that happens, and at most this long.
+static void leap(uint64_t most)
+{
+    for (uint8_t node = 0; node < nodes; node++) {
+        const station *at = &stations[node];
+        uint64_t wait = most;
+        if (at->host != NULL) {
+            wait = at->touched || at->job != NULL ? 1 : due_after(at);
+        }
+        most = wait < most ? wait : most;
+    }
+    most = in_net > 0 || most < 1 ? 1 : most;
+    now += most - 1;
+    step();
+}
+
+static uint64_t resends_within(const station *at, uint64_t time)
+{
+    uint64_t end = now + time, before = host_counted(at->host)->resends;
+    while (now < end && failures == 0) {
+        leap(end - now);
+    }
+    return host_counted(at->host)->resends - before;
+}
+
+// A node is away, and another one has a letter for it: it sends it again, ever more rarely, but
+// each 1.6 seconds at least.
+static void expect_absence(void)
+{
+    uint8_t node = (uint8_t)below(nodes);
+    station *away = &stations[node], *at = &stations[(node + 1) % nodes];
+    part *it = &parts[(node + 1) % nodes][0];
+    is_calm = is_quick = true;
+    if (!settle()) {
+        return;
+    }
+    stop(away, false);
+    away->starts_at = now + 7200000;
+    markring_answer answer;
+    letter given = {it->node, node, false, false, true, 0, 0, 0, 0};
+    HOLDS(markring_node_give(host_node(at->host), node, new_letter(given), REGISTERS - 1, &answer)
+        == MARKRING_OK);
+    letters[letter_count - 1].content = parts[it->node][1].registers[REGISTERS - 1];
+    host_changed(at->host);
+    at->touched = true;
+    uint64_t soon = resends_within(at, 10000), later = resends_within(at, 3600000);
+    HOLDS(soon >= 8 && soon <= 12);
+    HOLDS(later >= 3600000 / (LONGEST_PAUSE + 30) && later <= 3600000 / LONGEST_PAUSE + 1);
+    away->starts_at = now;
+    settle();
+    is_calm = is_quick = false;
+    absences++;
+}
+
+// A register of a program that refers to another node's object, or -1.
+static int far_register(const part *it)
+{
+    for (int reg = 0; reg < 5; reg++) {
+        uint32_t id = it->registers[reg];
+        if (id != 0 && objects[id].owner != it->node) {
+            return reg;
+        }
+    }
+    return -1;
+}
+
+// The next request of a flood: as many Gets as fit.
+static void plan_flood(part *it, uint16_t reg)
+{
+    uint32_t id = it->registers[reg];
+    it->count = 0;
+    while (it->count < OPERATIONS) {
+        uint8_t place = (uint8_t)below(PLACES);
+        letter got = {objects[id].owner, it->node, true, false, false, 0, id, place, 0};
+        markring_event event = {.kind = MARKRING_EVENT_GET, .object = reg, .place = place};
+        event.label = new_letter(got);
+        add_event(it, event);
+    }
+    it->asks = true;
+    requests++;
+    ask(it);
+}
+
+static void expect_small_images(void)
+{
+    for (uint8_t node = 0; node < nodes; node++) {
+        size_t size = 0;
+        host *it = stations[node].host;
+        HOLDS(it == NULL || host_ended(it) == HOST_RUNS);
+        HOLDS(it == NULL
+            || (markring_node_image_size(&it->node, &size) == MARKRING_OK && size < TIGHT + 5000));
+    }
+}
+
+// A program asks for what places hold, again and again, and accepts no answer.
+static void flood(void)
+{
+    part *it = &parts[below(nodes)][0];
+    int reg = far_register(it);
+    if (reg < 0) {
+        return;
+    }
+    is_calm = is_quick = true;
+    stations[it->node].host->options.image_most = IMAGE_MOST;
+    for (int i = 0; i < FLOOD && !it->asks && failures == 0; i++) {
+        plan_flood(it, (uint16_t)reg);
+        for (int k = 0; k < 200 && it->asks && failures == 0; k++) {
+            step();
+        }
+        expect_small_images();
+    }
+    floods++;
+    settle();
+    is_calm = is_quick = false;
+}
+
+static void try_at_rest(void)
+{
+    if (failures == 0) {
+        mix_up_at_rest((uint8_t)below(nodes));
+    }
+    if (failures == 0 && options.letters_most > 0) {
+        flood();
+    } else if (failures == 0) {
+        expect_pace();
+    }
+    if (failures == 0 && below(12) == 0) {
+        expect_absence();
+    }
+}
+
 // ## A run
 
-// Makes the folder of a new node one of the first version, with the image of a node without a log.
-static void make_old(disk *it, uint8_t node)
+// Removes bytes of a file.
+static void cut(disk_file *file, size_t at, size_t count)
 {
-    disk_file *file = &it->files[0];
+    file->seen_length -= count;
+    memmove(file->seen + at, file->seen + at + count, file->seen_length - at);
+}
+
+// The image of a new node becomes one without a log.
+static void make_image_old(disk_file *file, uint8_t node)
+{
     uint8_t image[5] = {0x4D, 0x52, 3, nodes, node};
-    size_t length = file->seen_length - STORE_TAIL, at = length - sizeof image;
+    size_t at = file->seen_length - sizeof image;
     while (at > 0 && memcmp(file->seen + at, image, sizeof image) != 0) {
         at--;
     }
-    HOLDS(at > 0 && file->durable_length == file->seen_length);
-    file->seen[3] = 1;
+    HOLDS(at > 0);
     file->seen[at + 2] = 2;
-    writer to = writer_of(file->seen + length, STORE_TAIL);
+}
+
+// Makes the value of a new node one of the first version, which doesn't know the processes that ran
+// it; and perhaps the file, too.
+static void make_old(disk *it, uint8_t node)
+{
+    disk_file *file = &it->files[0];
+    size_t line = STORE_HEAD + 1 + 1 + strlen("sim") + SPACE_ID + 1 + 1 + 8 + nodes * (size_t)24;
+    HOLDS(file->durable_length == file->seen_length);
+    cut(file, line, 2);
+    cut(file, STORE_HEAD, 1);
+    if (below(2) == 0) {
+        file->seen[3] = 1;
+        make_image_old(file, node);
+    }
+    size_t length = file->seen_length - STORE_TAIL;
+    writer to = writer_of(file->seen + 4, 8);
+    write_number(&to, length - STORE_HEAD, 8);
+    to = writer_of(file->seen + length, STORE_TAIL);
     write_number(&to, XXH3_64bits(file->seen, length), STORE_TAIL);
     memcpy(file->durable, file->seen, file->seen_length);
+    file->durable_length = file->seen_length;
 }
 
 // A node is created; until that says that it is done, it may be broken off.
@@ -1224,26 +1577,17 @@ static void forget_all(void)
     object_count = letter_count = 0;
 }
 
-static void keep_copy(uint8_t node)
-{
-    station *at = &stations[node];
-    if (at->host != NULL && at->job == NULL && at->host->kept > 0) {
-        disk_copy(&at->copy, &at->disk);
-        at->copy_number = at->store.number;
-        at->has_copy = true;
-    }
-}
-
 static void run(unsigned long steps)
 {
     nodes = (uint8_t)(2 + below(MOST - 1));
     limit = below(2) == 0 ? 0 : 8 + below(60);
-    options = (host_options){0, 40, 0, 0, 0, false};
+    options = (host_options){.cycle_objects = 40};
     // Whole values now and then.
     options.entries_least = below(3) != 0 ? 1 + below(8000) : 0;
     if (below(3) == 0) {
         options.letters_most = 5 + below(60);
         options.image_most = 1500 + below(6000);
+        options.image_tight = TIGHT;
     }
     now = 1000;
     is_calm = false;
@@ -1258,10 +1602,11 @@ static void run(unsigned long steps)
             keep_copy((uint8_t)below(nodes));
         }
         if (below(600) == 0) {
-            mix_up((uint8_t)below(nodes));
+            mix_up((uint8_t)below(nodes), (mixing)below(3));
         }
         if (i % (steps / CHECKPOINTS + 1) == 0 || i == steps) {
             checkpoint();
+            try_at_rest();
         }
     }
     if (failures == 0) {
@@ -1285,13 +1630,16 @@ int main(int count, char **given)
     printf("%lu seeds: %lu requests, %lu answers, %lu crashes, %lu of them with the machine, %lu "
            "failed saves, %lu failed calls, %lu refused allocations, %lu packets lost, %lu cycles "
            "asked for, %lu checkpoints, %lu folders mixed up, %lu frames not taken, %lu events "
-           "refused by full nodes, %lu readings, %lu of %lu stops answered\n",
+           "refused by full nodes, %lu readings, %lu of %lu stops answered, %lu folders one save "
+           "old, %lu started again, %lu snapshots, %lu floods, %lu Gets refused, %lu absences\n",
         run_seed - first, requests, answered, crashes, powers, failed_saves, failed_calls, refused,
-        lost, cycles, checkpoints, mixed, full, tight, readings, stopped, stops);
+        lost, cycles, checkpoints, mixed, full, tight, readings, stopped, stops, barely, again,
+        snapshots, floods, congested, absences);
     bool all = failures == 0
         && (seeds < 40
             || (crashes && powers && failed_saves && refused && mixed && lost && full && tight
-                && readings && stopped));
+                && readings && stopped && barely && again && snapshots && floods && congested
+                && absences));
     printf("%lu passed, %d failed\n", run_seed - first - (failures != 0), !all);
     free(objects);
     free(letters);
