@@ -493,8 +493,8 @@ static void test_meeting(void)
     }
 }
 
-// A value with two entries, as a host of the first version saved it: of node 0 of 2, with one object;
-// a program was opened and made a request; save 7 of a process of node 1 was heard of.
+// A value with two entries, as a host of the first version saved it. A program was opened and made
+// an object, and save 7 of a process of node 1 was heard of.
 static const char *const OLD[] = {
     "036f6c64010203040506070800020000000000000000000000000000000000000000000000000000000000000000"
     "00000000000000000000000000000000000000000000000000000000000000006a4d520302000001000000020000"
