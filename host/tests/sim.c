@@ -252,6 +252,7 @@ static uint64_t now, limit;
 static bool is_calm;  // no faults
 static bool is_quick; // saves take a few milliseconds
 static bool is_still; // nobody asks for cycles
+static bool is_flood; // nobody accepts letters
 static packet net[NET];
 static int in_net;
 static unsigned long full, tight, readings;
@@ -809,7 +810,7 @@ static void work(part *it)
     } else if (!is_calm && below(3) == 0) {
         plan(it);
         ask(it);
-    } else if (is_calm && it->number == 0 && options.image_most > 0
+    } else if (is_calm && !is_flood && it->number == 0 && options.image_most > 0
         && stations[it->node].host != NULL && letters_at(it->node) > 0) {
         // A node with too many letters takes no messages until its program accepts some.
         it->count = 0;
@@ -1425,7 +1426,7 @@ static void flood(void)
     if (reg < 0) {
         return;
     }
-    is_calm = is_quick = true;
+    is_calm = is_quick = is_flood = true;
     stations[it->node].host->options.image_most = IMAGE_MOST;
     for (int i = 0; i < FLOOD && !it->asks && failures == 0; i++) {
         plan_flood(it, (uint16_t)reg);
@@ -1435,6 +1436,7 @@ static void flood(void)
         expect_small_images();
     }
     floods++;
+    is_flood = false;
     settle();
     is_calm = is_quick = false;
 }
