@@ -141,6 +141,7 @@ void send_packets(host *it, uint64_t now)
         }
         peer *at = &it->peers[to];
         run_timer(it, at, &link, now);
+        note_link(it, to, &link, now);
         send_packet(it, to);
         if (link.released != link.acknowledged && at->resend_at == 0) {
             at->resend_at = now + at->pause;
@@ -228,6 +229,7 @@ void collect(host *it, uint64_t now)
     int swept = markring_node_sweep(&it->node, SWEEPS, &answer);
     if (swept == MARKRING_OK) {
         note_change(it);
+        it->counts.freed += answer.count;
     }
     bool refused =
         scanned == MARKRING_MEMORY || passed == MARKRING_MEMORY || swept == MARKRING_MEMORY;

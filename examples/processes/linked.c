@@ -75,7 +75,7 @@ static void create_and_open(member *it, uint8_t number, const char *folder)
 {
     host_shape shape = {
         .name = "linked", .own = number, .nodes = NODES, .registers = 4, .slots = 16};
-    host_options options = {0, 0, 0, 0, 0, false};
+    host_options options = {.cycle_every = 0};
     host_calls calls = {it, send_packet, send_answer, save};
     store_value value = {NULL, 0, 0, false, 0, 0};
     it->number = number;

@@ -1238,7 +1238,7 @@ static void run(unsigned long steps)
 {
     nodes = (uint8_t)(2 + below(MOST - 1));
     limit = below(2) == 0 ? 0 : 8 + below(60);
-    options = (host_options){0, 40, 0, 0, 0, false};
+    options = (host_options){.cycle_objects = 40};
     // Whole values now and then.
     options.entries_least = below(3) != 0 ? 1 + below(8000) : 0;
     if (below(3) == 0) {
