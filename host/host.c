@@ -140,7 +140,37 @@ void host_changed(host *it)
     note_change(it, GROWTH, 0);
 }
 
+uint64_t limit_of(const host *it)
+{
+    return it->options.has_limit ? it->options.limit : it->shape.limit;
+}
+
 // ## Opening
+
+// Makes a value of all that lasts, in a buffer of its own.
+static int make_value(host *it, store_value *value)
+{
+    size_t image = 0;
+    int status = markring_node_image_size(&it->node, &image);
+    if (status != MARKRING_OK) {
+        return status;
+    }
+    value->is_entry = false;
+    value->length = saved_size(it, image);
+    value->room = value->end = STORE_HEAD + value->length + STORE_TAIL;
+    value->whole = 0;
+    value->buffer = malloc(value->room);
+    if (value->buffer == NULL) {
+        return MARKRING_MEMORY;
+    }
+    writer to = writer_of(value->buffer + STORE_HEAD, value->length);
+    status = write_saved(it, &to, image);
+    if (status != MARKRING_OK) {
+        free(value->buffer);
+        value->buffer = NULL;
+    }
+    return status;
+}
 
 int host_create(const host_shape *shape, store_value *value)
 {
@@ -150,32 +180,22 @@ int host_create(const host_shape *shape, store_value *value)
     }
     it->shape = *shape;
     forget_line(it);
-    size_t image = 0;
     int status = markring_node_new(
         &it->node, shape->nodes, shape->registers, shape->slots, shape->own, shape->limit);
     if (status == MARKRING_OK) {
         status = markring_node_log(&it->node, 1);
     }
     if (status == MARKRING_OK) {
-        status = markring_node_image_size(&it->node, &image);
-    }
-    if (status == MARKRING_OK) {
-        value->is_entry = false;
-        value->length = saved_size(it, image);
-        value->room = value->end = STORE_HEAD + value->length + STORE_TAIL;
-        value->whole = 0;
-        value->buffer = malloc(value->room);
-        status = value->buffer != NULL ? MARKRING_OK : MARKRING_MEMORY;
-    }
-    if (status == MARKRING_OK) {
-        writer to = writer_of(value->buffer + STORE_HEAD, value->length);
-        status = write_saved(it, &to, image);
-        if (status != MARKRING_OK) {
-            free(value->buffer);
-        }
+        status = make_value(it, value);
     }
     host_free(it);
     return status;
+}
+
+int host_rename(host *it, const uint8_t *space, store_value *value)
+{
+    memcpy(it->shape.space, space, SPACE_ID);
+    return make_value(it, value);
 }
 
 // What was heard of other nodes' processes is saved again only when they show themselves.
@@ -240,6 +260,7 @@ int host_open(host **opened, const store_value *value, uint64_t number, uint64_t
     }
     begin_line(it);
     begin_links(it);
+    begin_notes(it, now);
     *opened = it;
     return MARKRING_OK;
 }
@@ -418,6 +439,7 @@ void host_saved(host *it, uint64_t now, store_status status, uint64_t number)
         it->stored = number;
         it->saved_at = now;
         it->save_took = now - it->save_began;
+        note_saved(it, now);
         note_saved_links(it);
     }
 }
@@ -466,12 +488,15 @@ void host_turn(host *it, uint64_t now)
     }
     // Before the first save, other nodes couldn't know this process from an earlier one.
     if (it->end == HOST_RUNS && it->kept > 0) {
-        answer_programs(it);
+        answer_programs(it, now);
         if (it->stopping && is_settled(it)) {
             tell_all(it);
         }
         send_packets(it, now);
         leave_if_settled(it);
+    }
+    if (it->end == HOST_RUNS) {
+        note_turn(it, now);
     }
 }
 

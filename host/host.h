@@ -19,6 +19,8 @@
 #include "packets.h"
 #include "store.h"
 
+#define HOST_VERSION "1"
+
 enum {
     // A reply address is at most this long, with its final zero.
     HOST_REPLY = 128,
@@ -80,6 +82,9 @@ typedef struct host_options {
     // The folder is the newest one, whatever other nodes know; and what was heard of their
     // processes is forgotten. For an operator who knows that a node has lied.
     bool trusts_folder;
+    // Takes the place of the folder's limit of unacknowledged messages, while this process runs.
+    bool has_limit;
+    uint64_t limit;
 } host_options;
 
 typedef struct host_calls {
@@ -104,6 +109,7 @@ typedef struct host_counts {
     // Frames that weren't taken because too many letters wait or the image is too large; what was
     // dropped for lack of memory.
     uint64_t full, dropped;
+    uint64_t freed; // objects
 } host_counts;
 
 typedef struct host host;
@@ -117,6 +123,10 @@ int host_create(const host_shape *shape, store_value *value);
 // The value isn't kept.
 int host_open(host **it, const store_value *value, uint64_t number, uint64_t nonce,
     const host_options *options, const host_calls *calls, uint64_t now);
+
+// Makes a value of the node as it was opened, but of a space with another id. The host can't go on
+// after that. The caller frees `value->buffer`. Returns MARKRING_OK or what the library refuses.
+int host_rename(host *it, const uint8_t *space, store_value *value);
 
 // Frees the host. What isn't saved is lost.
 void host_free(host *it);

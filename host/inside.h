@@ -2,7 +2,7 @@
 #ifndef HOST_INSIDE_H
 #define HOST_INSIDE_H
 
-#include "host.h"
+#include "showing.h"
 
 enum {
     NODES = 64,
@@ -29,7 +29,9 @@ enum {
     // A large image is scanned only while fewer messages aren't acknowledged.
     SCAN_MESSAGES = 32768,
     HELD_ANSWERS = 1024,
-    LINE = 256
+    LINE = 256,
+    // Milliseconds without an answer, after which a node is late, or lost.
+    SILENCE = 10000
 };
 
 // A process that ran this node, and the number of its first save. If the nonce is 0, nobody knows
@@ -37,6 +39,24 @@ enum {
 typedef struct ancestor {
     uint64_t nonce, run;
 } ancestor;
+
+// What was noted of another node: whether messages wait for it; when it was heard, and when it
+// acknowledged something.
+typedef struct peer_notes {
+    bool is_seen, is_lost, waits, is_congested;
+    uint64_t heard_at, moved_at, moved_to;
+} peer_notes;
+
+typedef struct notes {
+    void (*note)(void *context, const host_note *what);
+    void *context;
+    uint64_t looked_at;
+    uint64_t cycle, ended, swept, cycle_began, freed_before;
+    uint64_t waits_in; // the cycle of which was noted that it waits for this node
+    uint8_t waits_for;
+    bool is_slow, has_many_letters, is_full;
+    uint64_t slow_at, slow_count, slowest;
+} notes;
 
 typedef struct peer {
     process known, saved_known; // now, and in the last save
@@ -51,6 +71,7 @@ typedef struct peer {
     uint64_t heard;
     bool knows_this;
     uint64_t told, tell_at; // the last save that it was told of, and when it is told of another one
+    peer_notes notes;
 } peer;
 
 typedef struct program {
@@ -62,6 +83,7 @@ typedef struct program {
     uint16_t count;
     uint64_t due; // the image that holds the last request
     bool waits;   // somebody waits for the answer
+    uint64_t asked_at;
     char reply[HOST_REPLY];
     // Somebody waits for a letter, with a request of this head.
     bool awaits_letter;
@@ -119,6 +141,8 @@ struct host {
     bool asked;         // for a cycle
     uint64_t cycle_at, objects_after, saved_at, save_took, save_began;
     char stop_reply[HOST_REPLY];
+    notes notes;
+    host_times saves, cycles, requests;
 };
 
 // Ends the host, unless it has ended.
@@ -158,7 +182,7 @@ void collect(host *it, uint64_t now);
 void send_packets(host *it, uint64_t now);
 // Sends the window to this node again, as soon as possible.
 void send_again(host *it, uint8_t to);
-void answer_programs(host *it);
+void answer_programs(host *it, uint64_t now);
 // All objects of the space, as far as node 0 knows.
 uint64_t count_objects(const host *it, uint32_t own_live);
 
@@ -175,5 +199,22 @@ int read_saved(host *it, const store_value *value);
 
 // Whether more is known of other nodes' processes than in the last save.
 bool knows_more(const host *it);
+
+// The limit of unacknowledged messages, of the folder or of this process.
+uint64_t limit_of(const host *it);
+
+// Notes for the operator: what has changed in a turn, a packet that came, a link as it is now, a
+// save that is over.
+void begin_notes(host *it, uint64_t now);
+void note_turn(host *it, uint64_t now);
+void note_heard(host *it, uint8_t from, uint64_t now);
+void note_link(host *it, uint8_t to, const markring_link *link, uint64_t now);
+void note_saved(host *it, uint64_t now);
+void observe(host_times *it, uint64_t time);
+
+// Whether messages wait for this node, and it has acknowledged nothing for a while.
+bool is_late(const peer *it, uint64_t now);
+
+void answer_status(host *it, uint64_t now, const char *reply);
 
 #endif

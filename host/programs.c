@@ -1,7 +1,6 @@
 // Requests of programs and words of the operator.
 #include "inside.h"
 
-#include <stdio.h>
 #include <stdlib.h>
 
 static void fill_head(const host *it, const request_head *request, answer_head *head)
@@ -188,7 +187,8 @@ static verdict judge(const program *at, const request_head *request)
                                            : VERDICT_DONE;
 }
 
-static void perform_once(host *it, const request_head *request, reader *from, const char *reply)
+static void perform_once(host *it, uint64_t now, const request_head *request, reader *from,
+    const char *reply)
 {
     program *at = &it->programs[request->program];
     verdict why = judge(at, request);
@@ -203,7 +203,9 @@ static void perform_once(host *it, const request_head *request, reader *from, co
         it->counts.repeated_requests++;
     } else {
         perform(it, request, from);
+        at->waits = false;
     }
+    at->asked_at = at->waits ? at->asked_at : now;
     at->waits = at->number == request->number && copy_reply(at->reply, reply);
 }
 
@@ -241,7 +243,6 @@ void host_request(host *it, uint64_t now, const uint8_t *bytes, size_t length, c
 {
     request_head head;
     reader from = reader_of(bytes, length);
-    (void)now;
     if (it->end != HOST_RUNS || it->stopping) {
         return;
     }
@@ -255,7 +256,7 @@ void host_request(host *it, uint64_t now, const uint8_t *bytes, size_t length, c
     }
     switch (head.kind) {
     case REQUEST_OPEN: open_program(it, &head, reply); break;
-    case REQUEST_PERFORM: perform_once(it, &head, &from, reply); break;
+    case REQUEST_PERFORM: perform_once(it, now, &head, &from, reply); break;
     case REQUEST_READ: read_registers(it, &head, &from, reply); break;
     case REQUEST_WAIT: await_letter(it, &head, reply); break;
     default: refuse(it, &head, VERDICT_MALFORMED, reply);
@@ -306,7 +307,7 @@ static void answer_held(host *it)
     it->last = at;
 }
 
-void answer_programs(host *it)
+void answer_programs(host *it, uint64_t now)
 {
     announce_letters(it);
     answer_held(it);
@@ -319,59 +320,12 @@ void answer_programs(host *it)
         request_head request = {REQUEST_PERFORM, i, at->session, at->number, at->count};
         size_t length = write_last(it, &request, bytes, sizeof bytes);
         it->calls.answer(it->calls.context, at->reply, bytes, length);
+        observe(&it->requests, now - at->asked_at);
         at->waits = false;
     }
 }
 
 // ## The operator
-
-enum { STATUS_BYTES = 2048 };
-
-static int write_counts(const host_counts *it, char *to, size_t room)
-{
-    return snprintf(to, room,
-        "\"packets_in\": %llu, \"packets_out\": %llu, \"frames_in\": %llu, \"frames_out\": %llu, "
-        "\"bytes_out\": %llu, \"saves\": %llu, \"failed_saves\": %llu, \"requests\": %llu, "
-        "\"repeated_requests\": %llu, \"refused_requests\": %llu, \"foreign\": %llu, "
-        "\"malformed\": %llu, \"outdated\": %llu, \"repeats\": %llu, \"resends\": %llu, "
-        "\"full\": %llu, \"dropped\": %llu",
-        (unsigned long long)it->packets_in, (unsigned long long)it->packets_out,
-        (unsigned long long)it->frames_in, (unsigned long long)it->frames_out,
-        (unsigned long long)it->bytes_out, (unsigned long long)it->saves,
-        (unsigned long long)it->failed_saves, (unsigned long long)it->requests,
-        (unsigned long long)it->repeated_requests, (unsigned long long)it->refused_requests,
-        (unsigned long long)it->foreign, (unsigned long long)it->malformed,
-        (unsigned long long)it->outdated, (unsigned long long)it->repeats,
-        (unsigned long long)it->resends, (unsigned long long)it->full,
-        (unsigned long long)it->dropped);
-}
-
-static int write_status(host *it, uint64_t now, char *to, size_t room)
-{
-    markring_state state = {0};
-    (void)markring_node_state(&it->node, &state);
-    return snprintf(to, room,
-        "{\"space\": \"%s\", \"node\": %d, \"nodes\": %d, \"registers\": %d, \"slots\": %lu, "
-        "\"cycle\": %llu, \"ended\": %llu, \"swept\": %llu, \"live\": %lu, \"letters\": %llu, "
-        "\"unacknowledged\": %llu, \"image\": %zu, \"save\": %llu, \"saved_ago\": %llu, "
-        "\"save_took\": %llu, \"run\": %llu, ",
-        it->shape.name, it->shape.own, it->shape.nodes, it->shape.registers,
-        (unsigned long)it->shape.slots, (unsigned long long)state.cycle,
-        (unsigned long long)state.ended, (unsigned long long)state.swept, (unsigned long)state.live,
-        (unsigned long long)state.letters, (unsigned long long)count_unacknowledged(it),
-        it->measured, (unsigned long long)it->stored,
-        (unsigned long long)(now - it->saved_at), (unsigned long long)it->save_took,
-        (unsigned long long)it->run);
-}
-
-static void answer_status(host *it, uint64_t now, const char *reply)
-{
-    char text[STATUS_BYTES];
-    int length = write_status(it, now, text, sizeof text);
-    length += write_counts(&it->counts, text + length, sizeof text - (size_t)length - 1);
-    text[length++] = '}';
-    it->calls.answer(it->calls.context, reply, (const uint8_t *)text, (size_t)length);
-}
 
 static bool is_word(const char *given, size_t length, const char *word)
 {

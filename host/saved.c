@@ -302,7 +302,7 @@ static int read_node(host *it, const uint8_t *image, size_t length, const writer
 {
     markring_state state;
     int status = markring_node_from_batches(
-        &it->node, image, length, batches->start, batches->length, it->shape.limit);
+        &it->node, image, length, batches->start, batches->length, limit_of(it));
     if (status != MARKRING_OK) {
         return status;
     }

@@ -156,6 +156,7 @@ void send_packets(host *it, uint64_t now)
         peer *at = &it->peers[to];
         run_timer(it, at, &link, now);
         tell_in_time(it, at, now);
+        note_link(it, to, &link, now);
         send_packet(it, to);
         if (link.released != link.acknowledged && at->resend_at == 0) {
             at->resend_at = now + at->pause;
@@ -264,6 +265,7 @@ void collect(host *it, uint64_t now)
     int swept = markring_node_sweep(&it->node, SWEEPS, &answer);
     if (swept == MARKRING_OK) {
         note_change(it, MESSAGE_BYTES, OBJECT_BYTES * (size_t)answer.count);
+        it->counts.freed += answer.count;
     }
     bool refused = is_late || scanned == MARKRING_IMAGE_TOO_LARGE || scanned == MARKRING_MEMORY
         || passed == MARKRING_MEMORY || swept == MARKRING_MEMORY;

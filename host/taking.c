@@ -209,7 +209,6 @@ void host_packet(host *it, uint64_t now, uint8_t from, const uint8_t *bytes, siz
 {
     packet_head head;
     reader rest = reader_of(bytes, length);
-    (void)now;
     if (it->end != HOST_RUNS || it->stopping) {
         return;
     }
@@ -221,6 +220,7 @@ void host_packet(host *it, uint64_t now, uint8_t from, const uint8_t *bytes, siz
     if (!may_go_on(it, &head) || !is_latest(it, &head)) {
         return;
     }
+    note_heard(it, from, now);
     it->peers[from].live = head.live;
     it->peers[from].needs_cycle = head.needs_cycle != 0;
     while (rest.left > 0 && it->end == HOST_RUNS) {

@@ -56,6 +56,8 @@ typedef struct station {
 } station;
 
 static host_options options;
+static uint32_t slots = 64;
+static uint64_t folder_limit;
 static const uint8_t SPACE[SPACE_ID] = {1, 2, 3, 4, 5, 6, 7, 8};
 enum { NONCE = 77 };
 
@@ -100,7 +102,7 @@ static void open_host(station *at)
 static void make_node(station *at, uint8_t own, uint8_t nodes, bool has_entries)
 {
     store_value value = {NULL, 0, 0, false, 0, 0};
-    host_shape shape = {"test", {0}, own, nodes, 8, 64, 0};
+    host_shape shape = {"test", {0}, own, nodes, 8, slots, folder_limit};
     memset(at, 0, sizeof *at);
     memcpy(shape.space, SPACE, SPACE_ID);
     at->nonce = NONCE;

@@ -239,6 +239,13 @@ bool natsConnection_IsClosed(natsConnection *it)
     return it == NULL || it->closed;
 }
 
+natsConnStatus natsConnection_Status(natsConnection *it)
+{
+    return it == NULL || it->closed ? NATS_CONN_STATUS_CLOSED
+        : model.is_away             ? NATS_CONN_STATUS_RECONNECTING
+                                    : NATS_CONN_STATUS_CONNECTED;
+}
+
 natsStatus natsConnection_GetLastError(natsConnection *it, const char **text)
 {
     (void)it;
@@ -288,6 +295,11 @@ void model_close(natsConnection *it)
 {
     it->closed = true;
     it->options.closed(it, it->options.closed_closure);
+}
+
+void model_connect(natsConnection *it)
+{
+    it->options.reconnected(it, it->options.reconnected_closure);
 }
 
 void model_error(natsConnection *it, natsStatus status)

@@ -15,6 +15,7 @@ typedef struct nats_model {
     natsStatus connects[MODEL_CONNECTS];
     int connects_count, attempts;
     int64_t max_payload;
+    bool is_away; // connections are lost, for now
     // Is called for each message that is published. `reply` may be NULL.
     void (*published)(const char *subject, const char *reply, const void *bytes, int length);
     // The last error, as nats_GetLastError gives it.
@@ -33,6 +34,7 @@ void model_deliver(const char *subject, const char *reply, const void *bytes, si
 
 // Calls what a connection's options name.
 void model_close(natsConnection *it);
+void model_connect(natsConnection *it);
 void model_error(natsConnection *it, natsStatus status);
 
 // Makes that a connection stays after it was destroyed, as it does while libnats has a call of it

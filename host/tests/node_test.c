@@ -268,6 +268,141 @@ static void test_floods(void)
     HOLDS(at.waiting == 0 && published >= INBOX_MOST && published < INBOX_MOST + 100);
 }
 
+// The node says once when the connection is lost and when it is there again, and when it is there
+// again without having been seen as lost.
+static void test_connection_lines(void)
+{
+    for (int i = 0; i < 2; i++) {
+        begin_hearing();
+        model.is_away = true;
+        (void)go_on(3 * LOOK_EACH);
+        HOLDS(!at.is_connected && end_hearing("is lost") == 1);
+        begin_hearing();
+        model.is_away = false;
+        model_connect(model.last);
+        (void)go_on(2 * LOOK_EACH);
+        HOLDS(at.is_connected && end_hearing("there again") == 1);
+        begin_hearing();
+        model_connect(model.last);
+        (void)go_on(2 * LOOK_EACH);
+        HOLDS(at.is_connected && end_hearing("there again") == 1);
+    }
+}
+
+// However little there is to do, the node turns and shows how it is.
+static void test_looks(void)
+{
+    HOLDS(at.service.is_ready && longest_wait(&at) <= LONGEST_WAIT);
+    at.service.every = 1;
+    for (int i = 0; i < 5; i++) {
+        (void)go_round(&at);
+        HOLDS(longest_wait(&at) <= 1);
+    }
+    at.service.every = 0;
+    uint64_t before = now_ms();
+    (void)go_on(2 * LOOK_EACH);
+    HOLDS(at.looked_at > before && at.looked_at <= now_ms());
+    // Also while the server refuses it.
+    at.looked_at = 0;
+    begin_hearing();
+    refuse(NATS_CONNECTION_AUTH_FAILED, 2);
+    HOLDS(connect_again(&at, &carrier) == NATS_OK && at.looked_at > before);
+    refuse(NATS_OK, 0);
+    HOLDS(go_on(2 * CYCLE) == USABLE && end_hearing("trying again") == 1);
+}
+
+// ## Words
+
+static bool parses(run_options *to, const char *first, const char *second)
+{
+    char *words[] = {"folder", "url", strdup(first), strdup(second)};
+    bool parsed = parse_options(4, words, to);
+    free(words[2]);
+    free(words[3]);
+    return parsed;
+}
+
+static void test_options(void)
+{
+    run_options to;
+    char *none[] = {"folder", "url"};
+    HOLDS(parse_options(2, none, &to) && !to.host.has_limit && to.metrics == NULL);
+    HOLDS(strcmp(to.log_format, "text") == 0);
+    HOLDS(parses(&to, "--limit", "0") && to.host.has_limit && to.host.limit == 0);
+    HOLDS(parses(&to, "--limit", "18446744073709551615") && to.host.limit == UINT64_MAX);
+    HOLDS(!parses(&to, "--limit", "18446744073709551616") && !parses(&to, "--limit", "-1"));
+    HOLDS(!parses(&to, "--limits", "1"));
+    char *metrics[] = {"folder", "url", "--log-format", "json", "--metrics", "[::1]:1"};
+    HOLDS(parse_options(6, metrics, &to) && to.metrics == metrics[5]);
+    HOLDS(to.log_format == metrics[3]);
+    HOLDS(!parse_options(5, metrics, &to));
+}
+
+// ## Restoring
+
+static const char OTHER[] = "fedcba9876543210";
+
+// Calls it, and returns its status. What it prints goes to what is heard.
+static int restore_as(const char *folder, const char *id)
+{
+    fflush(stdout);
+    int out = dup(1);
+    dup2(2, 1);
+    int status = restore(folder, id);
+    fflush(stdout);
+    dup2(out, 1);
+    close(out);
+    return status;
+}
+
+// Which of the folder's files have these bytes.
+static int files_with(const char *folder, const char *id)
+{
+    static char bytes[1 << 16];
+    uint8_t wanted[SPACE_ID];
+    int found = 0;
+    HOLDS(parse_id(id, wanted));
+    for (int i = 0; i < 2; i++) {
+        char path[PATH + 16];
+        snprintf(path, sizeof path, "%s/%s", folder, i == 0 ? "a" : "b");
+        int file = open(path, O_RDONLY);
+        ssize_t length = read(file, bytes, sizeof bytes);
+        close(file);
+        found += length > 0 && memmem(bytes, (size_t)length, wanted, SPACE_ID) != NULL;
+    }
+    return found;
+}
+
+static void test_restore(void)
+{
+    char folder[PATH + 8];
+    char *words[] = {folder, "test", "0123456789abcdef", "1", "2", "8", "64", "--limit", "5"};
+    store used;
+    store_value value;
+    snprintf(folder, sizeof folder, "%s/copy", place);
+    HOLDS(create(9, words) == 0 && files_with(folder, words[2]) == 1);
+    begin_hearing();
+    HOLDS(restore_as(folder, "0123") == LEAVE_USAGE);
+    HOLDS(restore_as(at.folder, OTHER) == LEAVE_FOLDER);
+    HOLDS(restore_as(place, OTHER) == LEAVE_FOLDER);
+    HOLDS(end_hearing("another process has this folder") == 1);
+    HOLDS(store_open(&used, &STORE_SYSTEM, folder, &value) == STORE_OK);
+    free(value.buffer);
+    begin_hearing();
+    HOLDS(restore_as(folder, OTHER) == LEAVE_FOLDER && files_with(folder, OTHER) == 0);
+    store_close(&used);
+    for (int i = 0; i < 2; i++) {
+        HOLDS(restore_as(folder, OTHER) == 0);
+        HOLDS(files_with(folder, OTHER) == 2 && files_with(folder, words[2]) == 0);
+    }
+    HOLDS(end_hearing("space test fedcba9876543210, node 1 of 2, 8 registers, 64 slots") == 2);
+    host *it = NULL;
+    HOLDS(open_folder(&used, &it, folder) == 0);
+    HOLDS(host_is(it)->own == 1 && host_is(it)->limit == 5 && used.number == 5);
+    host_free(it);
+    store_close(&used);
+}
+
 // ## Saves
 
 static int write_error, sync_error;
@@ -370,7 +505,8 @@ int main(void)
     HOLDS(start_threads(&at, &saves, &signals));
     start();
     static void (*const tests[])(void) = {test_addresses, test_denials, test_late_calls,
-        test_refusals, test_payload, test_floods, test_saves, test_signal};
+        test_refusals, test_payload, test_floods, test_connection_lines, test_looks, test_options,
+        test_restore, test_saves, test_signal};
     for (size_t i = 0; i < sizeof tests / sizeof *tests; i++) {
         tests[i]();
         // The connection, and the subscription.

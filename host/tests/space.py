@@ -120,6 +120,7 @@ class Cluster:
     ) -> None:
         self.program, self.nodes, self.registers, self.slots = program, nodes, registers, slots
         self.limit, self.run_words = limit, list(run)
+        self.environment = {}
         self.place = tempfile.TemporaryDirectory(prefix="markring-")
         self.folder = Path(self.place.name)
         self.server = Server(self.folder, "test", nodes)
@@ -159,7 +160,7 @@ class Cluster:
         place, url = str(folder or self.node_folder(node)), self.server.url(f"node{node}")
         words = [self.program, "run", place, url, *self.run_words]
         with (self.folder / f"{node}.log").open("a") as log:
-            it = subprocess.Popen(words, stdout=log, stderr=log, env=os.environ)
+            it = subprocess.Popen(words, stdout=log, stderr=log, env={**os.environ, **self.environment})
         self.started.append(it)
         if folder is None:
             self.processes[node] = it
