@@ -66,13 +66,6 @@ static void begin(void)
     host_control(pair[0].host, pair[0].now, "begin", 5, "r");
 }
 
-static markring_state state_of(int own)
-{
-    markring_state state = {0};
-    HOLDS(markring_node_state(host_node(pair[own].host), &state) == MARKRING_OK);
-    return state;
-}
-
 // ## Other nodes
 
 static void test_peers(void)
@@ -338,7 +331,7 @@ static void test_image_limit(void)
 // A save of node 0 that takes this long.
 static void save_slowly(uint64_t time)
 {
-    note_change(pair[0].host);
+    host_changed(pair[0].host);
     host_turn(pair[0].host, pair[0].now += 10);
     HOLDS(pair[0].job != NULL);
     for (uint64_t left = time; left > 0; left -= 100) {
@@ -474,6 +467,7 @@ static void test_rename(void)
         at.stored = value.buffer;
         at.length = value.length;
         at.end = value.end;
+        at.number++;
         open_host(&at);
         HOLDS(memcmp(host_is(at.host)->space, other, SPACE_ID) == 0 && host_is(at.host)->own == 0);
         HOLDS(is_process(&at.host->peers[1].known, 9, 5, 7) && live(&at) == 2);
