@@ -109,7 +109,7 @@ static void test_late(void)
     give(0, 1);
     for (int i = 0; i < 30; i++) {
         go_on(1, SECOND);
-        deliver(&pair[0], (process){NONCE, 11, 12 + (uint64_t)i}, NONCE, 11);
+        deliver(&pair[0], (process){NONCE, 11, pair[1].number}, NONCE, 11);
         host_look(pair[0].host, pair[0].now, &view);
         HOLDS(view.peers[1].is_late == (i >= 10) || i == 10);
         HOLDS(view.peers[1].is_seen && view.peers[1].unacknowledged == 1);
