@@ -266,6 +266,52 @@ static void test_floods(void)
     listen();
     (void)go_on(20 * CYCLE);
     HOLDS(at.waiting == 0 && published >= INBOX_MOST && published < INBOX_MOST + 100);
+    HOLDS(model.kept_messages == INBOX_MOST && model.kept_bytes == INBOX_BYTES);
+}
+
+// Messages of the greatest size that a server takes: as many bytes as the node keeps, to the last.
+static void test_long_messages(void)
+{
+    static uint8_t bytes[1 << 20];
+    int most = INBOX_BYTES / (int)sizeof bytes;
+    for (int round = 0; round < 2; round++) {
+        for (int i = 0; i < most - 1; i++) {
+            model_deliver("markring.test.node.0.program", "_INBOX.long", bytes, sizeof bytes);
+        }
+        model_deliver("markring.test.node.0.program", "_INBOX.long", bytes, sizeof bytes - 1);
+        HOLDS(at.waiting == (size_t)most && at.waiting_bytes == INBOX_BYTES - 1);
+        model_deliver("markring.test.node.0.program", "_INBOX.long", bytes, sizeof bytes);
+        model_deliver("markring.test.node.0.program", "_INBOX.long", bytes, 2);
+        HOLDS(at.waiting == (size_t)most);
+        model_deliver("markring.test.node.0.program", "_INBOX.long", bytes, 1);
+        HOLDS(at.waiting == (size_t)most + 1 && at.waiting_bytes == INBOX_BYTES);
+        (void)go_on(5 * CYCLE);
+        HOLDS(at.waiting == 0 && at.waiting_bytes == 0);
+    }
+    listen();
+    ask_status("_INBOX.after");
+    HOLDS(hears("_INBOX.after"));
+}
+
+// The statuses of folders that can't be used, and of failures that pass: a supervisor starts the
+// node again after these alone.
+static void test_openings(void)
+{
+    static const int passing[] = {EMFILE, ENFILE, EIO, ENOMEM, ENOSPC, EDQUOT, ENOLCK, EINTR};
+    static const int staying[] = {EACCES, EPERM, EROFS, EISDIR, ELOOP, ENAMETOOLONG, EINVAL};
+    begin_hearing();
+    for (size_t i = 0; i < sizeof passing / sizeof *passing; i++) {
+        HOLDS(explain("folder", STORE_FAILED, passing[i]) == LEAVE_SYSTEM);
+        HOLDS(explain("folder", STORE_UNKNOWN, passing[i]) == LEAVE_SYSTEM);
+    }
+    for (size_t i = 0; i < sizeof staying / sizeof *staying; i++) {
+        HOLDS(explain("folder", STORE_FAILED, staying[i]) == LEAVE_FOLDER);
+    }
+    HOLDS(explain("folder", STORE_MEMORY, 0) == LEAVE_SYSTEM);
+    HOLDS(explain("folder", STORE_ABSENT, EMFILE) == LEAVE_FOLDER);
+    HOLDS(explain("folder", STORE_LOCKED, EMFILE) == LEAVE_FOLDER);
+    HOLDS(explain("folder", STORE_DAMAGED, EMFILE) == LEAVE_FOLDER);
+    HOLDS(end_hearing(": Too many open files\n") == 2);
 }
 
 // ## Saves
@@ -370,7 +416,8 @@ int main(void)
     HOLDS(start_threads(&at, &saves, &signals));
     start();
     static void (*const tests[])(void) = {test_addresses, test_denials, test_late_calls,
-        test_refusals, test_payload, test_floods, test_saves, test_signal};
+        test_refusals, test_payload, test_floods, test_long_messages, test_openings, test_saves,
+        test_signal};
     for (size_t i = 0; i < sizeof tests / sizeof *tests; i++) {
         tests[i]();
         // The connection, and the subscription.

@@ -1132,11 +1132,15 @@ static void make_old(disk *it, uint8_t node)
 {
     disk_file *file = &it->files[0];
     uint8_t image[5] = {0x4D, 0x52, 3, nodes, node};
-    size_t length = file->seen_length - STORE_TAIL, at = length - sizeof image;
+    disk_rest(it);
+    reader head = reader_of(file->seen + 4, 8);
+    size_t length = STORE_HEAD + (size_t)read_number(&head, 8), at = length - sizeof image;
+    // That version left no marks.
+    file->seen_length = file->durable_length = length + STORE_TAIL;
     while (at > 0 && memcmp(file->seen + at, image, sizeof image) != 0) {
         at--;
     }
-    HOLDS(at > 0 && file->durable_length == file->seen_length);
+    HOLDS(at > 0);
     file->seen[3] = 1;
     file->seen[at + 2] = 2;
     writer to = writer_of(file->seen + length, STORE_TAIL);
