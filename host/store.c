@@ -16,8 +16,8 @@ static const char *const NAMES[2] = {"a", "b"};
 // it up to a multiple of STEP, since a sync is slower if the file's length has changed.
 enum { ENTRY_HEAD = 16, MARK_HEAD = 24, FIRST_VERSION = 1, STEP = 65536, ZEROS = 4096 };
 
-// What a mark begins with; no entry has this length.
-static const uint64_t MARKS = UINT64_MAX;
+// What a mark begins with, which is no entry's length; and what no save's number reaches.
+static const uint64_t MARKS = UINT64_MAX, NUMBERS = UINT64_C(1) << 48;
 
 // A slot as it was read: its bytes, or nothing; the number of its last save, and the last checksum.
 typedef struct slot {
@@ -340,7 +340,8 @@ static void find_whole(slot *found)
 // ## Rot
 //
 // A crash damages what was being written, and nothing before it. So a mark, or an entry, behind
-// something that isn't whole shows that this was whole once.
+// something that isn't whole shows that this was whole once. Values and entries hold bytes that
+// programs choose, so what is taken for a mark or an entry fits in more than its checksum.
 
 // The number of the mark at this place; 0 if there isn't one. In a value that isn't whole, one byte
 // may have changed: of its checksum, or of something else.
@@ -352,7 +353,7 @@ static uint64_t mark_at(const slot *found, size_t at)
     uint64_t length = read_number(&from, 8);
     bool is_of_value = found->version != 0 ? length == value->length
                                            : length <= value->room - STORE_HEAD - STORE_TAIL;
-    if (!from.ok || start != MARKS || !is_of_value) {
+    if (!from.ok || start != MARKS || number >= NUMBERS || !is_of_value) {
         return 0;
     }
     reader base = reader_of(value->buffer + STORE_HEAD + length, STORE_TAIL), again = whole;
@@ -376,27 +377,28 @@ static uint64_t find_marks(const slot *found, size_t at)
     return highest;
 }
 
-// The number of the value or the entry at this place, which isn't whole, if an entry behind it is;
-// else 0. One byte may have changed: of its checksum, or of something else.
+// The number of the value or the entry at this place, which isn't whole, if the entry behind it is,
+// and has the number after that; else 0. One byte may have changed: of its checksum, or of its
+// content.
 static uint64_t find_behind(const slot *found, size_t at, size_t head, uint64_t before)
 {
     const store_value *value = &found->value;
     reader from = reader_of(value->buffer + at, value->room - at);
     size_t end = 0;
     (void)read_bytes(&from, head - ENTRY_HEAD);
-    uint64_t length = read_number(&from, 8), seal;
-    (void)read_number(&from, 8);
+    uint64_t length = read_number(&from, 8), number = read_number(&from, 8), seal;
     if (!from.ok || length > from.left || from.left - length < STORE_TAIL) {
         return 0;
     }
     (void)read_bytes(&from, (size_t)length);
     size_t next = at + head + (size_t)length + STORE_TAIL;
-    uint64_t number = entry_at(value, next, read_number(&from, STORE_TAIL), &seal, &end);
-    if (number == 0) {
+    uint64_t behind = entry_at(value, next, read_number(&from, STORE_TAIL), &seal, &end);
+    if (behind == 0) {
         before = XXH3_64bits_withSeed(value->buffer + at, head + (size_t)length, before);
-        number = entry_at(value, next, before, &seal, &end);
+        behind = entry_at(value, next, before, &seal, &end);
     }
-    return number > 0 ? number - 1 : 0;
+    uint64_t expected = found->version != 0 ? found->number + 1 : number;
+    return behind == expected + 1 ? expected : 0;
 }
 
 // Finds out which saves were whole for sure, beyond those that are.

@@ -315,7 +315,7 @@ static void test_rot(void)
 }
 
 // The machine stops before the marks get to the disk. Then a change is found if an entry is behind
-// it, and the length before that is as it was.
+// it, and the lengths are as they were.
 static void test_rot_without_marks(void)
 {
     disk it = fresh();
@@ -329,13 +329,42 @@ static void test_rot_without_marks(void)
         put(file, at, 0);
     }
     for (size_t at = 0; at < head + 2 * entry; at++) {
-        bool is_length = (at >= 4 && at < 12) || (at >= head && at < head + 8);
+        bool is_length = at >= head && at < head + 8;
         uint8_t old = file->seen[at];
         put(file, at, (uint8_t)(old ^ (1 + below(255))));
         int now = found(&it);
         put(file, at, old);
-        HOLDS(now == -100 - STORE_DAMAGED || (at >= head && is_length && now == 1)
+        HOLDS(now == -100 - STORE_DAMAGED || (is_length && now == 1)
             || (at >= head + entry && now == 2));
+    }
+    disk_free(&it);
+}
+
+// What programs may have written, and a crash left behind what is whole: what looks like a mark or an
+// entry shows nothing.
+static void test_forgeries(void)
+{
+    disk it = fresh();
+    bool unsure;
+    size_t head = STORE_HEAD + LENGTH + STORE_TAIL, entry = 16 + LENGTH + STORE_TAIL;
+    way = ENTRIES;
+    HOLDS(create(&it, 1) == STORE_OK && work(&it, &unsure) == 2);
+    disk_rest(&it);
+    disk_file *file = &it.files[0];
+    size_t last = head + entry, end = head + 2 * entry;
+    for (uint64_t number = 3; number < 7; number++) {
+        // A mark of another value, and an entry without the checksum before it.
+        writer to = writer_of(file->seen + end + MARK + 8 * number, 32);
+        write_number(&to, UINT64_MAX, 8);
+        write_number(&to, number, 8);
+        write_number(&to, LENGTH, 8);
+        write_number(&to, XXH3_64bits_withSeed(to.start, 24, number), 8);
+        to = writer_of(file->seen + end + 2000, entry);
+        write_bytes(&to, file->seen + last, entry);
+        to = writer_of(file->seen + end + 2000 + 8, 8);
+        write_number(&to, number, 8);
+        memcpy(file->durable, file->seen, file->seen_length);
+        HOLDS(found(&it) == 3);
     }
     disk_free(&it);
 }
@@ -591,6 +620,7 @@ int main(int count, char **given)
     test_entries();
     test_rot();
     test_rot_without_marks();
+    test_forgeries();
     test_lives(5 * times);
     test_failed_sync(times);
     test_failed_write();
