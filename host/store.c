@@ -15,6 +15,7 @@ static const char *const NAMES[2] = {"a", "b"};
 // Before an entry: its length and its number. An entry that makes its file longer has zeros behind
 // it up to a multiple of STEP, since a sync is slower if the file's length has changed.
 enum { ENTRY_HEAD = 16, MARK_HEAD = 24, FIRST_VERSION = 1, STEP = 65536, ZEROS = 4096 };
+enum { COMPARED = 1 << 20 };
 
 // What a mark begins with, which is no entry's length; and what no save's number reaches.
 static const uint64_t MARKS = UINT64_MAX, NUMBERS = UINT64_C(1) << 48;
@@ -412,6 +413,51 @@ static void find_synced(slot *found)
     found->synced = marked > behind ? marked : behind;
 }
 
+// Makes that a file is read directly, or as usual. Some file systems can't read directly.
+static store_status read_directly(store *it, int file, int on, bool *done)
+{
+    int status = it->calls.read_directly(it->calls.context, file, on);
+    *done = status == 0;
+    return status == 0 || (on && status == -EINVAL) ? STORE_OK : fail(it, status);
+}
+
+// Compares these bytes with those of the file, as it is read now.
+static store_status compare(store *it, int file, const uint8_t *bytes, size_t length)
+{
+    size_t room = length < COMPARED ? length : COMPARED, done = 0;
+    uint8_t *part = malloc(room);
+    store_status status = part != NULL ? STORE_OK : STORE_MEMORY;
+    while (done < length && status == STORE_OK) {
+        size_t left = length - done < room ? length - done : room;
+        int64_t count = it->calls.read_at(it->calls.context, file, part, left, done);
+        if (count < 0 && count != -EINTR) {
+            status = fail(it, count);
+        } else if (count == 0 || (count > 0 && memcmp(part, bytes + done, (size_t)count) != 0)) {
+            status = STORE_STALE;
+        }
+        done += count > 0 ? (size_t)count : 0;
+    }
+    free(part);
+    return status;
+}
+
+// Compares what was read, perhaps from memory, with the disk. Some file systems say only when they
+// read that they can't do so directly.
+static store_status compare_with_disk(store *it, int file, const uint8_t *bytes, size_t length)
+{
+    bool is_direct, is_usual;
+    store_status status = read_directly(it, file, 1, &is_direct);
+    if (status != STORE_OK || !is_direct) {
+        return status;
+    }
+    status = compare(it, file, bytes, length);
+    if (status == STORE_FAILED && it->cause == EINVAL) {
+        status = STORE_OK;
+    }
+    store_status after = read_directly(it, file, 0, &is_usual);
+    return status == STORE_OK ? after : status;
+}
+
 // Reads a slot. `found->value.buffer` is NULL if it isn't whole.
 static store_status read_slot(store *it, int file, slot *found)
 {
@@ -430,39 +476,15 @@ static store_status read_slot(store *it, int file, slot *found)
     }
     store_status status = read_all(it, file, found->value.buffer, found->value.room);
     if (status == STORE_OK) {
+        status = compare_with_disk(it, file, found->value.buffer, found->value.room);
+    }
+    if (status == STORE_OK) {
         find_whole(found);
         find_synced(found);
     }
     if (found->version == 0) {
         free(found->value.buffer);
         found->value.buffer = NULL;
-    }
-    return status;
-}
-
-// Makes that a file is read directly, or as usual. Some file systems can't read directly.
-static store_status read_directly(store *it, int file, int on, bool *done)
-{
-    int status = it->calls.read_directly(it->calls.context, file, on);
-    *done = status == 0;
-    return status == 0 || (on && status == -EINVAL) ? STORE_OK : fail(it, status);
-}
-
-// Reads a slot from the disk, and not from memory, if that is possible.
-static store_status read_from_disk(store *it, int file, slot *found)
-{
-    bool is_direct, is_usual;
-    store_status status = read_directly(it, file, 1, &is_direct);
-    if (status != STORE_OK) {
-        return status;
-    }
-    status = read_slot(it, file, found);
-    if (is_direct) {
-        bool is_unable = status == STORE_FAILED && it->cause == EINVAL;
-        store_status after = read_directly(it, file, 0, &is_usual);
-        status = after == STORE_OK && is_unable ? read_slot(it, file, found)
-            : status == STORE_OK                ? after
-                                                : status;
     }
     return status;
 }
@@ -478,7 +500,7 @@ static store_status read_synced(store *it, int file, slot *found)
         int forgotten = it->calls.forget(it->calls.context, file);
         status = forgotten == 0 ? STORE_OK : fail(it, forgotten);
     }
-    return status == STORE_OK ? read_from_disk(it, file, found) : status;
+    return status == STORE_OK ? read_slot(it, file, found) : status;
 }
 
 // Takes the slot that counts, of two that were read. Neither may show a later save.
@@ -576,6 +598,7 @@ const char *store_text(store_status status)
     case STORE_EXISTS: return "there is a node in this folder already";
     case STORE_LOCKED: return "another process has this folder";
     case STORE_DAMAGED: return "the files a and b are damaged";
+    case STORE_STALE: return "memory has what the disk hasn't, since a sync failed";
     case STORE_FAILED: return "a call to the system failed";
     default: return "a sync failed";
     }

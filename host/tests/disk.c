@@ -284,7 +284,8 @@ static int forget(void *context, int file)
 {
     disk *it = context;
     int status = enter(it);
-    if (status == 0 && it->forgets) {
+    // Who maps a file ends at some time.
+    if (status == 0 && (it->forgets || below_number(it->seed, 4) == 0)) {
         read_again(&it->files[file]);
     }
     return status;

@@ -15,7 +15,7 @@
 #include <sys/stat.h>
 #include <unistd.h>
 
-enum { LENGTH = 1000, CALLS = 512, PATH = 300, DEPTH = 3 };
+enum { LENGTH = 1000, CALLS = 512, PATH = 300, DEPTH = 3, OTHER = -1 };
 
 static unsigned long passed, failed;
 
@@ -44,7 +44,8 @@ static noted calls[CALLS];
 static int count;
 
 // What becomes of calls of this kind, on paths that end with this: the one with this number, or all
-// if that is 0, fails with the error; or moves half of its bytes, if the error is 0.
+// if that is 0, fails with the error; or moves half of its bytes, if the error is 0. A reading with
+// the error OTHER gives other bytes.
 static struct {
     kind kind;
     const char *end;
@@ -142,6 +143,11 @@ ssize_t __wrap_pread(int file, void *bytes, size_t length, off_t offset)
 {
     if (!fails(READ, file)) {
         return __real_pread(file, bytes, length, offset);
+    }
+    if (fault.error == OTHER) {
+        ssize_t moved = __real_pread(file, bytes, length, offset);
+        ((uint8_t *)bytes)[100] ^= 1;
+        return moved;
     }
     return fault.error != 0 ? -1 : __real_pread(file, bytes, (length + 1) / 2, offset);
 }
@@ -447,7 +453,7 @@ static void test_openings(void)
         int synced = last_of(SYNC, names[i]), forgotten = last_of(FORGET, names[i]);
         HOLDS(synced >= 0 && forgotten > synced && first_of(READ, names[i]) > forgotten);
         int direct = last_of(DIRECT, names[i]);
-        HOLDS(direct > synced && first_of(READ, names[i]) > direct);
+        HOLDS(direct > synced && last_of(READ, names[i]) > direct);
     }
     HOLDS(names_are_synced(-1) && last_of(WRITE, "") < 0);
     HOLDS(save(&it, 2, true) == STORE_OK && save(&it, 2, false) == STORE_OK);
@@ -465,11 +471,18 @@ static void test_openings(void)
     let_fail(DIRECT, "", 0, EINVAL);
     HOLDS(open_at(&it, folder, &number) == STORE_OK && number == 2);
     store_close(&it);
-    let_fail(READ, "/b", 1, EINVAL);
+    let_fail(READ, "/b", 2, EINVAL);
     HOLDS(open_at(&it, folder, &number) == STORE_OK && number == 2);
     store_close(&it);
-    let_fail(READ, "/b", 0, EINVAL);
+    let_fail(READ, "/b", 1, EINVAL);
     HOLDS(open_at(&it, folder, &number) == STORE_FAILED && it.cause == EINVAL);
+    // The disk and memory have other bytes.
+    for (int i = 0; i < 2; i++) {
+        let_fail(READ, names[i], 2, OTHER);
+        HOLDS(open_at(&it, folder, &number) == STORE_STALE);
+    }
+    let_fail(READ, "/a", 2, EIO);
+    HOLDS(open_at(&it, folder, &number) == STORE_FAILED && it.cause == EIO);
     let_fail(DIRECT, "/b", 1, EBADF);
     HOLDS(open_at(&it, folder, &number) == STORE_FAILED && it.cause == EBADF);
     let_fail(FORGET, "/b", 1, ESPIPE);

@@ -412,7 +412,8 @@ static int start(station *at)
             HOLDS(known->nonce == left->nonce && known->saves == left->saves);
         }
     } else if (!at->disk.dead) {
-        HOLDS(status == STORE_MEMORY || status == STORE_FAILED || status == STORE_UNKNOWN);
+        HOLDS(status == STORE_MEMORY || status == STORE_FAILED || status == STORE_UNKNOWN
+            || status == STORE_STALE);
     }
     free(value.buffer);
     if (status == STORE_OK && opened != MARKRING_OK) {
