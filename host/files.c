@@ -3,6 +3,8 @@
 
 #include <errno.h>
 #include <fcntl.h>
+#include <stdlib.h>
+#include <string.h>
 #include <sys/file.h>
 #include <sys/stat.h>
 #include <unistd.h>
@@ -98,9 +100,35 @@ static int64_t size(void *context, int file)
     return fstat(file, &it) == 0 ? (int64_t)it.st_size : -errno;
 }
 
+// Direct reads move whole blocks, from and to addresses that are multiples of this.
+enum { BLOCK = 4096, BLOCKS = 256 * BLOCK };
+
+// Reads at most BLOCKS bytes of a file that is read directly.
+static int64_t read_blocks(int file, uint8_t *bytes, size_t length, uint64_t offset)
+{
+    size_t skipped = (size_t)(offset % BLOCK);
+    uint8_t *blocks = aligned_alloc(BLOCK, BLOCKS);
+    if (blocks == NULL) {
+        return -ENOMEM;
+    }
+    ssize_t count = pread(file, blocks, BLOCKS, (off_t)(offset - skipped));
+    int64_t status = count >= 0 ? 0 : -errno;
+    if (count > (ssize_t)skipped) {
+        status = count - (ssize_t)skipped < (ssize_t)length ? count - (ssize_t)skipped
+                                                            : (int64_t)length;
+        memcpy(bytes, blocks + skipped, (size_t)status);
+    }
+    free(blocks);
+    return status;
+}
+
 static int64_t read_at(void *context, int file, uint8_t *bytes, size_t length, uint64_t offset)
 {
     (void)context;
+    int flags = fcntl(file, F_GETFL);
+    if (flags >= 0 && (flags & O_DIRECT) != 0) {
+        return read_blocks(file, bytes, length, offset);
+    }
     ssize_t count = pread(file, bytes, length, (off_t)offset);
     return count >= 0 ? count : -errno;
 }
@@ -125,6 +153,15 @@ static int forget_cached(void *context, int file)
     return -posix_fadvise(file, 0, 0, POSIX_FADV_DONTNEED);
 }
 
+static int read_directly(void *context, int file, int on)
+{
+    (void)context;
+    int flags = fcntl(file, F_GETFL);
+    return flags >= 0 && fcntl(file, F_SETFL, on ? flags | O_DIRECT : flags & ~O_DIRECT) == 0
+        ? 0
+        : -errno;
+}
+
 static void close_descriptor(void *context, int descriptor)
 {
     (void)context;
@@ -132,4 +169,4 @@ static void close_descriptor(void *context, int descriptor)
 }
 
 const store_calls STORE_SYSTEM = {NULL, make_folder, open_folder, lock, sync_names,
-    open_file, size, read_at, write_at, sync_data, forget_cached, close_descriptor};
+    open_file, size, read_at, write_at, sync_data, forget_cached, read_directly, close_descriptor};

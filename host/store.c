@@ -14,12 +14,18 @@ static const char *const NAMES[2] = {"a", "b"};
 
 // Before an entry: its length and its number. An entry that makes its file longer has zeros behind
 // it up to a multiple of STEP, since a sync is slower if the file's length has changed.
-enum { ENTRY_HEAD = 16, FIRST_VERSION = 1, STEP = 65536, ZEROS = 4096 };
+enum { ENTRY_HEAD = 16, MARK_HEAD = 24, FIRST_VERSION = 1, STEP = 65536, ZEROS = 4096 };
+enum { COMPARED = 1 << 20 };
+
+// What a mark begins with, which is no entry's length; and what no save's number reaches.
+static const uint64_t MARKS = UINT64_MAX, NUMBERS = UINT64_C(1) << 48;
 
 // A slot as it was read: its bytes, or nothing; the number of its last save, and the last checksum.
 typedef struct slot {
     uint64_t number, seal;
-    int version;
+    uint64_t base;   // the checksum of the value, or of what its length says
+    uint64_t synced; // the highest number of a save that was whole for sure
+    int version;     // 0 if it isn't whole
     store_value value;
 } slot;
 
@@ -27,7 +33,7 @@ static void forget(store *it)
 {
     it->folder = it->slots[0] = it->slots[1] = -1;
     it->counts = 1;
-    it->number = it->end = it->seal = it->size = 0;
+    it->number = it->end = it->seal = it->size = it->base = it->length = 0;
 }
 
 void store_close(store *it)
@@ -181,16 +187,36 @@ static store_status replace(store *it, store_value *value, uint64_t number)
     }
     if (status == STORE_OK) {
         it->counts = other;
-        it->seal = seal;
+        it->seal = it->base = seal;
+        it->length = value->length;
         it->end = it->size = length + STORE_TAIL;
     }
     return status;
 }
 
+// Writes a mark behind what was synced: the number of that save, the length of the value, and a
+// checksum that begins with the value's. The next entry is written over it. It needs no sync: it
+// may be lost. If it is there, what is before it was whole, and no crash can have torn it.
+static void put_mark(store *it)
+{
+    uint8_t mark[MARK_HEAD + STORE_TAIL];
+    writer to = writer_of(mark, sizeof mark);
+    write_number(&to, MARKS, 8);
+    write_number(&to, it->number, 8);
+    write_number(&to, it->length, 8);
+    write_number(&to, XXH3_64bits_withSeed(mark, MARK_HEAD, it->base), STORE_TAIL);
+    (void)write_all(it, it->slots[it->counts], mark, sizeof mark, it->end);
+}
+
 store_status store_save(store *it, store_value *value)
 {
     it->number++;
-    return value->is_entry ? add_entry(it, value, it->number) : replace(it, value, it->number);
+    store_status status =
+        value->is_entry ? add_entry(it, value, it->number) : replace(it, value, it->number);
+    if (status == STORE_OK) {
+        put_mark(it);
+    }
+    return status;
 }
 
 // Refuses a folder that has a slot with a byte in it.
@@ -255,49 +281,188 @@ static bool is_sealed(reader *from, uint64_t length, uint64_t seal, uint64_t *fo
     return from->ok && *found == XXH3_64bits_withSeed(start, (size_t)length, seal);
 }
 
+// The number of the entry at this place, if it is whole and the checksum before it is this one; or
+// 0. Then `*seal` is its checksum, and `*end` the offset of its end.
+static uint64_t entry_at(
+    const store_value *value, size_t at, uint64_t before, uint64_t *seal, size_t *end)
+{
+    if (at > value->room) {
+        return 0;
+    }
+    reader rest = reader_of(value->buffer + at, value->room - at), whole = rest;
+    uint64_t length = read_number(&rest, 8), number = read_number(&rest, 8);
+    if (!rest.ok || length > rest.left || !is_sealed(&whole, ENTRY_HEAD + length, before, seal)) {
+        return 0;
+    }
+    *end = at + ENTRY_HEAD + (size_t)length + STORE_TAIL;
+    return number;
+}
+
 // Finds the entries behind a value.
 static void find_entries(slot *found)
 {
     store_value *value = &found->value;
-    for (;;) {
-        reader rest = reader_of(value->buffer + value->end, value->room - value->end), whole = rest;
-        uint64_t length = read_number(&rest, 8), number = read_number(&rest, 8), seal;
-        if (!rest.ok || length > rest.left || number <= found->number
-            || !is_sealed(&whole, ENTRY_HEAD + length, found->seal, &seal)) {
-            return;
-        }
+    size_t end;
+    uint64_t seal, number = entry_at(value, value->end, found->seal, &seal, &end);
+    while (number > found->number) {
         found->number = number;
         found->seal = seal;
-        value->end += ENTRY_HEAD + (size_t)length + STORE_TAIL;
+        value->end = end;
+        number = entry_at(value, value->end, found->seal, &seal, &end);
     }
 }
 
 // Finds out whether the bytes of a file are a whole slot, and finds the end of its entries.
-static bool is_whole(slot *found)
+static void find_whole(slot *found)
 {
     store_value *value = &found->value;
     reader head = reader_of(value->buffer, value->room), whole = head;
     const uint8_t *magic = read_bytes(&head, sizeof MAGIC);
     uint64_t length = read_number(&head, 8), number = read_number(&head, 8);
-    if (magic == NULL || memcmp(magic, MAGIC, sizeof MAGIC - 1) != 0 || !head.ok
-        || length > head.left || !is_sealed(&whole, STORE_HEAD + length, 0, &found->seal)) {
-        return false;
+    if (!head.ok || length > head.left || head.left - length < STORE_TAIL) {
+        return;
+    }
+    value->length = (size_t)length;
+    found->base = XXH3_64bits(value->buffer, STORE_HEAD + value->length);
+    bool is_known = memcmp(magic, MAGIC, sizeof MAGIC - 1) == 0
+        && (magic[sizeof MAGIC - 1] == FIRST_VERSION
+            || magic[sizeof MAGIC - 1] == MAGIC[sizeof MAGIC - 1]);
+    if (!is_known || !is_sealed(&whole, STORE_HEAD + length, 0, &found->seal)) {
+        return;
     }
     found->version = magic[sizeof MAGIC - 1];
     found->number = number;
-    value->length = (size_t)length;
     value->end = STORE_HEAD + value->length + STORE_TAIL;
     if (found->version == MAGIC[sizeof MAGIC - 1]) {
         find_entries(found);
     }
-    return found->version == FIRST_VERSION || found->version == MAGIC[sizeof MAGIC - 1];
+}
+
+// ## Rot
+//
+// A crash damages what was being written, and nothing before it. So a mark, or an entry, behind
+// something that isn't whole shows that this was whole once. Values and entries hold bytes that
+// programs choose, so what is taken for a mark or an entry fits in more than its checksum.
+
+// The number of the mark at this place; 0 if there isn't one. In a value that isn't whole, one byte
+// may have changed: of its checksum, or of something else.
+static uint64_t mark_at(const slot *found, size_t at)
+{
+    const store_value *value = &found->value;
+    reader from = reader_of(value->buffer + at, value->room - at), whole = from;
+    uint64_t seal, start = read_number(&from, 8), number = read_number(&from, 8);
+    uint64_t length = read_number(&from, 8);
+    bool is_of_value = found->version != 0 ? length == value->length
+                                           : length <= value->room - STORE_HEAD - STORE_TAIL;
+    if (!from.ok || start != MARKS || number >= NUMBERS || !is_of_value) {
+        return 0;
+    }
+    reader base = reader_of(value->buffer + STORE_HEAD + length, STORE_TAIL), again = whole;
+    bool is_whole = is_sealed(&whole, MARK_HEAD, read_number(&base, STORE_TAIL), &seal)
+        || (length == value->length && is_sealed(&again, MARK_HEAD, found->base, &seal));
+    return is_whole ? number : 0;
+}
+
+// The highest number in the marks from this place on.
+static uint64_t find_marks(const slot *found, size_t at)
+{
+    const store_value *value = &found->value;
+    uint64_t highest = 0;
+    const uint8_t *next = memchr(value->buffer + at, 0xFF, value->room - at);
+    while (next != NULL) {
+        at = (size_t)(next - value->buffer);
+        uint64_t number = mark_at(found, at);
+        highest = number > highest ? number : highest;
+        next = memchr(next + 1, 0xFF, value->room - at - 1);
+    }
+    return highest;
+}
+
+// The number of the value or the entry at this place, which isn't whole, if the entry behind it is,
+// and has the number after that; else 0. One byte may have changed: of its checksum, or of its
+// content.
+static uint64_t find_behind(const slot *found, size_t at, size_t head, uint64_t before)
+{
+    const store_value *value = &found->value;
+    reader from = reader_of(value->buffer + at, value->room - at);
+    size_t end = 0;
+    (void)read_bytes(&from, head - ENTRY_HEAD);
+    uint64_t length = read_number(&from, 8), number = read_number(&from, 8), seal;
+    if (!from.ok || length > from.left || from.left - length < STORE_TAIL) {
+        return 0;
+    }
+    (void)read_bytes(&from, (size_t)length);
+    size_t next = at + head + (size_t)length + STORE_TAIL;
+    uint64_t behind = entry_at(value, next, read_number(&from, STORE_TAIL), &seal, &end);
+    if (behind == 0) {
+        before = XXH3_64bits_withSeed(value->buffer + at, head + (size_t)length, before);
+        behind = entry_at(value, next, before, &seal, &end);
+    }
+    uint64_t expected = found->version != 0 ? found->number + 1 : number;
+    return behind == expected + 1 ? expected : 0;
+}
+
+// Finds out which saves were whole for sure, beyond those that are.
+static void find_synced(slot *found)
+{
+    bool is_whole = found->version != 0;
+    size_t at = is_whole ? found->value.end : 0;
+    uint64_t marked = find_marks(found, at);
+    uint64_t behind = is_whole ? find_behind(found, at, ENTRY_HEAD, found->seal)
+                               : find_behind(found, at, STORE_HEAD, 0);
+    found->synced = marked > behind ? marked : behind;
+}
+
+// Makes that a file is read directly, or as usual. Some file systems can't read directly.
+static store_status read_directly(store *it, int file, int on, bool *done)
+{
+    int status = it->calls.read_directly(it->calls.context, file, on);
+    *done = status == 0;
+    return status == 0 || (on && status == -EINVAL) ? STORE_OK : fail(it, status);
+}
+
+// Compares these bytes with those of the file, as it is read now.
+static store_status compare(store *it, int file, const uint8_t *bytes, size_t length)
+{
+    size_t room = length < COMPARED ? length : COMPARED, done = 0;
+    uint8_t *part = malloc(room);
+    store_status status = part != NULL ? STORE_OK : STORE_MEMORY;
+    while (done < length && status == STORE_OK) {
+        size_t left = length - done < room ? length - done : room;
+        int64_t count = it->calls.read_at(it->calls.context, file, part, left, done);
+        if (count < 0 && count != -EINTR) {
+            status = fail(it, count);
+        } else if (count == 0 || (count > 0 && memcmp(part, bytes + done, (size_t)count) != 0)) {
+            status = STORE_STALE;
+        }
+        done += count > 0 ? (size_t)count : 0;
+    }
+    free(part);
+    return status;
+}
+
+// Compares what was read, perhaps from memory, with the disk. Some file systems say only when they
+// read that they can't do so directly.
+static store_status compare_with_disk(store *it, int file, const uint8_t *bytes, size_t length)
+{
+    bool is_direct, is_usual;
+    store_status status = read_directly(it, file, 1, &is_direct);
+    if (status != STORE_OK || !is_direct) {
+        return status;
+    }
+    status = compare(it, file, bytes, length);
+    if (status == STORE_FAILED && it->cause == EINVAL) {
+        status = STORE_OK;
+    }
+    store_status after = read_directly(it, file, 0, &is_usual);
+    return status == STORE_OK ? after : status;
 }
 
 // Reads a slot. `found->value.buffer` is NULL if it isn't whole.
 static store_status read_slot(store *it, int file, slot *found)
 {
     memset(found, 0, sizeof *found);
-    int64_t size = file < 0 ? 0 : it->calls.size(it->calls.context, file);
+    int64_t size = it->calls.size(it->calls.context, file);
     if (size < 0) {
         return fail(it, size);
     }
@@ -310,7 +475,14 @@ static store_status read_slot(store *it, int file, slot *found)
         return STORE_MEMORY;
     }
     store_status status = read_all(it, file, found->value.buffer, found->value.room);
-    if (status != STORE_OK || !is_whole(found)) {
+    if (status == STORE_OK) {
+        status = compare_with_disk(it, file, found->value.buffer, found->value.room);
+    }
+    if (status == STORE_OK) {
+        find_whole(found);
+        find_synced(found);
+    }
+    if (found->version == 0) {
         free(found->value.buffer);
         found->value.buffer = NULL;
     }
@@ -320,15 +492,18 @@ static store_status read_slot(store *it, int file, slot *found)
 // Brings what is in memory to the disk, and reads what is there.
 static store_status read_synced(store *it, int file, slot *found)
 {
-    store_status status = file < 0 ? STORE_OK : sync_file(it, file);
-    if (status == STORE_OK && file >= 0) {
+    if (file < 0) {
+        return STORE_OK;
+    }
+    store_status status = sync_file(it, file);
+    if (status == STORE_OK) {
         int forgotten = it->calls.forget(it->calls.context, file);
         status = forgotten == 0 ? STORE_OK : fail(it, forgotten);
     }
     return status == STORE_OK ? read_slot(it, file, found) : status;
 }
 
-// Takes the slot that counts, of two that were read.
+// Takes the slot that counts, of two that were read. Neither may show a later save.
 static store_status choose(store *it, slot *found, store_value *value)
 {
     int has[2] = {found[0].value.buffer != NULL, found[1].value.buffer != NULL};
@@ -337,8 +512,13 @@ static store_status choose(store *it, slot *found, store_value *value)
     }
     it->counts = !has[0] || (has[1] && found[1].number > found[0].number);
     slot *last = &found[it->counts];
+    if (found[0].synced > last->number || found[1].synced > last->number) {
+        return STORE_DAMAGED;
+    }
     it->number = last->number;
     it->seal = last->seal;
+    it->base = last->base;
+    it->length = last->value.length;
     it->end = last->value.end;
     it->size = last->value.room;
     *value = last->value;
@@ -417,7 +597,8 @@ const char *store_text(store_status status)
     case STORE_ABSENT: return "there is no node in this folder";
     case STORE_EXISTS: return "there is a node in this folder already";
     case STORE_LOCKED: return "another process has this folder";
-    case STORE_DAMAGED: return "neither of the files a and b is whole";
+    case STORE_DAMAGED: return "the files a and b are damaged";
+    case STORE_STALE: return "memory has what the disk hasn't, since a sync failed";
     case STORE_FAILED: return "a call to the system failed";
     default: return "a sync failed";
     }

@@ -27,8 +27,12 @@ typedef enum store_status {
     STORE_EXISTS,
     // Another process has the folder.
     STORE_LOCKED,
-    // Neither slot is whole, or both have the same number.
+    // Neither slot is whole, or both have the same number. Or what was saved last was whole, and
+    // has changed since.
     STORE_DAMAGED,
+    // Memory has what the disk hasn't, since a sync failed before, and somebody maps the files. The
+    // same may be tried again.
+    STORE_STALE,
     // A call failed, and what counted still counts. The same may be tried again. `cause` says why.
     STORE_FAILED,
     // A sync failed: nobody knows whether the new value or the old one is on the disk. The process
@@ -55,8 +59,11 @@ typedef struct store_calls {
     int64_t (*write_at)(
         void *context, int file, const uint8_t *bytes, size_t length, uint64_t offset);
     int (*sync)(void *context, int file);
-    // Asks the system to read from the disk what is read next, and not from memory.
+    // Asks the system to drop from memory what it has of a file. It may keep what somebody maps.
     int (*forget)(void *context, int file);
+    // Makes that a file is read from the disk, and not from memory; or, if `on` is 0, as usual. It
+    // can't be written meanwhile. -EINVAL if the file system can't do that.
+    int (*read_directly)(void *context, int file, int on);
     void (*close)(void *context, int descriptor);
 } store_calls;
 
@@ -71,6 +78,8 @@ typedef struct store {
     uint64_t number; // of the last save, also of one that failed
     uint64_t end;    // the offset of the next entry, in the slot that counts
     uint64_t seal;   // the checksum before that
+    uint64_t base;   // the checksum of the value in that slot
+    uint64_t length; // of that value
     uint64_t size;   // of the file of that slot, at least
     int cause;       // the errno of the last call that failed, also after the store was closed
 } store;
@@ -100,9 +109,12 @@ store_status store_create(
     store *it, const store_calls *calls, const char *path, store_value *value);
 
 // Locks the folder and reads what counts; the caller frees `value->buffer`. Both slots and their
-// names are synced first, and the slots are then read from the disk, so that no failure can take
-// back what was read. After any other status the store is closed and `value` is as it was.
-// STORE_ABSENT; STORE_LOCKED; STORE_DAMAGED; STORE_MEMORY; STORE_FAILED; STORE_UNKNOWN.
+// names are synced first, so that no failure can take back what was read. What memory has of the
+// slots is compared with the disk, if the file system can read past memory. After a sync that failed,
+// memory may have what the disk hasn't, and what is written over it may be lost too. After any other
+// status the store is closed and `value` is as it was.
+// STORE_ABSENT; STORE_LOCKED; STORE_DAMAGED; STORE_MEMORY; STORE_STALE; STORE_FAILED;
+// STORE_UNKNOWN.
 store_status store_open(store *it, const store_calls *calls, const char *path, store_value *value);
 
 // Saves a value, or adds an entry, with the next number. The bytes around it are overwritten.

@@ -42,20 +42,32 @@ static void apply(uint8_t **bytes, size_t *length, const disk_write *it)
     memcpy(*bytes + it->offset, it->bytes, it->length);
 }
 
-// One write gets to the disk in part: each sector is new, old or garbage.
+// Puts garbage into what the process has written of this part of a write.
+static void spoil(disk *it, disk_file *file, const disk_write *write, size_t from, size_t to)
+{
+    uint8_t garbage[SECTOR];
+    size_t end = write->from + write->written;
+    from = from < write->from ? write->from : from;
+    to = to < end ? to : end;
+    if (from < to) {
+        disk_write part = {write->offset + from, to - from, garbage, 0, 0};
+        memset(garbage, (int)below_number(it->seed, 256), sizeof garbage);
+        apply(&file->durable, &file->durable_length, &part);
+    }
+}
+
+// One write gets to the disk in part: each sector is new, old or garbage. What was written before
+// stays.
 static void tear(disk *it, disk_file *file, const disk_write *write)
 {
     for (size_t at = 0; at < write->length; at += SECTOR) {
         size_t length = write->length - at < SECTOR ? write->length - at : SECTOR;
-        disk_write part = {write->offset + at, length, write->bytes + at};
+        disk_write part = {write->offset + at, length, write->bytes + at, 0, length};
         uint32_t fate = below_number(it->seed, 8);
         if (fate < 5) {
             apply(&file->durable, &file->durable_length, &part);
         } else if (fate == 5) {
-            uint8_t garbage[SECTOR];
-            memset(garbage, (int)below_number(it->seed, 256), sizeof garbage);
-            part.bytes = garbage;
-            apply(&file->durable, &file->durable_length, &part);
+            spoil(it, file, write, at, at + length);
         }
     }
 }
@@ -78,6 +90,14 @@ static void settle_pending(disk *it, disk_file *file)
         } else if (fate == 1) {
             tear(it, file, &file->pending[i]);
         }
+    }
+    drop_pending(file);
+}
+
+static void write_pending(disk_file *file)
+{
+    for (int i = 0; i < file->pending_count; i++) {
+        apply(&file->durable, &file->durable_length, &file->pending[i]);
     }
     drop_pending(file);
 }
@@ -193,12 +213,26 @@ static int64_t read_at(void *context, int file, uint8_t *bytes, size_t length, u
     if (offset >= from->seen_length) {
         return 0;
     }
+    if (from->direct) {
+        write_pending(from);
+        extend(&from->durable, &from->durable_length, from->seen_length);
+    }
     size_t count = from->seen_length - offset < length ? from->seen_length - offset : length;
     if (count > 1 && below_number(it->seed, 10) == 0) {
         count = 1 + below_number(it->seed, (uint32_t)count);
     }
-    memcpy(bytes, from->seen + offset, count);
+    memcpy(bytes, (from->direct ? from->durable : from->seen) + offset, count);
     return (int64_t)count;
+}
+
+// Notes the pages in which this many bytes were written.
+static void note_write(disk_file *to, size_t offset, size_t count)
+{
+    size_t start = offset / PAGE * PAGE, end = (offset + count + PAGE - 1) / PAGE * PAGE;
+    end = end < to->seen_length ? end : to->seen_length;
+    disk_write write = {start, end - start, resized(NULL, end - start), offset - start, count};
+    memcpy(write.bytes, to->seen + start, write.length);
+    to->pending[to->pending_count++] = write;
 }
 
 static int64_t write_at(
@@ -209,6 +243,9 @@ static int64_t write_at(
     if (it->dead) {
         return -EIO;
     }
+    if (to->direct) {
+        return -EINVAL;
+    }
     int status = enter(it);
     // A call that fails, or during which the process dies, may have written a part.
     bool fails = status != 0 || it->without_memory;
@@ -216,13 +253,12 @@ static int64_t write_at(
         : below_number(it->seed, 10) == 0 ? 1 + below_number(it->seed, (uint32_t)length)
                                           : length;
     if (to->pending_count == DISK_PENDING) {
-        settle_pending(it, to);
+        write_pending(to);
     }
     if (count > 0) {
-        disk_write write = {offset, count, resized(NULL, count)};
-        memcpy(write.bytes, bytes, count);
-        apply(&to->seen, &to->seen_length, &write);
-        to->pending[to->pending_count++] = write;
+        extend(&to->seen, &to->seen_length, offset + count);
+        memcpy(to->seen + offset, bytes, count);
+        note_write(to, offset, count);
     }
     return status != 0 ? status : it->without_memory ? -ENOSPC : (int64_t)count;
 }
@@ -240,10 +276,7 @@ static int sync_file(void *context, int file)
         settle_pending(it, at);
         return status;
     }
-    for (int i = 0; i < at->pending_count; i++) {
-        apply(&at->durable, &at->durable_length, &at->pending[i]);
-    }
-    drop_pending(at);
+    write_pending(at);
     return 0;
 }
 
@@ -251,9 +284,21 @@ static int forget(void *context, int file)
 {
     disk *it = context;
     int status = enter(it);
-    if (status == 0) {
+    // Who maps a file ends at some time.
+    if (status == 0 && (it->forgets || below_number(it->seed, 4) == 0)) {
         read_again(&it->files[file]);
     }
+    return status;
+}
+
+static int read_directly(void *context, int file, int on)
+{
+    disk *it = context;
+    int status = enter(it);
+    if (status == 0 && it->without_direct) {
+        status = -EINVAL;
+    }
+    it->files[file].direct = status == 0 && on != 0;
     return status;
 }
 
@@ -263,12 +308,15 @@ static void close_descriptor(void *context, int descriptor)
     if (!it->dead) {
         *(descriptor == FOLDER ? &it->locked : &it->files[descriptor].locked) = false;
     }
+    if (descriptor != FOLDER) {
+        it->files[descriptor].direct = false;
+    }
 }
 
 store_calls disk_calls(disk *it)
 {
     store_calls calls = {it, make_folder, open_folder, lock, sync_names, open_file, size,
-        read_at, write_at, sync_file, forget, close_descriptor};
+        read_at, write_at, sync_file, forget, read_directly, close_descriptor};
     return calls;
 }
 
@@ -277,6 +325,7 @@ store_calls disk_calls(disk *it)
 void disk_kill(disk *it)
 {
     it->locked = it->files[0].locked = it->files[1].locked = false;
+    it->files[0].direct = it->files[1].direct = false;
     it->dead = false;
     it->dies_in = 0;
 }
@@ -298,6 +347,13 @@ void disk_power_off(disk *it)
         file->name_synced = file->exists;
     }
     it->folder_synced = it->has_folder;
+}
+
+void disk_rest(disk *it)
+{
+    for (int i = 0; i < DISK_FILES; i++) {
+        write_pending(&it->files[i]);
+    }
 }
 
 void disk_copy(disk *to, const disk *from)

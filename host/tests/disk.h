@@ -8,16 +8,19 @@
 
 #include <stdbool.h>
 
-enum { DISK_FILES = 2, DISK_PENDING = 64, SECTOR = 512 };
+enum { DISK_FILES = 2, DISK_PENDING = 64, SECTOR = 512, PAGE = 4096 };
 
+// Whole pages as they are in memory, of which a process wrote a part, from `from` on.
 typedef struct disk_write {
     size_t offset, length;
     uint8_t *bytes;
+    size_t from, written;
 } disk_write;
 
 typedef struct disk_file {
-    bool exists, name_synced, locked;
-    // What a process reads, and what is on the disk.
+    bool exists, name_synced, locked, direct;
+    // What is in memory, which a process reads, and what is on the disk. After a sync that failed,
+    // the first may have what the second hasn't, for ever.
     uint8_t *seen, *durable;
     size_t seen_length, durable_length;
     // Writes that aren't synced yet.
@@ -32,6 +35,8 @@ typedef struct disk {
     // Of 1,000 calls, this many fail; more are interrupted and cut short.
     uint32_t failing;
     bool without_memory; // calls fail as on a full disk
+    bool forgets;        // nobody maps the files, so they can be dropped from memory
+    bool without_direct; // no file can be read past memory
     // After this many calls the process is dead: nothing that it does counts. 0: it lives.
     unsigned long dies_in;
     bool dead;
@@ -45,6 +50,9 @@ void disk_kill(disk *it);
 
 // The machine stops: what wasn't synced is kept, lost or torn.
 void disk_power_off(disk *it);
+
+// What wasn't synced gets to the disk, as it does after a while.
+void disk_rest(disk *it);
 
 // Copies all of a disk.
 void disk_copy(disk *to, const disk *from);

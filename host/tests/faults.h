@@ -1,5 +1,6 @@
 // A net that loses, repeats and delays packets between nodes, for tests: the environment variable
-// MARKRING_FAULTS is how many of 1,000 packets each of that happens to.
+// MARKRING_FAULTS is how many of 1,000 packets each of that happens to. At its end, a node that is
+// built with the sanitizers says what it has leaked.
 #ifndef TESTS_FAULTS_H
 #define TESTS_FAULTS_H
 
@@ -68,6 +69,30 @@ static void faults_publish(
     (void)natsConnection_Publish(to, subject, bytes, (int)length);
     if (fate < 3 * rate) {
         (void)natsConnection_Publish(to, subject, bytes, (int)length);
+    }
+}
+
+// (of the sanitizers)
+int __lsan_do_recoverable_leak_check(void) __attribute__((weak));
+
+enum { LEAVE_LEAK = 23, KEPT_MOST = 4096 };
+
+static natsConnection *volatile faults_kept[KEPT_MOST];
+
+// A connection that the node has left. It isn't destroyed, since a delayed packet may still be
+// published over it; here it is no leak.
+static void faults_keep(natsConnection *old)
+{
+    static int count;
+    if (count < KEPT_MOST) {
+        faults_kept[count++] = old;
+    }
+}
+
+static void faults_end(void)
+{
+    if (__lsan_do_recoverable_leak_check != NULL && __lsan_do_recoverable_leak_check() != 0) {
+        _Exit(LEAVE_LEAK);
     }
 }
 

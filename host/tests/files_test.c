@@ -15,7 +15,7 @@
 #include <sys/stat.h>
 #include <unistd.h>
 
-enum { LENGTH = 1000, CALLS = 512, PATH = 300, DEPTH = 3 };
+enum { LENGTH = 1000, CALLS = 512, PATH = 300, DEPTH = 3, OTHER = -1 };
 
 static unsigned long passed, failed;
 
@@ -32,7 +32,7 @@ static void check(bool holds, const char *text, int line)
 
 // ## Calls
 
-typedef enum kind { NO_CALL, WRITE, READ, SYNC, SYNC_FOLDER, FORGET, LOCK, OPEN } kind;
+typedef enum kind { NO_CALL, WRITE, MARK, READ, SYNC, SYNC_FOLDER, FORGET, DIRECT, LOCK, OPEN } kind;
 
 typedef struct noted {
     kind kind;
@@ -44,7 +44,8 @@ static noted calls[CALLS];
 static int count;
 
 // What becomes of calls of this kind, on paths that end with this: the one with this number, or all
-// if that is 0, fails with the error; or moves half of its bytes, if the error is 0.
+// if that is 0, fails with the error; or moves half of its bytes, if the error is 0. A reading with
+// the error OTHER gives other bytes.
 static struct {
     kind kind;
     const char *end;
@@ -109,6 +110,7 @@ int __real_fsync(int file);
 int __real_posix_fadvise(int file, off_t offset, off_t length, int advice);
 int __real_flock(int file, int operation);
 int __real_openat(int folder, const char *path, int flags, ...);
+int __real_fcntl(int file, int command, ...);
 ssize_t __wrap_pwrite(int file, const void *bytes, size_t length, off_t offset);
 ssize_t __wrap_pread(int file, void *bytes, size_t length, off_t offset);
 int __wrap_fdatasync(int file);
@@ -116,10 +118,22 @@ int __wrap_fsync(int file);
 int __wrap_posix_fadvise(int file, off_t offset, off_t length, int advice);
 int __wrap_flock(int file, int operation);
 int __wrap_openat(int folder, const char *path, int flags, ...);
+int __wrap_fcntl(int file, int command, ...);
+
+// A mark begins with eight bytes FF.
+static bool is_mark(const uint8_t *bytes, size_t length)
+{
+    for (size_t i = 0; i < 8 && i < length; i++) {
+        if (bytes[i] != 0xFF) {
+            return false;
+        }
+    }
+    return length > 8;
+}
 
 ssize_t __wrap_pwrite(int file, const void *bytes, size_t length, off_t offset)
 {
-    if (!fails(WRITE, file)) {
+    if (!fails(is_mark(bytes, length) ? MARK : WRITE, file)) {
         return __real_pwrite(file, bytes, length, offset);
     }
     return fault.error != 0 ? -1 : __real_pwrite(file, bytes, (length + 1) / 2, offset);
@@ -129,6 +143,11 @@ ssize_t __wrap_pread(int file, void *bytes, size_t length, off_t offset)
 {
     if (!fails(READ, file)) {
         return __real_pread(file, bytes, length, offset);
+    }
+    if (fault.error == OTHER) {
+        ssize_t moved = __real_pread(file, bytes, length, offset);
+        ((uint8_t *)bytes)[100] ^= 1;
+        return moved;
     }
     return fault.error != 0 ? -1 : __real_pread(file, bytes, (length + 1) / 2, offset);
 }
@@ -171,6 +190,19 @@ int __wrap_openat(int folder, const char *path, int flags, ...)
         return -1;
     }
     return __real_openat(folder, path, flags, mode);
+}
+
+// Only that a file is to be read directly is noted, or fails.
+int __wrap_fcntl(int file, int command, ...)
+{
+    va_list words;
+    va_start(words, command);
+    int flags = command == F_SETFL ? va_arg(words, int) : 0;
+    va_end(words);
+    if (command == F_SETFL && (flags & O_DIRECT) != 0 && fails(DIRECT, file)) {
+        return -1;
+    }
+    return __real_fcntl(file, command, flags);
 }
 
 static void begin(void)
@@ -360,6 +392,7 @@ static void test_saves(void)
         const char *name = slot == 0 ? "/a" : "/b";
         HOLDS(save(&it, number, is_entry) == STORE_OK);
         HOLDS(last_of(WRITE, name) >= 0 && last_of(SYNC, name) > last_of(WRITE, name));
+        HOLDS(first_of(MARK, name) > last_of(SYNC, name));
         HOLDS(last_of(WRITE, slot == 0 ? "/b" : "/a") < 0);
     }
     store_close(&it);
@@ -419,8 +452,11 @@ static void test_openings(void)
     for (int i = 0; i < 2; i++) {
         int synced = last_of(SYNC, names[i]), forgotten = last_of(FORGET, names[i]);
         HOLDS(synced >= 0 && forgotten > synced && first_of(READ, names[i]) > forgotten);
+        int direct = last_of(DIRECT, names[i]);
+        HOLDS(direct > synced && last_of(READ, names[i]) > direct);
     }
     HOLDS(names_are_synced(-1) && last_of(WRITE, "") < 0);
+    HOLDS(save(&it, 2, true) == STORE_OK && save(&it, 2, false) == STORE_OK);
     store_close(&it);
     // Readings that are cut short or interrupted go on; those that fail are failures.
     let_fail(READ, "", 0, 0);
@@ -431,6 +467,24 @@ static void test_openings(void)
     store_close(&it);
     let_fail(READ, "/a", 1, EIO);
     HOLDS(open_at(&it, folder, &number) == STORE_FAILED && it.cause == EIO);
+    // A file system that can't be read directly, and one that says so late.
+    let_fail(DIRECT, "", 0, EINVAL);
+    HOLDS(open_at(&it, folder, &number) == STORE_OK && number == 2);
+    store_close(&it);
+    let_fail(READ, "/b", 2, EINVAL);
+    HOLDS(open_at(&it, folder, &number) == STORE_OK && number == 2);
+    store_close(&it);
+    let_fail(READ, "/b", 1, EINVAL);
+    HOLDS(open_at(&it, folder, &number) == STORE_FAILED && it.cause == EINVAL);
+    // The disk and memory have other bytes.
+    for (int i = 0; i < 2; i++) {
+        let_fail(READ, names[i], 2, OTHER);
+        HOLDS(open_at(&it, folder, &number) == STORE_STALE);
+    }
+    let_fail(READ, "/a", 2, EIO);
+    HOLDS(open_at(&it, folder, &number) == STORE_FAILED && it.cause == EIO);
+    let_fail(DIRECT, "/b", 1, EBADF);
+    HOLDS(open_at(&it, folder, &number) == STORE_FAILED && it.cause == EBADF);
     let_fail(FORGET, "/b", 1, ESPIPE);
     HOLDS(open_at(&it, folder, &number) == STORE_FAILED && it.cause == ESPIPE);
     let_fail(OPEN, "a", 1, EMFILE);

@@ -332,10 +332,9 @@ natsStatus natsConnection_SubscribeSync(
 
 natsStatus natsSubscription_SetPendingLimits(natsSubscription *it, int messages, int bytes)
 {
-    (void)it;
-    (void)messages;
-    (void)bytes;
-    return NATS_OK;
+    model.kept_messages = messages;
+    model.kept_bytes = bytes;
+    return it != NULL ? NATS_OK : NATS_INVALID_ARG;
 }
 
 natsStatus natsSubscription_NextMsg(natsMsg **message, natsSubscription *it, int64_t time)

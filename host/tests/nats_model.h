@@ -25,6 +25,8 @@ typedef struct nats_model {
     // The last connection that was made, and what it subscribed to.
     natsConnection *last;
     char subscribed[160];
+    // How many messages and bytes libnats may keep for it.
+    int kept_messages, kept_bytes;
 } nats_model;
 
 extern nats_model model;

@@ -257,15 +257,87 @@ static void test_payload(void)
 static void test_floods(void)
 {
     published = 0;
-    for (int i = 0; i < INBOX_MOST + 100; i++) {
+    for (int i = 1; i < INBOX_MOST + 100; i++) {
         model_deliver("markring.test.node.0.control", "_INBOX.flood", "words", 5);
+        HOLDS(at.waiting == (size_t)(i < INBOX_MOST ? i : INBOX_MOST));
     }
-    HOLDS(at.waiting == INBOX_MOST);
     (void)go_round(&at);
     HOLDS(at.waiting == INBOX_MOST - HOST_TAKES);
     listen();
     (void)go_on(20 * CYCLE);
     HOLDS(at.waiting == 0 && published >= INBOX_MOST && published < INBOX_MOST + 100);
+    HOLDS(model.kept_messages == INBOX_MOST && model.kept_bytes == INBOX_BYTES);
+}
+
+// Messages of the greatest size that a server takes: as many bytes as the node keeps, to the last.
+static void test_long_messages(void)
+{
+    static uint8_t bytes[1 << 20];
+    int most = INBOX_BYTES / (int)sizeof bytes;
+    for (int round = 0; round < 2; round++) {
+        for (int i = 0; i < most - 1; i++) {
+            model_deliver("markring.test.node.0.program", "_INBOX.long", bytes, sizeof bytes);
+        }
+        model_deliver("markring.test.node.0.program", "_INBOX.long", bytes, sizeof bytes - 1);
+        HOLDS(at.waiting == (size_t)most && at.waiting_bytes == INBOX_BYTES - 1);
+        model_deliver("markring.test.node.0.program", "_INBOX.long", bytes, sizeof bytes);
+        model_deliver("markring.test.node.0.program", "_INBOX.long", bytes, 2);
+        HOLDS(at.waiting == (size_t)most);
+        model_deliver("markring.test.node.0.program", "_INBOX.long", bytes, 1);
+        HOLDS(at.waiting == (size_t)most + 1 && at.waiting_bytes == INBOX_BYTES);
+        (void)go_on(5 * CYCLE);
+        HOLDS(at.waiting == 0 && at.waiting_bytes == 0);
+    }
+    listen();
+    ask_status("_INBOX.after");
+    HOLDS(hears("_INBOX.after") && model.kept_bytes == INBOX_BYTES);
+}
+
+// The statuses of folders that can't be used, and of failures that pass: a supervisor starts the
+// node again after these alone.
+static void test_openings(void)
+{
+    static const int passing[] = {EMFILE, ENFILE, EIO, ENOMEM, ENOSPC, EDQUOT, ENOLCK, EINTR};
+    static const int staying[] = {EACCES, EPERM, EROFS, EISDIR, ELOOP, ENAMETOOLONG, EINVAL};
+    begin_hearing();
+    for (size_t i = 0; i < sizeof passing / sizeof *passing; i++) {
+        HOLDS(explain(STORE_FAILED, passing[i]) == LEAVE_SYSTEM);
+        HOLDS(explain(STORE_UNKNOWN, passing[i]) == LEAVE_SYSTEM);
+    }
+    for (size_t i = 0; i < sizeof staying / sizeof *staying; i++) {
+        HOLDS(explain(STORE_FAILED, staying[i]) == LEAVE_FOLDER);
+    }
+    HOLDS(explain(STORE_MEMORY, 0) == LEAVE_SYSTEM);
+    HOLDS(explain(STORE_STALE, 0) == LEAVE_SYSTEM);
+    HOLDS(explain(STORE_ABSENT, EMFILE) == LEAVE_FOLDER);
+    HOLDS(explain(STORE_LOCKED, EMFILE) == LEAVE_FOLDER);
+    HOLDS(explain(STORE_DAMAGED, EMFILE) == LEAVE_FOLDER);
+    HOLDS(end_hearing(": Too many open files\n") == 2);
+}
+
+// Each word of `create` at its limit, and one past it.
+static void test_words(void)
+{
+    static const struct {
+        int at;
+        const char *most, *more;
+    } limits[] = {{1, "abcdefghijklmnopqrstuvwxyz012345", "abcdefghijklmnopqrstuvwxyz0123456"},
+        {2, "0123456789abcdef", "0123456789abcdef0"}, {2, "0123456789abcdef", "0123456789abcde"},
+        {3, "63", "64"}, {4, "64", "65"}, {5, "256", "257"}, {6, "1048576", "1048577"},
+        {8, "18446744073709551615", "18446744073709551616"}};
+    begin_hearing();
+    for (size_t i = 0; i < sizeof limits / sizeof *limits; i++) {
+        char folder[PATH + 16];
+        snprintf(folder, sizeof folder, "%s/limit%d", place, (int)i);
+        for (int past = 1; past >= 0; past--) {
+            char *words[] = {folder, "test", "0123456789abcdef", "63", "64", "8", "64", "--limit", "1"};
+            words[limits[i].at] = strdup(past ? limits[i].more : limits[i].most);
+            HOLDS(create(limits[i].at > 6 ? 9 : 7, words) == (past ? LEAVE_USAGE : 0));
+            HOLDS((access(folder, F_OK) == 0) == !past);
+            free(words[limits[i].at]);
+        }
+    }
+    HOLDS(end_hearing("usage:") == sizeof limits / sizeof *limits);
 }
 
 // The node says once when the connection is lost and when it is there again, and when it is there
@@ -505,8 +577,8 @@ int main(void)
     HOLDS(start_threads(&at, &saves, &signals));
     start();
     static void (*const tests[])(void) = {test_addresses, test_denials, test_late_calls,
-        test_refusals, test_payload, test_floods, test_connection_lines, test_looks, test_options,
-        test_restore, test_saves, test_signal};
+        test_refusals, test_payload, test_floods, test_long_messages, test_openings, test_words,
+        test_connection_lines, test_looks, test_options, test_restore, test_saves, test_signal};
     for (size_t i = 0; i < sizeof tests / sizeof *tests; i++) {
         tests[i]();
         // The connection, and the subscription.

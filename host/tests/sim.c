@@ -426,7 +426,8 @@ static int start(station *at)
             HOLDS(known->nonce == left->nonce && known->saves == left->saves);
         }
     } else if (!at->disk.dead) {
-        HOLDS(status == STORE_MEMORY || status == STORE_FAILED || status == STORE_UNKNOWN);
+        HOLDS(status == STORE_MEMORY || status == STORE_FAILED || status == STORE_UNKNOWN
+            || status == STORE_STALE);
     }
     free(value.buffer);
     if (status == STORE_OK && opened != MARKRING_OK) {
@@ -1483,7 +1484,10 @@ static void make_old(disk *it, uint8_t node)
 {
     disk_file *file = &it->files[0];
     size_t line = STORE_HEAD + 1 + 1 + strlen("sim") + SPACE_ID + 1 + 1 + 8 + nodes * (size_t)24;
-    HOLDS(file->durable_length == file->seen_length);
+    disk_rest(it);
+    // Earlier versions left no marks.
+    reader head = reader_of(file->seen + 4, 8);
+    file->seen_length = STORE_HEAD + (size_t)read_number(&head, 8) + STORE_TAIL;
     cut(file, line, 2);
     cut(file, STORE_HEAD, 1);
     if (below(2) == 0) {

@@ -1,6 +1,6 @@
 // The store: what each failing call leaves; every crash of a creation, an opening and a save, of
-// whole values and of entries. Each byte of a slot is changed. Then come folders of the first
-// version, and locks and refusals on the file system.
+// whole values and of entries; and folders through many crashes. Each byte of a folder is changed.
+// Then come folders of the first version, and locks and refusals on the file system.
 //
 //     store_test [CRASHES]
 #include "../bytes.h"
@@ -15,7 +15,7 @@
 #define XXH_INLINE_ALL
 #include <xxhash.h>
 
-enum { LENGTH = 1000, CALLS = 40 };
+enum { LENGTH = 1000, CALLS = 48, MARK = 32, LIVES = 6, SAVES = 12, LONGEST = 9000 };
 
 static uint64_t seed = 1;
 static unsigned long passed, failed;
@@ -69,11 +69,20 @@ static int number_in(const store_value *it)
     return number;
 }
 
+static uint32_t below(uint32_t limit)
+{
+    seed = seed * UINT64_C(6364136223846793005) + 1442695040888963407;
+    return (uint32_t)((seed >> 32) * limit >> 32);
+}
+
+// On some disks somebody maps the files, and some of the others can't be read past memory.
 static disk fresh(void)
 {
     disk it;
     memset(&it, 0, sizeof it);
     it.seed = &seed;
+    it.forgets = below(2) == 0;
+    it.without_direct = it.forgets && below(2) == 0;
     return it;
 }
 
@@ -92,13 +101,26 @@ static store_status create(disk *at, uint8_t number)
     return status;
 }
 
+static unsigned long stale;
+
+// Opens. While memory has what the disk hasn't, it is tried again: whoever maps the files ends.
+static store_status open_at(store *it, const store_calls *calls, store_value *value)
+{
+    store_status status = store_open(it, calls, "folder", value);
+    while (status == STORE_STALE) {
+        stale++;
+        status = store_open(it, calls, "folder", value);
+    }
+    return status;
+}
+
 // Opens, and returns the number that is found, or minus the status.
 static int found(disk *at)
 {
     store it;
     store_calls calls = disk_calls(at);
     store_value value = {NULL, 0, 0, false, 0, 0};
-    store_status status = store_open(&it, &calls, "folder", &value);
+    store_status status = open_at(&it, &calls, &value);
     int number = status == STORE_OK ? number_in(&value) : -100 - (int)status;
     if (status == STORE_OK) {
         store_close(&it);
@@ -114,7 +136,7 @@ static int work(disk *at, bool *unsure)
     store it;
     store_calls calls = disk_calls(at);
     store_value old = {NULL, 0, 0, false, 0, 0};
-    store_status status = store_open(&it, &calls, "folder", &old);
+    store_status status = open_at(&it, &calls, &old);
     int saved = 0;
     *unsure = status == STORE_UNKNOWN;
     free(old.buffer);
@@ -213,33 +235,41 @@ static void test_failures(unsigned long times)
     }
 }
 
-// A changed byte: the other slot counts.
-static void test_changes(void)
+// What is found if a slot is cut off.
+static int found_in_cut(const disk *of, int slot, size_t length)
+{
+    disk cut;
+    memset(&cut, 0, sizeof cut);
+    disk_copy(&cut, of);
+    cut.files[slot].durable_length = cut.files[slot].seen_length = length;
+    int now = found(&cut);
+    disk_free(&cut);
+    return now;
+}
+
+// A slot that is cut off: the other slot counts.
+static void test_cuts(void)
 {
     disk it = fresh();
     bool unsure;
     way = WHOLE;
     HOLDS(create(&it, 1) == STORE_OK && work(&it, &unsure) == 2 && found(&it) == 3);
+    disk_rest(&it);
     int last = it.files[0].seen[STORE_HEAD] == 3 ? 0 : 1;
-    disk_file *file = &it.files[last];
-    for (size_t at = 0; at < file->seen_length; at++) {
-        file->seen[at] ^= (uint8_t)(1 + at % 255);
-        memcpy(file->durable, file->seen, file->seen_length);
-        HOLDS(found(&it) == 2);
-        file->seen[at] ^= (uint8_t)(1 + at % 255);
-    }
-    memcpy(file->durable, file->seen, file->seen_length);
     for (size_t length = 0; length < STORE_HEAD + LENGTH + STORE_TAIL; length++) {
-        file->durable_length = length;
-        HOLDS(found(&it) == 2);
+        HOLDS(found_in_cut(&it, last, length) == 2);
     }
-    disk_file *other = &it.files[1 - last];
-    other->durable_length = 3;
-    HOLDS(found(&it) == -100 - STORE_DAMAGED);
+    it.files[1 - last].durable_length = it.files[1 - last].seen_length = 3;
+    HOLDS(found_in_cut(&it, last, LENGTH) == -100 - STORE_DAMAGED);
     disk_free(&it);
 }
 
-// What is found if an entry is changed or cut off: what was saved before it.
+static void put(disk_file *file, size_t at, uint8_t byte)
+{
+    file->seen[at] = file->durable[at] = byte;
+}
+
+// What is found if an entry is cut off: what was saved before it.
 static void test_entries(void)
 {
     disk it = fresh();
@@ -247,32 +277,254 @@ static void test_entries(void)
     size_t head = STORE_HEAD + LENGTH + STORE_TAIL, entry = 16 + LENGTH + STORE_TAIL;
     way = ENTRIES;
     HOLDS(create(&it, 1) == STORE_OK && work(&it, &unsure) == 2 && found(&it) == 3);
+    disk_rest(&it);
     disk_file *file = &it.files[0];
-    // Behind the entries are zeros.
+    // Behind the entries are a mark and zeros.
     HOLDS(file->seen_length == 65536 && it.files[1].seen_length == 0);
-    for (size_t at = 0; at < head + 2 * entry + 40; at++) {
-        int left = at < head ? -100 - STORE_DAMAGED
-            : at < head + entry             ? 1
-            : at < head + 2 * entry         ? 2
-                                            : 3;
-        file->seen[at] ^= (uint8_t)(1 + at % 255);
-        memcpy(file->durable, file->seen, file->seen_length);
-        HOLDS(found(&it) == left);
-        file->seen[at] ^= (uint8_t)(1 + at % 255);
+    for (size_t at = head + 2 * entry; at < file->seen_length; at++) {
+        HOLDS((file->seen[at] == 0) == (at >= head + 2 * entry + MARK) || at >= head + 2 * entry + 8);
     }
-    memcpy(file->durable, file->seen, file->seen_length);
     for (size_t length = head; length <= head + 2 * entry; length++) {
-        disk cut;
-        disk_copy(&cut, &it);
-        cut.files[0].durable_length = cut.files[0].seen_length = length;
-        HOLDS(found(&cut) == 1 + (int)((length - head) / entry));
-        disk_free(&cut);
+        HOLDS(found_in_cut(&it, 0, length) == 1 + (int)((length - head) / entry));
     }
     // A whole value goes into the other slot; entries of an earlier save aren't taken for its own.
     way = WHOLE;
     HOLDS(work(&it, &unsure) == 2 && found(&it) == 3);
-    HOLDS(file->seen_length == 65536 && it.files[1].seen_length == head);
+    HOLDS(file->seen_length == 65536 && it.files[1].seen_length == head + MARK);
     disk_free(&it);
+}
+
+// ## Rot
+
+static unsigned long changed, refused, harmless;
+
+// Changes each byte of a folder in which this number was saved last, and counts how many changes
+// are refused, and how many take nothing back. Returns how many are neither.
+static unsigned long rot(disk *it, int last)
+{
+    unsigned long lost = 0;
+    for (int i = 0; i < DISK_FILES; i++) {
+        disk_file *file = &it->files[i];
+        for (size_t at = 0; at < file->seen_length && at < 5000; at++) {
+            uint8_t old = file->seen[at];
+            put(file, at, (uint8_t)(old ^ (1 + below(255))));
+            int now = found(it);
+            put(file, at, old);
+            changed++;
+            refused += now == -100 - STORE_DAMAGED;
+            harmless += now == last;
+            lost += now != -100 - STORE_DAMAGED && now != last;
+        }
+    }
+    return lost;
+}
+
+static void test_rot(void)
+{
+    for (way = WHOLE; way <= MIXED; way++) {
+        disk it = fresh();
+        bool unsure;
+        HOLDS(create(&it, 1) == STORE_OK && work(&it, &unsure) == 2);
+        disk_rest(&it);
+        unsigned long before = refused;
+        HOLDS(rot(&it, 3) == 0 && refused - before >= STORE_HEAD + LENGTH + STORE_TAIL);
+        disk_free(&it);
+    }
+    printf("%lu bytes changed: %lu refused, %lu harmless\n", changed, refused, harmless);
+}
+
+// The machine stops before the marks get to the disk. Then a change is found if an entry is behind
+// it, and the lengths are as they were.
+static void test_rot_without_marks(void)
+{
+    disk it = fresh();
+    bool unsure;
+    size_t head = STORE_HEAD + LENGTH + STORE_TAIL, entry = 16 + LENGTH + STORE_TAIL;
+    way = ENTRIES;
+    HOLDS(create(&it, 1) == STORE_OK && work(&it, &unsure) == 2);
+    disk_file *file = &it.files[0];
+    disk_rest(&it);
+    for (size_t at = head + 2 * entry; at < head + 2 * entry + MARK; at++) {
+        put(file, at, 0);
+    }
+    for (size_t at = 0; at < head + 2 * entry; at++) {
+        bool is_length = at >= head && at < head + 8;
+        uint8_t old = file->seen[at];
+        put(file, at, (uint8_t)(old ^ (1 + below(255))));
+        int now = found(&it);
+        put(file, at, old);
+        HOLDS(now == -100 - STORE_DAMAGED || (is_length && now == 1)
+            || (at >= head + entry && now == 2));
+    }
+    disk_free(&it);
+}
+
+// What programs may have written, and a crash left behind what is whole: what looks like a mark or an
+// entry shows nothing.
+static void test_forgeries(void)
+{
+    disk it = fresh();
+    bool unsure;
+    size_t head = STORE_HEAD + LENGTH + STORE_TAIL, entry = 16 + LENGTH + STORE_TAIL;
+    way = ENTRIES;
+    HOLDS(create(&it, 1) == STORE_OK && work(&it, &unsure) == 2);
+    disk_rest(&it);
+    disk_file *file = &it.files[0];
+    size_t last = head + entry, end = head + 2 * entry;
+    for (uint64_t number = 3; number < 7; number++) {
+        // A mark of another value, and an entry without the checksum before it.
+        writer to = writer_of(file->seen + end + MARK + 8 * number, 32);
+        write_number(&to, UINT64_MAX, 8);
+        write_number(&to, number, 8);
+        write_number(&to, LENGTH, 8);
+        write_number(&to, XXH3_64bits_withSeed(to.start, 24, number), 8);
+        to = writer_of(file->seen + end + 2000, entry);
+        write_bytes(&to, file->seen + last, entry);
+        to = writer_of(file->seen + end + 2000 + 8, 8);
+        write_number(&to, number, 8);
+        memcpy(file->durable, file->seen, file->seen_length);
+        HOLDS(found(&it) == 3);
+    }
+    disk_free(&it);
+}
+
+// ## Many crashes
+
+// A value or an entry of any length, that begins with its number. Its other bytes are any, all FF,
+// or what the file holds.
+static store_value any_value(const disk *at, uint64_t number, bool is_entry)
+{
+    size_t length = 8 + below(4) * below(below(4) == 0 ? LONGEST / 3 : 100);
+    size_t room = STORE_HEAD + length + STORE_TAIL;
+    store_value it = {malloc(room), length, room, is_entry, 0, 0};
+    const disk_file *file = &at->files[below(2)];
+    uint32_t kind = below(3);
+    writer to = writer_of(it.buffer + STORE_HEAD, length);
+    write_number(&to, number, 8);
+    for (size_t i = 8, from = below(2000); i < length; i++, from++) {
+        it.buffer[STORE_HEAD + i] = kind == 0 ? 0xFF
+            : kind == 1                       ? (uint8_t)below(256)
+            : from < file->seen_length        ? file->seen[from]
+                                              : 0;
+    }
+    return it;
+}
+
+static uint64_t last_in(const store_value *it)
+{
+    reader from = reader_of(it->buffer + STORE_HEAD, it->length);
+    uint64_t number = read_number(&from, 8);
+    size_t at = 0, length = 0;
+    for (const uint8_t *entry = store_next(it, &at, &length); entry != NULL;
+         entry = store_next(it, &at, &length)) {
+        from = reader_of(entry, length);
+        number = read_number(&from, 8);
+    }
+    return number;
+}
+
+// One process: it finds what was saved last, or a later save that was begun, and saves until
+// something fails or it dies.
+static void live(disk *at, uint64_t *kept, uint64_t *begun)
+{
+    store it;
+    store_calls calls = disk_calls(at);
+    store_value value = {NULL, 0, 0, false, 0, 0};
+    store_status status = open_at(&it, &calls, &value);
+    if (status != STORE_OK) {
+        HOLDS(at->dead || (at->failing > 0 && (status == STORE_FAILED || status == STORE_UNKNOWN)));
+        free(value.buffer);
+        return;
+    }
+    uint64_t now = last_in(&value);
+    HOLDS(now >= *kept && now <= *begun);
+    *kept = now;
+    bool is_whole = value.whole > 0;
+    free(value.buffer);
+    for (uint32_t i = below(SAVES); i > 0 && status != STORE_UNKNOWN && !at->dead; i--) {
+        value = any_value(at, ++*begun, !is_whole && below(5) > 0);
+        status = store_save(&it, &value);
+        *kept = status == STORE_OK ? *begun : *kept;
+        is_whole = status != STORE_OK;
+        free(value.buffer);
+    }
+    store_close(&it);
+}
+
+static void test_lives(unsigned long times)
+{
+    for (unsigned long i = 0; i < times; i++) {
+        disk it = fresh();
+        uint64_t kept = 1, begun = 1;
+        store at;
+        store_calls calls = disk_calls(&it);
+        store_value value = any_value(&it, 1, false);
+        HOLDS(store_create(&at, &calls, "folder", &value) == STORE_OK);
+        store_close(&at);
+        free(value.buffer);
+        for (int lives = 0; lives < LIVES; lives++) {
+            it.dies_in = below(3) == 0 ? 0 : 1 + below(80);
+            it.failing = below(3) == 0 ? 1 + below(60) : 0;
+            live(&it, &kept, &begun);
+            it.failing = 0;
+            if (below(3) == 0) {
+                disk_rest(&it);
+            }
+            if (below(3) > 0) {
+                disk_power_off(&it);
+            } else {
+                disk_kill(&it);
+            }
+        }
+        it.dies_in = 0;
+        live(&it, &kept, &begun);
+        disk_free(&it);
+    }
+}
+
+static int64_t (*real_write)(void *, int, const uint8_t *, size_t, uint64_t);
+
+// A write that doesn't fail while all other calls do.
+static int64_t write_well(
+    void *context, int file, const uint8_t *bytes, size_t length, uint64_t offset)
+{
+    disk *at = context;
+    uint32_t failing = at->failing;
+    at->failing = 0;
+    int64_t moved = real_write(context, file, bytes, length, offset);
+    at->failing = failing;
+    return moved;
+}
+
+// A sync fails, and memory has what the disk hasn't. The next process doesn't count it.
+static void test_failed_sync(unsigned long times)
+{
+    unsigned long before = stale;
+    for (unsigned long i = 0; i < times; i++) {
+        disk it = fresh();
+        it.forgets = it.without_direct = false;
+        bool unsure;
+        HOLDS(create(&it, 1) == STORE_OK);
+        store at;
+        store_calls calls = disk_calls(&it);
+        store_value old = {NULL, 0, 0, false, 0, 0}, value = value_of(2);
+        HOLDS(store_open(&at, &calls, "folder", &old) == STORE_OK);
+        real_write = calls.write_at;
+        at.calls.write_at = write_well;
+        it.failing = 1000;
+        HOLDS(store_save(&at, &value) != STORE_OK);
+        it.failing = 0;
+        free(value.buffer);
+        free(old.buffer);
+        store_close(&at);
+        int now = found(&it);
+        HOLDS(now == 1 || now == 2);
+        int saved = now == 1 ? work(&it, &unsure) : 0;
+        disk_power_off(&it);
+        HOLDS(found(&it) == now + saved);
+        disk_free(&it);
+    }
+    HOLDS(stale > before);
 }
 
 // The call of a disk that writes, and whether the next write of all its bytes fails.
@@ -316,8 +568,10 @@ static void test_failed_write(void)
 }
 
 // Makes a slot one of the first version.
-static void make_old(disk_file *file)
+static void make_old(disk *it)
 {
+    disk_rest(it);
+    disk_file *file = &it->files[0];
     file->seen[3] = 1;
     uint64_t seal = XXH3_64bits(file->seen, STORE_HEAD + LENGTH);
     for (int i = 0; i < STORE_TAIL; i++) {
@@ -334,7 +588,7 @@ static void test_versions(void)
     store_calls calls = disk_calls(&it);
     way = WHOLE;
     HOLDS(create(&it, 1) == STORE_OK);
-    make_old(&it.files[0]);
+    make_old(&it);
     for (int whole = 2; whole >= 0; whole--) {
         store_value value = {NULL, 0, 0, false, 0, 0}, next = value_of((uint8_t)(4 - whole));
         HOLDS(store_open(&at, &calls, "folder", &value) == STORE_OK);
@@ -383,8 +637,13 @@ int main(int count, char **given)
         test_failures(10 * times);
     }
     test_creations(times);
-    test_changes();
+    test_cuts();
     test_entries();
+    test_rot();
+    test_rot_without_marks();
+    test_forgeries();
+    test_lives(5 * times);
+    test_failed_sync(times);
     test_failed_write();
     test_versions();
     test_system();
