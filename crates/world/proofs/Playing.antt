@@ -16,7 +16,7 @@ use Rattle.model.specs.World.{World, new_world, FollowsStep, take_step, outcome_
 use Rattle.laws.specs.Strategy.{now, is_collectors, next_steps, played, play}
 use Rattle.laws.specs.Progress.{IsSwept, Comes, current_cycle}
 use Rattle.laws.specs.Bounds.{cycle_moves}
-use Rattle.laws.proofs.progress.Theorems.{cycle-can-end, garbage-can-go, gone}
+use Rattle.laws.proofs.progress.Theorems.{cycle-can-end, garbage-can-go, gone, played-stays}
 use Rattle.laws.proofs.KeepsSent.{run-count}
 use Rattle.laws.proofs.progress.Paths.{run-append, outcomes-append}
 use Rattle.world.specs.Spaces.{SpaceView, ShowsSpace, FollowsSpace}
@@ -364,7 +364,7 @@ collects (Ok k) new plays shape limits steps shown can =
       record {
         few = few-moves h c c.holds.0;
         gone = gone shape limits steps (played shape.nodes k w) (current_cycle w + 1)
-            (omega arith) h.swept;
+            (omega arith) h.swept (played-stays shape.nodes k w);
       },
       tt,
     )

@@ -63,8 +63,8 @@ pub record CanCollect (n : ℕ) (w : World) : Type 0 where
   pub cycle : current_cycle w < GREATEST_CYCLE
   pub room : HasRoom (both_room n (now w)) (now w)
 
--- Once each node is saved after these moves, none has an object that was old garbage before them,
--- in any choice of current and saved states.
+-- Once each node is saved after these moves, none has an object that was garbage before them, saved
+-- or not, in any choice of current and saved states.
 pub record HasCollected (n moves : ℕ) (w : World) : Type 0 where
   pub few : moves ≤ both_moves n (now w)
   pub gone : (r : Ref) → IsGone w (run (play n moves w) (saves n)) r
