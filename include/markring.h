@@ -34,8 +34,13 @@
 //   space.
 // - malloc, realloc and free are those of one allocator, and may be called from any thread.
 // - No call is made from a signal handler, or in the child of a fork of a process with threads.
-// - What a node sent is given to the receiver's handle, and what a node saved is given back to that
-//   node: the library checks that bytes are well-formed and fit the node, not who made them.
+// - A frame comes from a handle of the same space, and is given only to the node that it is for.
+// - A node goes on from the image, and the batches after it, that it stored last; and one handle at
+//   a time does.
+// - markring_node_kept is called only once the image or batch with that mark is stored.
+//
+// Of frames, images and batches the library checks that they are well-formed and fit the node, not
+// who made them, and when.
 //
 // # Buffers
 //

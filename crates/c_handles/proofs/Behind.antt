@@ -150,28 +150,6 @@ also n new m e a behind h =
       kept = kept;
     }
 
--- an acknowledgement of messages that were acknowledged before
-unchanged-link : (l : Link) (number : ℕ) → number ≤ l.base → trimmed l number ≡ l
-unchanged-link l number old =
-    let none : number - l.base ≡ 0 = omega (arith, old) in
-    let still : l.base + min (number - l.base) (length l.unacknowledged) ≡ l.base =
-    omega (arith, none, min-le_left (number - l.base) (length l.unacknowledged)) in
-    let all : drop (number - l.base) l.unacknowledged ≡ l.unacknowledged =
-    ap (λ (k : ℕ). drop k l.unacknowledged) none in
-    ap (λ (k : ℕ). record l {
-      base = k;
-      unacknowledged = drop (number - l.base) l.unacknowledged;
-    }) still
-    ∙ ap (λ (ms : List Message). record l { unacknowledged = ms }) all
-
-pub old_ack : (n new : NodeView) (a : Ack) (x : Answer) → view_act n (event.Ack a) ≡ Ok (new, x)
-    → a.number ≤ (link_to n a.by).base → new ≡ n
-old_ack n new a x h old =
-    (ack-done n new a x h).1
-    ∙ ap (λ (l : Link). record n { links = set n.links a.by l })
-    (unchanged-link (link_to n a.by) a.number old)
-    ∙ ap (λ (ls : List Link). record n { links = ls }) (set-get_or n.links a.by no_link)
-
 -- ---- more counts as saved
 
 -- what the other node counts as saved too

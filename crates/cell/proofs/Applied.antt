@@ -13,7 +13,7 @@ use Rattle.laws.proofs.OldGarbage as garbage
 use Rattle.laws.proofs.Onward.{run-behind}
 use Rattle.wire.proofs.NewWires.{new-width}
 use Rattle.cell.specs.Reached.{AreAlike, IsReached}
-use Rattle.laws.specs.Statements.{BalancesAddUp, NodesAgree, OldGarbageGoes, ReachIsLive}
+use Rattle.laws.specs.Statements.{BalancesAddUp, Garbage, GarbageGoes, NodesAgree, OldGarbageGoes, ReachIsLive}
 use Rattle.cell.specs.Theorems.{OfEveryReached}
 use Rattle.cell.proofs.AlikeCuts.{CutsAlike, cuts-alike, cuts-sym, ends-too, live-too, reached-too}
 use Rattle.cell.proofs.AlikeRuns.{run-like}
@@ -84,5 +84,29 @@ old-garbage-goes w reached later choice cycle r before old swept live =
     garbage.old-garbage-goes reached.shape reached.limits reached.steps later choice cycle r
     (subst (λ (p : LocalState). p.phases.cycle < cycle) (reached.by.current.each 0).local before)
     (old-too w end r reached.by (λ c. cuts-end w c reached) old)
+    (subst (λ (p : LocalState). cycle ≤ p.phases.swept) (cuts.locals r.node) swept)
+    (live-too r cuts live)
+
+garbage-too : (w v : World) (r : Ref) → AreAlike w v
+    → ((choice : ℕ → Bool) → CutsAlike (cut w choice) (cut v choice)) → Garbage w r
+    → Garbage v r
+garbage-too w v r h cuts dead = record {
+  object = dead.object;
+  current = sym (ap (λ (p : LocalState). slot_at p.heap r.slot) (h.current.each r.node).local)
+      ∙ dead.current;
+  unreachable = λ choice reach.
+      dead.unreachable choice (reached-too (cuts-sym (cuts choice)) reach);
+}
+
+pub garbage-goes : OfEveryReached GarbageGoes
+garbage-goes w reached later choice cycle r before dead stays chosen swept live =
+    let end : World = end_of reached in
+    let heard = heard-end reached in
+    let cuts : CutsAlike (cut (run w later) choice) (cut (run end later) choice) =
+    cuts-alike (run w later) (run end later) choice (run-like w end later reached.by heard)
+    (run-behind heard-onward end later heard) in
+    garbage.garbage-goes reached.shape reached.limits reached.steps later choice cycle r
+    (subst (λ (p : LocalState). p.phases.cycle < cycle) (reached.by.current.each 0).local before)
+    (garbage-too w end r reached.by (λ c. cuts-end w c reached) dead) stays chosen
     (subst (λ (p : LocalState). cycle ≤ p.phases.swept) (cuts.locals r.node) swept)
     (live-too r cuts live)

@@ -2,7 +2,7 @@
 //! world in which their wire was made.
 ghost use Rattle.ids.specs.Limits.{IsShape, Shaped};
 ghost use Rattle.model.specs.World.{new_world, World};
-ghost use Rattle.laws.specs.Statements.{BalancesAddUp, NodesAgree, OldGarbageGoes, ReachIsLive};
+ghost use Rattle.laws.specs.Statements.{BalancesAddUp, GarbageGoes, NodesAgree, OldGarbageGoes, ReachIsLive};
 ghost use Rattle.cell.specs.Closing.{CellsAgree, CellsHaveNamed, ClosedIsLeft, ClosedIsReached};
 ghost use Rattle.cell.specs.Laws.{
   restarted,
@@ -81,6 +81,8 @@ pub fn laws()
     // What was saved and reachable in no cut before a cycle began is gone once its node has swept
     // that cycle.
     ensures old_garbage { OfEveryReached OldGarbageGoes }
+    // So is what was only in the node's current state, as long as the node doesn't restart.
+    ensures garbage_goes { OfEveryReached GarbageGoes }
     // Nodes in which a reached world begins are of one age. So no opening of new disks is refused
     // because of ages.
     ensures one_age { BeginOfOneAge }

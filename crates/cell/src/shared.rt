@@ -5,7 +5,10 @@ ghost use Rattle.std.specs.Prelude.{
   ◌≢◌,
   ◌↔◌,
   ◌⊎◌,
+  ◌<◌,
   false,
+  length,
+  slice_index_or,
   true,
   IfErr,
   IfOk,
@@ -15,12 +18,19 @@ ghost use Rattle.std.specs.Prelude.{
   OnOk,
 };
 ghost use Rattle.std.specs.Arc.{arc_value};
+ghost use Rattle.ids.specs.declared.limits.TheConstants.{GREATEST_IMAGE};
 ghost use Rattle.ids.specs.declared.refusal.Refusal.TheVariants as refusal;
+ghost use Rattle.disk.specs.Crashes.{Grew};
+ghost use Rattle.image.specs.Images.{image_of};
 ghost use Rattle.model.specs.Steps.{is_own};
-ghost use Rattle.wire.specs.Readers.{known, IsSeatOf};
+ghost use Rattle.model.specs.View.{is_other, kept_view};
+ghost use Rattle.wire.specs.Readers.{known, outbox, IsSeatOf};
 ghost use Rattle.wire.specs.Rule.{nodes_of};
+ghost use Rattle.wire.specs.Sending.{frame_due, IsSent};
 ghost use Rattle.cell.specs.Closing.{HasBegun};
+ghost use Rattle.cell.specs.Events.{saved_by};
 ghost use Rattle.cell.specs.Locked.{WasAnswered};
+ghost use Rattle.cell.specs.Pumping.{is_out, PumpedIn};
 ghost use Rattle.cell.specs.Names.{name_of, raised_on, seat_name, IsNamed};
 
 use crate::cell::Cell;
@@ -128,6 +138,56 @@ impl<D: Disk, W: Naming> Held<D, W> {
             Err(refusal) => Err(Shut { refusal }),
         }
     }
+
+    // As `Cell::save` does, in both directions: `Ok` is a save, and a refusal has its cause.
+    #[inline(always)]
+    fn save(&mut self) -> Result<(), Refusal>
+        ensures done { OnOk result (self.new.cell.saved ≡ kept_view self.old.cell.node.core) }
+        ensures known { OnOk result
+            (known self.new.cell.seat ≡ saved_by (known self.old.cell.seat)) }
+        ensures closed { IsErrOf result Refusal.Closed ↔ (self.old.cell.is_open ≡ false) }
+        ensures disk { IsErrOf result Refusal.Disk
+            → Grew (D.faults self.old.cell.disk) (D.faults self.new.cell.disk) }
+        ensures too_large { IsErrOf result Refusal.ImageTooLarge
+            → GREATEST_IMAGE < length (image_of self.old.cell.node.core) }
+        ensures others { IfErr result (λ e. (e ≡ refusal.Closed) ⊎ ((e ≡ refusal.ImageTooLarge)
+            ⊎ ((e ≡ refusal.Memory) ⊎ (e ≡ refusal.Disk)))) }
+    {
+        let Held { cell, wire, .. } = self;
+        cell.save(wire)
+    }
+
+    // As `Cell::pump_in` does.
+    #[inline(always)]
+    fn pump_in(&mut self, from: u8) -> Result<Inbound, Refusal>
+        ensures pumped { IsTrue self.old.cell.is_open
+            → IsTrue (is_other self.old.cell.node.core.local from)
+            → PumpedIn from result self.old.cell self.new.cell }
+        ensures closed { IsErrOf result Refusal.Closed ↔ (self.old.cell.is_open ≡ false) }
+        ensures no_node { IsTrue self.old.cell.is_open
+            → is_other self.old.cell.node.core.local from ≡ false
+            → IsErrOf result Refusal.NoNode }
+    {
+        let Held { cell, wire, .. } = self;
+        cell.pump_in(wire, from)
+    }
+
+    // As `Cell::pump_out` does.
+    #[inline(always)]
+    fn pump_out(&mut self, to: u8) -> Result<Outbound, Refusal>
+        ensures sent { IfOk result (λ o. IsSent (outbox self.old.cell.seat to)
+            (frame_due self.old.cell.node.core to (slice_index_or self.old.cell.places to 0))
+            (is_out o) (known self.old.cell.seat) (known self.new.cell.seat)) }
+        ensures closed { IsErrOf result Refusal.Closed ↔ (self.old.cell.is_open ≡ false) }
+        ensures no_node { IsTrue self.old.cell.is_open
+            → (IsErrOf result Refusal.NoNode
+            ↔ (is_other self.old.cell.node.core.local to ≡ false)) }
+        ensures others { IfErr result (λ e. (e ≡ refusal.Closed)
+            ⊎ ((e ≡ refusal.NoNode) ⊎ (e ≡ refusal.Memory))) }
+    {
+        let Held { cell, wire, .. } = self;
+        cell.pump_out(wire, to)
+    }
 }
 
 impl<D: Disk, W: Naming> SharedOn<D, W> {
@@ -176,9 +236,7 @@ impl<D: Disk, W: Naming> SharedOn<D, W> {
     /// Gives the node the waiting message from another node, or else the frame in the mailbox from
     /// there; see [`Cell::pump_in`].
     pub fn pump_in<R: Wait>(&self, rt: &R, from: u8) -> Result<Inbound, Refusal> {
-        let mut held = self.held.lock(rt);
-        let Held { cell, wire, .. } = &mut *held;
-        cell.pump_in(wire, from)
+        self.held.lock(rt).pump_in(from)
     }
 
     /// Saves the node; see [`Cell::save`].
@@ -186,9 +244,7 @@ impl<D: Disk, W: Naming> SharedOn<D, W> {
         ensures others { IfErr result (λ e. (e ≡ refusal.Closed) ⊎ ((e ≡ refusal.ImageTooLarge)
             ⊎ ((e ≡ refusal.Memory) ⊎ (e ≡ refusal.Disk)))) }
     {
-        let mut held = self.held.lock(rt);
-        let Held { cell, wire, .. } = &mut *held;
-        cell.save(wire)
+        self.held.lock(rt).save()
     }
 
     /// Sends the next frame to another node; see [`Cell::pump_out`].
@@ -196,9 +252,7 @@ impl<D: Disk, W: Naming> SharedOn<D, W> {
         ensures others { IfErr result (λ e. (e ≡ refusal.Closed)
             ⊎ ((e ≡ refusal.NoNode) ⊎ (e ≡ refusal.Memory))) }
     {
-        let mut held = self.held.lock(rt);
-        let Held { cell, wire, .. } = &mut *held;
-        cell.pump_out(wire, to)
+        self.held.lock(rt).pump_out(to)
     }
 
     /// Loads the node that the disk holds; see [`Cell::reopen`]. The cell is then open, or closed

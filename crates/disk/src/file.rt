@@ -8,7 +8,7 @@
 //! differ. After a failed sync, the next one first rewrites each range that was written since the
 //! last successful one, because the system may have dropped what it couldn't write and would then
 //! report success. The file `select` is locked while the disk exists.
-ghost use Rattle.std.specs.Prelude.{◌≡◌, ◌⊎◌, ◌+◌, ◌≤◌, length, IfErr, IfOk, OnOk};
+ghost use Rattle.std.specs.Prelude.{◌≡◌, ◌⊎◌, ◌+◌, ◌≤◌, length, All, IfErr, IfOk, OnOk};
 ghost use Rattle.disk.specs.Areas.{Areas, Changes, Torn, part};
 ghost use Rattle.disk.specs.Memory.{blank};
 ghost use Rattle.disk.specs.Record.{areas_of, at_risk, leaves, moments, left_since, reads_left};
@@ -19,13 +19,16 @@ use crate::state::{Contents, Range};
 use crate::{Area, Disk, DiskFault, MemoryDisk};
 use ids::Refusal;
 use std::alloc::{AllocError, Global};
-use std::fs::{self, File, Files, OpenFile, OpenOptions};
+use std::fs::{DirBuilder, File, Files, OpenFile, OpenOptions};
 use std::io::{self, ErrorKind, Read};
-use std::os::unix::fs::FileExt;
-use std::path::Path;
+use std::os::unix::fs::{DirBuilderExt, FileExt, OpenOptionsExt};
+use std::path::{Path, PathBuf};
 
 /// How many bytes of a file are compared at a time.
 const PIECE: usize = 4096;
+/// The permissions of what is created: other users may neither read images nor lock a file.
+const OWN_FOLDER: u32 = 0o700;
+const OWN_FILE: u32 = 0o600;
 
 /// A disk in the files `select`, `a` and `b` of a folder, one for each area.
 ///
@@ -60,8 +63,9 @@ impl<F: Drop> Drop for FileDisk<F> {
 }
 
 impl FileDisk {
-    /// Opens the disk in this folder. A missing folder or file is created, and what is found counts
-    /// as unsynced. While this disk exists, no other one can be opened in the folder.
+    /// Opens the disk in this folder. A missing folder or file is created, for this user alone, and
+    /// what is found counts as unsynced. While this disk exists, no other one can be opened in the
+    /// folder.
     ///
     /// Fails with `Disk` if the system refuses something, if one of the files isn't a regular file,
     /// or if another `FileDisk` has the folder open. Fails with `Memory` if there isn't enough
@@ -72,9 +76,39 @@ impl FileDisk {
     {
         match open_folder(rt, alloc, Path::new(folder)) {
             Ok(disk) => Ok(disk),
-            Err(error) if error.kind() == ErrorKind::OutOfMemory => Err(Refusal::Memory),
-            Err(_) => Err(Refusal::Disk),
+            Err(error) => Err(refusal_of(error)),
         }
+    }
+
+    /// Opens `count` disks, in the folders `0`, `1` and so on of this one, as [`FileDisk::at`] does.
+    /// The names of the folders above them are synced once for all.
+    ///
+    /// Fails as [`FileDisk::at`] does; then no folder stays open.
+    pub fn each_in<R: Files<File = File>>(
+        rt: &R,
+        alloc: Global,
+        folder: &str,
+        count: u8,
+    ) -> Result<Vec<Self>, Refusal>
+        ensures count { IfOk result (λ ds. length ds.items ≡ count) }
+        ensures unsynced { IfOk result (λ ds. All (λ d. IsUnsynced d.account.state) ds.items) }
+        ensures refused { IfErr result (λ e. (e ≡ Refusal.Disk) ⊎ (e ≡ Refusal.Memory)) }
+    {
+        match open_each(rt, alloc, Path::new(folder), count) {
+            Ok(disks) => Ok(disks),
+            Err(error) => Err(refusal_of(error)),
+        }
+    }
+}
+
+/// How a failure to open a disk is told.
+fn refusal_of(error: io::Error) -> Refusal
+    ensures { (result ≡ Refusal.Disk) ⊎ (result ≡ Refusal.Memory) }
+{
+    if error.kind() == ErrorKind::OutOfMemory {
+        Refusal::Memory
+    } else {
+        Refusal::Disk
     }
 }
 
@@ -87,8 +121,70 @@ fn open_folder<R: Files<File = File>>(
     ensures { IfOk result (λ d. IsUnsynced d.account.state) }
 {
     make_folder(rt, alloc, folder)?;
+    open_made(rt, alloc, folder)
+}
+
+/// The disks in the folders `0`, `1` and so on of a folder.
+fn open_each<R: Files<File = File>>(
+    rt: &R,
+    alloc: Global,
+    folder: Path<'_>,
+    count: u8,
+) -> io::Result<Vec<FileDisk>>
+    ensures count { IfOk result (λ ds. length ds.items ≡ count) }
+    ensures unsynced { IfOk result (λ ds. All (λ d. IsUnsynced d.account.state) ds.items) }
+{
+    make_folder(rt, alloc, folder)?;
+    make_parts(rt, alloc, folder, count)?;
+    open_parts(rt, alloc, folder, count)
+}
+
+/// Creates the folders `0`, `1` and so on of a folder, if they are missing, and makes their names
+/// survive a crash.
+fn make_parts<R: Files<File = File>>(
+    rt: &R,
+    alloc: Global,
+    folder: Path<'_>,
+    count: u8,
+) -> io::Result<()> {
+    for part in 0..count {
+        let path = part_of(alloc, folder, part)?;
+        create(rt, path.as_path())?;
+    }
+    sync_above(&open_to_sync(rt, folder)?)
+}
+
+/// Opens the disks in these folders, which exist.
+fn open_parts<R: Files<File = File>>(
+    rt: &R,
+    alloc: Global,
+    folder: Path<'_>,
+    count: u8,
+) -> io::Result<Vec<FileDisk>>
+    ensures count { IfOk result (λ ds. length ds.items ≡ count) }
+    ensures unsynced { IfOk result (λ ds. All (λ d. IsUnsynced d.account.state) ds.items) }
+{
+    let mut disks = Vec::new(alloc);
+    for part in 0..count {
+        let path = part_of(alloc, folder, part)?;
+        let disk = open_made(rt, alloc, path.as_path())?;
+        disks.push(disk)?;
+    }
+    Ok(disks)
+}
+
+/// The path of a folder that a number names.
+fn part_of(alloc: Global, folder: Path<'_>, part: u8) -> io::Result<PathBuf> {
+    let name = format!(in alloc; "{part}")?;
+    Ok(folder.join(alloc, name.as_str())?)
+}
+
+/// The disk in a folder that exists.
+fn open_made<R: Files<File = File>>(rt: &R, alloc: Global, folder: Path<'_>) -> io::Result<FileDisk>
+    ensures { IfOk result (λ d. IsUnsynced d.account.state) }
+{
     let (mut select, mut a, mut b) = open_files(rt, alloc, folder)?;
-    sync_folder(rt, folder)?;
+    open_to_sync(rt, folder)?.sync_all()?;
     let mut account = Account::new(alloc, Contents::new(alloc));
     load_all(&mut account, &mut select, &mut a, &mut b)?;
     // The files have just been read, so nothing needs a comparison or a second write.
@@ -154,12 +250,12 @@ fn is_absent<R: Files<File = File>>(rt: &R, folder: Path<'_>) -> io::Result<bool
 
 /// Syncs the names of a folder and of those above it, also if they were there: whoever created them
 /// may have been killed before its sync. It stops below a folder that this process may not open,
-/// but the folder above the first one has to be synced.
+/// but the folder above the first one has to be opened.
 fn sync_names<R: Files<File = File>>(rt: &R, folder: Path<'_>) -> io::Result<()> {
     let Some(mut above) = folder.parent() else {
         return Ok(());
     };
-    sync_folder(rt, above)?;
+    sync_above(&open_to_sync(rt, above)?)?;
     for _ in 0..folder.as_str().len() {
         let Some(next) = above.parent() else {
             break;
@@ -167,15 +263,34 @@ fn sync_names<R: Files<File = File>>(rt: &R, folder: Path<'_>) -> io::Result<()>
         let Ok(opened) = open_to_sync(rt, next) else {
             break;
         };
-        opened.sync_all()?;
+        sync_above(&opened)?;
         above = next;
     }
     Ok(())
 }
 
-/// Creates a folder if it is missing.
+/// Syncs a folder above a disk's own. Its file system may have nothing to sync, for example if it
+/// can't be written or makes its folders by itself; Linux then answers EINVAL, EROFS or EOPNOTSUPP.
+fn sync_above(folder: &File) -> io::Result<()> {
+    match folder.sync_all() {
+        Err(error) if has_no_sync(error.kind()) => Ok(()),
+        synced => synced,
+    }
+}
+
+/// Whether this kind of failure says that there is nothing to sync.
+fn has_no_sync(kind: ErrorKind) -> bool {
+    matches!(
+        kind,
+        ErrorKind::InvalidInput | ErrorKind::ReadOnlyFilesystem | ErrorKind::Unsupported
+    )
+}
+
+/// Creates a folder for this user alone, if it is missing.
 fn create<R: Files<File = File>>(rt: &R, folder: Path<'_>) -> io::Result<()> {
-    match fs::create_dir(rt, folder) {
+    let mut builder = DirBuilder::new();
+    builder.mode(OWN_FOLDER);
+    match builder.create(rt, folder) {
         Err(error) if error.kind() == ErrorKind::AlreadyExists => Ok(()),
         made => made,
     }
@@ -201,10 +316,10 @@ fn open_regular<R: Files<File = File>>(rt: &R, path: Path<'_>) -> io::Result<Fil
     Ok(file)
 }
 
-/// Opens a file to read and write it, or creates it.
+/// Opens a file to read and write it, or creates it for this user alone.
 fn open_or_make<R: Files<File = File>>(rt: &R, path: Path<'_>) -> io::Result<File> {
     let mut options = OpenOptions::new();
-    options.read(true).write(true).create(true);
+    options.read(true).write(true).create(true).mode(OWN_FILE);
     options.open(rt, path)
 }
 
@@ -214,11 +329,6 @@ fn lock(file: &File) -> io::Result<()> {
         return Err(ErrorKind::ResourceBusy.into());
     }
     Ok(())
-}
-
-/// Makes the names in a folder survive a crash.
-fn sync_folder<R: Files<File = File>>(rt: &R, folder: Path<'_>) -> io::Result<()> {
-    open_to_sync(rt, folder)?.sync_all()
 }
 
 /// Opens a folder; the empty path is the current one.

@@ -11,7 +11,9 @@ use Rattle.model.specs.State.{NodeState, no_node, node_at, sent_to, got_from}
 use Rattle.model.specs.Steps.{act, receive}
 use Rattle.model.specs.World.{World, KeepsSent, released, numbered, new_world, happens, run}
 use Rattle.model.specs.Cuts.{Cut, cut, taken, IsInFlight, Becomes, PlainStep, acts, delivers, PlainRun, still, further}
-use Rattle.laws.specs.Statements.{OfEveryRun, CutsExtend}
+use Rattle.ids.specs.Limits.{Shaped, IsShape}
+use Rattle.model.specs.declared.step.Step.TheVariants as step
+use Rattle.laws.specs.Statements.{OfEveryRun, CutsExtend, StaysUp}
 use Rattle.laws.specs.Sights.{choosing}
 use Rattle.model.proofs.Lookups.{at_set_if}
 use Rattle.laws.proofs.Lookups.{Grows, grows-refl, slice_get-grows}
@@ -211,7 +213,7 @@ cut-restarted w i choice within j =
     ap (λ (z : NodeState). cond (choice j) (node_at w.saved j) z)
     (get_or-set_other w.current i j (node_at w.saved i) no_node other))
 
-cut-happening : (w v : World) (choice : ℕ → Bool) → Happening w v → KeepsSent w
+cut-happening : {s : Step} (w v : World) (choice : ℕ → Bool) → Happening w s v → KeepsSent w
     → Before w (cut v choice)
 cut-happening w v choice nothing h = (choice, still (λ j. refl))
 cut-happening w v choice (acted i e t a x) h = cut-acted w choice x
@@ -220,7 +222,7 @@ cut-happening w v choice (delivered m t a x) h =
 cut-happening w v choice (saved i within) h =
     let inside : i < length w.saved = omega (arith, h.width) in
     (choosing choice i false, still (cut-saved w i choice inside))
-cut-happening w v choice (restarted i within) h =
+cut-happening w v choice (restarted i is within) h =
     (choosing choice i true, still (cut-restarted w i choice within))
 
 -- the same for a list of steps
@@ -236,7 +238,46 @@ pub run-keeps-sent : (w : World) (steps : List Step) → KeepsSent w → KeepsSe
 run-keeps-sent w [] h = h
 run-keeps-sent w (s ∷ ss) h = run-keeps-sent (happens w s) ss (keeps-sent w s h)
 
+-- A node whose current state is chosen goes on from its current state, unless it restarts.
+kept-delivered : {m : Delivery} {t : NodeState} {a : Answer} (w : World) (choice : ℕ → Bool)
+    (h : KeepsSent w) (x : Delivered w m t a) (r : Receipt (node_at w.current m.to) m t a) (i : ℕ)
+    → (cut-delivered w choice h x r).0 i ≡ choice i
+unfolding cut-delivered changed-by
+kept-delivered w choice h x (repeated same says) i = refl
+kept-delivered w choice h x (next turn may found) i = refl
+
+kept-happening : {s : Step} (w v : World) (choice : ℕ → Bool) (x : Happening w s v)
+    (h : KeepsSent w) (i : ℕ) → s ≢ step.Restart i → choice i ≡ false
+    → (cut-happening w v choice x h).0 i ≡ false
+unfolding cut-happening cut-acted changed-by
+kept-happening w v choice nothing h i other chosen = chosen
+kept-happening w v choice (acted j e t a x) h i other chosen = chosen
+kept-happening w v choice (delivered m t a x) h i other chosen =
+    kept-delivered w choice h x (receipt-cases (node_at w.current m.to) m t a x.answered) i ∙ chosen
+kept-happening w v choice (saved j within) h i other chosen =
+    cond_both (eqb i j) false (choice i) (λ z. z ≡ false) (λ _. refl) (λ _. chosen)
+kept-happening w v choice (restarted j is within) h i other chosen =
+    let apart : i ≢ j = λ e. other (is ∙ ap step.Restart (sym e)) in
+    cond-false (eqb i j) true (choice i) (ne_eqb i j apart) ∙ chosen
+
+kept-run : (w : World) (steps : List Step) (choice : ℕ → Bool) (h : KeepsSent w) (i : ℕ)
+    → StaysUp i steps → choice i ≡ false → (cut-run w steps choice h).0 i ≡ false
+unfolding cut-run
+kept-run w [] choice h i stays chosen = chosen
+kept-run w (s ∷ ss) choice h i stays chosen =
+    let later = cut-run (happens w s) ss choice (keeps-sent w s h) in
+    kept-happening w (happens w s) later.0 (happening w s) h i stays.0
+    (kept-run (happens w s) ss choice (keeps-sent w s h) i stays.1 chosen)
+
 pub cuts-extend : OfEveryRun CutsExtend
 cuts-extend shape within earlier later choice =
     cut-run (run (new_world shape) earlier) later choice
     (run-keeps-sent (new_world shape) earlier (new-keeps-sent shape))
+
+pub kept-current : (shape : Shaped) (limits : IsShape shape) (earlier later : List Step)
+    (choice : ℕ → Bool) (i : ℕ) → StaysUp i later → choice i ≡ false
+    → (cuts-extend shape limits earlier later choice).0 i ≡ false
+unfolding cuts-extend cut-run
+kept-current shape limits earlier later choice i stays chosen =
+    kept-run (run (new_world shape) earlier) later choice
+    (run-keeps-sent (new_world shape) earlier (new-keeps-sent shape)) i stays chosen

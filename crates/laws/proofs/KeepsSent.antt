@@ -24,12 +24,12 @@ sent-onward = record {
 }
 
 -- there are as many nodes as before
-count-stays : (w v : World) → Happening w v → length v.current ≡ length w.current
+count-stays : {s : Step} (w v : World) → Happening w s v → length v.current ≡ length w.current
 count-stays w v nothing = refl
 count-stays w v (acted i e t a x) = length-set w.current i t
 count-stays w v (delivered m t a x) = length-set w.current m.to t
 count-stays w v (saved i within) = refl
-count-stays w v (restarted i within) = length-set w.current i (node_at w.saved i)
+count-stays w v (restarted i is within) = length-set w.current i (node_at w.saved i)
 
 pub run-count : (w : World) (steps : List Step) → length (run w steps).current ≡ length w.current
 run-count w [] = refl
@@ -42,13 +42,13 @@ node-count shape steps =
     run-count (new_world shape) steps ∙ length-map-range_with_len (new_node shape) 0 shape.nodes
 
 -- there are as many saved states as current ones
-width-stays : (w v : World) → Happening w v → length w.saved ≡ length w.current
+width-stays : {s : Step} (w v : World) → Happening w s v → length w.saved ≡ length w.current
     → length v.saved ≡ length v.current
 width-stays w v nothing h = h
 width-stays w v (acted i e t a x) h = h ∙ sym (length-set w.current i t)
 width-stays w v (delivered m t a x) h = h ∙ sym (length-set w.current m.to t)
 width-stays w v (saved i within) h = length-set w.saved i (node_at w.current i) ∙ h
-width-stays w v (restarted i within) h = h ∙ sym (length-set w.current i (node_at w.saved i))
+width-stays w v (restarted i is within) h = h ∙ sym (length-set w.current i (node_at w.saved i))
 
 pub keeps-sent : (w : World) (s : Step) → KeepsSent w → KeepsSent (happens w s)
 keeps-sent w s h = record {

@@ -15,10 +15,10 @@ use Rattle.model.specs.Heaps.{no_letter}
 use Rattle.model.specs.References.{IfAny}
 use Rattle.model.specs.World.{World, new_world, happens, run}
 use Rattle.model.specs.Cuts.{Cut, cut, IsLive, Reachable, in_register, in_letter, in_message, in_place}
-use Rattle.laws.specs.Statements.{OfEveryRun, OldGarbageGoes}
+use Rattle.laws.specs.Statements.{OfEveryRun, GarbageGoes, OldGarbageGoes}
 use Rattle.laws.proofs.StepFacts.{Delivery, act-ok, Receipt, repeated, next, receipt-cases, Happening, nothing, acted, delivered, saved, restarted, happening}
 use Rattle.laws.proofs.Onward.{Compares, Behind, new-behind, behind-changed, behind-saved, behind-restarted}
-use Rattle.laws.proofs.Cuts.{cuts-extend}
+use Rattle.laws.proofs.Cuts.{cuts-extend, current-chosen, kept-current}
 use Rattle.laws.proofs.Base.{at-new}
 use Rattle.laws.proofs.Invariant.{phases_of, cycle_of, Tidy, BodyFits, Inv}
 use Rattle.laws.proofs.Inner.{occupied-inside}
@@ -50,7 +50,7 @@ received-older s m t a (next turn may found) =
     subst (Older s) (sym found.state)
     (ages-taken s.local m.from m.number m.message.stamp m.message.body)
 
-older-happening : (w v : World) → Happening w v
+older-happening : {s : Step} (w v : World) → Happening w s v
     → ((i : ℕ) → Tidy (node_at w.current i).local) → Behind Older w → Behind Older v
 older-happening w v nothing tidy h = h
 older-happening w v (acted i e t a x) tidy h =
@@ -63,7 +63,7 @@ older-happening w v (delivered m t a x) tidy h =
     behind-changed older w m.to t h
     (received-older s m t a (receipt-cases s m t a x.answered))
 older-happening w v (saved i within) tidy h = behind-saved older w i h
-older-happening w v (restarted i within) tidy h = behind-restarted older w i h
+older-happening w v (restarted i is within) tidy h = behind-restarted older w i h
 
 older-run : (w : World) (steps : List Step)
     → ((some : List Step) (i : ℕ) → Tidy (node_at (run w some).current i).local)
@@ -200,17 +200,25 @@ swept-reached {c = c} {d = d} {cycle = cycle} r own good done live past =
     (subst (λ (z : ℕ). FromHere c (own_reference z r.slot r.generation)) own
     (part.marks r.slot r.generation live.object live.there (omega (arith, mark, done))))
 
-pub old-garbage-goes : OfEveryRun OldGarbageGoes
-old-garbage-goes shape limits earlier later choice cycle r before old done live =
+-- the reference was given out by a node, or by an earlier state of it
+abbrev PastIn : NodeState → Ref → Type 0
+PastIn s r = PastAt s.local.heap r.slot r.generation
+
+-- what was given out in an earlier cut, and was reachable in none, is gone
+gone-since : (shape : Shaped) (limits : IsShape shape) (earlier later : List Step)
+    (choice : ℕ → Bool) (cycle : ℕ) (r : Ref)
+    → (node_at (run (new_world shape) earlier).current 0).local.phases.cycle < cycle
+    → ((some : ℕ → Bool) → Reachable (cut (run (new_world shape) earlier) some) r → ⊥)
+    → PastIn
+    (cut (run (new_world shape) earlier) (cuts-extend shape limits earlier later choice).0 r.node) r
+    → cycle ≤ (cut (run (run (new_world shape) earlier) later) choice r.node).local.phases.swept
+    → IsLive (cut (run (run (new_world shape) earlier) later) choice) r → ⊥
+gone-since shape limits earlier later choice cycle r before unreachable past done live =
     let w : World = run (new_world shape) earlier in
     let d : Cut = cut (run w later) choice in
     let extends = cuts-extend shape limits earlier later choice in
     let c : Cut = cut w extends.0 in
     let behind : Behind Older w = all-older shape limits earlier in
-    let since : (i : ℕ) → Older (node_at w.saved i) (c i) =
-    λ i.
-    cond_both (extends.0 i) (node_at w.saved i) (node_at w.current i)
-    (Older (node_at w.saved i)) (λ _. ages-same _) (λ _. behind i) in
     let first : cycle_of c 0 ≤ (node_at w.current 0).local.phases.cycle =
     cond_both (extends.0 0) (node_at w.saved 0) (node_at w.current 0)
     (λ z. z.local.phases.cycle ≤ (node_at w.current 0).local.phases.cycle)
@@ -223,7 +231,29 @@ old-garbage-goes shape limits earlier later choice cycle r before old done live 
     run-good limits extends.1 whole
     (good-here cycle whole.inv
     (all-good shape limits earlier extends.0) (omega (arith, first, before))) in
-    old.unreachable extends.0
-    (swept-reached r own good done live
-    ((since r.node).past r.slot r.generation
-    (occupied-past (node_at w.saved r.node).local.heap r.slot r.generation old.object old.saved)))
+    unreachable extends.0 (swept-reached r own good done live past)
+
+pub old-garbage-goes : OfEveryRun OldGarbageGoes
+old-garbage-goes shape limits earlier later choice cycle r before old done live =
+    let w : World = run (new_world shape) earlier in
+    let extends = cuts-extend shape limits earlier later choice in
+    let since : Older (node_at w.saved r.node) (cut w extends.0 r.node) =
+    cond_both (extends.0 r.node) (node_at w.saved r.node) (node_at w.current r.node)
+    (Older (node_at w.saved r.node)) (λ _. ages-same _)
+    (λ _. all-older shape limits earlier r.node) in
+    gone-since shape limits earlier later choice cycle r before old.unreachable
+    (since.past r.slot r.generation
+    (occupied-past (node_at w.saved r.node).local.heap r.slot r.generation old.object old.saved))
+    done live
+
+pub garbage-goes : OfEveryRun GarbageGoes
+garbage-goes shape limits earlier later choice cycle r before dead stays chosen done live =
+    let w : World = run (new_world shape) earlier in
+    let extends = cuts-extend shape limits earlier later choice in
+    let here : cut w extends.0 r.node ≡ node_at w.current r.node =
+    current-chosen w extends.0 r.node
+    (kept-current shape limits earlier later choice r.node stays chosen) in
+    gone-since shape limits earlier later choice cycle r before dead.unreachable
+    (subst (λ (s : NodeState). PastIn s r) (sym here)
+    (occupied-past (node_at w.current r.node).local.heap r.slot r.generation dead.object dead.current))
+    done live

@@ -59,15 +59,15 @@ behind-restarted {R = R} f w i h k =
     (λ e. subst (λ (n : ℕ). R (node_at w.saved n) (node_at w.saved i)) e (f.same _))
     (h k)
 
-behind-happening : {R : NodeState → NodeState → Type 0} → Onward R → (w v : World) → Happening w v
-    → Behind R w → Behind R v
+behind-happening : {R : NodeState → NodeState → Type 0} → {s : Step} → Onward R → (w v : World)
+    → Happening w s v → Behind R w → Behind R v
 behind-happening f w v nothing h = h
 behind-happening f w v (acted i e t a x) h =
     behind-changed f.order w i t h (f.acts (node_at w.current i) e t a x.own x.answered)
 behind-happening f w v (delivered m t a x) h =
     behind-changed f.order w m.to t h (f.receives (node_at w.current m.to) m t a x.answered)
 behind-happening f w v (saved i within) h = behind-saved f.order w i h
-behind-happening f w v (restarted i within) h = behind-restarted f.order w i h
+behind-happening f w v (restarted i is within) h = behind-restarted f.order w i h
 
 pub step-behind : {R : NodeState → NodeState → Type 0} → Onward R → (w : World) (s : Step)
     → Behind R w → Behind R (happens w s)
@@ -80,8 +80,8 @@ run-behind f w [] h = h
 run-behind f w (s ∷ ss) h = run-behind f (happens w s) ss (step-behind f w s h)
 
 -- each saved state is no further than the one after some step
-saved-happening : {R : NodeState → NodeState → Type 0} → Onward R → (w v : World) → Happening w v
-    → Behind R w → (k : ℕ) → R (node_at w.saved k) (node_at v.saved k)
+saved-happening : {R : NodeState → NodeState → Type 0} → {s : Step} → Onward R → (w v : World)
+    → Happening w s v → Behind R w → (k : ℕ) → R (node_at w.saved k) (node_at v.saved k)
 saved-happening f w v nothing h k = f.order.same _
 saved-happening f w v (acted i e t a x) h k = f.order.same _
 saved-happening f w v (delivered m t a x) h k = f.order.same _
@@ -89,7 +89,7 @@ saved-happening {R = R} f w v (saved i within) h k =
     at_set_if (R (node_at w.saved k)) w.saved i k (node_at w.current i) no_node
     (λ e. subst (λ (n : ℕ). R (node_at w.saved n) (node_at w.current i)) e (h i))
     (f.order.same _)
-saved-happening f w v (restarted i within) h k = f.order.same _
+saved-happening f w v (restarted i is within) h k = f.order.same _
 
 -- and after a list of steps
 pub run-saved : {R : NodeState → NodeState → Type 0} → Onward R → (w : World) (steps : List Step)

@@ -181,68 +181,71 @@ pub record Delivered (w : World) (m : Delivery) (t : NodeState) (a : Answer) : T
   pub answered : given_to (node_at w.current m.to) m ≡ Ok (t, a)
 
 -- what a step of a space does to it
-pub data Happening (w : World) : World → Type 0 where
-  nothing : Happening w w
+pub data Happening (w : World) (s : Step) : World → Type 0 where
+  nothing : Happening w s w
   acted : (i : ℕ) (e : Event) (t : NodeState) (a : Answer) → Acted w i e t a
-      → Happening w (record w { current = set w.current i t })
+      → Happening w s (record w { current = set w.current i t })
   delivered : (m : Delivery) (t : NodeState) (a : Answer) → Delivered w m t a
-      → Happening w (record w { current = set w.current m.to t })
+      → Happening w s (record w { current = set w.current m.to t })
   saved : (i : ℕ) → i < length w.current
-      → Happening w (record w { saved = set w.saved i (node_at w.current i) })
-  restarted : (i : ℕ) → i < length w.current
-      → Happening w (record w { current = set w.current i (node_at w.saved i) })
+      → Happening w s (record w { saved = set w.saved i (node_at w.current i) })
+  restarted : (i : ℕ) → s ≡ step.Restart i → i < length w.current
+      → Happening w s (record w { current = set w.current i (node_at w.saved i) })
 
-moved-happening : (w : World) (i : ℕ) (r : Result (NodeState × Answer) Refusal)
+moved-happening : (w : World) (s : Step) (i : ℕ) (r : Result (NodeState × Answer) Refusal)
     → ((t : NodeState) (a : Answer) → r ≡ Ok (t, a)
-    → Happening w (record w { current = set w.current i t }))
-    → Happening w (world_after w (moved w i r))
-moved-happening w i (Ok x) h = h x.0 x.1 refl
-moved-happening w i (Err e) h = nothing
+    → Happening w s (record w { current = set w.current i t }))
+    → Happening w s (world_after w (moved w i r))
+moved-happening w s i (Ok x) h = h x.0 x.1 refl
+moved-happening w s i (Err e) h = nothing
 
-delivered-happening : (w : World) (from to number : ℕ) (found : Option Message)
+delivered-happening : (w : World) (s : Step) (from to number : ℕ) (found : Option Message)
     → to < length w.current → released w from to number ≡ found
-    → Happening w (world_after w (delivery w from to number found))
-delivered-happening w from to number None within there = nothing
-delivered-happening w from to number (Some x) within there =
+    → Happening w s (world_after w (delivery w from to number found))
+delivered-happening w s from to number None within there = nothing
+delivered-happening w s from to number (Some x) within there =
     let m : Delivery = record { from = from; to = to; number = number; message = x } in
-    moved-happening w to (given_to (node_at w.current to) m)
+    moved-happening w s to (given_to (node_at w.current to) m)
     (λ t a h. delivered m t a (record { within = within; there = there; answered = h }))
 
 -- a step that only tests leaves the space as it was
-tested-happening : (w : World) (cs : List (Bool × Refusal)) (o : Outcome)
-    → Happening w (world_after w (guarded cs (w, o)))
-tested-happening w [] o = nothing
-tested-happening w ((true, r) ∷ cs) o = tested-happening w cs o
-tested-happening w ((false, r) ∷ cs) o = nothing
+tested-happening : (w : World) (s : Step) (cs : List (Bool × Refusal)) (o : Outcome)
+    → Happening w s (world_after w (guarded cs (w, o)))
+tested-happening w s [] o = nothing
+tested-happening w s ((true, r) ∷ cs) o = tested-happening w s cs o
+tested-happening w s ((false, r) ∷ cs) o = nothing
 
-pub happening : (w : World) (s : Step) → Happening w (happens w s)
+pub happening : (w : World) (s : Step) → Happening w s (happens w s)
 unfolding take_step
 happening w (step.Act i e) =
-    cond_both (is_node w i) _ _ (λ r. Happening w (world_after w r))
-    (λ within. cond_both (is_own e) _ _ (λ r. Happening w (world_after w r))
+    let s : Step = step.Act i e in
+    cond_both (is_node w i) _ _ (λ r. Happening w s (world_after w r))
+    (λ within. cond_both (is_own e) _ _ (λ r. Happening w s (world_after w r))
     (λ own.
-    moved-happening w i (act (node_at w.current i) e)
+    moved-happening w s i (act (node_at w.current i) e)
     (λ t a h. acted i e t a (record { within = ltb-true _ _ within; own = own; answered = h })))
     (λ _. nothing))
     (λ _. nothing)
 happening w (step.Save i) =
-    cond_both (is_node w i) _ _ (λ r. Happening w (world_after w r))
+    cond_both (is_node w i) _ _ (λ r. Happening w (step.Save i) (world_after w r))
     (λ within. saved i (ltb-true _ _ within)) (λ _. nothing)
 happening w (step.Restart i) =
-    cond_both (is_node w i) _ _ (λ r. Happening w (world_after w r))
-    (λ within. restarted i (ltb-true _ _ within)) (λ _. nothing)
+    cond_both (is_node w i) _ _ (λ r. Happening w (step.Restart i) (world_after w r))
+    (λ within. restarted i refl (ltb-true _ _ within)) (λ _. nothing)
 happening w (step.Deliver from to number) =
-    cond_both _ _ _ (λ r. Happening w (world_after w r))
+    let s : Step = step.Deliver from to number in
+    cond_both _ _ _ (λ r. Happening w s (world_after w r))
     (λ within.
-    delivered-happening w from to number (released w from to number)
+    delivered-happening w s from to number (released w from to number)
     (ltb-true _ _ (and_parts (is_node w from) (is_node w to) within).1) refl)
     (λ _. nothing)
 happening w (step.Hand from to) =
-    cond_both (is_node w from && is_node w to) _ _ (λ r. Happening w (world_after w r))
-    (λ _. cond_both (from == to) _ _ (λ r. Happening w (world_after w r))
+    let s : Step = step.Hand from to in
+    cond_both (is_node w from && is_node w to) _ _ (λ r. Happening w s (world_after w r))
+    (λ _. cond_both (from == to) _ _ (λ r. Happening w s (world_after w r))
     (λ _. nothing)
     (λ _.
-    tested-happening w ((is_addressed (node_at w.current from).local to from, WrongNode)
+    tested-happening w s ((is_addressed (node_at w.current from).local to from, WrongNode)
     ∷ (leb (acknowledged w from to) (release_count w from to), AckBeyond) ∷ [])
     (outcome.Handed (acknowledged w from to))))
     (λ _. nothing)

@@ -2,7 +2,7 @@
 -- The collector alone, by the moves of `Strategy`, ends the cycle's marking, has each node sweep
 -- the cycle, and frees what was garbage. No step of it is refused, and the number of moves is
 -- bounded, if no link runs out of numbers.
-use Rattle.std.specs.Prelude.{◌≡◌, ℕ, ◌+◌, ◌<◌, ◌≤◌, Bool, true, List, map}
+use Rattle.std.specs.Prelude.{◌≡◌, ◌⊎◌, ℕ, ◌+◌, ◌<◌, ◌≤◌, Bool, true, List, map}
 use Rattle.std.specs.List.{range_with_len}
 use Rattle.ids.specs.declared.names.Ref.{Ref}
 use Rattle.ids.specs.declared.limits.TheConstants.{GREATEST_CYCLE}
@@ -12,6 +12,7 @@ use Rattle.model.specs.Collecting.{is_swept_everywhere}
 use Rattle.model.specs.World.{World, run}
 use Rattle.model.specs.Cuts.{Cut, cut, IsLive}
 use Rattle.model.specs.Agreement.{Terminated, OldGarbage}
+use Rattle.laws.specs.Statements.{Garbage}
 use Rattle.laws.specs.Strategy.{now, play, IsPlayed}
 use Rattle.laws.specs.Bounds.{marking_moves, cycle_moves, both_moves, soon_moves, marking_room, cycle_room, both_room, soon_room, HasRoom}
 
@@ -49,12 +50,13 @@ CycleCanEnd n w =
     → Comes n (cycle_moves n (now w)) w (λ v. IsSwept n (current_cycle w) (now v))
 
 -- Each node sweeps the next cycle too. Once each is saved after that, none of them has an object
--- that was old garbage at the start, in any choice of current and saved states.
+-- that was garbage at the start, saved or not, in any choice of current and saved states.
 abbrev pub saves : ℕ → List Step
 saves n = map step.Save (range_with_len 0 n)
 
 abbrev pub IsGone : World → World → Ref → Type 0
-IsGone w v r = OldGarbage w r → (choice : ℕ → Bool) → IsLive (cut v choice) r → ⊥
+IsGone w v r =
+    OldGarbage w r ⊎ Garbage w r → (choice : ℕ → Bool) → IsLive (cut v choice) r → ⊥
 
 abbrev pub GarbageCanGo : ℕ → World → Type 0
 GarbageCanGo n w =

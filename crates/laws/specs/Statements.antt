@@ -5,6 +5,7 @@
 -- A cut is one choice of a state of each node, the current or the saved one. It is what the nodes
 -- go on from if those nodes restart whose saved state is chosen.
 use Rattle.std.specs.Prelude.{◌≡◌, ◌≢◌, ℕ, ◌+◌, ◌<◌, ◌≤◌, Bool, false, List, length, Some, Ok, Err, ◌⊎◌}
+use Rattle.std.specs.List.{AllByRecursion}
 use Rattle.ids.specs.Limits.{Shaped, IsShape}
 use Rattle.ids.specs.declared.limits.TheConstants.{WINDOW}
 use Rattle.ids.specs.declared.names.Ref.{Ref}
@@ -108,6 +109,27 @@ abbrev pub OldGarbageGoes : World → Type 0
 OldGarbageGoes w =
     (later : List Step) (choice : ℕ → Bool) (cycle : ℕ) (r : Ref)
     → (node_at w.current 0).local.phases.cycle < cycle → OldGarbage w r
+    → cycle ≤ (cut (run w later) choice r.node).local.phases.swept
+    → IsLive (cut (run w later) choice) r → ⊥
+
+-- no step restarts this node
+abbrev pub StaysUp : ℕ → List Step → Type 0
+StaysUp i steps = AllByRecursion (λ s. s ≢ step.Restart i) steps
+
+-- a reference to an object that its owner's current state has, saved or not, and that is reachable
+-- in no cut
+pub record Garbage (w : World) (r : Ref) : Type 0 where
+  pub object : Object
+  pub current : slot_at (node_at w.current r.node).local.heap r.slot ≡ Occupied r.generation object
+  pub unreachable : (choice : ℕ → Bool) → Reachable (cut w choice) r → ⊥
+
+-- The same of garbage that no save need ever hold, as long as its owner doesn't restart. (A restart
+-- to a state without the object takes it back, and its slot may get another one.)
+abbrev pub GarbageGoes : World → Type 0
+GarbageGoes w =
+    (later : List Step) (choice : ℕ → Bool) (cycle : ℕ) (r : Ref)
+    → (node_at w.current 0).local.phases.cycle < cycle → Garbage w r
+    → StaysUp r.node later → choice r.node ≡ false
     → cycle ≤ (cut (run w later) choice r.node).local.phases.swept
     → IsLive (cut (run w later) choice) r → ⊥
 

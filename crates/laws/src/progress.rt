@@ -17,7 +17,7 @@ pub fn laws()
     // Each node has swept the cycle, and node 0 knows it.
     ensures cycle { OfSpaces CycleCanEnd }
     // Each node has swept the next cycle too. Once each is saved, none of them has an object that
-    // was old garbage at the start, rings of objects across nodes included.
+    // was garbage at the start, saved or not, rings of objects across nodes included.
     ensures garbage { OfSpaces GarbageCanGo }
     // Once marking has terminated, three rounds of the token are enough, and the moves for what
     // else is in flight.

@@ -131,7 +131,7 @@ where
         Some(folder) => {
             // Files that take the numbers of closed standard streams, so that no disk gets one.
             let _low = low_files(rt, alloc);
-            match file_disks(rt, alloc, folder.as_str(), nodes) {
+            match FileDisk::each_in(rt, alloc, folder.as_str(), nodes) {
                 Ok(disks) => run_disks(rt, alloc, config, disks, script, out),
                 Err(_) => print_unopened(out),
             }
@@ -149,22 +149,6 @@ fn low_files<R: Files<File = File>>(rt: &R, _alloc: Global) -> [Option<File>; 3]
     let second = File::open(rt, "/dev/null").ok();
     let third = File::open(rt, "/dev/null").ok();
     [first, second, third]
-}
-
-// A disk for each node, in a folder named by the node's number.
-fn file_disks<R: Files<File = File>>(
-    rt: &R,
-    alloc: Global,
-    folder: &str,
-    nodes: u8,
-) -> Result<Vec<FileDisk>, Refusal> {
-    let mut disks = Vec::new(alloc);
-    for node in 0..nodes {
-        let path = format!(in alloc; "{folder}/{node}")?;
-        let disk = FileDisk::at(rt, alloc, path.as_str())?;
-        disks.push(disk)?;
-    }
-    Ok(disks)
 }
 
 // A new disk in memory for each node.

@@ -1,7 +1,12 @@
--- What an event changes whose answer is quiet: nothing that is saved.
-use Rattle.std.proofs.Common.{◌≡◌, ℕ, false, ◌==◌, List, [], ◌∷◌, ◌++◌, map, Option, None, Ok, refl, ap, sym, ◌∙◌}
-use Rattle.std.proofs.lemmas.Bool.{cond_both, true≢false}
+-- What an event changes whose answer is quiet, or that is an acknowledgement of nothing new: nothing
+-- that is saved.
+use Rattle.std.proofs.Common.{◌≡◌, ℕ, true, false, ◌==◌, ◌+◌, ◌-◌, ◌≤◌, drop, set, length, List, [], ◌∷◌, ◌++◌, map, Option, None, Ok, refl, ap, sym, ◌∙◌, arith}
+use Rattle.std.specs.Prelude.{min}
+use Rattle.std.proofs.lemmas.Bool.{cond_both, leb-true, true≢false}
+use Rattle.std.proofs.lemmas.List.{set-get_or}
+use Rattle.std.proofs.Math.Nat.{min-le_left}
 use Rattle.ids.specs.declared.refusal.Refusal.TheVariants.{LinkSpent}
+use Rattle.msg.specs.declared.body.Message.{Message}
 use Rattle.msg.specs.declared.frame.Ack.{Ack}
 use Rattle.model.specs.declared.event.Event.{Event}
 use Rattle.model.specs.declared.event.Event.TheVariants as event
@@ -11,9 +16,10 @@ use Rattle.model.specs.State.{LocalState}
 use Rattle.model.specs.Collecting.{begun, scanned, passed, swept_slots, judged, handed_on, is_concluded}
 use Rattle.model.specs.Effects.{Effect, is_change, unchanged}
 use Rattle.model.specs.Steps.{tests, made, fits, ack_of, is_repeat, is_early as is_ahead, taken_in}
-use Rattle.model.specs.View.{NodeView, used, ack_tests, append_to, let_go, view_act}
+use Rattle.model.specs.View.{Link, NodeView, used, ack_tests, append_to, let_go, link_to, no_link, trimmed, view_act}
 use Rattle.model.proofs.Checks.{guarded-ok}
-use Rattle.model.proofs.Shown.{view-ok}
+use Rattle.model.proofs.Shown.{ack-done, view-ok}
+use Rattle.node_store.specs.Acting.{is_old_ack}
 
 abbrev IsKept : LocalState → Event → Effect → Type 0
 IsKept p e x = is_change x.answer ≡ false → (x ≡ unchanged p x.answer) × (ack_of e ≡ None)
@@ -58,3 +64,32 @@ quiet-same n m e a h early =
       links = append_to (let_go n.links (ack_of e)) z.sends;
     }) (sym same ∙ kept.0)
     ∙ ap (λ (o : Option Ack). record n { links = let_go n.links o }) kept.1
+
+-- ---- acknowledgements
+
+-- an acknowledgement of messages that were acknowledged before
+unchanged-link : (l : Link) (number : ℕ) → number ≤ l.base → trimmed l number ≡ l
+unchanged-link l number old =
+    let none : number - l.base ≡ 0 = omega (arith, old) in
+    let still : l.base + min (number - l.base) (length l.unacknowledged) ≡ l.base =
+    omega (arith, none, min-le_left (number - l.base) (length l.unacknowledged)) in
+    let all : drop (number - l.base) l.unacknowledged ≡ l.unacknowledged =
+    ap (λ (k : ℕ). drop k l.unacknowledged) none in
+    ap (λ (k : ℕ). record l {
+      base = k;
+      unacknowledged = drop (number - l.base) l.unacknowledged;
+    }) still
+    ∙ ap (λ (ms : List Message). record l { unacknowledged = ms }) all
+
+old-ack : (n new : NodeView) (a : Ack) (x : Answer) → view_act n (event.Ack a) ≡ Ok (new, x)
+    → a.number ≤ (link_to n a.by).base → new ≡ n
+old-ack n new a x h old =
+    (ack-done n new a x h).1
+    ∙ ap (λ (l : Link). record n { links = set n.links a.by l })
+    (unchanged-link (link_to n a.by) a.number old)
+    ∙ ap (λ (ls : List Link). record n { links = ls }) (set-get_or n.links a.by no_link)
+
+pub old-same : (n m : NodeView) (e : Event) (a : Answer) → view_act n e ≡ Ok (m, a)
+    → is_old_ack n e ≡ true → m ≡ n
+old-same n m (event.Ack b) a h old = old-ack n m b a h (leb-true _ _ old)
+old-same n m e a h old = absurd (true≢false (sym old))

@@ -1,13 +1,14 @@
 -- What an event does to a node, and to its log.
-use Rattle.std.specs.Prelude.{◌≡◌, ◌≢◌, ℕ, List, Option, Result, IfErr, IfOk, IsTrue, OnErr}
+use Rattle.std.specs.Prelude.{◌≡◌, ◌≢◌, ℕ, Bool, false, List, Option, Result, IfErr, IfOk, IsTrue, OnErr, nat_le}
 use Rattle.ids.specs.declared.refusal.Refusal.{Refusal}
 use Rattle.ids.specs.declared.refusal.Refusal.TheVariants.{Memory}
 use Rattle.model.specs.State.{NodeState}
 use Rattle.model.specs.Steps.{act, is_memory_free, is_shading}
-use Rattle.model.specs.View.{Follows, Leaves, NodeView, Performs, Shows, view_act}
+use Rattle.model.specs.View.{Follows, Leaves, NodeView, Performs, Shows, link_to, view_act}
 use Rattle.model.specs.declared.event.Answer.{Answer}
 use Rattle.model.specs.declared.event.Answer.TheVariants as answer
 use Rattle.model.specs.declared.event.Event.{Event}
+use Rattle.model.specs.declared.event.Event.TheVariants as event
 use Rattle.node.specs.Keeping.{WholeNode, early_after, met}
 use Rattle.node_store.specs.Noted.{IsLogged}
 
@@ -24,6 +25,11 @@ pub record Acts (old new : WholeNode) (e : Event) (r : Result Answer Refusal) : 
       → IfErr r (λ f. f ≢ Memory)
   pub early : new.early ≡ early_after old.core.local old.early e r
   pub turn : met old.early e ≢ e → IfOk r (λ a. a ≡ answer.Received)
+
+-- The event is an acknowledgement of messages that were all acknowledged before.
+abbrev pub is_old_ack : NodeView → Event → Bool
+is_old_ack n (event.Ack a) = nat_le a.number (link_to n a.by).base
+is_old_ack n e = false
 
 -- What led to the node leads to it after the event too. A refused event isn't noted.
 pub record Notes (old new : WholeNode) (log log' : Option (List ℕ)) (r : Result Answer Refusal)

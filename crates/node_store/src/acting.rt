@@ -1,7 +1,8 @@
 //! Gives a node an event and notes it in the node's log.
-ghost use Rattle.std.specs.Prelude.{◌≡◌};
+ghost use Rattle.std.specs.Prelude.{◌≡◌, nat_le, true};
+ghost use Rattle.model.specs.View.{link_to};
 ghost use Rattle.node.specs.Keeping.{AreKeptIn, met};
-ghost use Rattle.node_store.specs.Acting.{Acts, Notes};
+ghost use Rattle.node_store.specs.Acting.{Acts, Notes, is_old_ack};
 ghost use Rattle.node_store.specs.Logs.{is_turn};
 
 use ids::Refusal;
@@ -30,6 +31,30 @@ pub fn meant(node: &Node, event: Event) -> Event
     }
 }
 
+/// Whether an event is an acknowledgement of messages that were all acknowledged before. It changes
+/// nothing that is saved.
+pub fn is_old_ack(node: &Node, event: &Event) -> bool
+    ensures { result ≡ is_old_ack node.now.core event.now }
+{
+    match event {
+        Event::Ack(ack) => is_acknowledged(node, ack.by, ack.number),
+        _ => false,
+    }
+}
+
+// Whether a node has acknowledged the messages up to this number.
+fn is_acknowledged(node: &Node, by: u8, number: u64) -> bool
+    ensures { result ≡ nat_le number (link_to node.now.core by).base }
+{
+    let links = node.core().links();
+    let base = if by < links.width() {
+        links.base(by)
+    } else {
+        0
+    };
+    number <= base
+}
+
 /// Gives a node an event, as [`Node::act`] does, and notes it in the node's log if it is answered
 /// and changes what is saved. The log may be lost (see [`Log::note`]); no event is refused for
 /// that. If it is lost already, nothing is noted.
@@ -37,6 +62,7 @@ pub fn act(node: &mut Node, log: &mut Log, event: Event) -> Result<Answer, Refus
     ensures acts { Acts node.old node.new event result }
     ensures kept { AreKeptIn node.new }
     ensures notes { Notes node.old node.new log.old log.new result }
+    ensures old { is_old_ack node.old.core (met node.old.early event) ≡ true → log.new ≡ log.old }
 {
     if log.is_kept() {
         act_noting(node, log, event)
@@ -52,9 +78,14 @@ fn act_noting(node: &mut Node, log: &mut Log, event: Event) -> Result<Answer, Re
     ensures acts { Acts node.old node.new event result }
     ensures kept { AreKeptIn node.new }
     ensures notes { Notes node.old node.new log.old log.new result }
+    ensures old { is_old_ack node.old.core (met node.old.early event) ≡ true → log.new ≡ log.old }
 {
     let meant = meant(node, event);
+    let is_old = is_old_ack(node, &meant);
     let answer = node.act(event)?;
+    if is_old {
+        return Ok(answer);
+    }
     if answer.is_change() {
         let _lost = log.note(&meant);
     }

@@ -53,12 +53,7 @@ impl Made for FileDisk {
         folder: &str,
         _failing: &[(usize, u64)],
     ) -> Result<Vec<FileDisk>, Refusal> {
-        let mut disks = Vec::new(alloc);
-        for node in 0..nodes {
-            let path = format!(in alloc; "{folder}/{node}")?;
-            disks.push(FileDisk::at(rt, alloc, path.as_str())?)?;
-        }
-        Ok(disks)
+        FileDisk::each_in(rt, alloc, folder, nodes)
     }
 }
 

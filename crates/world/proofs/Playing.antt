@@ -1,6 +1,6 @@
 -- Playing the collector's strategy, move by move.
 use Rattle.std.proofs.Common.{◌≡◌, ◌≢◌, ℕ, zero, suc, ◌+◌, ◌<◌, ◌≤◌, inl, inr, true, false, Bool, List, [], ◌∷◌, ◌++◌, length, take, drop, Result, Ok, Err, IsOk, refl, ap, sym, ◌∙◌, subst, arith, ⊎_elim, append-nil, take-append-drop, get_or}
-use Rattle.std.specs.Prelude.{IfOk, IfErr}
+use Rattle.std.specs.Prelude.{◌↔◌, IfOk, IfErr}
 use Rattle.std.specs.List.{AllByRecursion}
 use Rattle.std.proofs.lemmas.Bool.{cases_Bool, cases_eq, cases_lt, false≢true}
 use Rattle.std.proofs.lemmas.List.{take_more, drop_more}
@@ -10,17 +10,20 @@ use Rattle.ids.specs.declared.refusal.Refusal.{Refusal}
 use Rattle.ids.specs.declared.refusal.Refusal.TheVariants.{Memory, ImageTooLarge}
 use Rattle.ids.specs.declared.limits.TheConstants.{GREATEST_NUMBER}
 use Rattle.model.specs.declared.step.Step.{Step}
+use Rattle.model.specs.declared.step.Step.TheVariants as step
 use Rattle.model.specs.declared.step.Outcome.{Outcome}
 use Rattle.model.specs.State.{LocalState, new_node}
 use Rattle.model.specs.World.{World, new_world, FollowsStep, take_step, outcome_of, world_after, run, outcomes}
 use Rattle.laws.specs.Strategy.{now, is_collectors, next_steps, played, play}
 use Rattle.laws.specs.Progress.{IsSwept, Comes, current_cycle}
 use Rattle.laws.specs.Bounds.{cycle_moves}
-use Rattle.laws.proofs.progress.Theorems.{cycle-can-end, garbage-can-go, gone}
+use Rattle.laws.proofs.progress.Theorems.{cycle-can-end, garbage-can-go, gone, played-stays}
 use Rattle.laws.proofs.KeepsSent.{run-count}
 use Rattle.laws.proofs.progress.Paths.{run-append, outcomes-append}
+use Rattle.world.specs.Sites.{SiteView}
+use Rattle.world.specs.Shows.{HasTooLarge, SavesTooLarge}
 use Rattle.world.specs.Spaces.{SpaceView, ShowsSpace, FollowsSpace}
-use Rattle.world.specs.Collected.{IsOfCode, BreaksOff, TakesAll, Collects, StopsShort, PlaysUntil, CanFinish, CanCollect, HasCollected}
+use Rattle.world.specs.Collected.{IsOfCode, BreaksOff, TakesAll, Collects, StopsShort, PlaysUntil, CanFinish, CanCollect, HasCollected, ImagesFit}
 use Rattle.world.specs.Answered.{is_taken}
 use Rattle.world.specs.Moves.{local_at}
 use Rattle.world.proofs.Moves.{local-shown}
@@ -172,6 +175,17 @@ broken {w} {old} {steps} {place} {s} new e h follows =
           of-code v s e new f ok;
     }
 
+-- A step that fails with `ImageTooLarge` saves a node whose image is too large.
+saved-large : (sites : List SiteView) (s : Step) → SavesTooLarge sites s → HasTooLarge sites
+saved-large sites (step.Save i) h = record { node = i; inside = h.0; too_large = h.1 }
+saved-large sites s h = absurd h
+
+pub not-saved : {old new : List SiteView} (s : Step) (e : Refusal)
+    → ◌≡◌ {A = Result Outcome Refusal} (Err e) (Err ImageTooLarge) ↔ SavesTooLarge old s
+    → new ≡ old → e ≡ ImageTooLarge → HasTooLarge new
+not-saved {old = old} s e is same large =
+    subst HasTooLarge (sym same) (saved-large old s (is.0 (ap Err large)))
+
 -- ---- moves up to the end of a cycle
 
 -- What is known after some moves: the space that they lead to, and that no space before it is the
@@ -303,7 +317,7 @@ code-fails {n = n} {cycle = cycle} {most = most} {e = e} {w = w} h c less is =
 
 -- ---- the two public calls
 
-shape-width : (shape : Shaped) (steps : List Step) {old : SpaceView}
+pub shape-width : (shape : Shaped) (steps : List Step) {old : SpaceView}
     → ShowsSpace old (run (new_world shape) steps) → length old.sites ≡ shape.nodes
 shape-width shape steps shown =
     shown.world.width ∙ run-count (new_world shape) steps
@@ -364,7 +378,7 @@ collects (Ok k) new plays shape limits steps shown can =
       record {
         few = few-moves h c c.holds.0;
         gone = gone shape limits steps (played shape.nodes k w) (current_cycle w + 1)
-            (omega arith) h.swept;
+            (omega arith) h.swept (played-stays shape.nodes k w);
       },
       tt,
     )
@@ -375,3 +389,13 @@ collects (Err e) new plays shape limits steps shown can =
     subst (λ (z : ℕ). StopsShort z (current_cycle w + 1) e w new) (shape-width shape steps shown)
     (plays w shown) in
     (tt, code-fails h c (omega (arith, can.room 0 0, limits.least_nodes)) c.holds.0)
+
+-- if all images fit, nothing but memory fails
+pub all-fit : {w : World} (n cycle : ℕ) (result : Result ℕ Refusal) (new : SpaceView)
+    → PlaysUntil result n cycle w new → IfErr result IsOfCode
+    → IfErr result (λ e. e ≡ ImageTooLarge → HasTooLarge new.sites) → ImagesFit n w
+    → IfErr result (λ e. e ≡ Memory)
+all-fit n cycle (Ok k) new h code large fit = tt
+all-fit n cycle (Err e) new h code large fit =
+    ⊎_elim {C = e ≡ Memory} (λ memory. memory)
+    (λ image. absurd (fit h.moves h.done new h.shown (large image))) code

@@ -10,6 +10,7 @@ use Rattle.model.specs.World.{World, run, outcomes}
 use Rattle.laws.specs.Strategy.{now, next_steps, play}
 use Rattle.laws.specs.Progress.{current_cycle, IsSwept, IsGone, saves}
 use Rattle.laws.specs.Bounds.{both_moves, cycle_room, both_room, HasRoom}
+use Rattle.world.specs.Shows.{HasTooLarge}
 use Rattle.world.specs.Spaces.{SpaceView, ShowsSpace}
 
 -- Only the code fails for lack of memory, or because an image is too large.
@@ -63,8 +64,16 @@ pub record CanCollect (n : ℕ) (w : World) : Type 0 where
   pub cycle : current_cycle w < GREATEST_CYCLE
   pub room : HasRoom (both_room n (now w)) (now w)
 
--- Once each node is saved after these moves, none has an object that was old garbage before them,
--- in any choice of current and saved states.
+-- No image gets too large while the strategy is played: neither after some moves, nor after some
+-- steps of a move. (A program keeps to it if what it leaves to the collector stays far below the
+-- limit: messages and marks that wait take less than 64 bytes each.)
+abbrev pub ImagesFit : ℕ → World → Type 0
+ImagesFit n w =
+    (moves : ℕ) (done : List Step) (v : SpaceView) → ShowsSpace v (run (play n moves w) done)
+    → HasTooLarge v.sites → ⊥
+
+-- Once each node is saved after these moves, none has an object that was garbage before them, saved
+-- or not, in any choice of current and saved states.
 pub record HasCollected (n moves : ℕ) (w : World) : Type 0 where
   pub few : moves ≤ both_moves n (now w)
   pub gone : (r : Ref) → IsGone w (run (play n moves w) (saves n)) r

@@ -112,6 +112,12 @@ SavesTooLarge sites (step.Save i) =
     (i < length sites) × (GREATEST_IMAGE < length (image_of (site_at sites i).current))
 SavesTooLarge sites s = ⊥
 
+-- some node's image is longer than an image may be, so it can't be saved
+pub record HasTooLarge (sites : List SiteView) : Type 0 where
+  pub node : ℕ
+  pub inside : node < length sites
+  pub too_large : GREATEST_IMAGE < length (image_of (site_at sites node).current)
+
 -- A step compared with that of the definitions, on each of their spaces that was shown before.
 abbrev pub FollowsShown : Result Outcome Refusal → List SiteView → List SiteView → Step → Type 0
 FollowsShown result old new s =

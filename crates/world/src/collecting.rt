@@ -10,10 +10,11 @@ ghost use Rattle.model.specs.declared.step.Step.TheVariants as step;
 ghost use Rattle.laws.specs.Strategy.{Do, now, least, next_move, next_steps, own_move, is_collectors};
 ghost use Rattle.laws.specs.Progress.{IsSwept, current_cycle};
 ghost use Rattle.laws.specs.Bounds.{cycle_moves};
-ghost use Rattle.world.specs.Shows.{site_at};
+ghost use Rattle.world.specs.Shows.{HasTooLarge, site_at};
 ghost use Rattle.world.specs.Spaces.{ShowsSpace};
 ghost use Rattle.world.specs.Moves.{local_at, awaits, has_awaiting, has_sign, first_with, move_of, IsSound};
-ghost use Rattle.world.specs.Collected.{IsOfCode, TakesAll, PlaysUntil, CanCollect, HasCollected, CanFinish};
+ghost use Rattle.world.specs.Collected.{IsOfCode, TakesAll, PlaysUntil, CanCollect, HasCollected, CanFinish, ImagesFit};
+ghost use Rattle.ids.specs.declared.refusal.Refusal.TheVariants.{ImageTooLarge, Memory};
 
 use crate::sim::Sim;
 use ids::{GREATEST_NUMBER, Refusal};
@@ -165,7 +166,8 @@ impl Sim {
     // Takes steps of the collector one after another, until one fails.
     fn take_all(&mut self, steps: &[Step]) -> Result<(), Refusal>
         requires { AllByRecursion (λ s. IsTrue (is_collectors s)) steps.now }
-        ensures { (w : World) → ShowsSpace self.old w → TakesAll result w self.new steps.now }
+        ensures takes { (w : World) → ShowsSpace self.old w → TakesAll result w self.new steps.now }
+        ensures too_large { IfErr result (λ e. e ≡ ImageTooLarge → HasTooLarge self.new.sites) }
     {
         for step in steps {
             self.step(*step)?;
@@ -175,8 +177,9 @@ impl Sim {
 
     // Makes the collector's next move.
     fn play(&mut self) -> Result<(), Refusal>
-        ensures { (w : World) → ShowsSpace self.old w
+        ensures takes { (w : World) → ShowsSpace self.old w
             → TakesAll result w self.new (next_steps (length self.old.sites) w) }
+        ensures too_large { IfErr result (λ e. e ≡ ImageTooLarge → HasTooLarge self.new.sites) }
     {
         match self.next_move() {
             Next::Bring { from, to, number } => self.take_all(&[
@@ -203,8 +206,9 @@ impl Sim {
 
     // Plays until each node has swept this cycle, and returns the number of moves.
     fn play_until(&mut self, cycle: u64) -> Result<u64, Refusal>
-        ensures { (w : World) → ShowsSpace self.old w
+        ensures plays { (w : World) → ShowsSpace self.old w
             → PlaysUntil result (length self.old.sites) cycle w self.new }
+        ensures too_large { IfErr result (λ e. e ≡ ImageTooLarge → HasTooLarge self.new.sites) }
     {
         for moves in 0..GREATEST_NUMBER {
             if self.is_swept(cycle) {
@@ -238,6 +242,14 @@ impl Sim {
             → IfOk result
             (λ k. k ≤ cycle_moves shape.nodes (now (run (new_world shape) steps)))
             × IfErr result IsOfCode }
+        // The image of some node is too large if the call fails with `ImageTooLarge`. So only
+        // memory can fail if all images fit.
+        ensures too_large { IfErr result (λ e. e ≡ ImageTooLarge → HasTooLarge self.new.sites) }
+        ensures fits { (shape : Shaped) → IsShape shape → (steps : List Step)
+            → ShowsSpace self.old (run (new_world shape) steps)
+            → CanFinish shape.nodes (run (new_world shape) steps)
+            → ImagesFit shape.nodes (run (new_world shape) steps)
+            → IfErr result (λ e. e ≡ Memory) }
     {
         let cycle = self.phases().cycle();
         self.play_until(cycle)
@@ -262,6 +274,14 @@ impl Sim {
             → CanCollect shape.nodes (run (new_world shape) steps)
             → IfOk result (λ k. HasCollected shape.nodes k (run (new_world shape) steps))
             × IfErr result IsOfCode }
+        // The image of some node is too large if the call fails with `ImageTooLarge`. So only
+        // memory can fail if all images fit.
+        ensures too_large { IfErr result (λ e. e ≡ ImageTooLarge → HasTooLarge self.new.sites) }
+        ensures fits { (shape : Shaped) → IsShape shape → (steps : List Step)
+            → ShowsSpace self.old (run (new_world shape) steps)
+            → CanCollect shape.nodes (run (new_world shape) steps)
+            → ImagesFit shape.nodes (run (new_world shape) steps)
+            → IfErr result (λ e. e ≡ Memory) }
     {
         let cycle = self.phases().cycle();
         self.play_until(cycle + 1)

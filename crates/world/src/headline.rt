@@ -1,7 +1,7 @@
 //! The theorems over all runs, as the contract of one function that does nothing. The statements
 //! are in `laws/specs`, and docs/PROOF.md explains their terms.
 ghost use Rattle.laws.specs.Sights.{CollectorIsUnseen};
-ghost use Rattle.laws.specs.Statements.{OfEveryRun, OfSpaces, OnlyEventsChange, CutsExtend, ReachIsLive, SweepsFreeNoneReachable, NodesAgree, BalancesAddUp, OldGarbageGoes, TargetsAreLive, NetGrows, NoneRefusedInTurn, NoneBeyond, AcknowledgementsGoThrough, HandsGoThrough, AcknowledgedIsTakenIn};
+ghost use Rattle.laws.specs.Statements.{OfEveryRun, OfSpaces, OnlyEventsChange, CutsExtend, ReachIsLive, SweepsFreeNoneReachable, NodesAgree, BalancesAddUp, GarbageGoes, OldGarbageGoes, TargetsAreLive, NetGrows, NoneRefusedInTurn, NoneBeyond, AcknowledgementsGoThrough, HandsGoThrough, AcknowledgedIsTakenIn};
 ghost use Rattle.laws.specs.Progress.{MarkingCanEnd, CycleCanEnd, GarbageCanGo, EndIsFoundSoon};
 ghost use Rattle.world.specs.Answered.{AnswersAreUnseen};
 ghost use Rattle.world.specs.Played.{PlayedIsAnswered};
@@ -22,7 +22,8 @@ ghost use Rattle.world.specs.Played.{PlayedIsAnswered};
 /// the cycle, no node in it has a grey object, and no message that the cycle counts is in flight
 /// (`agreement`). The nodes' balances add up to the number of these messages (`balances`). Anything
 /// saved that was already garbage before a cycle began has been freed once that cycle has been
-/// swept, rings of objects across nodes included (`old_garbage`).
+/// swept, rings of objects across nodes included (`old_garbage`). So has anything that no save held, unless its node restarted meanwhile
+/// (`garbage_goes`).
 ///
 /// For a program this means: a reference that it holds, or is sent, names an existing object. A
 /// request about another node's object finds the object (`targets`). A frame that a node released
@@ -73,6 +74,9 @@ pub fn laws()
     // Take an object that a node had saved before a cycle began, and that was reachable in no cut
     // then. In any later cut in which the node has swept that cycle, it no longer has the object.
     ensures old_garbage { OfEveryRun OldGarbageGoes }
+    // The same of an object that the node's current state had, saved or not, as long as the node
+    // doesn't restart.
+    ensures garbage_goes { OfEveryRun GarbageGoes }
     // A Mark, Put or Get that is received finds the object that it is about: it is the receiver's,
     // and live.
     ensures targets { OfEveryRun TargetsAreLive }
@@ -97,7 +101,8 @@ pub fn laws()
     // Within another bound, each node has swept the cycle, and node 0 was told so.
     ensures cycle { OfSpaces CycleCanEnd }
     // Within a third one, each node has swept the next cycle too. Once each is saved after that,
-    // none has an object that was old garbage at the start, rings of objects across nodes included.
+    // none has an object that was garbage at the start, saved or not, rings of objects across nodes
+    // included.
     ensures garbage { OfSpaces GarbageCanGo }
     // If marking has terminated, node 0 finds that within three rounds of the token and the moves
     // that messages in flight need.

@@ -1,6 +1,5 @@
 //! The log of a node's events since its last image or batch.
-ghost use Rattle.std.specs.Prelude.{◌≡◌, false, nat_le};
-ghost use Rattle.model.specs.View.{link_to};
+ghost use Rattle.std.specs.Prelude.{◌≡◌, false};
 ghost use Rattle.node_log.specs.Noted.{Noted};
 ghost use Rattle.c_handles.specs.Logs.{logging};
 ghost use Rattle.c_handles.specs.Lone.{Acknowledged, Given};
@@ -9,7 +8,7 @@ use super::LoneNode;
 use c_values::Fault;
 use model::{Answer, Event};
 use msg::Ack;
-use node_store::meant;
+use node_store::{is_old_ack, meant};
 
 impl LoneNode {
     /// Keeps the events from the next image on, or no more. If they are kept already, nothing
@@ -54,24 +53,12 @@ impl LoneNode {
     pub(super) fn acknowledge_noting(&mut self, ack: Ack) -> Result<Answer, Fault>
         ensures { Acknowledged self.old self.new ack result }
     {
-        let is_old = self.is_acknowledged(ack.by, ack.number);
-        let answer = self.node.act(Event::Ack(ack))?;
+        let event = Event::Ack(ack);
+        let is_old = is_old_ack(&self.node, &event);
+        let answer = self.node.act(event)?;
         if !is_old {
-            let _lost = self.log.note(&Event::Ack(ack));
+            let _lost = self.log.note(&event);
         }
         Ok(answer)
-    }
-
-    // Whether a node has acknowledged the messages up to this number.
-    fn is_acknowledged(&self, from: u8, number: u64) -> bool
-        ensures { result ≡ nat_le number (link_to self.now.node.core from).base }
-    {
-        let links = self.node.core().links();
-        let base = if from < links.width() {
-            links.base(from)
-        } else {
-            0
-        };
-        number <= base
     }
 }

@@ -6,7 +6,9 @@ use Rattle.std.proofs.lemmas.List.Sums.{sum_by-cons}
 use Rattle.ids.specs.Limits.{Shaped, IsShape}
 use Rattle.ids.specs.declared.limits.TheConstants.{GREATEST_CYCLE}
 use Rattle.msg.specs.declared.body.Message.{Message}
-use Rattle.model.specs.State.{Phases, Slot, Free, Occupied, Retired, LocalState, NodeState, node_at}
+use Rattle.model.specs.State.{Phases, Slot, Free, Occupied, Retired, LocalState, NodeState, node_at, slot_at}
+use Rattle.model.specs.Agreement.{OldGarbage}
+use Rattle.model.proofs.References.{all-append}
 use Rattle.model.specs.Effects.{Work}
 use Rattle.model.specs.Counting.{append, announce, stamped, to_others}
 use Rattle.model.specs.Shading.{join}
@@ -18,8 +20,8 @@ use Rattle.laws.proofs.Flights.{load_sent}
 use Rattle.model.proofs.Joining.{join-phases}
 use Rattle.model.proofs.Walk.{join-walks}
 use Rattle.laws.proofs.Invariant.{cycle_of, Inv}
-use Rattle.laws.specs.Statements.{OfSpaces}
-use Rattle.laws.specs.Strategy.{now, next_steps, played}
+use Rattle.laws.specs.Statements.{OfSpaces, Garbage, StaysUp}
+use Rattle.laws.specs.Strategy.{now, next_move, next_steps, played, steps_of, Move, Bring, Do}
 use Rattle.laws.specs.Bounds.{sum_to, weight, scan_work, slot_work, held_work, grey_work, heap_work, root_work, node_work, whole_node_work, work_left, whole_work, HasRoom, flight, rounds, marking_moves, cycle_moves, next_work, both_moves, marking_room}
 use Rattle.laws.proofs.progress.Flights.{sum-le, sum-at, sum-add, sum-const, flight-sends, room-after, room-less, numbers-fit}
 use Rattle.laws.proofs.progress.Paths.{Goes, run-append, Reaches, more, reaches-later, reaches-then, reaches-as, comes}
@@ -34,7 +36,7 @@ use Rattle.laws.proofs.Inner.{occupied-inside}
 use Rattle.laws.proofs.Live.{all-inv}
 use Rattle.laws.specs.Sights.{choosing}
 use Rattle.laws.proofs.Cuts.{cut-saved}
-use Rattle.laws.proofs.OldGarbage.{old-garbage-goes}
+use Rattle.laws.proofs.OldGarbage.{garbage-goes, old-garbage-goes}
 use Rattle.laws.specs.Progress.{current_cycle, IsSwept, Comes, MarkingCanEnd, CycleCanEnd, saves, IsGone, GarbageCanGo, EndIsFoundSoon}
 use Rattle.laws.proofs.progress.Soon.{end-comes}
 use Rattle.msg.specs.declared.body.Body.TheVariants as body
@@ -307,12 +309,24 @@ saves-from (suc many) from v choice inside width =
           ∙ cut-saved v from later.other (omega (arith, here, width)) j;
     }
 
+-- no move restarts a node
+steps-stay : (c : Cut) (m : Move) (i : ℕ) → StaysUp i (steps_of c m)
+steps-stay c (Bring from to) i = (λ e. absurd cc, (λ e. absurd cc, (λ e. absurd cc, (λ e. absurd cc, tt))))
+steps-stay c (Do j e) i = (λ is. absurd cc, tt)
+
+pub played-stays : (n k : ℕ) (w : World) (i : ℕ) → StaysUp i (played n k w)
+played-stays n zero w i = tt
+played-stays n (suc k) w i =
+    all-append (λ s. s ≢ step.Restart i) (next_steps n w) (played n k (run w (next_steps n w)))
+    (steps-stay (now w) (next_move n (now w)) i) (played-stays n k (run w (next_steps n w)) i)
+
 pub gone : (shape : Shaped) (limits : IsShape shape) (steps later : List Step) (cycle : ℕ)
     → current_cycle (run (new_world shape) steps) < cycle
-    → IsSwept shape.nodes cycle (now (run (run (new_world shape) steps) later)) → (r : Ref)
+    → IsSwept shape.nodes cycle (now (run (run (new_world shape) steps) later))
+    → ((i : ℕ) → StaysUp i later) → (r : Ref)
     → IsGone (run (new_world shape) steps)
     (run (run (run (new_world shape) steps) later) (saves shape.nodes)) r
-gone shape limits steps later cycle before swept r old choice live =
+gone shape limits steps later cycle before swept stays r dead choice live =
     let n : ℕ = shape.nodes in
     let w : World = run (new_world shape) steps in
     let v : World = run w later in
@@ -327,17 +341,29 @@ gone shape limits steps later cycle before swept r old choice live =
     let many = reached-count here in
     let saved : Saves v 0 n choice =
     saves-from n 0 v choice (omega (arith, many)) (reached-saved here ∙ sym (reached-count here)) in
-    let done : (cut u choice r.node).local.phases.swept ≡ cycle =
-    ap (λ (z : NodeState). z.local.phases.swept)
-    (saved.same r.node
-    ∙ cond-false (saved.other r.node) _ _
-    (saved.current r.node (omega arith) (omega (arith, inside))))
+    let chosen : saved.other r.node ≡ false =
+    saved.current r.node (omega arith) (omega (arith, inside)) in
+    let now_swept : (cut v saved.other r.node).local.phases.swept ≡ cycle =
+    ap (λ (z : NodeState). z.local.phases.swept) (cond-false (saved.other r.node) _ _ chosen)
     ∙ swept.swept r.node inside in
+    let done : (cut u choice r.node).local.phases.swept ≡ cycle =
+    ap (λ (z : NodeState). z.local.phases.swept) (saved.same r.node) ∙ now_swept in
     let same : run w (later ++ saves n) ≡ u = run-append w later (saves n) in
+    ⊎_elim {C = ⊥}
+    (λ (old : OldGarbage w r).
     old-garbage-goes shape limits steps (later ++ saves n) choice cycle r before old
     (subst (λ (z : World). cycle ≤ (cut z choice r.node).local.phases.swept) (sym same)
     (omega (arith, done)))
-    (subst (λ (z : World). IsLive (cut z choice) r) (sym same) live)
+    (subst (λ (z : World). IsLive (cut z choice) r) (sym same) live))
+    (λ (fresh : Garbage w r).
+    garbage-goes shape limits steps later saved.other cycle r before fresh (stays r.node) chosen
+    (omega (arith, now_swept))
+    (record {
+      object = live.object;
+      there = subst (λ (s : NodeState). slot_at s.local.heap r.slot ≡ Occupied r.generation live.object)
+          (saved.same r.node) live.there;
+    }))
+    dead
 
 pub garbage-can-go : OfSpaces GarbageCanGo
 garbage-can-go shape limits steps below room =
@@ -352,7 +378,8 @@ garbage-can-go shape limits steps below room =
       played = c.played;
       holds = (
         c.holds,
-        gone shape limits steps (played n c.moves w) (current_cycle w + 1) (omega arith) c.holds,
+        gone shape limits steps (played n c.moves w) (current_cycle w + 1) (omega arith) c.holds
+            (played-stays n c.moves w),
       );
     }
 

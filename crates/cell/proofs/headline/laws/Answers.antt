@@ -1,6 +1,6 @@
 use Rattle.cell.proofs.Blank.{blank-new}
 use Rattle.cell.proofs.AlikeCuts.{alike-reach}
-use Rattle.cell.proofs.Applied.{balances-add-up, nodes-agree, old-garbage-goes, reach-is-live}
+use Rattle.cell.proofs.Applied.{balances-add-up, nodes-agree, garbage-goes, old-garbage-goes, reach-is-live}
 use Rattle.cell.proofs.Composed.{cells-free-none-reachable, cells-refuse-none-in-turn}
 use Rattle.cell.proofs.Dues.{next-taken-in}
 use Rattle.cell.proofs.Left.{left-opened, restarted-reached}
@@ -55,6 +55,9 @@ returns-clause-agreement c = nodes-agree
 
 pub returns-clause-old_garbage : goal.returns-clause-old_garbage
 returns-clause-old_garbage c = old-garbage-goes
+
+pub returns-clause-garbage_goes : goal.returns-clause-garbage_goes
+returns-clause-garbage_goes c = garbage-goes
 
 pub returns-clause-one_age : goal.returns-clause-one_age
 returns-clause-one_age c = begin-of-one-age

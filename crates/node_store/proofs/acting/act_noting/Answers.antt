@@ -1,11 +1,25 @@
-use Rattle.std.proofs.Common.{◌≡◌, ◌∙◌, ap, subst, sym, false}
+use Rattle.std.proofs.Common.{◌≡◌, ◌∙◌, ap, subst, sym, true, false}
 use Rattle.model.specs.Effects.{is_change}
 use Rattle.model.specs.View.{view_act}
 use Rattle.node.specs.Keeping.{met}
 use Rattle.node_store.specs.Logs.{IsDone, Logged}
-use Rattle.node_store.proofs.Quiet.{quiet-same}
+use Rattle.node_store.specs.Acting.{is_old_ack}
+use Rattle.node_store.proofs.Quiet.{old-same, quiet-same}
 use Rattle.node_store.proofs.Ends.{logged_more}
 use Rattle.node_store.proofs.acting.act_noting.Goals as goal
+
+pub returns-then-is_old-clause-notes : goal.returns-then-is_old-clause-notes
+returns-then-is_old-clause-notes c =
+    let old = c.args.node.now in
+    let is_old : is_old_ack old.core (met old.early c.args.event) ≡ true =
+    ap (is_old_ack old.core) (sym c.meant-meant.ensures) ∙ sym c.is_old_ack-is_old.ensures
+    ∙ c.if-is_old.true in
+    record {
+      logged = λ first logged bytes is. subst (Logged bytes first)
+          (sym (old-same old.core c.act.new.self.core (met old.early c.args.event)
+          c.in_ok-answer.answer c.in_ok-answer.ensures.performs is_old)) (logged bytes is);
+      still = tt;
+    }
 
 pub returns-then-is_change-clause-notes : goal.returns-then-is_change-clause-notes
 returns-then-is_change-clause-notes c =

@@ -1,7 +1,7 @@
 use Rattle.laws.proofs.NoEvent.{only-events-change}
 use Rattle.laws.proofs.Cuts.{cuts-extend}
 use Rattle.laws.proofs.Live.{reach-is-live, sweeps-free-none-reachable, nodes-agree, balances-add-up}
-use Rattle.laws.proofs.OldGarbage.{old-garbage-goes}
+use Rattle.laws.proofs.OldGarbage.{garbage-goes, old-garbage-goes}
 use Rattle.laws.proofs.Deliveries.{targets-are-live, none-refused-in-turn}
 use Rattle.laws.proofs.Net.{net-grows, none-beyond, acknowledgements-go-through, hands-go-through, acknowledged-is-taken-in}
 use Rattle.laws.proofs.Transparent.{collector-is-unseen}
@@ -36,6 +36,9 @@ returns-clause-balances c = balances-add-up
 
 pub returns-clause-old_garbage : goal.returns-clause-old_garbage
 returns-clause-old_garbage c = old-garbage-goes
+
+pub returns-clause-garbage_goes : goal.returns-clause-garbage_goes
+returns-clause-garbage_goes c = garbage-goes
 
 pub returns-clause-targets : goal.returns-clause-targets
 returns-clause-targets c = targets-are-live

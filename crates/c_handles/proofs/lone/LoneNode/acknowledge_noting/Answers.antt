@@ -1,6 +1,6 @@
 use Rattle.std.proofs.Common.{◌∙◌, sym}
-use Rattle.std.proofs.lemmas.Bool.{leb-true}
-use Rattle.c_handles.proofs.Behind.{old_ack}
+use Rattle.model.specs.declared.event.Event.TheVariants as event
+use Rattle.node_store.proofs.Quiet.{old-same}
 use Rattle.c_handles.proofs.Exits.{acts_by, heard_noted, heard_same}
 use Rattle.c_handles.proofs.lone.LoneNode.acknowledge_noting.Goals as goal
 
@@ -18,6 +18,6 @@ returns-else-not-is_old c =
     heard_same
     (acts_by said.performs said.states said.unchanged said.leaves said.memory_free said.early
     said.turn)
-    (old_ack c.args.self.now.node.core c.act.new.self.core c.args.ack c.in_ok-answer.answer
-    said.performs
-    (leb-true _ _ (sym c.is_acknowledged-is_old.ensures ∙ c.if-not-is_old.false)))
+    (old-same c.args.self.now.node.core c.act.new.self.core (event.Ack c.args.ack)
+    c.in_ok-answer.answer said.performs
+    (sym c.is_old_ack-is_old.ensures ∙ c.if-not-is_old.false))
