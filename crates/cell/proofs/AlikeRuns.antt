@@ -168,7 +168,7 @@ pub record AreReleased (w v : World) (from to number : ℕ) (x y : Message) : Ty
   pub other : released v from to number ≡ Some y
 
 -- the content is the same unless the message is acknowledged
-same-content : {w v : World} {from to number : ℕ} {x y : Message}
+pub same-content : {w v : World} {from to number : ℕ} {x y : Message}
     → AreReleased w v from to number x y → acknowledged v from to < number → x ≡ y
 same-content {w} {v} {from} {to} {number} {x} {y} h later =
     let first = (released-there w from to number x h.there).2 in
@@ -279,7 +279,7 @@ restarted-like w v i h = record {
 
 -- ---- Any step
 
-node-like : (w v : World) (i : ℕ) → AreAlike w v → is_node w i ≡ is_node v i
+pub node-like : (w v : World) (i : ℕ) → AreAlike w v → is_node w i ≡ is_node v i
 node-like w v i h = ap (λ (n : ℕ). ltb i n) h.current.width
 
 both-nodes : (w v : World) (i j : ℕ) → AreAlike w v

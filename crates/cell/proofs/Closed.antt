@@ -1,28 +1,22 @@
 -- What a closed space left on its disks is the world in which the next one begins.
-use Rattle.std.proofs.Common.{◌≡◌, ◌≤◌, ◌<◌, ℕ, All, List, Some, length, map, refl, sym, ap, ◌∙◌, subst, ⊎_elim, slice_get, arith, le_trans}
-use Rattle.std.proofs.Math.Logic.{∥∥₁_elim}
-use Rattle.std.proofs.Props.{props}
-use Rattle.std.proofs.lemmas.Bool.{cases_lt}
+use Rattle.std.proofs.Common.{◌≡◌, ◌≤◌, ◌<◌, ℕ, All, List, [], Some, length, map, sym, ap, ◌∙◌, subst, slice_get, arith}
 use Rattle.std.proofs.lemmas.List.{length-map}
 use Rattle.std.proofs.lemmas.List.Elements.{All-get_or}
 use Rattle.std.proofs.lemmas.Option.{get_or_from_slice_get, slice_get_within}
 use Rattle.ids.specs.Limits.{Shaped}
-use Rattle.model.specs.State.{NodeState, got_from, node_at, sent_to}
-use Rattle.model.specs.View.{NodeView, Shows, link_to}
-use Rattle.model.specs.World.{World, acknowledged, new_world, release_count, run}
-use Rattle.laws.proofs.Cuts.{run-keeps-sent}
-use Rattle.laws.proofs.KeepsSent.{new-keeps-sent, run-count}
-use Rattle.laws.proofs.Net.{heard-onward}
-use Rattle.laws.proofs.Onward.{run-saved}
+use Rattle.model.specs.State.{NodeState, got_from, node_at}
+use Rattle.model.specs.View.{NodeView, link_to}
+use Rattle.model.specs.World.{World, acknowledged, run}
+use Rattle.laws.proofs.KeepsSent.{run-count}
 use Rattle.disk.specs.Areas.{Areas}
 use Rattle.node.specs.Keeping.{WholeNode}
 use Rattle.wire.specs.Readers.{known, seat_node}
 use Rattle.wire.specs.Rule.{nodes_of}
 use Rattle.wire.specs.Views.{Pair}
-use Rattle.wire.specs.OneAge.{AreApart, AreOfOneAge}
+use Rattle.wire.specs.OneAge.{AreOfOneAge}
 use Rattle.cell.specs.Ages.{AreRead, IfAges, IsWhy}
 use Rattle.cell.specs.Cells.{CellView, IsNew}
-use Rattle.cell.specs.Closing.{AreClosed, AreOfOneMoment, ClosedIsLeft, ClosedIsReached, HasBegun, HaveBegun, IsLast}
+use Rattle.cell.specs.Closing.{AreClosed, AreOfOneMoment, ClosedIsLeft, ClosedIsReached, HaveBegun, IsLast}
 use Rattle.cell.specs.Desks.{IsSavedNode}
 use Rattle.cell.specs.Laws.{restarted, IsLeft}
 use Rattle.cell.specs.Moments.{EachCell}
@@ -30,13 +24,12 @@ use Rattle.cell.specs.Opened.{cores, state_of, world_of}
 use Rattle.cell.specs.Reached.{AreHeld, BeginReached, IsReached}
 use Rattle.cell.specs.Theorems.{AreLeft}
 use Rattle.cell.specs.declared.fault.Unopened.{Unopened}
-use Rattle.cell.specs.declared.fault.Unopened.TheVariants.{Ages, Another, Disks, Failed, Memory}
-use Rattle.cell.proofs.AlikeRuns.{heard-like}
-use Rattle.cell.proofs.Applied.{node-count}
+use Rattle.cell.proofs.Holding.{saved-count, still-held}
 use Rattle.cell.proofs.Left.{left-node, left-opened, restarted-reached}
-use Rattle.cell.proofs.OneAge.{at-place, begin-of-one-age, none-sent-past}
+use Rattle.cell.proofs.OneAge.{at-place}
+use Rattle.cell.proofs.Starting.{ages-never}
 use Rattle.wire.proofs.Places.{mapped-there, some_at}
-use Rattle.cell.proofs.Reaches.{end_of, heard-end, stays-reached, world-of-reached}
+use Rattle.cell.proofs.Reaches.{stays-reached, world-of-reached}
 use Rattle.cell.proofs.Together.{pair-there}
 
 module _ {D : Type 0} {may_leave : D → Areas → Type 0} {shape : Shaped} {opening : World}
@@ -72,86 +65,17 @@ module _ {D : Type 0} {may_leave : D → Areas → Type 0} {shape : Shaped} {ope
         opens = last.of.sound.while_open last.ready x may;
       }
 
-  saved-count : length (run opening h.once.log).saved ≡ shape.nodes
-  saved-count =
-      let r = stays-reached opening h.once.log h.reached in
-      r.by.saved.width
-      ∙ (run-keeps-sent (new_world r.shape) r.steps (new-keeps-sent r.shape)).width
-      ∙ sym r.by.current.width ∙ run-count opening h.once.log ∙ h.width
-
   pub are-left : AreLeft shape (run opening h.once.log) nodes
   are-left = record {
     reached = stays-reached opening h.once.log h.reached;
-    width = saved-count;
+    width = saved-count (run opening h.once.log) (stays-reached opening h.once.log h.reached)
+        ∙ run-count opening h.once.log ∙ h.width;
     count = h.found;
     each = λ k n there.
         (let c = cell-of k n there in
         let read = h.read k c.0 n c.1 there in
         (read.0, cell-left k c.0 read.0 c.1 read.1, read.2));
   }
-
-  -- what was acknowledged stays so
-  acked-still : (k to : ℕ)
-      → acknowledged opening k to ≤ acknowledged (run opening h.once.log) k to
-  acked-still k to =
-      run-saved heard-onward opening h.once.log
-      (heard-like opening (end_of h.reached) h.reached.by (heard-end h.reached)) to k
-
-  was-held : (k to : ℕ) (c : CellView D) → slice_get cells k ≡ Some c
-      → (link_to c.origin to).base ≤ acknowledged opening k to
-      → (link_to c.saved to).base ≤ acknowledged (run opening h.once.log) k to
-  was-held k to c there first =
-      let last = h.each k c there in
-      let leads = h.once.each k c there in
-      let me : (known c.seat).me ≡ k = sym c.seat.sits.me_is ∙ last.number in
-      ∥∥₁_elim (last.of.sound.saved_dropped.each to) (hlevel props)
-      (⊎_elim
-      (λ before. le_trans before (le_trans first (acked-still k to)))
-      (λ f.
-      let net = leads.net f.0 _ f.2 in
-      le_trans f.3
-      (subst (λ (i : ℕ). f.1 ≤ acknowledged (run opening h.once.log) i to) me
-      (subst (λ (o : World). f.1 ≤ acknowledged (run o h.once.log) (known c.seat).me to)
-      last.of.began net.3))))
-
-  -- the first node of the cell, by the number of the cell
-  first-held : (k to : ℕ) (c : CellView D) → slice_get cells k ≡ Some c → HasBegun c
-      → to < nodes_of opening → (link_to c.origin to).base ≤ acknowledged opening k to
-  first-held k to c there begun inside =
-      let last = h.each k c there in
-      subst (λ (i : ℕ). (link_to c.origin to).base ≤ acknowledged opening i to) last.number
-      (subst
-      (λ (o : World). (link_to c.origin to).base ≤ acknowledged o (seat_node c.seat) to)
-      last.of.began
-      (begun to (subst (λ (o : World). to < nodes_of o) (sym last.of.began) inside)))
-
-  -- no message was dropped that was for a node that isn't there
-  none-held : (k to : ℕ) (c : CellView D) {s : NodeState} → k < shape.nodes → shape.nodes ≤ to
-      → s ≡ node_at (run opening h.once.log).saved k → Shows c.saved s
-      → (link_to c.saved to).base ≤ 0
-  none-held k to c {s} inside past is shows =
-      let w : World = run opening h.once.log in
-      let r = stays-reached opening h.once.log h.reached in
-      let count = node-count w r in
-      let wide : length w.current ≡ shape.nodes = run-count opening h.once.log ∙ h.width in
-      let none = none-sent-past w k to r (omega (arith, count, wide, inside))
-      (omega (arith, count, wide, past)) in
-      let within = (shows.links to).within in
-      let same : length (sent_to s to) ≡ release_count w k to =
-      ap (λ (t : NodeState). length (sent_to t to)) is in
-      omega (arith, within, same, none)
-
-  still-held : (k to : ℕ) (c : CellView D) → slice_get cells k ≡ Some c
-      → HasBegun c → k < shape.nodes → Shows c.saved (node_at (run opening h.once.log).saved k)
-      → (link_to c.saved to).base ≤ acknowledged (run opening h.once.log) k to
-  still-held k to c there begun inside shows =
-      ⊎_elim
-      (λ below. was-held k to c there (first-held k to c there begun below))
-      (λ past.
-      let none = none-held k to c inside
-      (let width = h.width in omega (arith, width, past)) refl shows in
-      omega (arith, none))
-      (cases_lt to (nodes_of opening))
 
   pub are-held : HaveBegun cells → AreHeld nodes (restarted (run opening h.once.log))
   unfolding cell-left
@@ -164,7 +88,10 @@ module _ {D : Type 0} {may_leave : D → Areas → Type 0} {shape : Shaped} {ope
       read.2 in
       subst (λ (m : NodeView). (link_to m to).base ≤ acknowledged (run opening h.once.log) k to)
       (sym is)
-      (still-held k to c.0 c.1 (begun k c.0 c.1)
+      (let last = h.each k c.0 c.1 in
+      still-held h.once.log [] h.reached h.width k to c.0 c.0.saved
+      (record { of = last.of; number = last.number; width = last.width })
+      (h.once.each k c.0 c.1) last.of.sound.saved_dropped (begun k c.0 c.1)
       (let inside = slice_get_within nodes k n there in
       let found = h.found in omega (arith, inside, found))
       left.saved.shows)
@@ -220,21 +147,15 @@ module _ {D : Type 0} {may_leave : D → Areas → Type 0} {shape : Shaped} {ope
       closed-is-reached may_leave shape opening from.once.cells h.nodes (closed-again h)
       from.once.begun
 
-  -- they are of one age, so an opening never refuses them because of their ages
-  never-apart : (sender receiver : ℕ)
-      → AreRead seen shape disks (λ ns. AreApart ns sender receiver) → ⊥
-  never-apart sender receiver h =
-      let ages = begin-of-one-age h.nodes (opened-again h) in
-      h.are.apart
-      (ages.each sender receiver h.are.sender h.are.receiver h.are.first h.are.second)
-
+  -- an opening never refuses them because of their ages
   pub never-ages : (moment faults : D → ℕ) (e : Unopened)
       → IsWhy seen moment faults shape disks e → IfAges (λ sender receiver. ⊥) e
-  never-ages moment faults (Ages i j) h = never-apart i j h
-  never-ages moment faults Disks h = tt
-  never-ages moment faults (Another k) h = tt
-  never-ages moment faults (Failed k r) h = tt
-  never-ages moment faults Memory h = tt
+  never-ages moment faults e why =
+      ages-never seen shape disks
+      (λ nodes count read.
+      opened-again {Are = λ _. Unit {0}}
+      (record { nodes = nodes; count = count; read = read; are = tt }))
+      moment faults e why
 
 -- ---- Cells that were just opened
 

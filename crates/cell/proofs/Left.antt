@@ -32,7 +32,7 @@ use Rattle.wire.proofs.Places.{mapped-from}
 -- ---- All nodes restart from their saved states
 
 -- restarts of this many nodes, from this one on
-abbrev restarts : ℕ → ℕ → List Step
+abbrev pub restarts : ℕ → ℕ → List Step
 restarts k zero = []
 restarts k (suc n) = step.Restart k ∷ restarts (suc k) n
 
@@ -59,7 +59,7 @@ restarted-at before xs ys x y =
     (get_or-append_seam before y ys no_node)
     ∙ set-append_seam before x xs y)
 
-run-restarts : (before xs ys : List NodeState) → length xs ≡ length ys
+pub run-restarts : (before xs ys : List NodeState) → length xs ≡ length ys
     → run (record { current = before ++ xs; saved = before ++ ys })
     (restarts (length before) (length xs))
     ≡ record { current = before ++ ys; saved = before ++ ys }
@@ -78,7 +78,7 @@ run-restarts before (x ∷ xs) (y ∷ ys) same =
     ∙ run-restarts (before ++ y ∷ []) xs ys (omega (arith, same))
     ∙ (λ i. record { current = second i; saved = second i })
 
-pub restarted-reached : (w : World) → IsReached w → IsReached (restarted w)
+unfoldable pub restarted-reached : (w : World) → IsReached w → IsReached (restarted w)
 restarted-reached w r =
     let end : World = run (new_world r.shape) r.steps in
     let width : length end.saved ≡ length end.current =

@@ -14,6 +14,7 @@ pub mod Sent
 pub mod Alike
 pub mod AlikeRuns
 pub mod Dues
+pub mod Acks
 pub mod Dropping
 pub mod Still
 pub mod Entered
@@ -23,6 +24,7 @@ pub mod Looking
 pub mod Ready
 pub mod Sames
 pub mod Beside
+pub mod Underway
 pub mod Blank
 pub mod Left
 pub mod Reaches
@@ -31,6 +33,10 @@ pub mod Applied
 pub mod Composed
 pub mod OneAge
 pub mod Together
+pub mod Holding
+pub mod Starting
 pub mod Closed
+pub mod Sights
+pub mod Killed
 pub mod Answered
 pub mod TraceLines

@@ -65,7 +65,7 @@ begin-of-one-age nodes begins = record {
 }
 
 -- Nodes of one age have dropped only what is acknowledged in the world whose states they have.
-held-by-age : (shape : Shaped) (w : World) (nodes : List WholeNode) → IsReached w
+pub held-by-age : (shape : Shaped) (w : World) (nodes : List WholeNode) → IsReached w
     → AreOpened shape (cores nodes) w → AreOfOneAge nodes → AreHeld nodes w
 held-by-age shape w nodes reached opens ages k to n there =
     let many : length nodes ≡ length w.current =
@@ -93,7 +93,7 @@ held-by-age shape w nodes reached opens ages k to n there =
     omega (arith, none, same, within))
     (cases_lt to (length nodes))
 
-pub reopened-is-reached : ReopenedIsReached
+unfoldable pub reopened-is-reached : ReopenedIsReached
 reopened-is-reached shape w nodes left ages =
     let reached = restarted-reached w left.reached in
     let opens = left-opened shape w nodes left.width left.count left.each in

@@ -6,6 +6,7 @@ use Rattle.model.specs.View.{NodeView, kept_view}
 use Rattle.disk.specs.Areas.{Areas}
 use Rattle.disk.specs.Crashes.{LeavesOnly, Only}
 use Rattle.disk.specs.Record.{leaves}
+use Rattle.disk_shelf.proofs.Moments.{started, weaker}
 use Rattle.image.specs.Nodes.{HasImage}
 use Rattle.node_store.specs.Plain.{IsPlain, KeepsEither, StaysPlain}
 use Rattle.node_store.proofs.Stores.{keeps_alone, keeps_kept, keeps_one, read_kept}
@@ -138,3 +139,18 @@ failed-left {moment = moment} {old = old} may_leave saved n counts only c may =
 pub saved-by : {Opens Leads Done : Type 0} → ∥ Opens ∥₁ → ∥ Leads ∥₁ → (Opens → Leads → Done)
     → ∥ Done ∥₁
 saved-by opens leads done = ∥∥₁_elim opens (hlevel props) (λ o. ∥∥₁_map leads (done o))
+
+-- what a crash leaves at any moment of a save
+pub saved-since : {D : Type 0} {moment : D → ℕ} {left_since : D → ℕ → Areas → Type 0}
+    {old new : D} (saved n : NodeView)
+    → ∥ LeavesOnly moment left_since old new (KeepsEither (alone saved) (alone (kept_view n))) ∥₁
+    → ∥ LeavesOnly moment left_since old new (λ x. ∥ OpensToEither saved n x ∥₁) ∥₁
+saved-since saved n said = ∥∥₁_map said (λ o. weaker o (λ c either. ∣ either ∣₁))
+
+-- what it leaves if nothing was written
+pub still-since : {D : Type 0} {moment : D → ℕ} {left_since : D → ℕ → Areas → Type 0} {old new : D}
+    {may_leave P : Areas → Type 0} → ((c : Areas) → left_since old (moment old) c → may_leave c)
+    → new ≡ old → ((c : Areas) → may_leave c → P c) → LeavesOnly moment left_since old new P
+still-since {D} {moment} {left_since} {old} {P = P} now same left =
+    subst (λ (d : D). LeavesOnly moment left_since old d P) (sym same)
+    (started (λ c since. left c (now c since)))

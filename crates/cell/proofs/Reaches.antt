@@ -37,7 +37,7 @@ end_of r = run (new_world r.shape) r.steps
 pub heard-end : {w : World} (r : IsReached w) → Behind HeardMore (end_of r)
 heard-end r = run-heard r.shape r.steps
 
-pub new-reached : (shape : Shaped) → IsShape shape → IsReached (new_world shape)
+unfoldable pub new-reached : (shape : Shaped) → IsShape shape → IsReached (new_world shape)
 new-reached shape limits = record {
   shape = shape;
   limits = limits;
@@ -45,7 +45,7 @@ new-reached shape limits = record {
   by = alike-self (new_world shape);
 }
 
-pub like-reached : (u w : World) → AreAlike u w → IsReached w → IsReached u
+unfoldable pub like-reached : (u w : World) → AreAlike u w → IsReached w → IsReached u
 like-reached u w h r = record {
   shape = r.shape;
   limits = r.limits;
@@ -53,7 +53,7 @@ like-reached u w h r = record {
   by = alike-both u w (end_of r) h r.by;
 }
 
-pub stays-reached : StaysReached
+unfoldable pub stays-reached : StaysReached
 stays-reached w steps r = record {
   shape = r.shape;
   limits = r.limits;
@@ -124,7 +124,7 @@ made-alike shape w nodes opens held =
       saved = subst (AreLike (acknowledged w) (map state_of (cores nodes))) (sym opens.saved) like;
     }
 
-pub world-of-reached : WorldOfIsReached
+unfoldable pub world-of-reached : WorldOfIsReached
 world-of-reached shape w nodes reached opens held =
     let made = made-alike shape w nodes opens held in (
       like-reached (world_of (cores nodes)) w made reached,

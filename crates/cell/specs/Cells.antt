@@ -48,6 +48,10 @@ new_cell node seat disk logs = record {
   trace = [];
 }
 
+-- The disk opens to the last saved node of the cell, or to the current one as it is once saved.
+abbrev pub HoldsEither : {D : Type 0} → CellView D → Areas → Type 0
+HoldsEither c x = ∥ OpensToEither c.saved c.node.core x ∥₁
+
 abbrev pub IsNew : {D : Type 0} → CellView D → Type 0
 IsNew c = c ≡ new_cell c.node c.seat c.disk c.logs
 

@@ -1,18 +1,21 @@
 -- Cells of one wire at one moment, and the space that continues from what they left on their disks.
-use Rattle.std.specs.Prelude.{◌≡◌, ◌<◌, ◌≤◌, ℕ, IsTrue, List, [], length, map, slice_get, Some}
+use Rattle.std.specs.Prelude.{◌≡◌, ◌<◌, ◌≤◌, ℕ, IsTrue, List, [], ◌∷◌, length, map, slice_get, Some}
 use Rattle.ids.specs.Limits.{Shaped}
 use Rattle.ids.specs.declared.names.Ref.{Ref}
 use Rattle.model.specs.State.{LocalState, Object, Occupied, register_at, slot_at}
 use Rattle.model.specs.View.{link_to}
 use Rattle.model.specs.World.{World, acknowledged, run}
+use Rattle.model.specs.declared.step.Step.{Step}
+use Rattle.model.specs.declared.step.Step.TheVariants as step
 use Rattle.node.specs.Keeping.{WholeNode}
 use Rattle.disk.specs.Areas.{Areas}
 use Rattle.wire.specs.Readers.{known, seat_node}
 use Rattle.wire.specs.Rule.{nodes_of}
-use Rattle.cell.specs.Cells.{CellView, IsSound}
+use Rattle.cell.specs.Cells.{CellView, HoldsEither, IsSound}
 use Rattle.cell.specs.Moments.{AreAtOnce, EachCell}
-use Rattle.cell.specs.Opened.{IsReadFrom}
-use Rattle.cell.specs.Reached.{BeginReached, IsReached}
+use Rattle.cell.specs.Opened.{AreBeside, IsReadFrom}
+use Rattle.cell.specs.Reached.{AreHeld, BeginReached, IsReached}
+use Rattle.cell.specs.Laws.{restarted}
 use Rattle.cell.specs.Theorems.{AreLeft}
 
 -- a cell of a wire that began in this world, with what its type guarantees
@@ -115,3 +118,68 @@ abbrev pub ClosedIsReached : {D : Type 0} → (D → Areas → Type 0) → Type 
 ClosedIsReached {D} may_leave =
     (shape : Shaped) (opening : World) (cells : List (CellView D)) (nodes : List WholeNode)
     → AreClosed may_leave shape opening cells nodes → HaveBegun cells → BeginReached nodes
+
+-- ---- A space that was killed
+
+-- the cell of node k, open or closed, in a space of this many nodes
+pub record IsOfNode {D : Type 0} (may_leave : D → Areas → Type 0) (opening : World) (nodes k : ℕ)
+    (c : CellView D) : Type 0 where
+  pub of : IsCellOf may_leave opening c
+  pub number : seat_node c.seat ≡ k
+  pub width : c.seat.nodes ≡ nodes
+
+-- The nodes are read from what a kill left on the disks of these cells. A cell's type says what that
+-- is between two calls (`Cell::node`: `sound`), and a save and a reopening say what it is within
+-- them (`any_moment`).
+abbrev pub AreReadAfter : {D : Type 0} → Shaped → List (CellView D) → List WholeNode → Type 0
+AreReadAfter {D} shape cells nodes =
+    (k : ℕ) (c : CellView D) (n : WholeNode) → slice_get cells k ≡ Some c
+    → slice_get nodes k ≡ Some n
+    → (x : Areas) × HoldsEither c x × IsReadFrom shape k x n
+
+-- The cells of all nodes of a space, in order, at the moment of a kill, and the nodes that are read
+-- from their disks. One list of events leads to what the cells know. A cell that was in a save is as
+-- it was before that.
+pub record AreKilled {D : Type 0} (may_leave : D → Areas → Type 0) (shape : Shaped)
+    (opening : World) (cells : List (CellView D)) (nodes : List WholeNode) : Type 0 where
+  pub reached : IsReached opening
+  pub width : nodes_of opening ≡ shape.nodes
+  pub count : length cells ≡ shape.nodes
+  pub found : length nodes ≡ shape.nodes
+  pub each : EachCell (IsOfNode may_leave opening shape.nodes) cells
+  pub once : AreAtOnce opening cells
+  pub read : AreReadAfter shape cells nodes
+
+-- all of the steps are saves
+abbrev pub AreSaves : List Step → Type 0
+AreSaves [] = Unit {0}
+AreSaves (step.Save i ∷ ss) = AreSaves ss
+AreSaves (s ∷ ss) = ⊥
+
+-- The nodes are those that the space left in a world. It is the one of that moment, after the saves
+-- that the disks hold already. If the first nodes had dropped only acknowledged messages, these
+-- nodes have too.
+pub record HaveSurvived {D : Type 0} {may_leave : D → Areas → Type 0} {shape : Shaped}
+    {opening : World} {cells : List (CellView D)} {nodes : List WholeNode}
+    (killed : AreKilled may_leave shape opening cells nodes) : Type 0 where
+  pub saves : List Step
+  pub are_saves : AreSaves saves
+  pub left : AreLeft shape (run (run opening killed.once.log) saves) nodes
+  pub held : HaveBegun cells
+      → AreHeld nodes (restarted (run (run opening killed.once.log) saves))
+
+abbrev pub KilledIsLeft : {D : Type 0} → (D → Areas → Type 0) → Type 0
+KilledIsLeft {D} may_leave =
+    (shape : Shaped) (opening : World) (cells : List (CellView D)) (nodes : List WholeNode)
+    → (killed : AreKilled may_leave shape opening cells nodes) → HaveSurvived killed
+
+-- The disks of a space whose wire began in this world, in order, as a kill at one moment left them.
+pub record AreOfOneKill {D : Type 0} (seen : D → Areas) (may_leave : D → Areas → Type 0)
+    (opening : World) (disks : List D) : Type 0 where
+  pub cells : List (CellView D)
+  pub count : length cells ≡ nodes_of opening
+  pub as_many : length disks ≡ nodes_of opening
+  pub each : EachCell (IsOfNode may_leave opening (nodes_of opening)) cells
+  pub once : AreAtOnce opening cells
+  pub begun : HaveBegun cells
+  pub left : AreBeside (λ k c d. HoldsEither c (seen d)) cells disks

@@ -6,6 +6,7 @@ use Rattle.std.specs.Prelude.{◌≡◌, ◌≢◌, ℕ, List, [], ◌∷◌, �
 use Rattle.ids.specs.Limits.{Shaped}
 use Rattle.ids.specs.declared.refusal.Refusal.{Refusal}
 use Rattle.ids.specs.declared.refusal.Refusal.TheVariants.{LinkSpent, Memory}
+use Rattle.msg.specs.declared.frame.Ack.{Ack}
 use Rattle.msg.specs.declared.frame.Data.{Data}
 use Rattle.msg.specs.declared.frame.Frame.TheVariants as frame
 use Rattle.model.specs.declared.event.Event.TheVariants as event
@@ -22,7 +23,7 @@ use Rattle.disk.specs.Areas.{Areas, IsBlank}
 use Rattle.wire.specs.Readers.{AreOpened}
 use Rattle.wire.specs.Rule.{AreEvents}
 use Rattle.wire.specs.Views.{Known, pair_at}
-use Rattle.cell.specs.Desks.{IsSavedNode}
+use Rattle.cell.specs.Desks.{IsSavedNode, StandsAt}
 use Rattle.cell.specs.Disks.{OpensTo}
 use Rattle.cell.specs.Events.{Given}
 use Rattle.cell.specs.Opened.{cores, world_of, IsReadFrom}
@@ -97,6 +98,24 @@ CellsRefuseNoneInTurn =
     (d : Data) (e : Refusal) (old : WholeNode) (v : Known) → IsReached v.opening
     → Shows old.core v.pair.current → HasRefused d e old v → e ≢ Memory
     → IsSpentOrEarly old.core.local d.from d.number e
+
+-- a cell's call in which an acknowledgement that it took from the wire was refused
+pub record HasRefusedAck (a : Ack) (old : WholeNode) (v : Known) : Type 0 where
+  pub refusal : Refusal
+  pub box : ℕ
+  pub from : ℕ
+  pub new : WholeNode
+  pub w : Known
+  pub before : List TraceLine
+  pub after : List TraceLine
+  pub took : TookIn box from (Err refusal) old new v w before after
+  pub is : took.frame ≡ frame.Ack a
+
+-- A cell never refuses an acknowledgement that it took from the wire.
+abbrev pub CellsRefuseNoAck : Type 0
+CellsRefuseNoAck =
+    (a : Ack) (me width : ℕ) (old : WholeNode) (v : Known) → IsReached v.opening
+    → StandsAt me width v.pair old.core → HasRefusedAck a old v → ⊥
 
 -- A cell refuses a message that it kept until its turn in two cases only: a message that it makes
 -- the node send would need a number above the greatest, or memory runs out.

@@ -10,6 +10,7 @@ pub mod Laws
 pub mod Ages
 pub mod Theorems
 pub mod Closing
+pub mod Unseen
 pub mod Opened
 pub mod Looking
 pub mod Locked

@@ -1,5 +1,5 @@
 -- Nodes in their stores, and a wire between them.
-use Rattle.std.specs.Prelude.{◌≡◌, ◌<◌, ℕ, Bool, true, false, List, ◌++◌, length, map, replicate, Some, slice_get}
+use Rattle.std.specs.Prelude.{◌≡◌, ◌<◌, ◌⊎◌, ℕ, Bool, true, false, List, ◌++◌, length, map, replicate, Some, slice_get}
 use Rattle.ids.specs.Limits.{Shaped}
 use Rattle.ids.specs.declared.limits.TheConstants.{GREATEST_IMAGE}
 use Rattle.ids.specs.declared.refusal.Refusal.{Refusal}
@@ -36,6 +36,14 @@ pub record IsNodeOf (shape : Shaped) (own : ℕ) (n : NodeView) : Type 0 where
 pub record IsReadFrom (shape : Shaped) (own : ℕ) (seen : Areas) (n : WholeNode) : Type 0 where
   pub blank : IsBlank seen → n ≡ new_whole shape own
   pub held : (IsBlank seen → ⊥) → OpensToNode n seen
+
+-- What a crash leaves on the disk of this node during an opening: what it could have left before. If
+-- nothing was ever created on the disk, it may also leave another such disk, or the new node.
+abbrev pub StaysOrNew : {D : Type 0} → (D → Areas) → (D → Areas → Type 0) → Shaped → ℕ → D → Areas
+    → Type 0
+StaysOrNew seen may_leave shape own disk c =
+    may_leave disk c
+    ⊎ (IsBlank (seen disk) × (IsBlank c ⊎ OpensToNode (new_whole shape own) c))
 
 -- a disk that reads as `seen` holds the node of another space, or one with another number
 pub record HoldsAnother (shape : Shaped) (own : ℕ) (seen : Areas) : Type 0 where

@@ -9,7 +9,7 @@ use Rattle.disk.specs.Areas.{Areas, IsBlank}
 use Rattle.node.specs.Keeping.{WholeNode}
 use Rattle.wire.specs.OneAge.{AreOfOneAge}
 use Rattle.cell.specs.Laws.{restarted, IsLeft}
-use Rattle.cell.specs.Opened.{IsReadFrom}
+use Rattle.cell.specs.Opened.{AreBeside, IsReadFrom}
 use Rattle.cell.specs.Reached.{AreHeld, BeginReached, IsReached}
 
 -- Each disk is blank, or a cell left a new node on it. So it may be if a first opening was cut off.
@@ -56,3 +56,28 @@ abbrev pub ReopenedIsReached : Type 0
 ReopenedIsReached =
     (shape : Shaped) (w : World) (nodes : List WholeNode) → AreLeft shape w nodes
     → AreOfOneAge nodes → BeginReached nodes
+
+-- ---- What an opening finds
+
+-- The disks of a space read as blank, or as a first opening left them that was cut off.
+pub record AreFresh {D : Type 0} (seen : D → Areas) (shape : Shaped) (disks : List D) : Type 0
+  where
+    pub count : length disks ≡ shape.nodes
+    pub each : (k : ℕ) (d : D) → slice_get disks k ≡ Some d
+        → IsBlank (seen d) ⊎ IsLeft k shape.nodes (new_node shape k) (seen d)
+
+-- They read as the cells of a space left them, which a run reached in this world.
+pub record AreLeftOn {D : Type 0} (seen : D → Areas) (shape : Shaped) (w : World) (disks : List D)
+    : Type 0 where
+  pub reached : IsReached w
+  pub width : length w.saved ≡ shape.nodes
+  pub count : length disks ≡ shape.nodes
+  pub each : (k : ℕ) (d : D) → slice_get disks k ≡ Some d
+      → IsLeft k shape.nodes (node_at w.saved k) (seen d)
+
+-- The nodes that are read from them have dropped only messages that are acknowledged in that world.
+abbrev pub AreHeldOn : {D : Type 0} → (D → Areas) → Shaped → World → List D → Type 0
+AreHeldOn seen shape w disks =
+    (nodes : List WholeNode) → length nodes ≡ length disks
+    → AreBeside (λ k d n. IsReadFrom shape k (seen d) n) disks nodes
+    → AreHeld nodes (restarted w)

@@ -17,16 +17,17 @@
 //! written nothing.
 ghost use Rattle.std.specs.Prelude.{◌≡◌, ◌≢◌, ◌⊎◌, ◌++◌, [], ◌∷◌, false, true, IfErr, IfOk, IsErrOf, IsTrue, OnOk};
 ghost use Rattle.std.specs.Prelude.{◌<◌, length, vec_len};
+ghost use Rattle.ids.specs.Limits.{IsShape};
 ghost use Rattle.ids.specs.declared.refusal.Refusal.TheVariants.{BadImage, Memory};
 ghost use Rattle.disk.specs.Areas.{IsBlank};
-ghost use Rattle.disk.specs.Crashes.{Unmoved};
+ghost use Rattle.disk.specs.Crashes.{LeavesOnly, Unmoved};
 ghost use Rattle.wire.specs.OneAge.{AreOfOneAge};
 ghost use Rattle.cell.specs.Ages.{IsWhy};
 ghost use Rattle.cell.specs.Disks.{OpensToNode};
 ghost use Rattle.cell.specs.Looking.{AreLookedAt, AreOn, AreUnmoved, HoldsNode, IsOfReading};
 ghost use Rattle.cell.specs.Looking.{logs_at};
 ghost use Rattle.cell.specs.Opened.{AreBeside, AreFound, IsCause, IsChosen, IsNodeOf, IsReadFrom};
-ghost use Rattle.cell.specs.Opened.{IsWhyNot};
+ghost use Rattle.cell.specs.Opened.{IsWhyNot, StaysOrNew};
 ghost use Rattle.cell.specs.declared.fault.Unopened.TheVariants as fault;
 ghost use Rattle.node.specs.Keeping.{new_whole};
 ghost use Rattle.node_store.specs.Stores.{disk_of, is_ready_in, logs_in};
@@ -184,6 +185,8 @@ fn create<D: Disk + Drop>(
     requires { HoldsNode D.seen D.may_leave disk node.now None }
     ensures ready { IfOk result (λ s. is_ready_in s ≡ true) }
     ensures opens { IfOk result (λ s. OpensToNode node.now (D.seen (disk_of s))) }
+    ensures any_moment { IfOk result (λ s. LeavesOnly D.moment D.left_since disk (disk_of s)
+        (StaysOrNew D.seen D.may_leave node.now.core.local.shape node.now.core.local.own disk)) }
     ensures logs { IfOk result (λ s. logs_in s ≡ logs_at saves None) }
     ensures cause { IfErr result (λ r. r ≢ Memory → IsCause D.seen D.moment D.faults
         node.now.core.local.shape node.now.core.local.own disk r) }
@@ -206,6 +209,8 @@ fn put_on<D: Disk + Drop>(
     requires { HoldsNode D.seen D.may_leave disk node.now area }
     ensures ready { IfOk result (λ s. is_ready_in s ≡ true) }
     ensures opens { IfOk result (λ s. OpensToNode node.now (D.seen (disk_of s))) }
+    ensures any_moment { IfOk result (λ s. LeavesOnly D.moment D.left_since disk (disk_of s)
+        (StaysOrNew D.seen D.may_leave node.now.core.local.shape node.now.core.local.own disk)) }
     ensures logs { IfOk result (λ s. logs_in s ≡ logs_at saves area) }
     ensures cause { IfErr result (λ r. r ≢ Memory → IsCause D.seen D.moment D.faults
         node.now.core.local.shape node.now.core.local.own disk r) }
@@ -231,6 +236,9 @@ fn put_all_on<D: Disk + Drop>(
     ensures found { IfOk result (λ v.
         AreFound (λ n s. (is_ready_in s ≡ true) × OpensToNode n (D.seen (disk_of s)))
         shape nodes.now v.items) }
+    ensures any_moment { IfOk result (λ v. AreBeside (λ k d s.
+        LeavesOnly D.moment D.left_since d (disk_of s)
+        (StaysOrNew D.seen D.may_leave shape k d)) disks.items v.items) }
     ensures logs { IfOk result (λ v.
         AreBeside (λ k place s. logs_in s ≡ logs_at saves place) areas.now v.items) }
     ensures why { IfErr result (IsWhy D.seen D.moment D.faults shape disks.items) }
@@ -265,6 +273,9 @@ fn put_all_on<D: Disk + Drop>(
 /// one moment. The first of them has sent fewer messages than the second has received from it, or
 /// has dropped some that the second lacks.
 ///
+/// A crash at any moment since a call began that succeeds leaves on each disk what it could have left
+/// before. If nothing was ever created on the disk, it may also leave such a disk or the new node.
+///
 /// There are no other causes. All disks are read, and the nodes compared, before anything is
 /// created. So after `Disks`, `Another`, `Ages` and `BadImage` the disks are still in the vector,
 /// and nothing was written on any of them. If it succeeds, the vector is empty.
@@ -283,12 +294,16 @@ pub fn find<D: Disk + Drop>(
     ensures found { IfOk result (λ r.
         AreFound (λ n s. (is_ready_in s ≡ true) × OpensToNode n (D.seen (disk_of s)))
         shape r.0.items r.1.items) }
+    ensures any_moment { IfOk result (λ r. AreBeside (λ k d s.
+        LeavesOnly D.moment D.left_since d (disk_of s)
+        (StaysOrNew D.seen D.may_leave shape k d)) disks.old.items r.1.items) }
     ensures logs { IfOk result (λ r.
         AreBeside (λ k d s. IsChosen saves (D.seen d) (logs_in s)) disks.old.items r.1.items) }
     ensures read { IfOk result (λ r. AreBeside
         (λ k d n. IsReadFrom shape k (D.seen d) n) disks.old.items r.0.items) }
     ensures all { IfOk result (λ r. length r.0.items ≡ length disks.old.items) }
     ensures one_age { IfOk result (λ r. AreOfOneAge r.0.items) }
+    ensures limits { IsShape shape }
 {
     if disks.len() != usize::from(shape.nodes()) {
         return Err(Unopened::Disks);

@@ -4,10 +4,12 @@ ghost use Rattle.ids.specs.Limits.{IsShape, Shaped};
 ghost use Rattle.model.specs.World.{new_world, World};
 ghost use Rattle.laws.specs.Statements.{BalancesAddUp, GarbageGoes, NodesAgree, OldGarbageGoes, ReachIsLive};
 ghost use Rattle.cell.specs.Closing.{CellsAgree, CellsHaveNamed, ClosedIsLeft, ClosedIsReached};
+ghost use Rattle.cell.specs.Closing.{KilledIsLeft};
 ghost use Rattle.cell.specs.Laws.{
   restarted,
   BlankIsNew,
   CellsFreeNoneReachable,
+  CellsRefuseNoAck,
   CellsRefuseNoneInTurn,
   LeftIsOpened,
   NextIsTakenIn,
@@ -20,6 +22,13 @@ ghost use Rattle.cell.specs.Theorems.{
   OfEveryReached,
   ReopenedIsReached,
   StaysReached,
+};
+ghost use Rattle.cell.specs.Unseen.{
+  CellsAreToldSo,
+  NewIsUnseen,
+  ReachedIsUnseen,
+  SightsAreKept,
+  SightsGoOn,
 };
 
 use disk::Disk;
@@ -57,6 +66,8 @@ pub fn laws()
     // No message that was kept until its turn is refused, unless a message that it makes the node
     // send would need a number above the greatest, or memory runs out.
     ensures next { NextIsTakenIn }
+    // No acknowledgement that came over the wire is refused, whatever it acknowledges.
+    ensures acknowledgements { CellsRefuseNoAck }
     // On disks that are blank, or on which a first opening that was cut off has left new nodes,
     // cells begin in a world that a run reaches.
     ensures fresh { FreshIsReached }
@@ -92,6 +103,18 @@ pub fn laws()
     // If an opening of disks that a space left isn't refused because of ages, a run reaches the
     // world in which it begins.
     ensures reopened { ReopenedIsReached }
+    // Programs can't see the collector: in each choice of current and saved states, what they were
+    // told and received up to a reached world and after it is a run of a space without a collector.
+    // That run ends with the same registers, letters, messages and reachable objects.
+    ensures transparent { ReachedIsUnseen }
+    // So it is with each answer of a cell, also a word that was read and a refusal: it is one that
+    // a program may get in that space, after the sights that led to what the cell's seat knew.
+    ensures told { CellsAreToldSo }
+    // In a new space nothing was seen; what happens then adds to that.
+    ensures unseen { NewIsUnseen }
+    ensures seen_on { SightsGoOn }
+    // A space that is opened again begins with what belongs to the saved states that it was left in.
+    ensures seen_again { SightsAreKept }
 {}
 
 /// The theorems about cells at one moment, as [`survey`](crate::survey) leaves them. They apply if
@@ -111,4 +134,8 @@ pub fn laws_at_once<D: Disk>()
     // A run reaches the world in which these nodes begin, and each of them still has what isn't
     // acknowledged, if that held of the nodes with which the cells were made.
     ensures closed { ClosedIsReached D.may_leave }
+    // A kill at any moment, also within saves, leaves the nodes of that moment, after the saves that
+    // the disks hold already. Each of them still has what isn't acknowledged, if that held of the
+    // nodes with which the cells were made. So an opening continues from there.
+    ensures killed { KilledIsLeft D.may_leave }
 {}

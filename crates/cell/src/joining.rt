@@ -3,6 +3,7 @@
 ghost use Rattle.std.specs.Prelude.{◌≡◌, ◌≢◌, ℕ, true, All, IfErr, IfOk, IsErrOf, MatchResult, Some, length};
 ghost use Rattle.std.specs.Prelude.{map, slice_get, vec_len};
 ghost use Rattle.ids.specs.declared.refusal.Refusal.TheVariants.{Memory};
+ghost use Rattle.disk.specs.Crashes.{LeavesOnly};
 ghost use Rattle.model.specs.World.{World};
 ghost use Rattle.node.specs.Keeping.{WholeNode};
 ghost use Rattle.wire.specs.Readers.{AreOpened, IsMade, opened_with};
@@ -10,8 +11,9 @@ ghost use Rattle.wire.specs.Rule.{nodes_of};
 ghost use Rattle.wire.specs.OneAge.{AreOfOneAge};
 ghost use Rattle.cell.specs.Ages.{IfAges, IsWhy};
 ghost use Rattle.cell.specs.Cells.{IsNew};
-ghost use Rattle.cell.specs.Closing.{AreOfOneMoment, HaveBegun};
+ghost use Rattle.cell.specs.Closing.{AreOfOneKill, AreOfOneMoment, HaveBegun};
 ghost use Rattle.cell.specs.Reached.{IsReached};
+ghost use Rattle.cell.specs.Theorems.{AreFresh, AreHeldOn, AreLeftOn};
 ghost use Rattle.cell.specs.Disks.{OpensToNode};
 ghost use Rattle.cell.specs.Opened.{
   cores,
@@ -22,6 +24,7 @@ ghost use Rattle.cell.specs.Opened.{
   IsChosen,
   IsNodeOf,
   IsReadFrom,
+  StaysOrNew,
 };
 ghost use Rattle.cell.specs.declared.fault.Unopened.TheVariants as fault;
 ghost use Rattle.node_store.specs.Stores.{disk_of, is_ready_in, logs_in};
@@ -116,6 +119,9 @@ pub fn open<D: Disk + Drop>(
     ensures why { IfErr result (IsWhy D.seen D.moment D.faults shape disks.items) }
     ensures read { IfOk result (λ r. AreBeside (λ k d n. IsReadFrom shape k (D.seen d) n)
         disks.items (map (λ c. c.node) r.1.items)) }
+    ensures any_moment { IfOk result (λ r. AreBeside (λ k d c.
+        LeavesOnly D.moment D.left_since d c.disk
+        (StaysOrNew D.seen D.may_leave shape k d)) disks.items r.1.items) }
     ensures logs { IfOk result (λ r. AreBeside
         (λ k d c. IsChosen saves (D.seen d) c.logs) disks.items r.1.items) }
     ensures shaped { IfOk result (λ r. (k : ℕ) (n : WholeNode)
@@ -126,6 +132,15 @@ pub fn open<D: Disk + Drop>(
     ensures closed { (opening : World) → IsReached opening → nodes_of opening ≡ shape.nodes
         → AreOfOneMoment D.may_leave opening disks.items
         → MatchResult result (λ r. IsReached (opened_with r.0)) (IfAges (λ _ _. ⊥)) }
+    ensures killed { (opening : World) → IsReached opening → nodes_of opening ≡ shape.nodes
+        → AreOfOneKill D.seen D.may_leave opening disks.items
+        → MatchResult result (λ r. IsReached (opened_with r.0)) (IfAges (λ _ _. ⊥)) }
+    ensures fresh { AreFresh D.seen shape disks.items
+        → MatchResult result (λ r. IsReached (opened_with r.0)) (IfAges (λ _ _. ⊥)) }
+    ensures left { (w : World) → AreLeftOn D.seen shape w disks.items
+        → IfOk result (λ r. IsReached (opened_with r.0)) }
+    ensures kept { (w : World) → AreLeftOn D.seen shape w disks.items
+        → AreHeldOn D.seen shape w disks.items → IfErr result (IfAges (λ _ _. ⊥)) }
     ensures begun { IfOk result (λ r. HaveBegun r.1.items) }
     ensures new { IfOk result (λ r. All IsNew r.1.items) }
     ensures made { IfOk result (λ r. IsMade

@@ -223,13 +223,16 @@ impl<D: Disk, W: Naming> SharedOn<D, W> {
         cell
     }
 
-    /// Gives the node an event of its own; see [`Cell::act`].
+    /// Gives the node an event of its own; see [`Cell::act`]. The answer is that of the node as it
+    /// was when this call had locked the cell.
     pub fn act<R: Wait>(&self, rt: &R, event: Event) -> Result<Answer, Refusal>
         requires own { is_own event ≡ true }
-        ensures answered { WasAnswered event result }
+        ensures answered { WasAnswered D.may_leave W.wire event result }
     {
         let mut held = self.held.lock(rt);
         let Held { cell, wire, .. } = &mut *held;
+        // Called for its contract.
+        let _node = cell.node();
         cell.act(wire, event)
     }
 

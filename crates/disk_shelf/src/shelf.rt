@@ -183,7 +183,9 @@ impl<D: Disk> Shelf<D> {
 
         ensures created { IfOk result (λ s. OpensTo (P.image value.now) (D.seen s.disk)) }
         ensures ready { IfOk result (λ s. s.ready ≡ true) }
-        ensures readable { OnOk result (P.reads (P.image value.now) (P.saved value.now)) }
+        ensures readable { MatchResult result
+            (λ _. P.reads (P.image value.now) (P.saved value.now))
+            (λ e. e.1 ≡ Refusal.Disk → P.reads (P.image value.now) (P.saved value.now)) }
         ensures any_moment { MatchResult result
             (λ s. LeavesOnly D.moment D.left_since disk s.disk (NoneOrNew (P.image value.now)))
             (λ e. LeavesOnly D.moment D.left_since disk e.0 (NoneOrNew (P.image value.now))) }

@@ -1,5 +1,5 @@
 -- What a disk holds of a node, with a log or without one.
-use Rattle.std.proofs.Common.{◌≡◌, inl, inr, ⊎_elim, ℕ, Bool, true, false, List, [], ◌∷◌, Option, Some, None}
+use Rattle.std.proofs.Common.{◌≡◌, ◌≢◌, inl, inr, ⊎_elim, ℕ, Bool, true, false, List, [], ◌∷◌, Option, Some, None}
 use Rattle.std.proofs.Common.{refl, sym, ap, ◌∙◌, subst, map, arith, drop, length, ◌+◌}
 use Rattle.std.proofs.Common.{Result, Ok, Err}
 use Rattle.std.specs.Option.{option_map}
@@ -19,17 +19,18 @@ use Rattle.image.specs.Nodes.{IsImageOf}
 use Rattle.image.specs.Wholes.{IsWholeOf}
 use Rattle.image.proofs.Spelled.{kept_is}
 use Rattle.disk.specs.Areas.{Areas, part, IsBlank}
-use Rattle.disk.specs.Crashes.{Only}
+use Rattle.disk.specs.Crashes.{LeavesOnly, Only, StaysBlank}
 use Rattle.disk_shelf.specs.Logs.{HasLog, LeadAll, OpensIf}
 use Rattle.disk_shelf.specs.Refusals.{IsHandedBack}
-use Rattle.disk_shelf.specs.Shelf.{half, image_at, opened, OldOrNew, OpensAs, record_of, recorded, side}
+use Rattle.disk_shelf.specs.Shelf.{half, image_at, opened, NoneOrNew, OldOrNew, OpensAs, record_of, recorded, side}
 use Rattle.disk_shelf.proofs.Logs.{selected_if}
+use Rattle.disk_shelf.proofs.Moments.{started, weaker}
 use Rattle.disk_shelf.proofs.Records.{record_length}
 use Rattle.disk_shelf.proofs.Values.{fresh_led}
 use Rattle.disk_journal.proofs.Values.{restores_image, restores_one}
 use Rattle.node.specs.Keeping.{WholeNode, alone}
 use Rattle.node_store.specs.Laws.{led_alone, one_led, one_whole, read_alone}
-use Rattle.node_store.specs.Plain.{IsPlain, Keeps, KeepsEither, StaysPlain}
+use Rattle.node_store.specs.Plain.{IsPlain, Keeps, KeepsEither, KeepsNone, StaysPlain}
 use Rattle.node_store.specs.Values.{IsAlone, LeadsWhole}
 
 -- ---- images that no log follows
@@ -189,6 +190,33 @@ either_plain n image s c plain read =
     ⊎_elim
     (λ same i is. plain i (sym same ∙ is))
     (λ is. written_plain n image c is read)
+
+-- during a first save
+pub none_written : (n : WholeNode) (image : List ℕ) (c : Areas) → IsWholeOf image n
+    → NoneOrNew image c → KeepsNone n c
+none_written n image c read =
+    ⊎_elim (λ none. inl none) (λ is. inr (keeps_written n image c is read))
+
+-- a first save that failed, and handed its disk back
+pub none_back : {D : Type 0} {moment faults : D → ℕ} {left_since : D → ℕ → Areas → Type 0}
+    {disk : D} {back : D × Refusal} (may_leave : D → Areas → Type 0) (n : WholeNode)
+    (image : List ℕ) → ((d : D) (c : Areas) → left_since d (moment d) c → may_leave d c)
+    → StaysBlank (may_leave disk) → IsHandedBack faults image disk back
+    → LeavesOnly moment left_since disk back.0 (NoneOrNew image)
+    → (back.1 ≡ DiskFailed → IsWholeOf image n)
+    → LeavesOnly moment left_since disk back.0 (KeepsNone n)
+none_back {D} {moment} {left_since = left_since} {disk} {back} may_leave n image now blank handed
+    said readable =
+    ⊎_elim (λ is. as_it_was (λ d. (let never = sym is ∙ d in absurd cc)))
+    (⊎_elim (λ is. as_it_was (λ d. (let never = sym is ∙ d in absurd cc)))
+    (λ failed. weaker said (λ c. none_written n image c (readable failed))))
+    handed.others
+  where
+    as_it_was : (back.1 ≢ DiskFailed) → LeavesOnly moment left_since disk back.0 (KeepsNone n)
+    as_it_was apart =
+        subst (λ (d : D). LeavesOnly moment left_since disk d (KeepsNone n))
+        (sym (handed.unchanged apart))
+        (started (λ c left. inl (blank c (now disk c left))))
 
 -- ---- a disk with an image and nothing behind it
 

@@ -1,6 +1,6 @@
 -- What a disk holds of a node.
 use Rattle.std.specs.Prelude.{◌≡◌, ◌⊎◌, ℕ, false, List, Some}
-use Rattle.disk.specs.Areas.{Areas}
+use Rattle.disk.specs.Areas.{Areas, IsBlank}
 use Rattle.disk_shelf.specs.Logs.{Restores}
 use Rattle.disk_shelf.specs.Shelf.{opened}
 use Rattle.image_parts.specs.Logs.{begins_logged}
@@ -15,6 +15,10 @@ Keeps n c = Restores begins_logged IsAnyWholeOf LeadsWhole n c
 -- the disk opens to the old node or to the new one
 abbrev pub KeepsEither : WholeNode → WholeNode → Areas → Type 0
 KeepsEither old new c = Keeps old c ⊎ Keeps new c
+
+-- the disk is blank, or opens to this node
+abbrev pub KeepsNone : WholeNode → Areas → Type 0
+KeepsNone new c = IsBlank c ⊎ Keeps new c
 
 -- no log follows the image that the disk opens to
 abbrev pub IsPlain : Areas → Type 0

@@ -9,7 +9,7 @@ ghost use Rattle.disk_shelf.specs.Refusals.{AfterSave, IsHandedBack, IsUnread};
 ghost use Rattle.disk_shelf.specs.Shelf.{IsSettled};
 ghost use Rattle.node.specs.Keeping.{WholeNode};
 ghost use Rattle.image.specs.Wholes.{saved_whole, whole_image};
-ghost use Rattle.node_store.specs.Plain.{Keeps, KeepsEither, KeepsPlain, StaysPlain};
+ghost use Rattle.node_store.specs.Plain.{Keeps, KeepsEither, KeepsNone, KeepsPlain, StaysPlain};
 
 use crate::images::Images;
 use disk::Disk;
@@ -74,6 +74,11 @@ impl<D: Disk> PlainShelf<D> {
         ensures within { OnOk result (length (whole_image node.now) ≤ GREATEST_IMAGE) }
         ensures refused { IfErr result (IsHandedBack D.faults (whole_image node.now) disk) }
         ensures later { IfErr result (λ e. D.moment disk ≤ D.moment e.0) }
+        ensures any_moment { MatchResult result
+            (λ s. LeavesOnly D.moment D.left_since disk s.shelf.disk
+            (KeepsNone (saved_whole node.now)))
+            (λ e. LeavesOnly D.moment D.left_since disk e.0
+            (KeepsNone (saved_whole node.now))) }
     {
         match Shelf::create::<Images>(alloc, disk, node) {
             Ok(shelf) => Ok(PlainShelf { shelf }),

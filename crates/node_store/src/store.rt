@@ -10,7 +10,7 @@ ghost use Rattle.disk_shelf.specs.Refusals.{AfterSave, IsHandedBack, IsUnread};
 ghost use Rattle.node.specs.Keeping.{WholeNode};
 ghost use Rattle.image.specs.Wholes.{saved_whole, whole_image};
 ghost use Rattle.node_store.specs.Noted.{IsLogged};
-ghost use Rattle.node_store.specs.Plain.{IsPlain, Keeps, KeepsEither, StaysPlain};
+ghost use Rattle.node_store.specs.Plain.{IsPlain, Keeps, KeepsEither, KeepsNone, StaysPlain};
 ghost use Rattle.node_store.specs.Stores.{disk_of, is_logged_at, is_ready_in, LiesAt, logs_in};
 ghost use Rattle.node_store.specs.Stores.{WritesAll};
 
@@ -131,7 +131,8 @@ impl<D: Disk> Store<D> {
     }
 
     /// Saves the first node on a disk on which nothing was ever created; see
-    /// [`is_blank`](disk_shelf::is_blank).
+    /// [`is_blank`](disk_shelf::is_blank). A crash at any moment since the call began leaves an
+    /// empty selector or the node.
     ///
     /// Fails with `ImageTooLarge` exactly if the node's image is longer than an image may be, with
     /// `Memory`, and with `Disk` if the device failed; and returns the disk, which is unchanged
@@ -150,6 +151,11 @@ impl<D: Disk> Store<D> {
         ensures within { OnOk result (length (whole_image node.now) ≤ GREATEST_IMAGE) }
         ensures refused { IfErr result (IsHandedBack D.faults (whole_image node.now) disk) }
         ensures later { IfErr result (λ e. D.moment disk ≤ D.moment e.0) }
+        ensures any_moment { MatchResult result
+            (λ s. LeavesOnly D.moment D.left_since disk (disk_of s)
+            (KeepsNone (saved_whole node.now)))
+            (λ e. LeavesOnly D.moment D.left_since disk e.0
+            (KeepsNone (saved_whole node.now))) }
     {
         match saves {
             Saves::Images => match PlainShelf::create(alloc, disk, node) {

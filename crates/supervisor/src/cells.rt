@@ -1,17 +1,21 @@
 //! The cells of a space, shared by its threads. Each is under a lock of its own, and all share one
 //! wire.
-ghost use Rattle.std.specs.Prelude.{◌≡◌, ◌≢◌, IfErr, IfOk, IsErrOf, IsTrue, MatchResult, map, vec_len};
+ghost use Rattle.std.specs.Prelude.{◌≡◌, ◌≢◌, All, IfErr, IfOk, IsErrOf, IsTrue, MatchResult};
+ghost use Rattle.std.specs.Prelude.{length, map, vec_len};
 ghost use Rattle.std.specs.Arc.{arc_value};
 ghost use Rattle.ids.specs.declared.refusal.Refusal.TheVariants.{Memory};
 ghost use Rattle.model.specs.World.{World};
-ghost use Rattle.wire.specs.Readers.{IsSeatOf, opened_with};
+ghost use Rattle.disk.specs.Crashes.{LeavesOnly};
+ghost use Rattle.wire.specs.Readers.{IsMade, IsSeatOf, opened_with};
 ghost use Rattle.wire.specs.Rule.{nodes_of};
 ghost use Rattle.wire.specs.OneAge.{AreOfOneAge};
 ghost use Rattle.cell.specs.Ages.{AreRead, IfAges, IsWhy as IsWhyUnopened};
-ghost use Rattle.cell.specs.Closing.{AreOfOneMoment, HasBegun, HaveBegun};
+ghost use Rattle.cell.specs.Cells.{IsNew};
+ghost use Rattle.cell.specs.Closing.{AreOfOneKill, AreOfOneMoment, HasBegun, HaveBegun};
 ghost use Rattle.cell.specs.Names.{name_of, IsNamed};
-ghost use Rattle.cell.specs.Opened.{AreBeside, IsChosen};
+ghost use Rattle.cell.specs.Opened.{cores, world_of, AreBeside, IsChosen, IsReadFrom, StaysOrNew};
 ghost use Rattle.cell.specs.Reached.{IsReached};
+ghost use Rattle.cell.specs.Theorems.{AreFresh, AreHeldOn, AreLeftOn};
 ghost use Rattle.supervisor.specs.declared.fault.OpenFault.TheVariants as fault;
 ghost use Rattle.supervisor.specs.Opened.{AreInPlace, AreSeats, AreWatches, IfUnopened};
 ghost use Rattle.supervisor.specs.declared.cells.TheConstants.{WATCHES};
@@ -95,7 +99,29 @@ pub(crate) fn open_alone<D: Disk + Drop>(
         → AreOfOneMoment D.may_leave opening disks.items
         → MatchResult result (λ r. IsReached (opened_with r.0))
         (IfUnopened (IfAges (λ _ _. ⊥))) }
+    ensures killed { (opening : World) → IsReached opening → nodes_of opening ≡ shape.nodes
+        → AreOfOneKill D.seen D.may_leave opening disks.items
+        → MatchResult result (λ r. IsReached (opened_with r.0))
+        (IfUnopened (IfAges (λ _ _. ⊥))) }
+    ensures fresh { AreFresh D.seen shape disks.items
+        → MatchResult result (λ r. IsReached (opened_with r.0))
+        (IfUnopened (IfAges (λ _ _. ⊥))) }
+    ensures left { (w : World) → AreLeftOn D.seen shape w disks.items
+        → IfOk result (λ r. IsReached (opened_with r.0)) }
+    ensures kept { (w : World) → AreLeftOn D.seen shape w disks.items
+        → AreHeldOn D.seen shape w disks.items
+        → IfErr result (IfUnopened (IfAges (λ _ _. ⊥))) }
     ensures begun { IfOk result (λ r. HaveBegun r.1.items) }
+    ensures read { IfOk result (λ r. AreBeside (λ k d n. IsReadFrom shape k (D.seen d) n)
+        disks.items (map (λ c. c.node) r.1.items)) }
+    ensures any_moment { IfOk result (λ r. AreBeside (λ k d c.
+        LeavesOnly D.moment D.left_since d c.disk
+        (StaysOrNew D.seen D.may_leave shape k d)) disks.items r.1.items) }
+    ensures all { IfOk result (λ r. length r.1.items ≡ length disks.items) }
+    ensures new { IfOk result (λ r. All IsNew r.1.items) }
+    ensures made { IfOk result (λ r. IsMade
+        (world_of (cores (map (λ c. c.node) r.1.items))) WATCHES r.0
+        (map (λ c. c.seat) r.1.items) r.2.items) }
     ensures logs { IfOk result (λ r. AreBeside
         (λ k d c. IsChosen saves (D.seen d) c.logs) disks.items r.1.items) }
 {

@@ -2,7 +2,7 @@
 //! concurrently with the worker. When a space is dropped, it asks its workers to stop.
 ghost use Rattle.std.specs.Prelude.{◌≡◌, ◌≤◌, ◌<◌, ◌≢◌, ◌↔◌, ◌⊎◌, ◌+◌, ◌∷◌, ◌++◌, false, true, Some, IfErr, IfNone};
 ghost use Rattle.std.specs.Prelude.{IfOk, IfSome, IsErrOf, IsSome, IsTrue, MatchResult, OnErr, OnOk, is_some, length, map};
-ghost use Rattle.std.specs.Prelude.{max, option_to_list, slice_get, vec_len};
+ghost use Rattle.std.specs.Prelude.{[], All, max, option_to_list, slice_get, vec_len};
 ghost use Rattle.std.specs.Arc.{arc_value};
 ghost use Rattle.std.specs.List.{range_with_len};
 ghost use Rattle.std.specs.List.Sorted.{IsNonDecreasingBy, IsPermutation};
@@ -10,16 +10,19 @@ ghost use Rattle.ids.specs.declared.refusal.Refusal.TheVariants as refusal;
 ghost use Rattle.wire.specs.Plays.{HasEnded, WasEnded};
 ghost use Rattle.model.specs.World.{World};
 ghost use Rattle.model.specs.declared.event.Event.TheVariants as event;
-ghost use Rattle.wire.specs.Readers.{heard, loaded, opened_with, watch_opening, IsSameWatch};
-ghost use Rattle.wire.specs.Readers.{IsWatchOf};
+ghost use Rattle.wire.specs.Readers.{heard, loaded, loads_of, opened_with, watch_opening};
+ghost use Rattle.wire.specs.Readers.{IsMade, IsSameWatch, IsWatchOf};
+ghost use Rattle.disk.specs.Crashes.{LeavesOnly};
 ghost use Rattle.wire.specs.Rule.{nodes_of};
 ghost use Rattle.wire.specs.OneAge.{AreOfOneAge};
 ghost use Rattle.cell.specs.Ages.{AreRead, IfAges, IsWhy as IsWhyUnopened};
-ghost use Rattle.cell.specs.Closing.{AreOfOneMoment, HaveBegun};
+ghost use Rattle.cell.specs.Cells.{IsNew};
+ghost use Rattle.cell.specs.Closing.{AreOfOneKill, AreOfOneMoment, HaveBegun};
 ghost use Rattle.cell.specs.Locked.{WasAnswered};
 ghost use Rattle.cell.specs.Names.{name_of, IsNamed};
-ghost use Rattle.cell.specs.Opened.{AreBeside, IsChosen};
+ghost use Rattle.cell.specs.Opened.{cores, world_of, AreBeside, IsChosen, IsReadFrom, StaysOrNew};
 ghost use Rattle.cell.specs.Reached.{IsReached};
+ghost use Rattle.cell.specs.Theorems.{AreFresh, AreHeldOn, AreLeftOn};
 ghost use Rattle.supervisor.specs.declared.fault.OpenFault.TheVariants as fault;
 ghost use Rattle.cell.specs.Moments.{EachCell};
 ghost use Rattle.supervisor.specs.Closing.{IsBack, IsWhy};
@@ -68,7 +71,8 @@ pub struct Opened<D: Disk> {
 
 impl<D: Disk + Drop> Opened<D> {
     /// Opens a space of this configuration on these disks, as [`Space::open`] does, and fails as it
-    /// does.
+    /// does. The cells are new ones of the nodes that the disks hold, and the wire begins in the
+    /// world of these nodes.
     pub fn open(alloc: Global, config: &Config, disks: Vec<D>) -> Result<Opened<D>, OpenFault>
         ensures disks { vec_len disks ≢ config.now.shape.nodes → IsErrOf result fault.Disks }
         ensures why { IfErr result
@@ -85,6 +89,32 @@ impl<D: Disk + Drop> Opened<D> {
             → AreOfOneMoment D.may_leave opening disks.items
             → MatchResult result (λ s. IsReached (opened_with s.wire))
             (IfUnopened (IfAges (λ _ _. ⊥))) }
+        ensures killed { (opening : World) → IsReached opening
+            → nodes_of opening ≡ config.now.shape.nodes
+            → AreOfOneKill D.seen D.may_leave opening disks.items
+            → MatchResult result (λ s. IsReached (opened_with s.wire))
+            (IfUnopened (IfAges (λ _ _. ⊥))) }
+        ensures fresh { AreFresh D.seen config.now.shape disks.items
+            → MatchResult result (λ s. IsReached (opened_with s.wire))
+            (IfUnopened (IfAges (λ _ _. ⊥))) }
+        ensures left { (w : World) → AreLeftOn D.seen config.now.shape w disks.items
+            → IfOk result (λ s. IsReached (opened_with s.wire)) }
+        ensures kept { (w : World) → AreLeftOn D.seen config.now.shape w disks.items
+            → AreHeldOn D.seen config.now.shape w disks.items
+            → IfErr result (IfUnopened (IfAges (λ _ _. ⊥))) }
+        ensures read { IfOk result (λ s. AreBeside
+            (λ k d n. IsReadFrom config.now.shape k (D.seen d) n) disks.items
+            (map (λ c. c.node) s.cells.items)) }
+        ensures all { IfOk result (λ s. length s.cells.items ≡ length disks.items) }
+        ensures new { IfOk result (λ s. All IsNew s.cells.items) }
+        ensures made { IfOk result (λ s. IsMade
+            (world_of (cores (map (λ c. c.node) s.cells.items))) WATCHES s.wire
+            (map (λ c. c.seat) s.cells.items) s.watches.items) }
+        ensures width { IfOk result (λ s.
+            nodes_of (opened_with s.wire) ≡ config.now.shape.nodes) }
+        ensures any_moment { IfOk result (λ s. AreBeside (λ k d c.
+            LeavesOnly D.moment D.left_since d c.disk
+            (StaysOrNew D.seen D.may_leave config.now.shape k d)) disks.items s.cells.items) }
     {
         let shape = config.shape;
         let (wire, cells, watches) = open_alone(alloc, shape, disks, config.saves)?;
@@ -100,7 +130,7 @@ impl<D: Disk + Drop> Opened<D> {
         })
     }
 
-    /// Lets threads share the cells. Fails with `Memory` if allocation failed.
+    /// Lets threads share the cells as they are. Fails with `Memory` if allocation failed.
     pub fn share<W: Naming>(self) -> Result<SpaceOn<D, W>, Refusal>
         requires { IsNamed W.wire (name_of self.wire) }
         ensures wire { IfOk result (λ s. arc_value s.wire ≡ self.wire) }
@@ -208,6 +238,21 @@ impl<D: Disk + Drop> SpaceOn<D, Unnamed> {
             → AreOfOneMoment D.may_leave opening disks.items
             → MatchResult result (λ s. IsReached (opened_with (arc_value s.wire)))
             (IfUnopened (IfAges (λ _ _. ⊥))) }
+        ensures killed { (opening : World) → IsReached opening
+            → nodes_of opening ≡ config.now.shape.nodes
+            → AreOfOneKill D.seen D.may_leave opening disks.items
+            → MatchResult result (λ s. IsReached (opened_with (arc_value s.wire)))
+            (IfUnopened (IfAges (λ _ _. ⊥))) }
+        ensures fresh_disks { AreFresh D.seen config.now.shape disks.items
+            → MatchResult result (λ s. IsReached (opened_with (arc_value s.wire)))
+            (IfUnopened (IfAges (λ _ _. ⊥))) }
+        ensures left { (w : World) → AreLeftOn D.seen config.now.shape w disks.items
+            → IfOk result (λ s. IsReached (opened_with (arc_value s.wire))) }
+        ensures kept { (w : World) → AreLeftOn D.seen config.now.shape w disks.items
+            → AreHeldOn D.seen config.now.shape w disks.items
+            → IfErr result (IfUnopened (IfAges (λ _ _. ⊥))) }
+        ensures begins { IfOk result (λ s. AreRead D.seen config.now.shape disks.items (λ ns.
+            opened_with (arc_value s.wire) ≡ world_of (cores ns))) }
     {
         let opened = Opened::open(alloc, config, disks)?;
         match opened.share::<Unnamed>() {
@@ -220,7 +265,7 @@ impl<D: Disk + Drop> SpaceOn<D, Unnamed> {
 impl<D: Disk + Drop, W: Naming> SpaceOn<D, W> {
     /// Begins a collection cycle: an event of node 0, which fails as [`Event::Begin`] does.
     pub fn begin<R: Wait>(&self, rt: &R) -> Result<Answer, Refusal>
-        ensures answered { WasAnswered event.Begin result }
+        ensures answered { WasAnswered D.may_leave W.wire event.Begin result }
     {
         match self.program(0) {
             Some(program) => program.act(rt, Event::Begin),
@@ -276,6 +321,7 @@ impl<D: Disk + Drop, W: Naming> SpaceOn<D, W> {
         requires { IsWatchOf (arc_value self.now.wire) watch.old }
         ensures same { IsSameWatch watch.old watch.new }
         ensures number { result.number ≡ max (loaded watch.new) (heard watch.old) }
+        ensures found { loads_of watch.new ≡ loads_of watch.old ++ loaded watch.new ∷ [] }
         ensures heard { heard watch.new ≡ heard watch.old }
         ensures later { loaded watch.old ≤ loaded watch.new }
         ensures ended { HasEnded (watch_opening watch.old) (loaded watch.new) }
@@ -302,6 +348,7 @@ impl<D: Disk + Drop, W: Naming> SpaceOn<D, W> {
         requires { IsWatchOf (arc_value self.now.wire) watch.old }
         ensures same { IsSameWatch watch.old watch.new }
         ensures number { result.cycle.number ≡ max (loaded watch.new) (heard watch.old) }
+        ensures found { loads_of watch.new ≡ loads_of watch.old ++ loaded watch.new ∷ [] }
     {
         LastLook {
             cycle: self.look(watch),

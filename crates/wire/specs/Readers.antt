@@ -105,6 +105,10 @@ IsSameWatch old new =
 abbrev pub loaded : Watch → ℕ
 loaded x = x.seat.me.0.number
 
+-- the cycles that it ever loaded from the board, in order: one for each step on the board
+abbrev pub loads_of : Watch → List ℕ
+loads_of x = x.seat.me.0.looks
+
 abbrev pub heard : Watch → ℕ
 heard x = x.heard.number
 

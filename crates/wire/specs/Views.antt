@@ -52,6 +52,8 @@ pub record Known : Type 0 where
   pub number : ℕ
   -- the greatest number that it raised
   pub shown : ℕ
+  -- for a watch, the numbers that it ever loaded from the board, in order
+  pub looks : List ℕ
   -- the list of events that it learned last, with which the history of the space begins
   pub seen : List Step
 
@@ -85,6 +87,7 @@ fresh role me nodes opening pair = record {
   visits = [];
   number = 0;
   shown = 0;
+  looks = [];
   seen = [];
 }
 
@@ -151,9 +154,9 @@ ticks s q v = record v { pair = q; events = v.events ++ s ∷ [] }
 abbrev pub raises : ℕ → Known → Known
 raises number v = record v { number = number; shown = max v.shown number }
 
--- a number was loaded
+-- a number was loaded from the board
 abbrev pub marks : ℕ → Known → Known
-marks number v = record v { number = number }
+marks number v = record v { number = number; looks = v.looks ++ number ∷ [] }
 
 -- the seat learned that the history begins with this list of events
 abbrev pub learns : List Step → Known → Known

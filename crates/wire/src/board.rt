@@ -1,6 +1,6 @@
 //! The board, on which node 0 shows the last ended cycle. It shows only what node 0's saved state
 //! counts as ended, so no restart takes back what a watch saw.
-ghost use Rattle.std.specs.Prelude.{◌≡◌, ◌≤◌, max};
+ghost use Rattle.std.specs.Prelude.{◌≡◌, ◌≤◌, ◌++◌, ◌∷◌, [], max};
 ghost use Rattle.wire.specs.Views.{raises};
 ghost use Rattle.wire.specs.Plays.{HasEnded, WasEnded};
 ghost use Rattle.wire.specs.Readers.{
@@ -14,6 +14,7 @@ ghost use Rattle.wire.specs.Readers.{
   IsWatchOf,
   IsSameWatch,
   loaded,
+  loads_of,
   heard,
   watch_opening,
   IsHeardOf,
@@ -48,12 +49,14 @@ impl Wire {
     }
 
     /// The last cycle that the watch knows node 0 to have ended: the one on the board, or a later
-    /// one that the watch has heard of; one load. It is never earlier than what the watch saw
-    /// before. Node 0's saved state had counted it as ended.
+    /// one that the watch has heard of; one load. The watch's view records what this call loaded.
+    /// The result is never earlier than what the watch saw before. Node 0's saved state had counted
+    /// it as ended.
     pub fn look(&self, watch: &mut Watch) -> Cycle
         requires wire { IsWatchOf self.now watch.old }
         ensures same { IsSameWatch watch.old watch.new }
         ensures number { result.number ≡ max (loaded watch.new) (heard watch.old) }
+        ensures found { loads_of watch.new ≡ loads_of watch.old ++ loaded watch.new ∷ [] }
         ensures heard { heard watch.new ≡ heard watch.old }
         ensures later { loaded watch.old ≤ loaded watch.new }
         ensures ended { HasEnded (watch_opening watch.old) (loaded watch.new) }
@@ -85,6 +88,7 @@ impl Watch {
         requires wire { IsHeardOf self.old raised.now }
         ensures same { IsSameWatch self.old self.new }
         ensures loaded { loaded self.new ≡ loaded self.old }
+        ensures loads { loads_of self.new ≡ loads_of self.old }
         ensures heard { heard self.new ≡ max (heard self.old) (raised_cycle raised.now) }
     {
         self.heard = self.heard.max(raised.cycle);

@@ -9,11 +9,11 @@ ghost use Rattle.cell.specs.declared.call.Call.TheVariants as call;
 ghost use Rattle.model.specs.View.{kept_view};
 ghost use Rattle.node.specs.Keeping.{kept_whole};
 ghost use Rattle.image.specs.Images.{image_of};
-ghost use Rattle.disk.specs.Crashes.{Grew};
+ghost use Rattle.disk.specs.Crashes.{Grew, LeavesOnly};
 ghost use Rattle.disk.specs.Memory.{AfterCrash};
 ghost use Rattle.disk.specs.Plan.{fails_from, fails_once};
 ghost use Rattle.wire.specs.Readers.{known, IsSame, IsSeatOf};
-ghost use Rattle.cell.specs.Cells.{IsSound};
+ghost use Rattle.cell.specs.Cells.{HoldsEither, IsSound};
 ghost use Rattle.cell.specs.Disks.{is_same_node, HoldsSaved, OpensToNode};
 ghost use Rattle.cell.specs.Events.{done_outcome, found_step, reopened_by, restarted_by, saved_by};
 ghost use Rattle.wire.specs.Entering.{Entered};
@@ -27,7 +27,8 @@ use wire::Wire;
 
 impl<D: Disk> Cell<D> {
     /// Saves the node, which releases all that it sent and received, and enters the save in the
-    /// history.
+    /// history. A crash at any moment since the call began leaves a disk that opens to the last
+    /// saved node or to this one.
     ///
     /// Fails with `Closed` exactly if the cell is closed, with `ImageTooLarge` if the node's image
     /// is written and is longer than an image may be, and with `Memory`; these change nothing.
@@ -47,6 +48,8 @@ impl<D: Disk> Cell<D> {
         ensures known { OnOk result (known self.new.seat ≡ saved_by (known self.old.seat)) }
         ensures entered { OnOk result (Entered (step.Save (known self.old.seat).me)
             (known self.old.seat) (known self.new.seat)) }
+        ensures any_moment { ∥ LeavesOnly D.moment D.left_since self.old.disk self.new.disk
+            (HoldsEither self.old) ∥₁ }
         ensures same { IsSame self.old.seat self.new.seat }
         ensures refused { OnErr result (self.new ≡ record self.old {
           disk = self.new.disk;
@@ -89,7 +92,8 @@ impl<D: Disk> Cell<D> {
     /// open, this is a restart, also after failed reopenings of an open cell. After a save that
     /// failed with `Disk`, it is a restart or that save, depending on what the disk opens to. The
     /// windows to other nodes are sent from their start again. Messages that were kept until their
-    /// turn are lost, even if it is that save.
+    /// turn are lost, even if it is that save. A crash during the call leaves only what it could
+    /// have left before.
     ///
     /// Fails with `Disk` if the device failed, and with `Memory`: the cell is then closed, and no
     /// event enters. Either way a line is added to the trace.
@@ -118,6 +122,8 @@ impl<D: Disk> Cell<D> {
         ensures saved_still { OnErr result
             (IsTrue self.old.is_open ⊎ HoldsSaved (D.may_leave self.old.disk) self.old.saved
             → HoldsSaved (D.may_leave self.new.disk) self.new.saved) }
+        ensures any_moment { LeavesOnly D.moment D.left_since self.old.disk self.new.disk
+            (D.may_leave self.old.disk) }
         ensures same { IsSame self.old.seat self.new.seat }
         ensures refused { OnErr result (self.new ≡ record self.old {
           disk = self.new.disk;

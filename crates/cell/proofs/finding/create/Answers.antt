@@ -8,6 +8,7 @@ use Rattle.cell.specs.Opened.{IsCause}
 use Rattle.cell.proofs.Beside.{new-logs}
 use Rattle.cell.proofs.Causes.{by-cause}
 use Rattle.cell.proofs.NewCells.{opens-new}
+use Rattle.cell.proofs.Underway.{created}
 use Rattle.cell.proofs.finding.create.Goals as goal
 
 pub returns-in-Ok-clause-opens : goal.returns-in-Ok-clause-opens
@@ -32,3 +33,9 @@ returns-in-Err-clause-cause g c =
 pub returns-in-Ok-clause-logs : goal.returns-in-Ok-clause-logs
 returns-in-Ok-clause-logs g c =
     new-logs c.args.saves (logs_in c.in-Ok.store) c.in-Ok.ensures.events c.in-Ok.ensures.images
+
+pub returns-in-Ok-clause-any_moment : goal.returns-in-Ok-clause-any_moment
+returns-in-Ok-clause-any_moment g c =
+    let local = c.args.node.now.core.local in
+    created g.D.Disk.seen g.D.Disk.may_leave local.shape local.own c.requires.0
+    (g.met.D.Disk.reads_left c.args.disk) c.requires.1 c.in-Ok.ensures.any_moment

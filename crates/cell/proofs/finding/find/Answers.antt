@@ -1,14 +1,16 @@
 use Rattle.std.proofs.Common.{◌≡◌, ◌∙◌, true, ap, refl, rules, subst, sym}
 use Rattle.std.proofs.lemmas.List.{with_items_is}
 use Rattle.std.proofs.lemmas.Result.{err_from_is_err_and}
+use Rattle.disk.specs.Crashes.{LeavesOnly}
 use Rattle.node_store.specs.Stores.{disk_of, is_ready_in, logs_in}
 use Rattle.wire.specs.OneAge.{AreApart, AreOfOneAge}
 use Rattle.cell.specs.Disks.{OpensToNode}
 use Rattle.cell.specs.Ages.{IsWhy}
 use Rattle.cell.specs.Looking.{AreOn, AreUnmoved, logs_at}
-use Rattle.cell.specs.Opened.{AreBeside, AreFound, IsChosen}
+use Rattle.cell.specs.Opened.{AreBeside, AreFound, IsChosen, StaysOrNew}
 use Rattle.cell.proofs.Beside.{beside-by, chosen-as}
 use Rattle.cell.proofs.Looking.{all-on, all-read, were-read, why-before}
+use Rattle.cell.proofs.Underway.{all-stores-since}
 use Rattle.cell.proofs.finding.find.Goals as goal
 
 pub returns-then-len-from : goal.returns-then-len-from
@@ -20,10 +22,12 @@ returns-then-len-from g c = record {
   taken = tt;
   count = tt;
   found = tt;
+  any_moment = tt;
   logs = tt;
   read = tt;
   all = tt;
   one_age = tt;
+  limits = c.nodes.ensures.within;
 }
 
 pub returns-in_err-nodes-clause-disks : goal.returns-in_err-nodes-clause-disks
@@ -65,10 +69,12 @@ returns-in-Some g c =
       taken = tt;
       count = tt;
       found = tt;
+      any_moment = tt;
       logs = tt;
       read = tt;
       all = tt;
       one_age = tt;
+      limits = c.nodes.ensures.within;
     }
 
 pub put_all_on-requires-clause-on : goal.put_all_on-requires-clause-on
@@ -130,6 +136,10 @@ returns g c =
     let logs = subst
     (λ l. AreBeside (λ k place s. logs_in s ≡ logs_at saves place) l c.in_ok-stores.stores.items)
     c.as_slice-3.ensures.value c.in_ok-stores.ensures.logs in
+    let items : c.replace-found.result.items ≡ c.look_at_all.new.disks =
+    ap (λ v. v.items) c.replace-found.ensures.value
+    ∙ with_items_is c.args.disks.now c.look_at_all.new.disks
+    (read.quiet.count ∙ sym c.args.disks.now.ok.0) in
     record {
       disks = λ other. absurd (other same);
       why = tt;
@@ -140,10 +150,15 @@ returns g c =
           (λ l. AreFound (λ n s. (is_ready_in s ≡ true) × OpensToNode n (seen (disk_of s)))
           c.args.shape l c.in_ok-stores.stores.items)
           c.as_slice-2.ensures.value c.in_ok-stores.ensures.found;
+      any_moment = all-stores-since seen g.D.Disk.may_leave disk_of c.in_ok-stores.stores.items read.quiet
+          (subst (λ l. AreBeside (λ k d s. LeavesOnly g.D.Disk.moment g.D.Disk.left_since d
+          (disk_of s) (StaysOrNew seen g.D.Disk.may_leave c.args.shape k d)) l
+          c.in_ok-stores.stores.items) items c.in_ok-stores.ensures.any_moment);
       logs = beside-by c.args.disks.now.items areas c.in_ok-stores.stores.items
           (c.in_ok-nodes.ensures.found.places_count ∙ sym read.many)
           (λ d place s. chosen-as saves (seen d) place (logs_in s)) chosen logs;
       read = all-read read;
       all = read.found.nodes_count ∙ sym read.many;
       one_age = subst AreOfOneAge c.as_slice.ensures.value c.in_default.ensures.fit;
+      limits = c.nodes.ensures.within;
     }

@@ -1,13 +1,15 @@
 use Rattle.std.proofs.Common.{◌≡◌, ◌<◌, ◌+◌, ◌∙◌, true, ap, arith, drop, length, length-append}
 use Rattle.std.proofs.lemmas.List.{drop-drop}
+use Rattle.disk.specs.Crashes.{LeavesOnly}
 use Rattle.node_store.specs.Stores.{disk_of, is_ready_in, logs_in}
 use Rattle.cell.specs.Ages.{IsWhy}
 use Rattle.cell.specs.Looking.{IsOfReading, logs_at}
 use Rattle.cell.specs.Disks.{OpensToNode}
-use Rattle.cell.specs.Opened.{IsCause}
+use Rattle.cell.specs.Opened.{IsCause, StaysOrNew}
 use Rattle.cell.proofs.Beside.{beside-next}
 use Rattle.cell.proofs.Causes.{as-node, by-refusal}
 use Rattle.cell.proofs.Looking.{first-at, shelf-next, shelves-found}
+use Rattle.cell.proofs.Underway.{beside-at}
 use Rattle.cell.proofs.finding.put_all_on.Goals as goal
 
 pub returns-in-Err-clause-why : goal.returns-in-Err-clause-why
@@ -36,6 +38,15 @@ loop-number-preserved g c =
     let it = first-at c.requires.on inside c.from-place.ensures c.loop-number.invariant.rest
     c.remove-disk.ensures.value c.index-nodes-place.is in
     record {
+      moments = beside-at (λ k d x. LeavesOnly g.D.Disk.moment g.D.Disk.left_since d (disk_of x)
+          (StaysOrNew g.D.Disk.seen g.D.Disk.may_leave c.args.shape k d)) c.args.disks.items
+          c.loop-number.stores.items c.loop-number.invariant.moments c.loop-number.invariant.count
+          it.disk
+          (as-node (λ shape own. LeavesOnly g.D.Disk.moment g.D.Disk.left_since
+          c.remove-disk.result (disk_of c.in-Ok.store)
+          (StaysOrNew g.D.Disk.seen g.D.Disk.may_leave shape own c.remove-disk.result))
+          (c.requires.on.each _ _ _ _ it.disk it.node it.area).0 c.in-Ok.ensures.any_moment)
+          c.in_ok-add-in-Ok.ensures.added;
       logs = beside-next (λ place s. logs_in s ≡ logs_at c.args.saves place) c.args.areas.now
           c.loop-number.stores.items c.loop-number.invariant.logs c.loop-number.invariant.count
           it.area c.in-Ok.ensures.logs

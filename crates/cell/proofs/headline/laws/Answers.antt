@@ -2,10 +2,12 @@ use Rattle.cell.proofs.Blank.{blank-new}
 use Rattle.cell.proofs.AlikeCuts.{alike-reach}
 use Rattle.cell.proofs.Applied.{balances-add-up, nodes-agree, garbage-goes, old-garbage-goes, reach-is-live}
 use Rattle.cell.proofs.Composed.{cells-free-none-reachable, cells-refuse-none-in-turn}
+use Rattle.cell.proofs.Acks.{cells-refuse-no-ack}
 use Rattle.cell.proofs.Dues.{next-taken-in}
 use Rattle.cell.proofs.Left.{left-opened, restarted-reached}
 use Rattle.cell.proofs.OneAge.{begin-of-one-age, left-is-of-one-age, reopened-is-reached}
 use Rattle.cell.proofs.Reaches.{alike-go-on, fresh-reached, new-reached, stays-reached, world-of-reached}
+use Rattle.cell.proofs.Sights.{cells-are-told-so, new-is-unseen, reached-is-unseen, sights-are-kept, sights-go-on}
 use Rattle.cell.proofs.headline.laws.Goals as goal
 
 pub returns-clause-new : goal.returns-clause-new
@@ -19,6 +21,9 @@ returns-clause-in_turn c = cells-refuse-none-in-turn
 
 pub returns-clause-next : goal.returns-clause-next
 returns-clause-next c = next-taken-in
+
+pub returns-clause-acknowledgements : goal.returns-clause-acknowledgements
+returns-clause-acknowledgements c = cells-refuse-no-ack
 
 pub returns-clause-restarted : goal.returns-clause-restarted
 returns-clause-restarted c = restarted-reached
@@ -67,3 +72,18 @@ returns-clause-left_of_one_age c = left-is-of-one-age
 
 pub returns-clause-reopened : goal.returns-clause-reopened
 returns-clause-reopened c = reopened-is-reached
+
+pub returns-clause-transparent : goal.returns-clause-transparent
+returns-clause-transparent c = reached-is-unseen
+
+pub returns-clause-told : goal.returns-clause-told
+returns-clause-told c = cells-are-told-so
+
+pub returns-clause-unseen : goal.returns-clause-unseen
+returns-clause-unseen c = new-is-unseen
+
+pub returns-clause-seen_on : goal.returns-clause-seen_on
+returns-clause-seen_on c = sights-go-on
+
+pub returns-clause-seen_again : goal.returns-clause-seen_again
+returns-clause-seen_again c = sights-are-kept

@@ -1,4 +1,5 @@
 use Rattle.cell.proofs.Closed.{closed-is-left, closed-is-reached}
+use Rattle.cell.proofs.Killed.{killed-is-left}
 use Rattle.cell.proofs.Together.{cells-agree, cells-have-named}
 use Rattle.cell.proofs.headline.laws_at_once.Goals as goal
 
@@ -13,3 +14,6 @@ returns-clause-left g c = closed-is-left g.D.Disk.may_leave
 
 pub returns-clause-closed : goal.returns-clause-closed
 returns-clause-closed g c = closed-is-reached g.D.Disk.may_leave
+
+pub returns-clause-killed : goal.returns-clause-killed
+returns-clause-killed g c = killed-is-left g.D.Disk.may_leave

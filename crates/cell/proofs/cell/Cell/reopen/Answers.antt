@@ -4,6 +4,7 @@ use Rattle.ids.specs.declared.limits.TheConstants.{TRACE_EVENTS}
 use Rattle.node.specs.Keeping.{WholeNode}
 use Rattle.cell.specs.declared.call.Call.TheVariants as call
 use Rattle.cell.specs.declared.call.CallOutcome.TheVariants as outcome
+use Rattle.disk.specs.Crashes.{LeavesOnly}
 use Rattle.wire.specs.Readers.{known, IsSame}
 use Rattle.cell.specs.Cells.{CellView}
 use Rattle.cell.specs.Disks.{HoldsSaved, OpensTo, OpensToNode, is_same_node}
@@ -179,3 +180,15 @@ returns-in-Err-clause-traced g c =
     c.push-in-Err.new.self ≡ keep_last TRACE_EVENTS (v.trace
     ++ record { call = call.Reopen; outcome = outcome.Refused c.in-Err.refusal } ∷ []))
     c.self.view_is c.push-in-Err.ensures
+
+pub returns-in-Ok-clause-any_moment : goal.returns-in-Ok-clause-any_moment
+returns-in-Ok-clause-any_moment g c =
+    subst (λ (v : CellView g.row.D.Denot). LeavesOnly g.D.Disk.moment g.D.Disk.left_since v.disk
+    (disk_of c.reopen.new.self) (g.D.Disk.may_leave v.disk)) c.self.view_is
+    c.reopen.ensures.read.quiet.any_moment
+
+pub returns-in-Err-clause-any_moment : goal.returns-in-Err-clause-any_moment
+returns-in-Err-clause-any_moment g c =
+    subst (λ (v : CellView g.row.D.Denot). LeavesOnly g.D.Disk.moment g.D.Disk.left_since v.disk
+    (disk_of c.reopen.new.self) (g.D.Disk.may_leave v.disk)) c.self.view_is
+    c.reopen.ensures.read.quiet.any_moment

@@ -6,12 +6,14 @@ use Rattle.model.specs.View.{kept_view}
 use Rattle.node_store.specs.Stores.{disk_of, is_ready_in, logs_in}
 use Rattle.disk.specs.Areas.{Areas}
 use Rattle.node.specs.Keeping.{alone}
+use Rattle.disk.specs.Crashes.{LeavesOnly}
+use Rattle.cell.specs.Cells.{CellView, HoldsEither}
 use Rattle.cell.specs.Disks.{HoldsSaved, OpensTo, OpensToEither}
 use Rattle.wire.specs.Readers.{known}
 use Rattle.cell.specs.Desks.{HasDropped}
 use Rattle.cell.proofs.Causes.{closed-no-disk, large-no-disk, memory-no-disk, ok-no-error, same-refusal}
 use Rattle.cell.proofs.Dropping.{dropped-kept, took-same}
-use Rattle.cell.proofs.Opening.{IsImaged, failed-left, imaged-found, open-holds, saved-by, stays-open}
+use Rattle.cell.proofs.Opening.{IsImaged, failed-left, imaged-found, open-holds, saved-by, saved-since, stays-open, still-since}
 use Rattle.cell.proofs.Views.{cell_at}
 use Rattle.cell.proofs.cell.Cell.save.Goals as goal
 
@@ -100,3 +102,46 @@ returns-in-Ok-clause-done g c =
     ∙ ap (λ (b : Bool). cell_at first (disk_of store) true b trace desk) c.save.ensures.logs
     ∙ ap (cell_at first (disk_of store) true (logs_in c.self.inside.store) trace)
     c.save-in-Ok.ensures.done)
+
+pub returns-in-Ok-clause-any_moment : goal.returns-in-Ok-clause-any_moment
+returns-in-Ok-clause-any_moment g c =
+    let cell = c.self.inside in
+    let old = disk_of cell.store in
+    let said = c.in-Ok.ensures in
+    let was_open : is_ready_in cell.store ≡ true =
+    ⊎_elim (λ opens. opens) (λ shut. absurd (ok-no-error (said.after.closed.1 shut)))
+    (cases_Bool (is_ready_in cell.store)) in
+    subst (λ (v : CellView g.row.D.Denot). ∥ LeavesOnly g.D.Disk.moment g.D.Disk.left_since v.disk
+    (disk_of c.save.new.self) (HoldsEither v) ∥₁) c.self.view_is
+    (saved-since cell.desk.saved cell.desk.node.core
+    (saved-by (cell.while_open was_open (g.D.Disk.seen old) (g.met.D.Disk.reads_left old))
+    c.log.ensures ((rw c.node.ensures.value at said.any_moment) (alone cell.desk.saved))))
+
+pub returns-in-Err-clause-any_moment : goal.returns-in-Err-clause-any_moment
+returns-in-Err-clause-any_moment g c =
+    let cell = c.self.inside in
+    let old = disk_of cell.store in
+    let new = disk_of c.save.new.self in
+    let saved = cell.desk.saved in
+    let n = cell.desk.node.core in
+    let e = c.in-Err.refusal in
+    let said = c.in-Err.ensures in
+    let Since : Type 0 = ∥ LeavesOnly g.D.Disk.moment g.D.Disk.left_since old new
+    (λ x. ∥ OpensToEither saved n x ∥₁) ∥₁ in
+    let unchanged : (e ≢ refusal.Disk) → Since = λ apart.
+    ∣ still-since (g.met.D.Disk.only_now old) (said.after.unchanged apart).0 cell.left ∣₁ in
+    let failed : e ≡ refusal.Disk → Since = λ is.
+    (let was_open : is_ready_in cell.store ≡ true =
+    ⊎_elim (λ opens. opens)
+    (λ shut.
+    let closed : e ≡ refusal.Closed = same-refusal (said.after.closed.1 shut) in
+    absurd (closed-no-disk (sym closed ∙ is))) (cases_Bool (is_ready_in cell.store)) in
+    saved-since saved n
+    (saved-by (cell.while_open was_open (g.D.Disk.seen old) (g.met.D.Disk.reads_left old))
+    c.log.ensures ((rw c.node.ensures.value at (said.any_moment is)) (alone saved)))) in
+    subst (λ (v : CellView g.row.D.Denot). ∥ LeavesOnly g.D.Disk.moment g.D.Disk.left_since v.disk
+    new (HoldsEither v) ∥₁) c.self.view_is
+    (⊎_elim (λ is. unchanged (λ d. absurd (closed-no-disk (sym is ∙ d))))
+    (⊎_elim (λ is. unchanged (λ d. absurd (large-no-disk (sym is ∙ d))))
+    (⊎_elim (λ is. unchanged (λ d. absurd (memory-no-disk (sym is ∙ d)))) failed))
+    said.after.others)

@@ -1,4 +1,4 @@
-use Rattle.std.proofs.Common.{◌≡◌, ◌∙◌, Some, ap, arith, inl, length, subst}
+use Rattle.std.proofs.Common.{◌≡◌, ◌∙◌, Some, ap, arith, inl, length, subst, sym, ⊎_elim}
 use Rattle.disk.specs.Crashes.{LeavesOnly}
 use Rattle.disk_shelf.specs.Shelf.{NoneOrNew}
 use Rattle.disk_shelf.proofs.Moments.{started}
@@ -43,3 +43,11 @@ returns-clause-any_moment g c =
     image_seen c.deref.ensures.value c.in-Ok.ensures.bytes c.image_in.ensures in
     subst (λ l. LeavesOnly g.D.Disk.moment g.D.Disk.left_since c.args.disk c.lay.new.disk
     (NoneOrNew l)) same c.lay.ensures.any_moment
+
+pub returns-in-Err-clause-readable : goal.returns-in-Err-clause-readable
+returns-in-Err-clause-readable g c is =
+    ⊎_elim (λ memory. (let never = sym memory ∙ is in absurd cc))
+    (λ large. (let never = sym large ∙ is in absurd cc)) c.in-Err.ensures.refused.others
+
+pub returns-in-Err-lay-clause-readable : goal.returns-in-Err-lay-clause-readable
+returns-in-Err-lay-clause-readable g c is = c.in-Ok.ensures.readable

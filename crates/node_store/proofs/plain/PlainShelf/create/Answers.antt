@@ -1,5 +1,6 @@
 use Rattle.image.specs.Wholes.{saved_whole, whole_image}
-use Rattle.node_store.proofs.Stores.{keeps_written, only_written}
+use Rattle.node_store.proofs.Stores.{keeps_written, none_back, none_written, only_written}
+use Rattle.disk_shelf.proofs.Moments.{weaker}
 use Rattle.node_store.proofs.plain.PlainShelf.create.Goals as goal
 
 pub invariant_of-result : goal.invariant_of-result
@@ -20,3 +21,16 @@ returns-in-Ok-clause-created g c =
 
 pub returns-in-Err-clause-later : goal.returns-in-Err-clause-later
 returns-in-Err-clause-later g c = c.in-Err.ensures.any_moment.later
+
+pub returns-in-Ok-clause-any_moment : goal.returns-in-Ok-clause-any_moment
+returns-in-Ok-clause-any_moment g c =
+    let n = c.args.node.now in
+    weaker c.in-Ok.ensures.any_moment
+    (λ x. none_written (saved_whole n) (whole_image n) x c.in-Ok.ensures.readable)
+
+pub returns-in-Err-clause-any_moment : goal.returns-in-Err-clause-any_moment
+returns-in-Err-clause-any_moment g c =
+    let n = c.args.node.now in
+    let said = c.in-Err.ensures in
+    none_back g.D.Disk.may_leave (saved_whole n) (whole_image n) g.met.D.Disk.only_now c.requires
+    said.refused said.any_moment said.readable
