@@ -388,6 +388,35 @@ static void test_forgeries(void)
     disk_free(&it);
 }
 
+// Any bytes in both files, most of which look like heads and marks: the folder opens or is damaged, and
+// nothing beyond the bytes is read.
+static void test_garbage(unsigned long times)
+{
+    disk it = fresh();
+    HOLDS(create(&it, 1) == STORE_OK);
+    disk_rest(&it);
+    for (unsigned long i = 0; i < times; i++) {
+        for (int k = 0; k < DISK_FILES; k++) {
+            disk_file *file = &it.files[k];
+            uint8_t bytes[400] = {0x4D, 0x52, 0x53, 2};
+            size_t length = below(sizeof bytes), at = 4;
+            while (at + 8 < sizeof bytes) {
+                memset(bytes + at, below(3) == 0 ? 0xFF : 0, 8);
+                bytes[at + 7] = (uint8_t)(below(3) == 0 ? 0xFF : below(200));
+                at += 8 - (below(9) == 0);
+            }
+            free(file->seen);
+            free(file->durable);
+            file->seen = memcpy(malloc(length + 1), bytes, length);
+            file->durable = memcpy(malloc(length + 1), bytes, length);
+            file->seen_length = file->durable_length = length;
+            file->exists = true;
+        }
+        HOLDS(found(&it) == -100 - STORE_DAMAGED);
+    }
+    disk_free(&it);
+}
+
 // ## Many crashes
 
 // A value or an entry of any length, that begins with its number. Its other bytes are any, all FF,
@@ -642,6 +671,7 @@ int main(int count, char **given)
     test_rot();
     test_rot_without_marks();
     test_forgeries();
+    test_garbage(50 * times);
     test_lives(5 * times);
     test_failed_sync(times);
     test_failed_write();
