@@ -30,6 +30,7 @@ enum {
     SCAN_MESSAGES = 32768,
     HELD_ANSWERS = 1024,
     LINE = 256,
+    REGISTERS_MOST = 256, // of a node
     // Milliseconds without an answer, after which a node is late, or lost.
     SILENCE = 10000
 };
@@ -81,6 +82,8 @@ typedef struct program {
     uint64_t saved_session, saved_round, saved_number;
     uint8_t *results; // those of the last request
     uint16_t count;
+    // The registers that it has for itself, if any. They are given once.
+    uint16_t first_register, registers;
     uint64_t due; // the image that holds the last request
     bool waits;   // somebody waits for the answer
     uint64_t asked_at;
@@ -110,6 +113,8 @@ struct host {
     markring_node node;
     peer peers[NODES];
     program programs[PROGRAMS];
+    // For each register the program that has it for itself, plus one; or 0.
+    uint8_t owners[REGISTERS_MOST];
     held *first, **last;
     size_t held_count;
     uint64_t nonce, run, stored; // of this process: its number, its first save, its last one
@@ -183,6 +188,8 @@ void send_packets(host *it, uint64_t now);
 // Sends the window to this node again, as soon as possible.
 void send_again(host *it, uint8_t to);
 void answer_programs(host *it, uint64_t now);
+// Gives the program its registers, if the node has them and no other program does.
+bool give_registers(host *it, uint8_t number, uint16_t first, uint16_t count);
 // All objects of the space, as far as node 0 knows.
 uint64_t count_objects(const host *it, uint32_t own_live);
 

@@ -55,7 +55,10 @@ typedef enum request_kind {
     REQUEST_OPEN = 1,
     REQUEST_PERFORM = 2, // Events, in order, up to the first one that is refused.
     REQUEST_READ = 3,    // What registers hold.
-    REQUEST_WAIT = 4     // Answered once a letter waits at the node.
+    REQUEST_WAIT = 4,    // Answered once a letter waits at the node.
+    // As REQUEST_OPEN; the program has these registers, and no others. The first one and how many
+    // they are follow the head, with two bytes each.
+    REQUEST_OPEN_APART = 5
 } request_kind;
 
 typedef struct request_head {
@@ -79,7 +82,9 @@ typedef enum verdict {
     // Another process speaks for this program, or none has opened it.
     VERDICT_SUPERSEDED = 3,
     // The bytes aren't a request, or there is no such program.
-    VERDICT_MALFORMED = 4
+    VERDICT_MALFORMED = 4,
+    // The program has other registers, or another program has one of these, or the node hasn't.
+    VERDICT_REGISTERS = 5
 } verdict;
 
 typedef struct answer_head {

@@ -1,6 +1,7 @@
 // Requests of programs and words of the operator.
 #include "inside.h"
 
+#include <stdio.h>
 #include <stdlib.h>
 
 static void fill_head(const host *it, const request_head *request, answer_head *head)
@@ -47,21 +48,53 @@ static size_t write_last(const host *it, const request_head *request, uint8_t *b
     return to.length;
 }
 
+bool give_registers(host *it, uint8_t number, uint16_t first, uint16_t count)
+{
+    if (first + count > it->shape.registers) {
+        return false;
+    }
+    for (int reg = first; reg < first + count; reg++) {
+        if (it->owners[reg] != 0) {
+            return false;
+        }
+    }
+    memset(it->owners + first, number + 1, count);
+    it->programs[number].first_register = first;
+    it->programs[number].registers = count;
+    return true;
+}
+
+// Whether this may be an opening of the program now. Its registers are given at the first one; later
+// ones may name the same.
+static verdict judge_opening(host *it, const request_head *request, reader *from)
+{
+    const program *at = &it->programs[request->program];
+    bool is_apart = request->kind == REQUEST_OPEN_APART;
+    uint16_t first = is_apart ? (uint16_t)read_number(from, 2) : 0;
+    uint16_t count = is_apart ? (uint16_t)read_number(from, 2) : 0;
+    if (request->session == 0 || (is_apart && (!from->ok || from->left > 0 || count == 0))) {
+        return VERDICT_MALFORMED;
+    }
+    // A late opening of an earlier process has a number that was used.
+    if (at->session != request->session && request->number != at->round + 1) {
+        return VERDICT_STALE;
+    }
+    bool is_right = !is_apart || (at->first_register == first && at->registers == count)
+        || (at->round == 0 && give_registers(it, request->program, first, count));
+    return is_right ? VERDICT_DONE : VERDICT_REGISTERS;
+}
+
 // A process begins to speak for a program: what an earlier one asks from now on is refused.
-static void open_program(host *it, const request_head *request, const char *reply)
+static void open_program(host *it, const request_head *request, reader *from, const char *reply)
 {
     uint8_t bytes[ANSWER_BYTES];
     program *at = &it->programs[request->program];
-    if (request->session == 0) {
-        refuse(it, request, VERDICT_MALFORMED, reply);
+    verdict why = judge_opening(it, request, from);
+    if (why != VERDICT_DONE) {
+        refuse(it, request, why, reply);
         return;
     }
     if (at->session != request->session) {
-        // A late opening of an earlier process has a number that was used.
-        if (request->number != at->round + 1) {
-            refuse(it, request, VERDICT_STALE, reply);
-            return;
-        }
         at->session = request->session;
         at->round++;
         at->waits = false;
@@ -113,10 +146,35 @@ static void note_full(host *it)
     it->asked = it->asked || it->shape.own == 0;
 }
 
-static int perform_event(host *it, const markring_event *event, markring_answer *answer)
+// Whether the program may use the register: it is its own, or is nobody's and the program has none.
+// (The library refuses numbers that no register has.)
+static bool may_use(const host *it, uint8_t number, uint16_t reg)
+{
+    int owner = it->programs[number].registers > 0 ? number + 1 : 0;
+    return reg >= it->shape.registers || it->owners[reg] == owner;
+}
+
+// Whether the program may use all registers that the event uses.
+static bool may_use_all(const host *it, uint8_t number, const markring_event *event)
+{
+    uint8_t kind = event->kind;
+    bool has_register = kind <= MARKRING_EVENT_STORE || kind == MARKRING_EVENT_GIVE
+        || kind == MARKRING_EVENT_ACCEPT || kind == MARKRING_EVENT_PUT;
+    bool has_object = (kind >= MARKRING_EVENT_LOAD && kind <= MARKRING_EVENT_SET_WORD)
+        || kind == MARKRING_EVENT_PUT || kind == MARKRING_EVENT_GET;
+    return (!has_register || may_use(it, number, event->reg))
+        && (!has_object || may_use(it, number, event->object))
+        && (kind != MARKRING_EVENT_COPY || may_use(it, number, event->source));
+}
+
+static int perform_event(
+    host *it, uint8_t number, const markring_event *event, markring_answer *answer)
 {
     if (!is_of_program(event->kind)) {
         return MARKRING_BAD_ARGUMENT;
+    }
+    if (!may_use_all(it, number, event)) {
+        return MARKRING_NO_REGISTER;
     }
     if (moves_of(event->kind).grown > 0 && is_full(it)) {
         return MARKRING_IMAGE_TOO_LARGE;
@@ -136,15 +194,15 @@ static int perform_event(host *it, const markring_event *event, markring_answer 
 }
 
 // Performs the events up to the first one that is refused.
-static void perform_events(host *it, reader *from, uint16_t count, writer *to)
+static void perform_events(host *it, const request_head *request, reader *from, writer *to)
 {
     int status = MARKRING_OK;
-    for (uint16_t i = 0; i < count; i++) {
+    for (uint16_t i = 0; i < request->count; i++) {
         markring_event event;
         markring_result done = {MARKRING_NOT_DONE, {0}};
         read_event(from, &event);
         if (status == MARKRING_OK) {
-            status = done.status = perform_event(it, &event, &done.answer);
+            status = done.status = perform_event(it, request->program, &event, &done.answer);
         }
         if (done.status != MARKRING_OK) {
             memset(&done.answer, 0, sizeof done.answer);
@@ -164,7 +222,7 @@ static void perform(host *it, const request_head *request, reader *from)
         return;
     }
     writer to = writer_of(results, length);
-    perform_events(it, from, request->count, &to);
+    perform_events(it, request, from, &to);
     free(at->results);
     at->results = results;
     at->count = request->count;
@@ -225,7 +283,9 @@ static void read_registers(host *it, const request_head *request, reader *from, 
     for (uint16_t i = 0; i < request->count; i++) {
         markring_result found = {MARKRING_OK, {0}};
         uint16_t reg = (uint16_t)read_number(from, 2);
-        found.status = markring_node_register(&it->node, reg, &found.answer.reference);
+        found.status = may_use(it, request->program, reg)
+            ? markring_node_register(&it->node, reg, &found.answer.reference)
+            : MARKRING_NO_REGISTER;
         write_result(&to, &found);
     }
     hold_answer(it, due_image(it), reply, bytes, to.length);
@@ -255,7 +315,8 @@ void host_request(host *it, uint64_t now, const uint8_t *bytes, size_t length, c
         return;
     }
     switch (head.kind) {
-    case REQUEST_OPEN: open_program(it, &head, reply); break;
+    case REQUEST_OPEN:
+    case REQUEST_OPEN_APART: open_program(it, &head, &from, reply); break;
     case REQUEST_PERFORM: perform_once(it, now, &head, &from, reply); break;
     case REQUEST_READ: read_registers(it, &head, &from, reply); break;
     case REQUEST_WAIT: await_letter(it, &head, reply); break;
@@ -327,6 +388,45 @@ void answer_programs(host *it, uint64_t now)
 
 // ## The operator
 
+// Empties the registers of a program, and ends the rights of its process. The answer comes once
+// that is stored.
+static void forget_program(host *it, uint8_t number, const char *reply)
+{
+    char text[64];
+    program *at = &it->programs[number];
+    for (int i = 0; i < at->registers; i++) {
+        markring_answer answer;
+        uint16_t reg = (uint16_t)(at->first_register + i);
+        if (markring_node_drop(&it->node, reg, &answer) == MARKRING_OK) {
+            note_change(it, 0, moves_of(MARKRING_EVENT_DROP).gone);
+        }
+    }
+    // (a session that isn't that of any process, nor 0)
+    at->session = at->session > 1 ? at->session - 1 : UINT64_MAX;
+    it->changed = true;
+    int length = snprintf(
+        text, sizeof text, "{\"forgotten\": %d, \"registers\": %d}", number, at->registers);
+    hold_answer(it, due_image(it), reply, (const uint8_t *)text, (size_t)length);
+}
+
+// The number of a program in `forget NUMBER`, or -1. It has registers for itself.
+static int program_to_forget(const host *it, const char *word, size_t length)
+{
+    static const char begin[] = "forget ";
+    size_t skip = sizeof begin - 1;
+    int number = 0;
+    if (length <= skip || length > skip + 2 || memcmp(word, begin, skip) != 0) {
+        return -1;
+    }
+    for (size_t i = skip; i < length; i++) {
+        if (word[i] < '0' || word[i] > '9') {
+            return -1;
+        }
+        number = 10 * number + (word[i] - '0');
+    }
+    return number < PROGRAMS && it->programs[number].registers > 0 ? number : -1;
+}
+
 static bool is_word(const char *given, size_t length, const char *word)
 {
     return length == strlen(word) && memcmp(given, word, length) == 0;
@@ -334,8 +434,14 @@ static bool is_word(const char *given, size_t length, const char *word)
 
 void host_control(host *it, uint64_t now, const char *word, size_t length, const char *reply)
 {
-    const char *text = "{\"error\": \"the words are status, begin and stop\"}";
+    const char *text = "{\"error\": \"the words are status, begin, stop and, for a program with "
+                       "registers of its own, forget NUMBER\"}";
+    int forgotten = program_to_forget(it, word, length);
     if (it->end != HOST_RUNS) {
+        return;
+    }
+    if (forgotten >= 0 && !it->stopping) {
+        forget_program(it, (uint8_t)forgotten, reply);
         return;
     }
     if (is_word(word, length, "status")) {

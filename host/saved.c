@@ -6,7 +6,7 @@
 
 // A value begins with its version, which isn't the length of a name; one of the first version has
 // none. Its entries are of the same version.
-enum { VERSION = 0x82, FIXED = 1 + 1 + SPACE_ID + 1 + 1 + 8, KNOWN = 24, RECORD = 27, PART = 16 };
+enum { VERSION = 0x82, FIXED = 1 + 1 + SPACE_ID + 1 + 1 + 8, KNOWN = 24, RECORD = 31, PART = 16 };
 
 static size_t program_size(const program *at)
 {
@@ -85,6 +85,8 @@ static void write_programs(const host *it, writer *to, bool (*meets)(const progr
             write_number(to, at->session, 8);
             write_number(to, at->round, 8);
             write_number(to, at->number, 8);
+            write_number(to, at->first_register, 2);
+            write_number(to, at->registers, 2);
             write_number(to, at->count, 2);
             write_bytes(to, at->results, at->count * (size_t)RESULT_BYTES);
         }
@@ -227,8 +229,9 @@ static int read_line(host *it, reader *from)
     return from->ok ? MARKRING_OK : MARKRING_BAD_IMAGE;
 }
 
-// Reads a program, which replaces what was read of it before.
-static int read_program(host *it, reader *from)
+// Reads a program, which replaces what was read of it before. One of the first version has no
+// registers for itself.
+static int read_program(host *it, bool is_new, reader *from)
 {
     uint64_t number = read_number(from, 1);
     program *at = &it->programs[number < PROGRAMS ? number : 0];
@@ -241,6 +244,8 @@ static int read_program(host *it, reader *from)
     at->session = read_number(from, 8);
     at->round = read_number(from, 8);
     at->number = read_number(from, 8);
+    at->first_register = is_new ? (uint16_t)read_number(from, 2) : 0;
+    at->registers = is_new ? (uint16_t)read_number(from, 2) : 0;
     uint16_t count = (uint16_t)read_number(from, 2);
     size_t length = count * (size_t)RESULT_BYTES;
     const uint8_t *results = read_bytes(from, length);
@@ -258,12 +263,12 @@ static int read_program(host *it, reader *from)
     return MARKRING_OK;
 }
 
-static int read_programs(host *it, reader *from)
+static int read_programs(host *it, bool is_new, reader *from)
 {
     uint64_t count = read_number(from, 1);
     int status = MARKRING_OK;
     for (uint64_t i = 0; i < count && status == MARKRING_OK; i++) {
-        status = read_program(it, from);
+        status = read_program(it, is_new, from);
     }
     return status;
 }
@@ -276,7 +281,7 @@ static const uint8_t *read_last(reader *from, size_t *length)
 }
 
 // Reads an entry, whose batch goes behind the others. One of the first version has no line.
-static int read_entry(host *it, reader *from, bool has_line, writer *batches)
+static int read_entry(host *it, reader *from, bool is_new, writer *batches)
 {
     size_t length = 0;
     uint64_t count = read_number(from, 1);
@@ -287,8 +292,8 @@ static int read_entry(host *it, reader *from, bool has_line, writer *batches)
         }
         read_known(it, node, from);
     }
-    int status = has_line ? read_line(it, from) : MARKRING_OK;
-    status = status == MARKRING_OK ? read_programs(it, from) : status;
+    int status = is_new ? read_line(it, from) : MARKRING_OK;
+    status = status == MARKRING_OK ? read_programs(it, is_new, from) : status;
     const uint8_t *batch = status == MARKRING_OK ? read_last(from, &length) : NULL;
     if (status == MARKRING_OK && batch == NULL) {
         return MARKRING_BAD_IMAGE;
@@ -320,7 +325,7 @@ static int read_node(host *it, const uint8_t *image, size_t length, const writer
 
 // Reads the entries behind a value, and makes the node.
 static int read_entries(
-    host *it, const store_value *value, bool has_line, const uint8_t *image, size_t length)
+    host *it, const store_value *value, bool is_new, const uint8_t *image, size_t length)
 {
     size_t at = 0, size = 0;
     int status = MARKRING_OK;
@@ -332,7 +337,7 @@ static int read_entries(
     const uint8_t *entry = store_next(value, &at, &size);
     while (entry != NULL && status == MARKRING_OK) {
         reader from = reader_of(entry, size);
-        status = read_entry(it, &from, has_line, &batches);
+        status = read_entry(it, &from, is_new, &batches);
         entry = store_next(value, &at, &size);
     }
     if (status == MARKRING_OK) {
@@ -346,8 +351,8 @@ int read_saved(host *it, const store_value *value)
 {
     size_t image_length = 0;
     reader from = reader_of(value->buffer + STORE_HEAD, value->length);
-    bool has_line = value->length > 0 && *from.at == VERSION;
-    if (has_line) {
+    bool is_new = value->length > 0 && *from.at == VERSION;
+    if (is_new) {
         (void)read_number(&from, 1);
     }
     if (!read_shape(&it->shape, &from)) {
@@ -356,17 +361,22 @@ int read_saved(host *it, const store_value *value)
     for (int i = 0; i < it->shape.nodes; i++) {
         read_known(it, (uint64_t)i, &from);
     }
-    int status = has_line ? read_line(it, &from) : MARKRING_OK;
-    status = status == MARKRING_OK ? read_programs(it, &from) : status;
+    int status = is_new ? read_line(it, &from) : MARKRING_OK;
+    status = status == MARKRING_OK ? read_programs(it, is_new, &from) : status;
     const uint8_t *image = status == MARKRING_OK ? read_last(&from, &image_length) : NULL;
     if (status == MARKRING_OK && image == NULL) {
         status = MARKRING_BAD_IMAGE;
     }
     it->whole = value->length;
-    it->whole_due = value->whole > 0 || has_line ? value->whole : 1;
+    it->whole_due = value->whole > 0 || is_new ? value->whole : 1;
     it->entries = value->end - STORE_HEAD - value->length - STORE_TAIL;
     if (status == MARKRING_OK) {
-        status = read_entries(it, value, has_line, image, image_length);
+        status = read_entries(it, value, is_new, image, image_length);
+    }
+    for (uint8_t i = 0; i < PROGRAMS && status == MARKRING_OK; i++) {
+        const program *at = &it->programs[i];
+        bool is_right = give_registers(it, i, at->first_register, at->registers);
+        status = is_right ? MARKRING_OK : MARKRING_BAD_IMAGE;
     }
     if (status == MARKRING_OK) {
         note_written(it);

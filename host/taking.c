@@ -129,8 +129,9 @@ static bool is_latest(host *it, const packet_head *head)
         if (head->sender.saves > from->known.saves) {
             from->known.saves = head->sender.saves;
         } else if (head->sender.saves < from->known.saves) {
-            // A late packet, or an older state of that process, which has to hear of it.
-            from->told = 0;
+            // A late packet, or an older state of that process, which has to hear of it. (Two that
+            // trust their folders don't answer each other for ever.)
+            from->due = from->due || !it->options.trusts_folder;
         }
         return true;
     }

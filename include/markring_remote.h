@@ -39,7 +39,10 @@ enum markring_remote_status {
     MARKRING_REMOTE_CARRIER = 6,
     // The node's answer doesn't fit the request: the folder of the node is older than what this
     // program was told, or it belongs to another space.
-    MARKRING_REMOTE_CONFUSED = 7
+    MARKRING_REMOTE_CONFUSED = 7,
+    // The program can't have these registers for itself: it was opened before with others or with
+    // none, another program has one of them, or the node has fewer.
+    MARKRING_REMOTE_REGISTERS = 8
 };
 
 typedef struct markring_remote_space markring_remote_space;
@@ -85,6 +88,17 @@ void markring_remote_disconnect(markring_remote_space *space);
 int markring_remote_open(markring_remote **program, markring_remote_space *space, uint8_t node,
     uint8_t number, int64_t timeout, markring_remote_facts *facts);
 
+// The same, for a program that has `count` registers from `first` on for itself: it can use no
+// others, and no other program can use these. They are given at the program's first opening; later
+// ones name the same, or call markring_remote_open. For registers that a program can't use, reading
+// and events answer MARKRING_NO_REGISTER. Without this call, programs share all registers that
+// nobody has for itself.
+// MARKRING_REMOTE_REGISTERS. MARKRING_REMOTE_BAD_ARGUMENT: `count` is 0, or the node is of an
+// earlier version.
+int markring_remote_open_apart(markring_remote **program, markring_remote_space *space,
+    uint8_t node, uint8_t number, uint16_t first, uint16_t count, int64_t timeout,
+    markring_remote_facts *facts);
+
 // Frees the program's handle. The node isn't told.
 void markring_remote_close(markring_remote *program);
 
@@ -115,7 +129,8 @@ int markring_remote_read(markring_remote *program, const uint16_t *registers, si
 // accept them first. After MARKRING_REMOTE_TIMEOUT nothing has changed.
 int markring_remote_wait(markring_remote *program, uint64_t *letters, int64_t timeout);
 
-// Says a word of the operator to a node: `status`, `begin` (at node 0) or `stop`. The answer is
+// Says a word of the operator to a node: `status`, `begin` (at node 0), `stop`, or `forget NUMBER`,
+// which empties the registers that this program has for itself. The answer is
 // text in JSON, with a final zero. After MARKRING_REMOTE_TIMEOUT the node may have done it.
 // MARKRING_REMOTE_BAD_ARGUMENT: the answer is longer than `room`.
 int markring_remote_ask(markring_remote_space *space, uint8_t node, const char *word, char *text,

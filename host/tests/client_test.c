@@ -54,7 +54,8 @@ static void behave(void)
 
 static int right_count(void)
 {
-    return asked.kind == REQUEST_WAIT ? 1 : asked.kind == REQUEST_OPEN ? 2 : asked.count;
+    bool opens = asked.kind == REQUEST_OPEN || asked.kind == REQUEST_OPEN_APART;
+    return asked.kind == REQUEST_WAIT ? 1 : opens ? 2 : asked.count;
 }
 
 static void write_answer(writer *to)
@@ -285,6 +286,36 @@ static void test_rounds(void)
     HOLDS(open_program(LONG) == MARKRING_REMOTE_CONFUSED);
 }
 
+// A program that has registers for itself, which the request names.
+static void test_apart(void)
+{
+    for (unsigned said = 0; said < 7; said++) {
+        markring_remote *it = NULL;
+        behave();
+        node.verdict = (uint8_t)said;
+        int status = markring_remote_open_apart(&it, space, 3, 9, 258, 772, 2 * SHORT, NULL);
+        HOLDS(status
+            == (said == VERDICT_DONE            ? MARKRING_REMOTE_OK
+                    : said == VERDICT_STALE     ? MARKRING_REMOTE_TIMEOUT
+                    : said == VERDICT_REGISTERS ? MARKRING_REMOTE_REGISTERS
+                                                : MARKRING_REMOTE_BAD_ARGUMENT));
+        HOLDS((it != NULL) == (said == VERDICT_DONE) && asked.kind == REQUEST_OPEN_APART);
+        HOLDS(asked.number == (said == VERDICT_STALE ? 8 : 1) && asked.count == 0);
+        HOLDS(request_length == REQUEST_HEAD + 4
+            && memcmp(request + REQUEST_HEAD, "\x01\x02\x03\x04", 4) == 0);
+        markring_remote_close(it);
+        // Without registers, that isn't a verdict.
+        it = NULL;
+        node.verdict = VERDICT_REGISTERS;
+        status = markring_remote_open(&it, space, 3, 9, LONG, NULL);
+        HOLDS(status == MARKRING_REMOTE_BAD_ARGUMENT && it == NULL);
+    }
+    unsigned long before = asks;
+    markring_remote *none = NULL;
+    int status = markring_remote_open_apart(&none, space, 3, 9, 2, 0, LONG, NULL);
+    HOLDS(status == MARKRING_REMOTE_BAD_ARGUMENT && asks == before && none == NULL);
+}
+
 static void test_words(void)
 {
     char text[16];
@@ -379,6 +410,7 @@ int main(void)
     test_verdicts();
     test_others();
     test_rounds();
+    test_apart();
     test_words();
     test_payload();
     test_arguments();

@@ -141,12 +141,17 @@ static void try_request(host *it, uint64_t now)
     uint16_t count = (uint16_t)below(6);
     writer to = writer_of(bytes, sizeof bytes);
     program *program = &it->programs[0];
-    uint8_t kind = (uint8_t)(1 + below(4));
+    uint8_t kind = (uint8_t)(1 + below(5));
+    bool opens = kind == REQUEST_OPEN || kind == REQUEST_OPEN_APART;
     request_head head = {kind, (uint8_t)(below(9) == 0 ? below(256) : 0),
         below(2) ? program->session : 1 + below(3),
-        kind == REQUEST_OPEN ? program->round + 1 : program->number + below(3), count};
+        opens ? program->round + 1 : program->number + below(3), count};
     write_request_head(&to, &head);
-    for (uint16_t i = 0; i < count; i++) {
+    if (kind == REQUEST_OPEN_APART) {
+        write_number(&to, below(9), 2);
+        write_number(&to, below(4), 2);
+    }
+    for (uint16_t i = 0; i < count && !opens; i++) {
         markring_event event = {(uint8_t)below(19), (uint8_t)below(3), (uint8_t)below(9),
             (uint16_t)below(9), (uint16_t)below(9), (uint16_t)below(9), below(9), 1, below(9)};
         write_event(&to, &event);
@@ -220,7 +225,9 @@ int main(int count, char **given)
         turn(it, now);
         try_value();
         if (below(20) == 0) {
-            host_control(it, now, below(2) ? "status" : "begin", below(7), "reply");
+            static const char *const words[] = {"status", "begin", "forget 0"};
+            const char *word = words[below(3)];
+            host_control(it, now, word, below((uint32_t)strlen(word) + 1), "reply");
         }
         for (uint8_t i = 0; i < 2; i++) {
             // A forged packet may say that the folder is old. Then there is a new node.

@@ -794,6 +794,167 @@ static void test_held(void)
     free(at.stored);
 }
 
+// ## Programs with registers for themselves
+
+// Says this to the host, and settles. Returns whether one answer came; `*head` is its.
+static bool say(station *at, const writer *bytes, answer_head *head)
+{
+    HOLDS(bytes->ok);
+    at->answers = 0;
+    host_request(at->host, at->now, bytes->start, bytes->length, "r");
+    settle(at, STORE_OK);
+    reader from = reader_of(at->text, at->told);
+    return at->answers == 1 && read_answer_head(&from, head);
+}
+
+// Opens a program, with its next round. Returns the verdict.
+static int open_apart(station *at, uint8_t number, uint64_t session, uint16_t first, uint16_t count)
+{
+    uint8_t bytes[REQUEST_HEAD + 4];
+    writer to = writer_of(bytes, sizeof bytes);
+    answer_head head = {0};
+    uint64_t round = at->host->programs[number].round + 1;
+    write_request_head(&to, &(request_head){REQUEST_OPEN_APART, number, session, round, 0});
+    write_number(&to, first, 2);
+    write_number(&to, count, 2);
+    HOLDS(say(at, &to, &head) && head.kind == REQUEST_OPEN_APART && head.session == session);
+    return head.verdict;
+}
+
+// What becomes of one event of a program.
+static int perform_one(station *at, uint8_t number, uint64_t session, markring_event event)
+{
+    uint8_t bytes[REQUEST_HEAD + EVENT_BYTES];
+    writer to = writer_of(bytes, sizeof bytes);
+    answer_head head = {0};
+    uint64_t next = at->host->programs[number].number + 1;
+    write_request_head(&to, &(request_head){REQUEST_PERFORM, number, session, next, 1});
+    write_event(&to, &event);
+    HOLDS(say(at, &to, &head));
+    reader from = reader_of(at->text + ANSWER_HEAD, RESULT_BYTES);
+    markring_result found;
+    read_result(&from, &found);
+    return head.verdict == VERDICT_DONE ? found.status : -1 - head.verdict;
+}
+
+// What a program reads in a register.
+static int read_one(station *at, uint8_t number, uint16_t reg)
+{
+    uint8_t bytes[REQUEST_HEAD + 2];
+    writer to = writer_of(bytes, sizeof bytes);
+    answer_head head = {0};
+    write_request_head(&to, &(request_head){REQUEST_READ, number, 1, 1, 1});
+    write_number(&to, reg, 2);
+    HOLDS(say(at, &to, &head) && head.verdict == VERDICT_DONE);
+    reader from = reader_of(at->text + ANSWER_HEAD, RESULT_BYTES);
+    markring_result found;
+    read_result(&from, &found);
+    return found.status;
+}
+
+// Program 3 has the registers 2 and 3. No event of it uses another one, nor do those of program 4
+// use these.
+static void expect_apart(station *at)
+{
+    static const char *const uses[] = {
+        "", "r", "rs", "r", "ro", "ro", "o", "o", "o", "r", "r", "ro", "o"};
+    for (uint8_t kind = MARKRING_EVENT_ALLOC; kind <= MARKRING_EVENT_GET; kind++) {
+        for (const char *field = "rso"; *field != 0; field++) {
+            for (int way = 0; way < 2; way++) {
+                uint8_t program = way == 0 ? 3 : 4;
+                uint16_t own = way == 0 ? 3 : 4, other = way == 0 ? 4 : 3;
+                markring_event event = {.kind = kind, .reg = *field == 'r' ? other : own,
+                    .source = *field == 's' ? other : own, .object = *field == 'o' ? other : own};
+                bool is_refused =
+                    perform_one(at, program, 100u + program, event) == MARKRING_NO_REGISTER;
+                HOLDS(is_refused == (strchr(uses[kind], *field) != NULL));
+            }
+        }
+    }
+    for (uint16_t reg = 0; reg < 10; reg++) {
+        bool is_own = reg == 2 || reg == 3;
+        HOLDS((read_one(at, 3, reg) == MARKRING_NO_REGISTER) == !is_own);
+        HOLDS((read_one(at, 4, reg) == MARKRING_NO_REGISTER) == (is_own || reg >= 8));
+    }
+}
+
+static void test_apart(void)
+{
+    for (int way = 0; way < 2; way++) {
+        station at;
+        answer_head head;
+        make_node(&at, 0, 3, way == 1);
+        settle(&at, STORE_OK);
+        HOLDS(open_apart(&at, 3, 103, 7, 2) == VERDICT_REGISTERS);
+        HOLDS(open_apart(&at, 3, 103, 65535, 65535) == VERDICT_REGISTERS);
+        HOLDS(open_apart(&at, 3, 103, 2, 0) == VERDICT_MALFORMED);
+        HOLDS(open_apart(&at, 3, 103, 2, 2) == VERDICT_DONE);
+        request_head cut = {REQUEST_OPEN_APART, 5, 105, 1, 0};
+        HOLDS(ask(&at, cut, -1, &head) == 1 && head.verdict == VERDICT_MALFORMED);
+        HOLDS(ask(&at, cut, REQUEST_HEAD + 5, &head) == 1 && head.verdict == VERDICT_MALFORMED);
+        // Those that overlap, and those that don't.
+        for (uint8_t first = 1; first < 7; first++) {
+            bool is_free = first == 4 || first == 6;
+            int said = open_apart(&at, (uint8_t)(10 + first), 7, first, 2);
+            HOLDS(said == (is_free ? VERDICT_DONE : VERDICT_REGISTERS));
+        }
+        HOLDS(open_apart(&at, 20, 7, 0, 2) == VERDICT_DONE);
+        HOLDS(ask(&at, (request_head){REQUEST_OPEN, 4, 104, 1, 0}, -1, &head) == 1);
+        HOLDS(head.verdict == VERDICT_DONE);
+        HOLDS(open_apart(&at, 4, 204, 6, 1) == VERDICT_REGISTERS && read_one(&at, 4, 6) != 0);
+        drop(&at);
+        free(at.stored);
+    }
+}
+
+static void test_forgetting(void)
+{
+    for (int way = 0; way < 2; way++) {
+        station at;
+        answer_head head;
+        markring_event alloc = {.kind = MARKRING_EVENT_ALLOC, .reg = 2, .place = 1};
+        make_node(&at, 0, 3, way == 1);
+        settle(&at, STORE_OK);
+        HOLDS(open_apart(&at, 3, 103, 2, 2) == VERDICT_DONE);
+        HOLDS(ask(&at, (request_head){REQUEST_OPEN, 4, 104, 1, 0}, -1, &head) == 1);
+        expect_apart(&at);
+        // Its next process may say so again, or nothing.
+        HOLDS(open_apart(&at, 3, 203, 2, 1) == VERDICT_REGISTERS);
+        HOLDS(open_apart(&at, 3, 203, 2, 2) == VERDICT_DONE);
+        HOLDS(ask(&at, (request_head){REQUEST_OPEN, 3, 103, 3, 0}, -1, &head) == 1);
+        HOLDS(head.verdict == VERDICT_DONE);
+        drop(&at);
+        open_host(&at);
+        settle(&at, STORE_OK);
+        expect_apart(&at);
+        HOLDS(perform_one(&at, 3, 103, alloc) == MARKRING_OK);
+        HOLDS(perform_one(&at, 4, 104, (markring_event){.kind = 1, .reg = 7}) == MARKRING_OK);
+        // The answer to the operator comes once that is stored.
+        static const char *const others[] = {"forget", "forget ", "forget 4", "forget 64",
+            "forget 3x", "forget 03x", "forget -3", "forget 99"};
+        for (size_t i = 0; i < sizeof others / sizeof *others; i++) {
+            host_control(at.host, at.now, others[i], strlen(others[i]), "r");
+            HOLDS(at.told > 10 && memcmp(at.text, "{\"error\"", 8) == 0);
+        }
+        HOLDS(read_one(&at, 3, 2) == MARKRING_OK);
+        at.answers = 0;
+        host_control(at.host, at.now, "forget 3", 8, "r");
+        HOLDS(at.answers == 0);
+        settle(&at, STORE_OK);
+        HOLDS(at.answers == 1 && memcmp(at.text, "{\"forgotten\": 3", 15) == 0);
+        HOLDS(read_one(&at, 3, 2) == MARKRING_NOTHING && read_one(&at, 4, 7) == MARKRING_OK);
+        drop(&at);
+        open_host(&at);
+        settle(&at, STORE_OK);
+        HOLDS(read_one(&at, 3, 2) == MARKRING_NOTHING);
+        HOLDS(perform_one(&at, 3, 103, alloc) == -1 - VERDICT_SUPERSEDED);
+        HOLDS(open_apart(&at, 3, 303, 2, 2) == VERDICT_DONE);
+        HOLDS(perform_one(&at, 3, 303, alloc) == MARKRING_OK);
+        drop(&at);
+        free(at.stored);
+    }
+}
+
 static unsigned long long image_of(station *at)
 {
     host_control(at->host, at->now, "status", 6, "r");
@@ -1186,6 +1347,8 @@ int main(void)
     test_order();
     test_restarts();
     test_held();
+    test_apart();
+    test_forgetting();
     test_image();
     test_results();
     test_pace();

@@ -14,7 +14,7 @@ from pathlib import Path
 TOP = Path(__file__).resolve().parent.parent.parent
 sys.path.insert(0, str(TOP / "bindings/python"))
 
-from markring import remote  # noqa: E402
+from markring import errors, remote  # noqa: E402
 
 
 def free_port() -> int:

@@ -89,6 +89,13 @@ class Confused(Failure):
     status, text = 7, "the node's answer doesn't fit the request"
 
 
+class NoRegisters(Failure):
+    """The program can't have these registers for itself: it was opened before with others or with none, another program
+    has one of them, or the node has fewer."""
+
+    status, text = 8, "the program can't have these registers for itself"
+
+
 class Closed(Failure):
     """The space or the program was closed."""
 
@@ -274,6 +281,7 @@ def _load() -> ctypes.CDLL:
     calls = {
         "connect": (POINTER(at), POINTER(RawOptions), c_char_p),
         "open": (POINTER(at), at, c_uint8, c_uint8, c_int64, POINTER(RawFacts)),
+        "open_apart": (POINTER(at), at, c_uint8, c_uint8, c_uint16, c_uint16, c_int64, POINTER(RawFacts)),
         "last": (at, results, c_size_t, to_size),
         "perform": (at, POINTER(RawEvent), c_size_t, results, c_int64),
         "finish": (at, results, c_int64),
@@ -339,13 +347,16 @@ class Space:
             raise Closed()
         return self._at
 
-    def program(self, node: int, number: int, timeout: float = SECONDS) -> Program:
-        """Begins to speak for a program of a node."""
-        return Program(self, node, number, timeout)
+    def program(
+        self, node: int, number: int, timeout: float = SECONDS, registers: Optional[range] = None
+    ) -> Program:
+        """Begins to speak for a program of a node. With `registers`, at its first opening, it has these for itself, and can
+        use no others."""
+        return Program(self, node, number, timeout, registers)
 
     def ask(self, node: int, word: str, timeout: float = SECONDS) -> Any:
-        """Says a word of the operator to a node: `status`, `begin` or `stop`. After TimedOut the node may have done
-        it."""
+        """Says a word of the operator to a node: `status`, `begin`, `stop` or `forget NUMBER`. After TimedOut the node may
+        have done it."""
         text = ctypes.create_string_buffer(TEXT)
         with self._lock:
             at, wait = self._handle(), _milliseconds(timeout)
@@ -376,13 +387,20 @@ class Program:
     Each method of an event is a request with that event alone, which raises its refusal. `perform` takes many.
     """
 
-    def __init__(self, space: Space, node: int, number: int, timeout: float = SECONDS) -> None:
+    def __init__(
+        self, space: Space, node: int, number: int, timeout: float = SECONDS, registers: Optional[range] = None
+    ) -> None:
         self._space, self._at, self._count = space, c_void_p(), 0
         self.timeout = timeout
         facts = RawFacts()
-        numbers = _fits(node, 8), _fits(number, 8), _milliseconds(timeout)
+        numbers, call = (_fits(node, 8), _fits(number, 8)), _LIBRARY.markring_remote_open
+        if registers is not None:
+            if registers.step != 1 or not registers:
+                raise BadRequest()
+            numbers += _fits(registers.start, 16), _fits(len(registers), 16)
+            call = _LIBRARY.markring_remote_open_apart
         with space._lock:
-            _check(_LIBRARY.markring_remote_open(byref(self._at), space._handle(), *numbers, byref(facts)))
+            _check(call(byref(self._at), space._handle(), *numbers, _milliseconds(timeout), byref(facts)))
         self.facts = Facts(*(getattr(facts, it) for it in Facts._fields))
 
     def last(self) -> list[Result]:
