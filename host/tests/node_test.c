@@ -340,6 +340,13 @@ static void test_words(void)
     HOLDS(end_hearing("usage:") == sizeof limits / sizeof *limits);
 }
 
+// The next round looks at the host.
+static void look_soon(void)
+{
+    at.looked_at = 0;
+    (void)go_on(2 * CYCLE);
+}
+
 // The node says once when the connection is lost and when it is there again, and when it is there
 // again without having been seen as lost.
 static void test_connection_lines(void)
@@ -347,16 +354,18 @@ static void test_connection_lines(void)
     for (int i = 0; i < 2; i++) {
         begin_hearing();
         model.is_away = true;
-        (void)go_on(3 * LOOK_EACH);
+        look_soon();
+        look_soon();
         HOLDS(!at.is_connected && end_hearing("is lost") == 1);
         begin_hearing();
         model.is_away = false;
         model_connect(model.last);
-        (void)go_on(2 * LOOK_EACH);
+        look_soon();
+        look_soon();
         HOLDS(at.is_connected && end_hearing("there again") == 1);
         begin_hearing();
         model_connect(model.last);
-        (void)go_on(2 * LOOK_EACH);
+        look_soon();
         HOLDS(at.is_connected && end_hearing("there again") == 1);
     }
 }
