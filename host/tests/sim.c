@@ -1,8 +1,8 @@
 // Several hosts in one thread, by seed, with their programs. The net loses, repeats and reorders
 // packets. Calls of the disks fail, and their writes are lost or torn. Processes and machines stop
-// at any call, allocations fail, and the clock jumps. Older folders and snapshots of machines are put
-// back, nodes are stopped, and programs flood nodes. Each answer is compared with a model of the
-// programs; at checkpoints, each node comes to have exactly the objects that the model reaches.
+// at any call, allocations fail, and the clock jumps. Older folders and snapshots of machines are
+// put back, nodes are stopped, and programs flood nodes. Each answer is compared with a model of
+// the programs; at checkpoints, each node comes to have exactly the objects that the model reaches.
 //
 //     sim SEEDS [FIRST [STEPS]]
 #include "../inside.h"
@@ -1647,7 +1647,8 @@ int main(int count, char **given)
            "failed saves, %lu failed calls, %lu refused allocations, %lu packets lost, %lu cycles "
            "asked for, %lu checkpoints, %lu folders mixed up, %lu frames not taken, %lu events "
            "refused by full nodes, %lu readings, %lu of %lu stops answered, %lu folders one save "
-           "old, %lu started again, %lu snapshots (%lu unseen), %lu floods, %lu Gets refused, %lu absences\n",
+           "old, %lu started again, %lu snapshots (%lu unseen), %lu floods, %lu Gets refused, %lu "
+           "absences\n",
         run_seed - first, requests, answered, crashes, powers, failed_saves, failed_calls, refused,
         lost, cycles, checkpoints, mixed, full, tight, readings, stopped, stops, barely, again,
         snapshots, unseen, floods, congested, absences);
