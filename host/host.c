@@ -87,8 +87,8 @@ static size_t growth_of_joining(const markring_state *state)
         : 0;
 }
 
-// The node may have joined a cycle since this was looked at. One message, and those that were early,
-// may have brought letters before.
+// The node may have joined a cycle since this was looked at. One message, and those that were
+// early, may have brought letters before.
 static void note_joining(host *it, const markring_state *state)
 {
     size_t letters = it->letters + EARLY > state->letters ? it->letters + EARLY : state->letters;
@@ -118,8 +118,8 @@ bool takes_messages(host *it)
         && state.letters < it->options.letters_most && !is_tight(it);
 }
 
-// A turn begins. The image is looked at if half of it may be new or gone, so that this takes no more
-// time than the events did.
+// A turn begins. The image is looked at if half of it may be new or gone, so that this takes no
+// more time than the events did.
 static void begin_measuring(host *it)
 {
     it->is_measured = it->moved == 0;

@@ -28,9 +28,9 @@ enum {
     // Packets and requests that one turn should take.
     HOST_TAKES = 512,
     HOST_REASON = 640,
-    // An image has at most 67,108,864 bytes. Programs may let it grow up to IMAGE_MOST; messages and
-    // the collector, up to IMAGE_TIGHT. What is left is for messages that came before their turn,
-    // and for the ends of cycles.
+    // An image has at most 67,108,864 bytes. Programs may let it grow up to IMAGE_MOST; messages
+    // and the collector, up to IMAGE_TIGHT. What is left is for messages that came before their
+    // turn, and for the ends of cycles.
     LETTERS_MOST = 800000,
     IMAGE_MOST = 41943040,
     IMAGE_TIGHT = 62914560,

@@ -64,8 +64,8 @@ bool give_registers(host *it, uint8_t number, uint16_t first, uint16_t count)
     return true;
 }
 
-// Whether this may be an opening of the program now. Its registers are given at the first one; later
-// ones may name the same.
+// Whether this may be an opening of the program now. Its registers are given at the first one;
+// later ones may name the same.
 static verdict judge_opening(host *it, const request_head *request, reader *from)
 {
     const program *at = &it->programs[request->program];

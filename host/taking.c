@@ -7,10 +7,10 @@ enum { DATA_FRAME = 0x45, FRAME_ADDRESSES = 3 };
 //
 // Each process begins with a save, so the numbers of saves are one line, in which each process has
 // a part: from its first save on, up to the first one of the next process. The folder has that
-// line. So another node's word, "I know the process n, which made save s", is true only if save s is
-// in the part of n. Otherwise the folder is an older copy, which another process continued, even if
-// this one has made more saves since. Nothing leaves a process before its first save is stored, and
-// with it the line up to this process; so no word is wrong of a folder that is the newest one.
+// line. So another node's word, "I know the process n, which made save s", is true only if save s
+// is in the part of n. Otherwise the folder is an older copy, which another process continued, even
+// if this one has made more saves since. Nothing leaves a process before its first save is stored,
+// and with it the line up to this process; so no word is wrong of a folder that is the newest one.
 //
 // Once all other nodes know this process, the line before it may be forgotten: any older word is
 // that of a node that has forgotten the newer one. If the line becomes too long before, its middle
@@ -99,10 +99,10 @@ static bool may_go_on(host *it, const packet_head *head)
         return true;
     }
     end_with(it, HOST_OLDER,
-        "node %d knows save %llu of this node, which %s. So this folder or this process is an older "
-        "copy, or another process uses a copy of the folder. Use the newest folder of this node, "
-        "or restore the folders of all nodes from one moment. If neither is so, node %d is wrong: "
-        "`run --trust-folder` once, on both, makes that node forget it and this one go on",
+        "node %d knows save %llu of this node, which %s. So this folder or this process is an "
+        "older copy, or another process uses a copy of the folder. Use the newest folder of this "
+        "node, or restore the folders of all nodes from one moment. If neither is so, node %d is "
+        "wrong: `run --trust-folder` once, on both, makes that node forget it and this one go on",
         head->from, (unsigned long long)head->known_saves,
         is_own ? "this process hasn't made" : "a process made that this folder doesn't know",
         head->from);

@@ -182,7 +182,7 @@ static void deliver_head(station *at, packet_head head)
     host_packet(at->host, at->now, head.from, bytes, to.length);
 }
 
-// A packet of a process of node 1, of an earlier version, which knows this of the process of node 0.
+// A packet of a process of node 1, of an earlier version, which knows this of node 0's process.
 static void deliver(station *at, process sender, uint64_t known_nonce, uint64_t known_saves)
 {
     deliver_head(at, (packet_head){{0}, 1, 0, sender, known_nonce, known_saves, 0, 0, 0});
@@ -392,10 +392,10 @@ static void start_again(station *at, int saves)
     open_host(at);
     ran[ran_count].nonce = at->nonce;
     ran[ran_count].run = at->number + 1;
-    settle(at, STORE_OK);
-    for (int i = 1; i < saves; i++) {
+    for (int i = 0; i < saves; i++) {
         host_changed(at->host);
-        settle(at, STORE_OK);
+        turn(at, 10, STORE_OK);
+        turn(at, 10, STORE_OK);
     }
     ran[ran_count++].last = at->number;
 }

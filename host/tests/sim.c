@@ -1,8 +1,8 @@
 // Several hosts in one thread, by seed, with their programs. The net loses, repeats and reorders
 // packets. Calls of the disks fail, and their writes are lost or torn. Processes and machines stop
-// at any call, allocations fail, and the clock jumps. Older folders and snapshots of machines are put
-// back, nodes are stopped, and programs flood nodes. Each answer is compared with a model of the
-// programs; at checkpoints, each node comes to have exactly the objects that the model reaches.
+// at any call, allocations fail, and the clock jumps. Older folders and snapshots of machines are
+// put back, nodes are stopped, and programs flood nodes. Each answer is compared with a model of
+// the programs; at checkpoints, each node comes to have exactly the objects that the model reaches.
 //
 //     sim SEEDS [FIRST [STEPS]]
 #include "../inside.h"
@@ -1093,6 +1093,31 @@ static void drop_all(void)
     }
 }
 
+// ## Time
+
+// The clock goes on to the next thing that happens, and at most this long.
+static void leap(uint64_t most)
+{
+    for (uint8_t node = 0; node < nodes; node++) {
+        const station *at = &stations[node];
+        uint64_t wait = most;
+        if (at->host != NULL) {
+            wait = at->touched || at->job != NULL ? 1 : due_after(at);
+        }
+        most = wait < most ? wait : most;
+    }
+    most = in_net > 0 || most < 1 ? 1 : most;
+    now += most - 1;
+    step();
+}
+
+static void pass_time(uint64_t time)
+{
+    for (uint64_t end = now + time; now < end && failures == 0;) {
+        leap(end - now);
+    }
+}
+
 // ## Folders that are mixed up
 
 // Whether each other node knows a save of this node that is later than the copy's.
@@ -1280,9 +1305,7 @@ static void mix_up_at_rest(uint8_t node)
     keep_copy(node);
     for (uint32_t i = 0; i < saves && at->host != NULL; i++) {
         at->host->changed = true;
-        for (int k = 0; k < (i + 1 == saves ? 1100 : 100); k++) {
-            step();
-        }
+        pass_time(i + 1 == saves ? 1100 : 100);
     }
     HOLDS(at->host != NULL && at->has_copy && is_known(node, at->copy_number + saves - 1));
     barely += at->store.number == at->copy_number + 1;
@@ -1338,28 +1361,10 @@ static void expect_pace(void)
     is_calm = is_quick = false;
 }
 
-// The clock goes on to the next thing that happens, and at most this long.
-static void leap(uint64_t most)
-{
-    for (uint8_t node = 0; node < nodes; node++) {
-        const station *at = &stations[node];
-        uint64_t wait = most;
-        if (at->host != NULL) {
-            wait = at->touched || at->job != NULL ? 1 : due_after(at);
-        }
-        most = wait < most ? wait : most;
-    }
-    most = in_net > 0 || most < 1 ? 1 : most;
-    now += most - 1;
-    step();
-}
-
 static uint64_t resends_within(const station *at, uint64_t time)
 {
-    uint64_t end = now + time, before = host_counted(at->host)->resends;
-    while (now < end && failures == 0) {
-        leap(end - now);
-    }
+    uint64_t before = host_counted(at->host)->resends;
+    pass_time(time);
     return host_counted(at->host)->resends - before;
 }
 
@@ -1651,7 +1656,8 @@ int main(int count, char **given)
            "failed saves, %lu failed calls, %lu refused allocations, %lu packets lost, %lu cycles "
            "asked for, %lu checkpoints, %lu folders mixed up, %lu frames not taken, %lu events "
            "refused by full nodes, %lu readings, %lu of %lu stops answered, %lu folders one save "
-           "old, %lu started again, %lu snapshots (%lu unseen), %lu floods, %lu Gets refused, %lu absences\n",
+           "old, %lu started again, %lu snapshots (%lu unseen), %lu floods, %lu Gets refused, %lu "
+           "absences\n",
         run_seed - first, requests, answered, crashes, powers, failed_saves, failed_calls, refused,
         lost, cycles, checkpoints, mixed, full, tight, readings, stopped, stops, barely, again,
         snapshots, unseen, floods, congested, absences);
