@@ -15,7 +15,7 @@
 #define XXH_INLINE_ALL
 #include <xxhash.h>
 
-enum { LENGTH = 1000, CALLS = 48, MARK = 32, LIVES = 6, SAVES = 12, LONGEST = 9000 };
+enum { LENGTH = 1000, CALLS = 48, MARK = 32, LIVES = 6, SAVES = 12, LONGEST = 9000, TRIES = 300 };
 
 static uint64_t seed = 1;
 static unsigned long passed, failed;
@@ -107,7 +107,7 @@ static unsigned long stale;
 static store_status open_at(store *it, const store_calls *calls, store_value *value)
 {
     store_status status = store_open(it, calls, "folder", value);
-    while (status == STORE_STALE) {
+    for (int tries = 0; status == STORE_STALE && tries < TRIES; tries++) {
         stale++;
         status = store_open(it, calls, "folder", value);
     }
@@ -589,6 +589,8 @@ static void test_failed_write(void)
     HOLDS(store_save(&at, &entry) == STORE_FAILED && !write_fails);
     HOLDS(store_save(&at, &value) == STORE_OK);
     store_close(&at);
+    HOLDS(found(&it) == 3);
+    disk_power_off(&it);
     HOLDS(found(&it) == 3);
     free(old.buffer);
     free(entry.buffer);
