@@ -73,10 +73,6 @@ runs-then nodes s (x ∷ xs) ys runs = runs-then nodes (after_sight s x) xs ys r
 
 -- ---- Worlds that differ at most in acknowledged messages
 
-came-none : (from to : ℕ) (r : Result Outcome Refusal) → came_of from to r None ≡ []
-came-none from to (Ok (outcome.Answer answer.Received)) = refl
-came-none from to r = refl
-
 -- only a message that is received is seen
 came-received : (from to : ℕ) (r : Result Outcome Refusal) (x y : Message)
     → (r ≡ Ok (outcome.Answer answer.Received) → x ≡ y)

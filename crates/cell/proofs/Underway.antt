@@ -4,7 +4,7 @@ use Rattle.std.proofs.lemmas.Option.{slice_get_within}
 use Rattle.ids.specs.Limits.{Shaped}
 use Rattle.disk.specs.Areas.{Areas, IsBlank}
 use Rattle.disk.specs.Crashes.{LeavesOnly, StaysBlank, Unmoved}
-use Rattle.disk_shelf.proofs.Moments.{joined, started, weaker}
+use Rattle.disk_shelf.proofs.Moments.{joined, weaker}
 use Rattle.image.specs.Wholes.{saved_whole}
 use Rattle.node.specs.Keeping.{WholeNode, new_whole}
 use Rattle.node_store.specs.Plain.{KeepsNone}
@@ -16,15 +16,6 @@ use Rattle.wire.proofs.Places.{mapped-from, mapped-there, pushed-at, same-there,
 
 module _ {D : Type 0} {moment : D → ℕ} {left_since : D → ℕ → Areas → Type 0}
     (seen : D → Areas) (may_leave : D → Areas → Type 0) where
-  -- nothing is written on a disk from which a node was read
-  pub resumed : {shape : Shaped} {own : ℕ} (disk other : D) → other ≡ disk
-      → ((d : D) (c : Areas) → left_since d (moment d) c → may_leave d c)
-      → LeavesOnly moment left_since disk other (StaysOrNew seen may_leave shape own disk)
-  resumed {shape} {own} disk other same now =
-      subst (λ (d : D).
-      LeavesOnly moment left_since disk d (StaysOrNew seen may_leave shape own disk)) (sym same)
-      (started (λ c left. inl (now disk c left)))
-
   -- a new node is created
   pub created : {disk new : D} {n : WholeNode} (shape : Shaped) (own : ℕ)
       → StaysBlank (may_leave disk) → may_leave disk (seen disk) → n ≡ new_whole shape own
