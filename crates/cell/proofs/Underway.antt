@@ -4,7 +4,7 @@ use Rattle.std.proofs.lemmas.Option.{slice_get_within}
 use Rattle.ids.specs.Limits.{Shaped}
 use Rattle.disk.specs.Areas.{Areas, IsBlank}
 use Rattle.disk.specs.Crashes.{LeavesOnly, StaysBlank, Unmoved}
-use Rattle.disk_shelf.proofs.Moments.{joined, started, weaker}
+use Rattle.disk_shelf.proofs.Moments.{joined, weaker}
 use Rattle.image.specs.Wholes.{saved_whole}
 use Rattle.node.specs.Keeping.{WholeNode, new_whole}
 use Rattle.node_store.specs.Plain.{KeepsNone}

@@ -2,6 +2,7 @@
 ghost use Rattle.std.specs.Prelude.{◌≡◌, false, is_some, IfOk};
 
 use crate::case::Case;
+use crate::killed::outlived;
 use crate::once::once;
 use crate::sizes::{PAIR, Size, blank_disks, config_of};
 use crate::space::meet;
@@ -94,6 +95,19 @@ where
     }
     match meet(rt, alloc, text.as_str(), disks) {
         Some(reports) => case.debug(&Some(reports.len())),
+        None => case.text("None"),
+    }
+}
+
+/// Kills a space of two nodes in a save, and reads in the next one what was saved.
+pub(crate) fn show_killed<R: Wait>(rt: &R, alloc: Global, case: &mut Case) {
+    let (call, fill) = (case.number(1), case.number(2));
+    let (Ok(config), Ok(disks)) = (config_of(alloc, PAIR), blank_disks(alloc, PAIR.nodes)) else {
+        case.lacks_memory();
+        return;
+    };
+    match outlived(rt, alloc, &config, disks, call, fill) {
+        Some(answer) => case.answer(answer),
         None => case.text("None"),
     }
 }

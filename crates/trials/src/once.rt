@@ -1,5 +1,9 @@
 //! A space that is closed with its disks as they are at one moment, and a second one that continues
-//! on them. docs/RATTLE.md shows parts of this file, and a case runs it.
+//! on them. The contract of `visit` says, for any number of such spaces one after another, that all
+//! begin in worlds that a run reaches. docs/RATTLE.md shows parts of this file, and a case runs it.
+ghost use Rattle.std.specs.Prelude.{◌≡◌, None, IfErr, IfOk, IfSome};
+ghost use Rattle.trials.specs.Chains.{CanBegin};
+
 use crate::gates::pause;
 use crate::space::Open;
 use cell::Naming;
@@ -10,7 +14,7 @@ use std::alloc::Global;
 use std::sync::{Arc, Wait};
 use std::thread::Threads;
 use std::time::Clock;
-use supervisor::{Config, Opened, Program, SpaceOn};
+use supervisor::{Config, Opened, Program, Served, SpaceOn};
 
 // Node 0 makes an object, and gives it to node 1 in a letter.
 #[derive(Drop)]
@@ -69,7 +73,20 @@ where
     None
 }
 
-// Runs a program in a space on these disks. Returns the disks as the space leaves them.
+// The disks that a space gave out, if it did.
+fn given_out<D: Disk + Drop>(served: Served<D>) -> Option<Vec<D>>
+    ensures disks { IfOk served.closed (λ c. IfSome result (λ v. v ≡ c.disks)) }
+    ensures none { IfErr served.closed (λ _. result ≡ None) }
+{
+    let Served { reports: _, closed } = served;
+    match closed {
+        Ok(closed) => Some(closed.disks),
+        Err(_) => None,
+    }
+}
+
+// Runs a program in a space on these disks. Returns the disks as the space leaves them, which are
+// then of a space that a next one can continue, if these were.
 fn visit<R, D, P>(
     rt: &R,
     alloc: Global,
@@ -81,12 +98,17 @@ where
     R: Threads + Wait + Clock + Clone + Send + Drop + 'static,
     D: Disk + Send + Drop + 'static,
     P: Program<R, D>,
+    ensures { CanBegin D.seen D.may_leave config.now.shape disks.items
+        → IfSome result (λ v. CanBegin D.seen D.may_leave config.now.shape v.items) }
 {
     let gate = Arc::new(alloc, Open).ok()?;
-    let opened = Opened::open(alloc, config, disks).ok()?;
-    let served = opened.serve(rt, gate, program).ok()?;
-    let disks = served.closed.ok()?.disks;
-    Some(disks)
+    let Ok(opened) = Opened::open(alloc, config, disks) else {
+        return None;
+    };
+    let Ok(served) = opened.serve(rt, gate, program) else {
+        return None;
+    };
+    given_out(served)
 }
 
 /// Two spaces of this configuration, one after another on these disks. The label of the letter that

@@ -3,7 +3,7 @@ ghost use Rattle.std.specs.Prelude.{◌≡◌, is_some};
 
 use crate::case::Case;
 use crate::gates::{Ruled, Rules, pause, rule};
-use crate::making::{Made, opened, show};
+use crate::making::{Made, opened, show, show_killed};
 use crate::sizes::Size;
 use crate::space::Open;
 use crate::station::on_station;
@@ -127,6 +127,7 @@ where
                 case.text("ok");
             }
             "meet" | "once" => show(self.rt, self.alloc, case),
+            "killed" => show_killed(self.rt, self.alloc, case),
             _ => match &mut self.opened {
                 Some(opened) => on_space(self.rt, opened, case),
                 None => case.unknown(),
