@@ -28,6 +28,7 @@ use std::path::{Path, PathBuf};
 const PIECE: usize = 4096;
 /// The permissions of what is created: other users may neither read images nor lock a file.
 const OWN_FOLDER: u32 = 0o700;
+
 const OWN_FILE: u32 = 0o600;
 
 /// A disk in the files `select`, `a` and `b` of a folder, one for each area.
