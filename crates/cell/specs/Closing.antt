@@ -128,7 +128,7 @@ pub record IsOfNode {D : Type 0} (may_leave : D → Areas → Type 0) (opening :
   pub number : seat_node c.seat ≡ k
   pub width : c.seat.nodes ≡ nodes
 
--- The nodes are read from what a kill left on the disks of these cells. A cell's type says what that
+-- The nodes are read from what a kill left on these cells' disks. A cell's type says what that
 -- is between two calls (`Cell::node`: `sound`), and a save and a reopening say what it is within
 -- them (`any_moment`).
 abbrev pub AreReadAfter : {D : Type 0} → Shaped → List (CellView D) → List WholeNode → Type 0
@@ -138,8 +138,8 @@ AreReadAfter {D} shape cells nodes =
     → (x : Areas) × HoldsEither c x × IsReadFrom shape k x n
 
 -- The cells of all nodes of a space, in order, at the moment of a kill, and the nodes that are read
--- from their disks. One list of events leads to what the cells know. A cell that was in a save is as
--- it was before that.
+-- from their disks. One list of events leads to what the cells know. A cell that was in a save is
+-- as it was before that.
 pub record AreKilled {D : Type 0} (may_leave : D → Areas → Type 0) (shape : Shaped)
     (opening : World) (cells : List (CellView D)) (nodes : List WholeNode) : Type 0 where
   pub reached : IsReached opening

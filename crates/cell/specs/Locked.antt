@@ -11,8 +11,8 @@ use Rattle.cell.specs.Cells.{CellView, GoesOn, IsSound}
 use Rattle.cell.specs.Events.{Given}
 use Rattle.cell.specs.Names.{Name, IsNamed, seat_name}
 
--- A cell at the moment when a call had locked it, on its own disk. If a wire is named, its seat is one
--- of that.
+-- A cell at the moment when a call had locked it, on its own disk. If a wire is named, its seat
+-- is one of that.
 pub record IsLocked {D : Type 0} (may_leave : D → Areas → Type 0) (wire : Option Name)
     (c : CellView D) : Type 0 where
   pub sound : IsSound may_leave c

@@ -37,7 +37,7 @@ pub record IsReadFrom (shape : Shaped) (own : ℕ) (seen : Areas) (n : WholeNode
   pub blank : IsBlank seen → n ≡ new_whole shape own
   pub held : (IsBlank seen → ⊥) → OpensToNode n seen
 
--- What a crash leaves on the disk of this node during an opening: what it could have left before. If
+-- What a crash leaves on a node's disk during an opening: what it could have left before. If
 -- nothing was ever created on the disk, it may also leave another such disk, or the new node.
 abbrev pub StaysOrNew : {D : Type 0} → (D → Areas) → (D → Areas → Type 0) → Shaped → ℕ → D → Areas
     → Type 0

@@ -273,8 +273,8 @@ fn put_all_on<D: Disk + Drop>(
 /// one moment. The first of them has sent fewer messages than the second has received from it, or
 /// has dropped some that the second lacks.
 ///
-/// A crash at any moment since a call began that succeeds leaves on each disk what it could have left
-/// before. If nothing was ever created on the disk, it may also leave such a disk or the new node.
+/// A crash at any moment since a call began that succeeds leaves on each disk what it could have
+/// left before. If nothing was ever created on the disk, it may also leave such a disk or the new node.
 ///
 /// There are no other causes. All disks are read, and the nodes compared, before anything is
 /// created. So after `Disks`, `Another`, `Ages` and `BadImage` the disks are still in the vector,

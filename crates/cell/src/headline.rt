@@ -113,7 +113,7 @@ pub fn laws()
     // In a new space nothing was seen; what happens then adds to that.
     ensures unseen { NewIsUnseen }
     ensures seen_on { SightsGoOn }
-    // A space that is opened again begins with what belongs to the saved states that it was left in.
+    // A space that is opened again begins with what belongs to the saved states that were left.
     ensures seen_again { SightsAreKept }
 {}
 
@@ -134,8 +134,8 @@ pub fn laws_at_once<D: Disk>()
     // A run reaches the world in which these nodes begin, and each of them still has what isn't
     // acknowledged, if that held of the nodes with which the cells were made.
     ensures closed { ClosedIsReached D.may_leave }
-    // A kill at any moment, also within saves, leaves the nodes of that moment, after the saves that
-    // the disks hold already. Each of them still has what isn't acknowledged, if that held of the
+    // A kill at any moment, also within saves, leaves the nodes of that moment, after the saves
+    // that the disks hold already. Each of them still has what isn't acknowledged, if that held of the
     // nodes with which the cells were made. So an opening continues from there.
     ensures killed { KilledIsLeft D.may_leave }
 {}

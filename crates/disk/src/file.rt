@@ -81,7 +81,7 @@ impl FileDisk {
         }
     }
 
-    /// Opens `count` disks, in the folders `0`, `1` and so on of this one, as [`FileDisk::at`] does.
+    /// Opens `count` disks, in the folders `0`, `1` and so on of this one, like [`FileDisk::at`].
     /// The names of the folders above them are synced once for all.
     ///
     /// Fails as [`FileDisk::at`] does; then no folder stays open.

@@ -255,5 +255,6 @@ garbage-goes shape limits earlier later choice cycle r before dead stays chosen 
     (kept-current shape limits earlier later choice r.node stays chosen) in
     gone-since shape limits earlier later choice cycle r before dead.unreachable
     (subst (λ (s : NodeState). PastIn s r) (sym here)
-    (occupied-past (node_at w.current r.node).local.heap r.slot r.generation dead.object dead.current))
+    (occupied-past (node_at w.current r.node).local.heap r.slot r.generation dead.object
+    dead.current))
     done live

@@ -1,5 +1,5 @@
--- What an event changes whose answer is quiet, or that is an acknowledgement of nothing new: nothing
--- that is saved.
+-- What an event changes whose answer is quiet, or that acknowledges nothing new: nothing that is
+-- saved.
 use Rattle.std.proofs.Common.{◌≡◌, ℕ, true, false, ◌==◌, ◌+◌, ◌-◌, ◌≤◌, drop, set, length, List, [], ◌∷◌, ◌++◌, map, Option, None, Ok, refl, ap, sym, ◌∙◌, arith}
 use Rattle.std.specs.Prelude.{min}
 use Rattle.std.proofs.lemmas.Bool.{cond_both, leb-true, true≢false}

@@ -22,8 +22,8 @@ ghost use Rattle.world.specs.Played.{PlayedIsAnswered};
 /// the cycle, no node in it has a grey object, and no message that the cycle counts is in flight
 /// (`agreement`). The nodes' balances add up to the number of these messages (`balances`). Anything
 /// saved that was already garbage before a cycle began has been freed once that cycle has been
-/// swept, rings of objects across nodes included (`old_garbage`). So has anything that no save held, unless its node restarted meanwhile
-/// (`garbage_goes`).
+/// swept, rings of objects across nodes included (`old_garbage`). So has anything that no save held,
+/// unless its node restarted meanwhile (`garbage_goes`).
 ///
 /// For a program this means: a reference that it holds, or is sent, names an existing object. A
 /// request about another node's object finds the object (`targets`). A frame that a node released

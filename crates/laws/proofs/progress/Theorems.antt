@@ -311,7 +311,8 @@ saves-from (suc many) from v choice inside width =
 
 -- no move restarts a node
 steps-stay : (c : Cut) (m : Move) (i : ℕ) → StaysUp i (steps_of c m)
-steps-stay c (Bring from to) i = (λ e. absurd cc, (λ e. absurd cc, (λ e. absurd cc, (λ e. absurd cc, tt))))
+steps-stay c (Bring from to) i =
+    (λ e. absurd cc, (λ e. absurd cc, (λ e. absurd cc, (λ e. absurd cc, tt))))
 steps-stay c (Do j e) i = (λ is. absurd cc, tt)
 
 pub played-stays : (n k : ℕ) (w : World) (i : ℕ) → StaysUp i (played n k w)
@@ -360,7 +361,8 @@ gone shape limits steps later cycle before swept stays r dead choice live =
     (omega (arith, now_swept))
     (record {
       object = live.object;
-      there = subst (λ (s : NodeState). slot_at s.local.heap r.slot ≡ Occupied r.generation live.object)
+      there =
+          subst (λ (s : NodeState). slot_at s.local.heap r.slot ≡ Occupied r.generation live.object)
           (saved.same r.node) live.there;
     }))
     dead

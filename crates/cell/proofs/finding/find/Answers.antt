@@ -150,8 +150,8 @@ returns g c =
           (λ l. AreFound (λ n s. (is_ready_in s ≡ true) × OpensToNode n (seen (disk_of s)))
           c.args.shape l c.in_ok-stores.stores.items)
           c.as_slice-2.ensures.value c.in_ok-stores.ensures.found;
-      any_moment = all-stores-since seen g.D.Disk.may_leave disk_of c.in_ok-stores.stores.items read.quiet
-          (subst (λ l. AreBeside (λ k d s. LeavesOnly g.D.Disk.moment g.D.Disk.left_since d
+      any_moment = all-stores-since seen g.D.Disk.may_leave disk_of c.in_ok-stores.stores.items
+          read.quiet (subst (λ l. AreBeside (λ k d s. LeavesOnly g.D.Disk.moment g.D.Disk.left_since d
           (disk_of s) (StaysOrNew seen g.D.Disk.may_leave c.args.shape k d)) l
           c.in_ok-stores.stores.items) items c.in_ok-stores.ensures.any_moment);
       logs = beside-by c.args.disks.now.items areas c.in_ok-stores.stores.items

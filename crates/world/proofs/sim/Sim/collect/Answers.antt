@@ -30,6 +30,6 @@ returns-clause-fits c = λ shape limits steps shown can fit.
     (c.cycle-cycle.ensures.value ∙ ap (λ (p : Phases). p.cycle) c.phases.ensures.value)
     c.play_until.ensures.plays in
     all-fit shape.nodes (current_cycle w + 1) result new
-    (subst (λ (z : ℕ). PlaysUntil result z (current_cycle w + 1) w new) (shape-width shape steps shown)
-    (plays w shown))
+    (subst (λ (z : ℕ). PlaysUntil result z (current_cycle w + 1) w new)
+    (shape-width shape steps shown) (plays w shown))
     (collects result new plays shape limits steps shown can).1 c.play_until.ensures.too_large fit
