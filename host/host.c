@@ -180,8 +180,12 @@ int host_create(const host_shape *shape, store_value *value)
     }
     it->shape = *shape;
     forget_line(it);
-    int status = markring_node_new(
-        &it->node, shape->nodes, shape->registers, shape->slots, shape->own, shape->limit);
+    markring_shape sizes = {.slots = shape->slots,
+        .registers = shape->registers,
+        .nodes = shape->nodes,
+        .places = shape->wide ? shape->places : PLAIN_PLACES,
+        .wide = shape->wide};
+    int status = markring_node_make(&it->node, &sizes, shape->own, shape->limit);
     if (status == MARKRING_OK) {
         status = markring_node_log(&it->node, 1);
     }
@@ -229,12 +233,6 @@ int host_open(host **opened, const store_value *value, uint64_t number, uint64_t
     if (options->letters_most == 0) {
         it->options.letters_most = LETTERS_MOST;
     }
-    if (options->image_most == 0) {
-        it->options.image_most = IMAGE_MOST;
-    }
-    if (options->image_tight == 0) {
-        it->options.image_tight = IMAGE_TIGHT;
-    }
     if (options->entries_least == 0) {
         it->options.entries_least = ENTRIES_LEAST;
     }
@@ -253,6 +251,13 @@ int host_open(host **opened, const store_value *value, uint64_t number, uint64_t
     if (status != MARKRING_OK) {
         host_free(it);
         return status;
+    }
+    // (only now it is known of which kind the space is)
+    if (options->image_most == 0) {
+        it->options.image_most = it->shape.wide ? SIZE_MAX : IMAGE_MOST;
+    }
+    if (options->image_tight == 0) {
+        it->options.image_tight = it->shape.wide ? SIZE_MAX : IMAGE_TIGHT;
     }
     if (options->trusts_folder) {
         forget_processes(it);
@@ -312,7 +317,7 @@ static bool has_room(const host *it, size_t length)
 
 // Takes a batch, with what else has changed; or returns MARKRING_NO_LOG if an image has to be
 // taken. What is saved by batches may have to become an image at any time, so its size is looked
-// at.
+// at, if it has a limit.
 static int take_batch(host *it)
 {
     size_t batch = 0;
@@ -320,7 +325,7 @@ static int take_batch(host *it)
         return MARKRING_NO_LOG;
     }
     int status = markring_node_batch_size(&it->node, &batch);
-    if (status == MARKRING_OK && it->size > IMAGE_LIMIT) {
+    if (status == MARKRING_OK && !it->shape.wide && it->size > IMAGE_LIMIT) {
         status = markring_node_image_size(&it->node, &it->measured);
         it->size = it->measured;
     }

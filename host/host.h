@@ -28,9 +28,9 @@ enum {
     // Packets and requests that one turn should take.
     HOST_TAKES = 512,
     HOST_REASON = 640,
-    // An image has at most 67,108,864 bytes. Programs may let it grow up to IMAGE_MOST; messages
-    // and the collector, up to IMAGE_TIGHT. What is left is for messages that came before their
-    // turn, and for the ends of cycles.
+    // An image of a node of a plain space has at most 67,108,864 bytes. Programs may let it grow up
+    // to IMAGE_MOST; messages and the collector, up to IMAGE_TIGHT. What is left is for messages
+    // that came before their turn, and for the ends of cycles. In wide spaces there is no limit.
     LETTERS_MOST = 800000,
     IMAGE_MOST = 41943040,
     IMAGE_TIGHT = 62914560,
@@ -60,6 +60,8 @@ typedef struct host_shape {
     uint32_t slots;
     // How many messages of programs to one node may be unacknowledged; 0 for any number.
     uint64_t limit;
+    bool wide;
+    uint8_t places; // that an object has at most; at its creation a plain space may leave it out
 } host_shape;
 
 typedef struct host_options {
@@ -71,10 +73,10 @@ typedef struct host_options {
     // While this many letters wait, the node takes no messages; 0 for LETTERS_MOST.
     uint64_t letters_most;
     // While the node's image has more bytes, events of programs that make it grow are refused; 0
-    // for IMAGE_MOST.
+    // for IMAGE_MOST, or in a wide space for no limit.
     size_t image_most;
     // While it has more, or could have more by joining a cycle, the node takes no messages; 0 for
-    // IMAGE_TIGHT.
+    // IMAGE_TIGHT, or in a wide space for no limit.
     size_t image_tight;
     // The entries behind a whole value may have as many bytes as the value, or this many; 0 for
     // ENTRIES_LEAST.
@@ -115,7 +117,7 @@ typedef struct host_counts {
 typedef struct host host;
 
 // Makes a new node of a space, as the value to be saved first. The caller frees `value->buffer`.
-// Returns MARKRING_OK, or the refusal of markring_node_new, or MARKRING_MEMORY.
+// Returns MARKRING_OK, or the refusal of markring_node_make, or MARKRING_MEMORY.
 int host_create(const host_shape *shape, store_value *value);
 
 // Opens the node of a value that was saved with this number. `nonce` is a random number, not 0.

@@ -16,21 +16,25 @@ enum {
     // Steps of the collector in one turn.
     SCANS = 256,
     SWEEPS = 4096,
-    // What any event adds to an image, at most, if the node doesn't join a cycle; what a message
-    // from another node does; and what joining does, for each register and each letter.
+    // What any event adds to an image, at most, if the node doesn't join a cycle and the object
+    // has at most PLAIN_PLACES; what a message from another node does; and what joining does, for
+    // each register and each letter.
     GROWTH = 640,
     MESSAGE_GROWTH = 128,
     JOINING = 40,
+    // What a place of an object adds, at most, if the object is scanned.
+    SCAN_GROWTH = 40,
     // What an object and a message have in an image, about.
     OBJECT_BYTES = 64,
     MESSAGE_BYTES = 32,
-    // An image has at most this many bytes.
+    // An image of a node of a plain space has at most this many bytes.
     IMAGE_LIMIT = 67108864,
     // A large image is scanned only while fewer messages aren't acknowledged.
     SCAN_MESSAGES = 32768,
     HELD_ANSWERS = 1024,
     LINE = 256,
-    REGISTERS_MOST = 256, // of a node
+    REGISTERS_MOST = UINT16_MAX, // of a node
+    PLAIN_PLACES = 8,            // that an object of a plain space has at most
     // Milliseconds without an answer, after which a node is late, or lost.
     SILENCE = 10000
 };

@@ -223,8 +223,10 @@ static void note_limits(host *it, const markring_state *state)
         (host_note){.limit = LIMIT_LETTERS});
     // (the size may be an estimate, which this corrects)
     (void)is_full(it);
-    note_limit(it, &at->is_full, it->size, it->options.image_most + (uint64_t)1,
-        (host_note){.limit = LIMIT_IMAGE});
+    if (it->options.image_most < SIZE_MAX) {
+        note_limit(it, &at->is_full, it->size, it->options.image_most + (uint64_t)1,
+            (host_note){.limit = LIMIT_IMAGE});
+    }
 }
 
 void note_turn(host *it, uint64_t now)

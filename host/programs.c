@@ -135,6 +135,12 @@ static moves moves_of(uint8_t kind)
     }
 }
 
+// How many more bytes a new object has than one of a plain space, at most: each place has one.
+static size_t more_places(const markring_event *event)
+{
+    return event->kind == MARKRING_EVENT_ALLOC && event->place > PLAIN_PLACES ? event->place : 0;
+}
+
 static void note_full(host *it)
 {
     markring_state state;
@@ -185,7 +191,8 @@ static int perform_event(
     }
     int status = markring_node_act(&it->node, event, answer);
     if (status == MARKRING_OK && event->kind != MARKRING_EVENT_WORD) {
-        note_change(it, moves_of(event->kind).grown, moves_of(event->kind).gone);
+        moves moved = moves_of(event->kind);
+        note_change(it, moved.grown + more_places(event), moved.gone);
     }
     if (status == MARKRING_ARENA_FULL) {
         note_full(it);

@@ -249,6 +249,8 @@ static int scan(host *it)
         status = is_tight(it) ? MARKRING_IMAGE_TOO_LARGE : markring_node_scan(&it->node, &answer);
         if (status == MARKRING_OK) {
             note_change(it, GROWTH, 0);
+            // An object may have more places than GROWTH is for; but most have few.
+            it->size += it->shape.wide ? SCAN_GROWTH * (size_t)it->shape.places : 0;
         }
     }
     return status;

@@ -1,7 +1,7 @@
 // What comes from other nodes: who sent it, and the frames.
 #include "inside.h"
 
-enum { DATA_FRAME = 0x45, FRAME_ADDRESSES = 3 };
+enum { DATA_FRAME = 0x45, WIDE_DATA_FRAME = 0x46, FRAME_ADDRESSES = 3 };
 
 // ## The processes that ran this node
 //
@@ -199,7 +199,7 @@ static void take_frame(host *it, uint8_t from, const uint8_t *frame, size_t leng
         it->counts.malformed++;
         return;
     }
-    if (frame[0] == DATA_FRAME && !takes_messages(it)) {
+    if ((frame[0] == DATA_FRAME || frame[0] == WIDE_DATA_FRAME) && !takes_messages(it)) {
         it->counts.full++;
         return;
     }

@@ -16,7 +16,7 @@
 //
 // A handle (markring_node, markring_space, markring_cell, markring_watch) is a struct of one
 // pointer, which the caller keeps. It is empty or full. Initialise it as empty, with {0}. A call
-// whose name ends in `new`, `from_image` or `from_batches`, and markring_space_cell and
+// whose name ends in `new`, `make`, `from_image` or `from_batches`, and markring_space_cell and
 // markring_space_watch, fill an empty handle; a call whose name ends in `free` frees what it holds
 // and leaves it empty.
 //
@@ -58,7 +58,7 @@
 extern "C" {
 #endif
 
-// The statuses. Those from 1 to 24 are the refusals of docs/RULES.md.
+// The statuses. Those from 1 to 26 are the refusals of docs/RULES.md.
 enum markring_status {
     MARKRING_OK = 0,
     // An allocation failed.
@@ -79,7 +79,7 @@ enum markring_status {
     MARKRING_NO_LETTER = 8,
     // The object has no such place, or no object can have it, or the object isn't live.
     MARKRING_NO_FIELD = 9,
-    // The object would have more than 8 places.
+    // The object would have more places than the space allows.
     MARKRING_TOO_MANY_FIELDS = 10,
     // The letter is for the node itself.
     MARKRING_SELF_SEND = 11,
@@ -103,12 +103,16 @@ enum markring_status {
     MARKRING_WRONG_NODE = 20,
     // The bytes don't spell a saved node.
     MARKRING_BAD_IMAGE = 21,
-    // The image would exceed 67,108,864 bytes.
+    // The image would exceed 67,108,864 bytes. In a wide space there is no limit.
     MARKRING_IMAGE_TOO_LARGE = 22,
     // A cell's disk failed.
     MARKRING_DISK = 23,
     // A cell's disk or a reopening failed, and no reopening has succeeded since.
     MARKRING_CLOSED = 24,
+    // An object would have more bytes than the space allows; in a plain space, any.
+    MARKRING_TOO_MANY_BYTES = 25,
+    // The object doesn't have all of these bytes.
+    MARKRING_NO_BYTES = 26,
 
     // The handle is empty.
     MARKRING_NO_HANDLE = 101,
@@ -246,13 +250,28 @@ typedef struct markring_event {
     uint64_t word;
 } markring_event;
 
-// A node in numbers (`N state` in docs/FORMATS.md).
+// The sizes of a space, and its kind. They are within the limits if `nodes` is 2 to 64, and
+// - in a plain space, `wide` 0, `places` 8, `registers` 1 to 256, and `slots` 1 to 1,048,576;
+// - in a wide space, `wide` 1, `places` 0 to 255, `bytes` 0 to 16,777,216, `registers` 1 to 65,535,
+//   and `slots` 1 to 16,777,216.
+typedef struct markring_shape {
+    uint32_t slots; // of each node
+    uint32_t bytes; // that an object has at most; in a plain space 0
+    uint16_t registers; // of each node
+    uint8_t nodes;
+    uint8_t places; // that an object has at most
+    uint8_t wide; // 1 or 0
+} markring_shape;
+
+// A node in numbers (`N state` in docs/FORMATS.md). The sizes are those of markring_shape.
 typedef struct markring_state {
     uint8_t nodes;
     uint8_t own; // the node's own number
     uint8_t colour; // an enum markring_colour
     uint8_t has_token; // 1 or 0
     uint16_t registers;
+    uint8_t places;
+    uint8_t wide;
     uint32_t slots;
     uint32_t live; // objects
     uint64_t cycle;
@@ -262,6 +281,7 @@ typedef struct markring_state {
     int64_t recent;
     uint64_t grey; // grey objects
     uint64_t letters; // letters that wait
+    uint32_t bytes; // that an object has at most
 } markring_state;
 
 // What a node knows of the two links between it and another node, its peer. All are numbers of the
@@ -280,8 +300,8 @@ typedef struct markring_link {
 // and stores images. A frame may be lost, repeated and delayed: send the released ones again and
 // again until they are acknowledged.
 
-// Makes a new node of a space: node `own` of `nodes`, each with this many registers and slots. At
-// first nothing is allocated, sent or received, and nothing is unsaved.
+// Makes a new node of a plain space: node `own` of `nodes`, each with this many registers and
+// slots. At first nothing is allocated, sent or received, and nothing is unsaved.
 //
 // If `limit` isn't 0, the node refuses Give, Put and Get with MARKRING_CONGESTED, before any other
 // test, while `limit` or more of its messages to the receiver aren't acknowledged. Messages of the
@@ -293,6 +313,12 @@ typedef struct markring_link {
 int markring_node_new(markring_node *node, uint8_t nodes, uint16_t registers, uint32_t slots,
     uint8_t own, uint64_t limit);
 
+// The same of a space of this shape, plain or wide.
+// MARKRING_IN_USE; MARKRING_BAD_ARGUMENT: the shape isn't within its limits; MARKRING_NO_NODE: `own`
+// isn't below `shape->nodes`. They are tested in this order.
+int markring_node_make(markring_node *node, const markring_shape *shape, uint8_t own,
+    uint64_t limit);
+
 // Frees the node, and leaves the handle empty. What isn't saved is lost. It takes no memory.
 int markring_node_free(markring_node *node);
 
@@ -303,8 +329,8 @@ int markring_node_free(markring_node *node);
 // statuses are in the order of the tests: the first that applies is returned. *Own place* is:
 // MARKRING_NO_REGISTER; MARKRING_EMPTY_REGISTER: the register `object` is empty; MARKRING_REMOTE;
 // MARKRING_NO_FIELD: the object isn't live, or has no such place. *Far place* is:
-// MARKRING_NO_REGISTER; MARKRING_EMPTY_REGISTER; MARKRING_LOCAL; MARKRING_NO_FIELD: the place isn't
-// below 8.
+// MARKRING_NO_REGISTER; MARKRING_EMPTY_REGISTER; MARKRING_LOCAL; MARKRING_NO_FIELD: no object of the
+// space has such a place.
 
 // Makes a new object with this many empty places; the register gets its reference. Answer: NEW.
 // MARKRING_NO_REGISTER; MARKRING_TOO_MANY_FIELDS; MARKRING_ARENA_FULL.
@@ -343,6 +369,17 @@ int markring_node_word(markring_node *node, uint16_t object, markring_answer *an
 // Own place, without the place.
 int markring_node_set_word(markring_node *node, uint16_t object, uint64_t word,
     markring_answer *answer);
+
+// The object gets these bytes in place of its own; they are copied. Answer: DONE.
+// Own place, without the place; MARKRING_TOO_MANY_BYTES.
+int markring_node_set_bytes(markring_node *node, uint16_t object, const uint8_t *bytes,
+    size_t length, markring_answer *answer);
+
+// Overwrites bytes of the object, from `offset` on. It makes them no longer. Answer: DONE. It takes
+// no memory.
+// Own place, without the place; MARKRING_NO_BYTES: the object doesn't have all of these bytes.
+int markring_node_patch(markring_node *node, uint16_t object, uint32_t offset,
+    const uint8_t *bytes, size_t length, markring_answer *answer);
 
 // Sends a letter with the label and the content of the register, a reference or nothing, to the
 // node `to`. Answer: SENT.
@@ -528,6 +565,17 @@ int markring_node_link(markring_node *node, uint8_t peer, markring_link *link);
 // MARKRING_NO_REGISTER. MARKRING_NOTHING: the register is empty.
 int markring_node_register(markring_node *node, uint16_t reg, markring_ref *reference);
 
+// Writes `count` bytes of the object that the register `object` refers to, from `offset` on.
+// `*needed` is `count` then. It changes nothing and takes no memory.
+// Own place, without the place; MARKRING_NO_BYTES: the object doesn't have all of these bytes;
+// MARKRING_SHORT_BUFFER.
+int markring_node_bytes(markring_node *node, uint16_t object, uint32_t offset, uint32_t count,
+    uint8_t *buffer, size_t length, size_t *needed);
+
+// How many bytes that object has. It takes no memory.
+// Own place, without the place.
+int markring_node_bytes_length(markring_node *node, uint16_t object, uint32_t *length);
+
 // `*flag` is 1 if an event has changed the node since the image or batch that was kept last, or
 // since the last markring_node_release, or, if there was neither, since the handle was filled; else
 // 0. An acknowledgement, a repeat and an early message change nothing in this sense.
@@ -544,11 +592,15 @@ int markring_node_waiting(markring_node *node, uint8_t from, uint64_t *number);
 // its place on the wire between the nodes. The space is used by one thread at a time. It may be
 // freed once the cells and watches that are used have been moved out.
 
-// Makes a space that isn't open yet. `watches` is the number of watches.
+// Makes a plain space that isn't open yet. `watches` is the number of watches.
 // MARKRING_IN_USE: the handle isn't empty. MARKRING_BAD_ARGUMENT: `nodes` isn't 2 to 64, or
 // `registers` 1 to 256, or `slots` 1 to 1,048,576.
 int markring_space_new(markring_space *space, uint8_t nodes, uint16_t registers, uint32_t slots,
     uint8_t watches);
+
+// The same of a space of this shape, plain or wide.
+// MARKRING_IN_USE; MARKRING_BAD_ARGUMENT: the shape isn't within its limits.
+int markring_space_make(markring_space *space, const markring_shape *shape, uint8_t watches);
 
 // Gives the space the stored image of a node, from which that node will continue; the bytes are
 // copied. An image that was given before for that node is replaced. They are examined by
@@ -616,6 +668,10 @@ int markring_cell_clear(markring_cell *cell, uint16_t object, uint8_t place,
 int markring_cell_word(markring_cell *cell, uint16_t object, markring_answer *answer);
 int markring_cell_set_word(markring_cell *cell, uint16_t object, uint64_t word,
     markring_answer *answer);
+int markring_cell_set_bytes(markring_cell *cell, uint16_t object, const uint8_t *bytes,
+    size_t length, markring_answer *answer);
+int markring_cell_patch(markring_cell *cell, uint16_t object, uint32_t offset,
+    const uint8_t *bytes, size_t length, markring_answer *answer);
 int markring_cell_give(markring_cell *cell, uint8_t to, uint32_t label, uint16_t reg,
     markring_answer *answer);
 int markring_cell_accept(markring_cell *cell, uint16_t reg, markring_answer *answer);
@@ -695,6 +751,17 @@ int markring_cell_link(markring_cell *cell, uint8_t peer, markring_link *link);
 // The reference in a register.
 // MARKRING_NO_REGISTER. MARKRING_NOTHING: the register is empty.
 int markring_cell_register(markring_cell *cell, uint16_t reg, markring_ref *reference);
+
+// Writes `count` bytes of the object that the register `object` refers to, from `offset` on.
+// `*needed` is `count` then. It changes nothing and takes no memory.
+// Own place, without the place; MARKRING_NO_BYTES: the object doesn't have all of these bytes;
+// MARKRING_SHORT_BUFFER.
+int markring_cell_bytes(markring_cell *cell, uint16_t object, uint32_t offset, uint32_t count,
+    uint8_t *buffer, size_t length, size_t *needed);
+
+// How many bytes that object has. It takes no memory.
+// Own place, without the place.
+int markring_cell_bytes_length(markring_cell *cell, uint16_t object, uint32_t *length);
 
 // `*flag` is 1 if an event has changed the node since the last save or reopening, or since the
 // space was opened; else 0.
@@ -839,6 +906,8 @@ static inline const char *markring_status_text(int status)
     case MARKRING_IMAGE_TOO_LARGE: return "ImageTooLarge";
     case MARKRING_DISK: return "Disk";
     case MARKRING_CLOSED: return "Closed";
+    case MARKRING_TOO_MANY_BYTES: return "TooManyBytes";
+    case MARKRING_NO_BYTES: return "NoBytes";
     case MARKRING_NO_HANDLE: return "NoHandle";
     case MARKRING_IN_USE: return "InUse";
     case MARKRING_SHORT_BUFFER: return "ShortBuffer";

@@ -6,8 +6,8 @@
 // program, the node or the server. It performs the events in order, up to the first one that is
 // refused. Its answer comes once all of that is stored, so nothing takes it back.
 //
-// All times are in milliseconds. No call takes longer than its time-out, except that a server which
-// stops reading may hold a call up for two seconds more.
+// All times are in milliseconds. No call takes longer than its time-out, whatever the server does:
+// a thread of the space speaks with it.
 //
 // One thread at a time uses a markring_remote_space and its programs.
 #ifndef MARKRING_REMOTE_H
@@ -79,7 +79,8 @@ typedef struct markring_remote_facts {
 int markring_remote_connect(
     markring_remote_space **space, const markring_remote_options *options, const char *name);
 
-// Ends the connection. Close its programs first.
+// Ends the connection. Close its programs first. A server that says little may hold the call up for
+// some seconds.
 void markring_remote_disconnect(markring_remote_space *space);
 
 // Begins to speak for a program of a node: from now on the node refuses requests of an earlier

@@ -85,11 +85,14 @@ static void turn(host *it, uint64_t now)
     host_saved(it, now, STORE_OK, now);
 }
 
+static bool is_wide;
+
 static host *open_host(uint8_t own)
 {
     static const host_options options = {.entries_least = 4096};
     host_calls calls = {&stations[own], on_send, on_answer, on_save};
-    host_shape shape = {.name = "fuzz", .own = own, .nodes = 2, .registers = 8, .slots = 32};
+    host_shape shape = {.name = "fuzz", .own = own, .nodes = 2, .registers = 8, .slots = 32,
+        .wide = is_wide, .places = is_wide ? 20 : 0};
     store_value value = {NULL, 0, 0, false, 0, 0};
     host *it = NULL;
     if (host_create(&shape, &value) != MARKRING_OK
@@ -211,9 +214,9 @@ static void try_value(void)
     free(value.buffer);
 }
 
-int main(int count, char **given)
+// Two nodes of a plain or of a wide space.
+static void fuzz(unsigned long rounds)
 {
-    unsigned long rounds = count > 1 ? strtoul(given[1], NULL, 10) : 100000;
     stations[0].host = open_host(0);
     stations[1].host = open_host(1);
     for (uint64_t now = 2; now < rounds + 2; now++) {
@@ -242,6 +245,17 @@ int main(int count, char **given)
     for (int i = 0; i < 2; i++) {
         host_free(stations[i].host);
         free(stations[i].stored.buffer);
+        stations[i].stored.buffer = NULL;
+    }
+}
+
+int main(int count, char **given)
+{
+    unsigned long rounds = count > 1 ? strtoul(given[1], NULL, 10) : 100000;
+    for (int way = 0; way < 2; way++) {
+        is_wide = way == 1;
+        sent_count = 0;
+        fuzz(rounds / 2);
     }
     printf("%lu passed, %lu failed\n", passed, failed);
     return failed != 0 || passed == 0;

@@ -57,6 +57,8 @@ typedef struct station {
 
 static host_options options;
 static uint32_t slots = 64;
+static uint16_t registers = 8;
+static uint8_t wide_places; // of a wide space; 0 for a plain one
 static uint64_t folder_limit;
 static const uint8_t SPACE[SPACE_ID] = {1, 2, 3, 4, 5, 6, 7, 8};
 enum { NONCE = 77 };
@@ -102,7 +104,8 @@ static void open_host(station *at)
 static void make_node(station *at, uint8_t own, uint8_t nodes, bool has_entries)
 {
     store_value value = {NULL, 0, 0, false, 0, 0};
-    host_shape shape = {"test", {0}, own, nodes, 8, slots, folder_limit};
+    host_shape shape = {
+        "test", {0}, own, nodes, registers, slots, folder_limit, wide_places > 0, wide_places};
     memset(at, 0, sizeof *at);
     memcpy(shape.space, SPACE, SPACE_ID);
     at->nonce = NONCE;
@@ -955,13 +958,188 @@ static void test_forgetting(void)
     }
 }
 
-static unsigned long long image_of(station *at)
+// A number of the status.
+static unsigned long long number_of(station *at, const char *name)
 {
+    char word[32];
+    int length = snprintf(word, sizeof word, "\"%s\": ", name);
     host_control(at->host, at->now, "status", 6, "r");
     at->text[at->told] = 0;
-    const char *found = strstr((const char *)at->text, "\"image\": ");
+    const char *found = strstr((const char *)at->text, word);
     HOLDS(found != NULL);
-    return found != NULL ? strtoull(found + 9, NULL, 10) : 0;
+    return found != NULL ? strtoull(found + length, NULL, 10) : 0;
+}
+
+static unsigned long long image_of(station *at)
+{
+    return number_of(at, "image");
+}
+
+// ## Wide spaces
+
+static void make_wide(station *at, uint16_t count, bool has_entries)
+{
+    slots = 16777216;
+    registers = count;
+    wide_places = 255;
+    make_node(at, 0, 3, has_entries);
+    slots = 64;
+    registers = 8;
+    wide_places = 0;
+    settle(at, STORE_OK);
+}
+
+// Two programs have all registers. One has an object with the most places in its last one, and
+// still after a restart.
+static void test_wide(void)
+{
+    for (int way = 0; way < 2; way++) {
+        station at;
+        markring_event alloc = {.kind = MARKRING_EVENT_ALLOC, .reg = 65534, .place = 255};
+        markring_event store = {
+            .kind = MARKRING_EVENT_STORE, .reg = 65534, .object = 65534, .place = 254};
+        markring_event load = {
+            .kind = MARKRING_EVENT_LOAD, .reg = 65533, .object = 65534, .place = 254};
+        markring_event beyond = load, other = alloc, last = alloc;
+        beyond.place = 255;
+        other.reg = 65532;
+        last.reg = 65535;
+        make_wide(&at, 65535, way == 1);
+        HOLDS(open_apart(&at, 3, 103, 65534, 2) == VERDICT_REGISTERS);
+        HOLDS(open_apart(&at, 3, 103, 65535, 1) == VERDICT_REGISTERS);
+        HOLDS(open_apart(&at, 3, 103, 65533, 2) == VERDICT_DONE);
+        HOLDS(open_apart(&at, 4, 104, 0, 65534) == VERDICT_REGISTERS);
+        HOLDS(open_apart(&at, 4, 104, 0, 65533) == VERDICT_DONE);
+        HOLDS(perform_one(&at, 3, 103, alloc) == MARKRING_OK);
+        HOLDS(perform_one(&at, 3, 103, store) == MARKRING_OK);
+        HOLDS(perform_one(&at, 4, 104, other) == MARKRING_OK);
+        for (int i = 0; i < 2; i++) {
+            HOLDS(perform_one(&at, 3, 103, load) == MARKRING_OK);
+            HOLDS(perform_one(&at, 3, 103, beyond) == MARKRING_NO_FIELD);
+            HOLDS(perform_one(&at, 3, 103, other) == MARKRING_NO_REGISTER);
+            HOLDS(perform_one(&at, 3, 103, last) == MARKRING_NO_REGISTER);
+            HOLDS(read_one(&at, 3, 65534) == MARKRING_OK);
+            HOLDS(read_one(&at, 3, 65535) == MARKRING_NO_REGISTER);
+            HOLDS(read_one(&at, 3, 65532) == MARKRING_NO_REGISTER);
+            HOLDS(read_one(&at, 4, 65532) == MARKRING_OK);
+            HOLDS(read_one(&at, 4, 65533) == MARKRING_NO_REGISTER);
+            HOLDS(number_of(&at, "registers") == 65535 && number_of(&at, "slots") == 16777216);
+            HOLDS(number_of(&at, "places") == 255 && number_of(&at, "wide") == 1);
+            drop(&at);
+            open_host(&at);
+            settle(&at, STORE_OK);
+        }
+        host_control(at.host, at.now, "forget 4", 8, "r");
+        settle(&at, STORE_OK);
+        at.text[at.told] = 0;
+        HOLDS(strstr((const char *)at.text, "\"registers\": 65533}") != NULL);
+        HOLDS(read_one(&at, 4, 65532) == MARKRING_NOTHING && read_one(&at, 3, 65534) == MARKRING_OK);
+        drop(&at);
+        free(at.stored);
+    }
+    station plain;
+    make_node(&plain, 0, 3, true);
+    settle(&plain, STORE_OK);
+    HOLDS(number_of(&plain, "places") == 8 && number_of(&plain, "wide") == 0);
+    drop(&plain);
+    free(plain.stored);
+}
+
+// The image hasn't more bytes than the host reckons.
+static void expect_bound(station *at)
+{
+    size_t size = 0;
+    HOLDS(__real_markring_node_image_size(host_node(at->host), &size) == MARKRING_OK);
+    HOLDS(at->host->size >= size);
+}
+
+// A letter of node 1 with a reference to an object there, which goes into a place.
+static void fill_place(station *at, uint32_t number, uint16_t object, uint8_t place)
+{
+    uint8_t frame[38];
+    markring_answer answer;
+    markring_node *node = host_node(at->host);
+    writer to = writer_of(frame, sizeof frame);
+    write_number(&to, 0x450100, 3);
+    write_number(&to, number, 8);
+    write_number(&to, 0, 8);
+    write_number(&to, 4, 1);
+    write_number(&to, number, 4);
+    write_number(&to, 0x0101, 2);
+    write_number(&to, number, 4);
+    write_number(&to, 1, 8);
+    HOLDS(to.ok && to.length == sizeof frame);
+    HOLDS(markring_node_take(node, frame, sizeof frame, &answer) == MARKRING_OK);
+    HOLDS(markring_node_accept(node, 0, &answer) == MARKRING_OK);
+    HOLDS(markring_node_store(node, object, place, 0, &answer) == MARKRING_OK);
+    host_changed(at->host);
+}
+
+// Objects with the most places: as they are made, and as they are scanned, when each place asks
+// another node to mark.
+static void test_wide_growth(void)
+{
+    enum { OBJECTS = 20 };
+    station at;
+    uint32_t number = 0;
+    make_wide(&at, OBJECTS + 1, true);
+    HOLDS(open_apart(&at, 3, 103, 1, OBJECTS) == VERDICT_DONE);
+    for (uint16_t i = 0; i < OBJECTS; i++) {
+        markring_event alloc = {
+            .kind = MARKRING_EVENT_ALLOC, .reg = (uint16_t)(1 + i), .place = 255};
+        HOLDS(perform_one(&at, 3, 103, alloc) == MARKRING_OK);
+        expect_bound(&at);
+    }
+    for (uint16_t object = 1; object <= OBJECTS; object++) {
+        for (int place = 0; place < 255; place++) {
+            fill_place(&at, ++number, object, (uint8_t)place);
+        }
+        turn(&at, 10, STORE_OK);
+        expect_bound(&at);
+    }
+    // From here on the host knows the size.
+    drop(&at);
+    open_host(&at);
+    settle(&at, STORE_OK);
+    host_control(at.host, at.now, "begin", 5, "r");
+    for (int i = 0; i < 10; i++) {
+        turn(&at, 10, STORE_OK);
+        expect_bound(&at);
+    }
+    markring_link link = {0};
+    HOLDS(markring_node_link(host_node(at.host), 1, &link) == MARKRING_OK);
+    HOLDS(link.appended > OBJECTS * 255);
+    drop(&at);
+    free(at.stored);
+}
+
+// A node whose image is larger than that of a plain space may be: it is saved, takes messages and
+// events, and is opened again.
+static void test_wide_size(void)
+{
+    enum { OBJECT = 26 };
+    station at;
+    markring_answer answer;
+    markring_event alloc = {.kind = MARKRING_EVENT_ALLOC, .reg = 1};
+    bool all = true;
+    make_wide(&at, 2, true);
+    HOLDS(open_apart(&at, 3, 103, 1, 1) == VERDICT_DONE);
+    for (uint32_t i = 0; i <= IMAGE_LIMIT / OBJECT; i++) {
+        all = all && markring_node_alloc(host_node(at.host), 0, 0, &answer) == MARKRING_OK;
+    }
+    HOLDS(all);
+    host_changed(at.host);
+    settle(&at, STORE_OK);
+    for (int i = 0; i < 2; i++) {
+        HOLDS(perform_one(&at, 3, 103, alloc) == MARKRING_OK);
+        HOLDS(number_of(&at, "image") > IMAGE_LIMIT);
+        HOLDS(takes_messages(at.host) && host_ended(at.host) == HOST_RUNS);
+        drop(&at);
+        open_host(&at);
+        settle(&at, STORE_OK);
+    }
+    drop(&at);
+    free(at.stored);
 }
 
 // The status says how many bytes the image has, and that stays so when events change none of them.
@@ -1350,6 +1528,9 @@ int main(void)
     test_apart();
     test_forgetting();
     test_image();
+    test_wide();
+    test_wide_growth();
+    test_wide_size();
     test_results();
     test_pace();
     test_absence();

@@ -8,7 +8,7 @@
 #include <stdio.h>
 #include <string.h>
 
-enum { REQUESTS = 200, WORDS = 20, TIME = 5000, SHORT = 30 };
+enum { REQUESTS = 200, WORDS = 20, TIME = 60000, SHORT = 30 };
 
 static unsigned long passed, failed;
 

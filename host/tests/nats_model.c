@@ -42,6 +42,14 @@ static void *need(void *block)
     return block;
 }
 
+// Waits for the lock of a connection.
+static void lock(void)
+{
+    if (model.locked != NULL) {
+        model.locked();
+    }
+}
+
 // Makes something that has to be destroyed.
 static void *made(size_t size)
 {
@@ -195,6 +203,7 @@ natsStatus natsOptions_SetReconnectBufSize(natsOptions *it, int size)
 natsStatus natsConnection_Connect(natsConnection **it, natsOptions *options)
 {
     natsStatus status = NATS_OK;
+    lock();
     if (model.attempts < model.connects_count) {
         status = model.connects[model.attempts];
     }
@@ -211,6 +220,7 @@ natsStatus natsConnection_Connect(natsConnection **it, natsOptions *options)
 void natsConnection_Close(natsConnection *it)
 {
     if (it != NULL) {
+        lock();
         it->closed = true;
     }
 }
@@ -236,11 +246,13 @@ void natsConnection_Destroy(natsConnection *it)
 
 bool natsConnection_IsClosed(natsConnection *it)
 {
+    lock();
     return it == NULL || it->closed;
 }
 
 natsConnStatus natsConnection_Status(natsConnection *it)
 {
+    lock();
     return it == NULL || it->closed ? NATS_CONN_STATUS_CLOSED
         : model.is_away             ? NATS_CONN_STATUS_RECONNECTING
                                     : NATS_CONN_STATUS_CONNECTED;
@@ -261,12 +273,14 @@ const char *nats_GetLastError(natsStatus *status)
 
 int64_t natsConnection_GetMaxPayload(natsConnection *it)
 {
+    lock();
     return it != NULL ? model.max_payload : 0;
 }
 
 natsStatus natsConnection_FlushTimeout(natsConnection *it, int64_t time)
 {
     (void)time;
+    lock();
     return it != NULL ? NATS_OK : NATS_INVALID_ARG;
 }
 
@@ -276,6 +290,7 @@ natsStatus natsConnection_PublishRequest(
     if (it == NULL) {
         return NATS_INVALID_ARG;
     }
+    lock();
     if (length > model.max_payload) {
         return NATS_MAX_PAYLOAD;
     }
@@ -339,9 +354,11 @@ natsStatus natsSubscription_SetPendingLimits(natsSubscription *it, int messages,
 
 natsStatus natsSubscription_NextMsg(natsMsg **message, natsSubscription *it, int64_t time)
 {
-    (void)time;
     if (it == NULL) {
         return NATS_INVALID_ARG;
+    }
+    if (it->first == NULL && model.waited != NULL) {
+        model.waited(time);
     }
     *message = it->first;
     if (it->first == NULL) {

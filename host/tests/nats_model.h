@@ -5,6 +5,7 @@
 
 #include <nats/nats.h>
 
+#include <stdatomic.h>
 #include <stdbool.h>
 #include <stddef.h>
 
@@ -18,10 +19,14 @@ typedef struct nats_model {
     bool is_away; // connections are lost, for now
     // Is called for each message that is published. `reply` may be NULL.
     void (*published)(const char *subject, const char *reply, const void *bytes, int length);
+    // Is called, unless it is NULL, by all that waits for a connection's lock; and by the wait for a
+    // message that isn't there yet, with its time.
+    void (*locked)(void);
+    void (*waited)(int64_t time);
     // The last error, as nats_GetLastError gives it.
     const char *text;
     // How many options, connections, subscriptions and messages were made and not destroyed.
-    long alive;
+    atomic_long alive;
     // The last connection that was made, and what it subscribed to.
     natsConnection *last;
     char subscribed[160];

@@ -76,12 +76,17 @@ static carrier_state go_on(uint64_t time)
     return state;
 }
 
+// Rounds, until this is so. A machine that is busy has 20 seconds for it, a wrong node no more than
+// twice.
+#define GO_ON_UNTIL(condition) \
+    for (uint64_t end = now_ms() + 20000; !(condition) && failed < 2 && now_ms() < end;) { \
+        (void)go_round(&at); \
+    }
+
 // Rounds, until this was published. Returns whether it was.
 static bool hears(const char *subject)
 {
-    for (int i = 0; i < 500 && !was_heard(subject); i++) {
-        (void)go_round(&at);
-    }
+    GO_ON_UNTIL(was_heard(subject) || host_ended(at.host) != HOST_RUNS);
     return was_heard(subject);
 }
 
@@ -113,6 +118,22 @@ static int end_hearing(const char *text)
         count++;
     }
     return count;
+}
+
+// What is printed goes to what is heard, from here on until the other call.
+static int begin_prints(void)
+{
+    fflush(stdout);
+    int out = dup(1);
+    dup2(2, 1);
+    return out;
+}
+
+static void end_prints(int out)
+{
+    fflush(stdout);
+    dup2(out, 1);
+    close(out);
 }
 
 // ## Tests
@@ -148,7 +169,7 @@ static void test_addresses(void)
     (void)go_on(2 * CYCLE);
     HOLDS(heard_count == 0 && host_counted(at.host)->foreign == 0);
     model_deliver("markring.test.node.0.from.1", NULL, "x", 1);
-    (void)go_on(2 * CYCLE);
+    GO_ON_UNTIL(host_counted(at.host)->foreign > 0);
     HOLDS(host_counted(at.host)->foreign == 1);
 }
 
@@ -264,7 +285,8 @@ static void test_floods(void)
     (void)go_round(&at);
     HOLDS(at.waiting == INBOX_MOST - HOST_TAKES);
     listen();
-    (void)go_on(20 * CYCLE);
+    GO_ON_UNTIL(at.waiting == 0);
+    (void)go_on(2 * CYCLE);
     HOLDS(at.waiting == 0 && published >= INBOX_MOST && published < INBOX_MOST + 100);
     HOLDS(model.kept_messages == INBOX_MOST && model.kept_bytes == INBOX_BYTES);
 }
@@ -285,7 +307,7 @@ static void test_long_messages(void)
         HOLDS(at.waiting == (size_t)most);
         model_deliver("markring.test.node.0.program", "_INBOX.long", bytes, 1);
         HOLDS(at.waiting == (size_t)most + 1 && at.waiting_bytes == INBOX_BYTES);
-        (void)go_on(5 * CYCLE);
+        GO_ON_UNTIL(at.waiting == 0);
         HOLDS(at.waiting == 0 && at.waiting_bytes == 0);
     }
     listen();
@@ -340,6 +362,94 @@ static void test_words(void)
     HOLDS(end_hearing("usage:") == sizeof limits / sizeof *limits);
 }
 
+// The node that `create` made in this folder.
+static host_shape shape_in(const char *folder)
+{
+    store it;
+    host *node = NULL;
+    host_shape shape = {0};
+    if (open_folder(&it, &node, folder) == 0) {
+        shape = *host_is(node);
+        host_free(node);
+        store_close(&it);
+    }
+    return shape;
+}
+
+static int show_as(const char *folder)
+{
+    int out = begin_prints();
+    int status = show(folder);
+    end_prints(out);
+    return status;
+}
+
+// The same for wide spaces.
+static void test_wide_words(void)
+{
+    static const struct {
+        int at;
+        const char *good, *bad;
+    } limits[] = {{4, "64", "65"}, {5, "257", "0"}, {5, "65535", "65536"}, {6, "1048577", "0"},
+        {6, "16777216", "16777217"}, {8, "0", "-1"}, {8, "255", "256"}};
+    char folder[PATH + 16];
+    begin_hearing();
+    for (size_t i = 0; i < sizeof limits / sizeof *limits; i++) {
+        snprintf(folder, sizeof folder, "%s/wide%d", place, (int)i);
+        for (int is_bad = 1; is_bad >= 0; is_bad--) {
+            char *words[] = {
+                folder, "test", "0123456789abcdef", "63", "64", "8", "64", "--places", "9"};
+            words[limits[i].at] = strdup(is_bad ? limits[i].bad : limits[i].good);
+            HOLDS(create(9, words) == (is_bad ? LEAVE_USAGE : 0));
+            HOLDS((access(folder, F_OK) == 0) == !is_bad);
+            if (!is_bad) {
+                host_shape shape = shape_in(folder);
+                HOLDS(shape.wide && shape.places == strtoul(words[8], NULL, 10));
+                HOLDS(shape.registers == strtoul(words[5], NULL, 10));
+                HOLDS(shape.slots == strtoul(words[6], NULL, 10));
+            }
+            free(words[limits[i].at]);
+        }
+    }
+    // (Two of them come from the library.)
+    HOLDS(end_hearing("usage:") == sizeof limits / sizeof *limits - 2);
+}
+
+// Each option of `create` comes at most once, with its number, in any order.
+static void test_create_options(void)
+{
+    static char *const odd[][4] = {{"--places", "9", "--places", "9"},
+        {"--limit", "1", "--limit", "1"}, {"--places", "9", "--limit", ""},
+        {"--places", "", "--limit", "1"}, {"--place", "9", "--limit", "1"},
+        {"9", "--places", "--limit", "1"}};
+    char folder[PATH + 16];
+    begin_hearing();
+    snprintf(folder, sizeof folder, "%s/odd", place);
+    for (size_t i = 0; i < sizeof odd / sizeof *odd; i++) {
+        char *words[] = {folder, "test", "0123456789abcdef", "1", "2", "8", "64", odd[i][0],
+            odd[i][1], odd[i][2], odd[i][3]};
+        HOLDS(create(11, words) == LEAVE_USAGE && create(10, words) == LEAVE_USAGE);
+        HOLDS(create(8, words) == LEAVE_USAGE && access(folder, F_OK) != 0);
+    }
+    HOLDS(end_hearing("usage:") == 3 * sizeof odd / sizeof *odd);
+    begin_hearing();
+    for (int way = 0; way < 2; way++) {
+        char *words[] = {folder, "test", "0123456789abcdef", "1", "2", "300", "64",
+            way == 0 ? "--places" : "--limit", "20", way == 0 ? "--limit" : "--places", "20"};
+        snprintf(folder, sizeof folder, "%s/both%d", place, way);
+        HOLDS(create(11, words) == 0);
+        host_shape shape = shape_in(folder);
+        HOLDS(shape.wide && shape.places == 20 && shape.registers == 300 && shape.limit == 20);
+        HOLDS(show_as(folder) == 0);
+    }
+    HOLDS(end_hearing(", node 1 of 2, 300 registers, 64 slots, 20 places, save ") == 2);
+    snprintf(folder, sizeof folder, "%s/limit0", place);
+    HOLDS(!shape_in(folder).wide && shape_in(folder).places == 8);
+    begin_hearing();
+    HOLDS(show_as(folder) == 0);
+    HOLDS(end_hearing("8 registers, 64 slots, save ") == 1);
+}
+
 // The next round looks at the host.
 static void look_soon(void)
 {
@@ -381,7 +491,7 @@ static void test_looks(void)
     }
     at.service.every = 0;
     uint64_t before = now_ms();
-    (void)go_on(2 * LOOK_EACH);
+    GO_ON_UNTIL(at.looked_at > before);
     HOLDS(at.looked_at > before && at.looked_at <= now_ms());
     // Also while the server refuses it.
     at.looked_at = 0;
@@ -426,13 +536,9 @@ static const char OTHER[] = "fedcba9876543210";
 // Calls it, and returns its status. What it prints goes to what is heard.
 static int restore_as(const char *folder, const char *id)
 {
-    fflush(stdout);
-    int out = dup(1);
-    dup2(2, 1);
+    int out = begin_prints();
     int status = restore(folder, id);
-    fflush(stdout);
-    dup2(out, 1);
-    close(out);
+    end_prints(out);
     return status;
 }
 
@@ -523,8 +629,9 @@ static void test_saves(void)
         write_error = ENOSPC;
         listen();
         ask_to_open(2 + (uint64_t)i, 2 + (uint64_t)i, "_INBOX.two");
-        HOLDS(go_on(350) == USABLE && !was_heard("_INBOX.two"));
-        HOLDS(host_counted(at.host)->failed_saves >= 2);
+        uint64_t failures = host_counted(at.host)->failed_saves;
+        GO_ON_UNTIL(host_counted(at.host)->failed_saves >= failures + 2);
+        HOLDS(host_counted(at.host)->failed_saves >= failures + 2 && !was_heard("_INBOX.two"));
         HOLDS(end_hearing("can't be saved: No space left on device") == 1);
         begin_hearing();
         write_error = 0;
@@ -533,7 +640,7 @@ static void test_saves(void)
     }
     sync_error = EIO;
     ask_to_open(4, 4, "_INBOX.three");
-    (void)go_on(2000);
+    GO_ON_UNTIL(host_ended(at.host) != HOST_RUNS);
     HOLDS(host_ended(at.host) == HOST_UNSURE && !was_heard("_INBOX.three"));
     begin_hearing();
     HOLDS(leave_with(&at) == LEAVE_UNSURE);
@@ -554,7 +661,7 @@ static void test_signal(void)
     ask_to_open(5, 4, "_INBOX.four");
     HOLDS(hears("_INBOX.four"));
     HOLDS(kill(getpid(), SIGTERM) == 0);
-    (void)go_on(2000);
+    GO_ON_UNTIL(host_ended(at.host) != HOST_RUNS);
     HOLDS(host_ended(at.host) == HOST_LEFT);
     HOLDS(leave_with(&at) == 0);
 }
@@ -575,6 +682,7 @@ static void start(void)
     HOLDS(open_node(&at, &options.host) == 0);
     name_node(&at);
     HOLDS(connect_node(&at, &carrier) == NATS_OK);
+    GO_ON_UNTIL(published > 0);
     HOLDS(go_on(5 * CYCLE) == USABLE && published > 0);
 }
 
@@ -587,7 +695,7 @@ int main(void)
     start();
     static void (*const tests[])(void) = {test_addresses, test_denials, test_late_calls,
         test_refusals, test_payload, test_floods, test_long_messages, test_openings, test_words,
-        test_connection_lines, test_looks, test_options, test_restore, test_saves, test_signal};
+        test_wide_words, test_create_options, test_connection_lines, test_looks, test_options, test_restore, test_saves, test_signal};
     for (size_t i = 0; i < sizeof tests / sizeof *tests; i++) {
         tests[i]();
         // The connection, and the subscription.

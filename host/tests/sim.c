@@ -3,6 +3,7 @@
 // at any call, allocations fail, and the clock jumps. Older folders and snapshots of machines are
 // put back, nodes are stopped, and programs flood nodes. Each answer is compared with a model of
 // the programs; at checkpoints, each node comes to have exactly the objects that the model reaches.
+// A third of the spaces are wide: their programs use the last registers and places of many.
 //
 //     sim SEEDS [FIRST [STEPS]]
 #include "../inside.h"
@@ -28,7 +29,10 @@ enum {
     STARTS_MOST = 6,   // of an older folder, while the other nodes are away
     MIXED = 200,
     FLOOD = 150,       // requests
-    TIGHT = 60000      // bytes of an image that takes no messages
+    TIGHT = 60000,     // bytes of an image that takes no messages
+    // In wide spaces, the registers and places before those that are used.
+    MORE_REGISTERS = 400,
+    MORE_PLACES = 60
 };
 
 // ## Random numbers and checks
@@ -251,6 +255,7 @@ static part parts[MOST][PARTS];
 static uint8_t nodes;
 static uint64_t now, limit;
 static bool is_apart; // programs have registers for themselves
+static bool is_wide;
 static bool is_calm;  // no faults
 static bool is_quick; // saves take a few milliseconds
 static bool is_still; // nobody asks for cycles
@@ -483,6 +488,22 @@ static void take_turn(station *at)
 
 // ## Requests
 
+// The number of the register that is the model's register 0.
+static uint16_t first_register(void)
+{
+    return is_wide ? MORE_REGISTERS : 0;
+}
+
+// An event of the model as the node knows it.
+static markring_event placed(markring_event it)
+{
+    it.reg = (uint16_t)(it.reg + first_register());
+    it.source = (uint16_t)(it.source + first_register());
+    it.object = (uint16_t)(it.object + first_register());
+    it.place = (uint8_t)(it.place + (is_wide ? MORE_PLACES : 0));
+    return it;
+}
+
 static void send_request(part *it, uint8_t kind, uint64_t number)
 {
     uint8_t bytes[REQUEST_BYTES];
@@ -491,11 +512,12 @@ static void send_request(part *it, uint8_t kind, uint64_t number)
     request_head head = {kind, it->number, it->session, number, count};
     write_request_head(&to, &head);
     if (kind == REQUEST_OPEN_APART) {
-        write_number(&to, it->number == 0 ? 0 : FIRST, 2);
+        write_number(&to, first_register() + (it->number == 0 ? 0u : FIRST), 2);
         write_number(&to, it->number == 0 ? FIRST : REGISTERS - FIRST, 2);
     }
     for (uint16_t i = 0; i < count; i++) {
-        write_event(&to, &it->events[i]);
+        markring_event event = placed(it->events[i]);
+        write_event(&to, &event);
     }
     it->asked_at = now;
     put_in_net(1, (uint8_t)(10 * it->node + it->number), it->node, bytes, to.length);
@@ -511,7 +533,7 @@ static void read_something(part *it)
         waits ? 0 : REGISTERS};
     write_request_head(&to, &head);
     for (uint16_t reg = 0; reg < head.count; reg++) {
-        write_number(&to, reg, 2);
+        write_number(&to, (uint64_t)first_register() + reg, 2);
     }
     it->reading = it->reads;
     it->asked_at = now;
@@ -764,7 +786,8 @@ static void take_answer(part *it, const packet *came)
     if (!HOLDS(read_answer_head(&from, &head)) || head.session != it->session) {
         return;
     }
-    HOLDS(head.own == it->node && head.nodes == nodes && head.registers == REGISTERS
+    HOLDS(head.own == it->node && head.nodes == nodes
+        && head.registers == first_register() + REGISTERS
         && head.slots == SLOTS && head.program == it->number);
     if (head.kind == REQUEST_OPEN || head.kind == REQUEST_OPEN_APART) {
         if (!it->opened && head.verdict == VERDICT_STALE && head.round >= it->round) {
@@ -1027,8 +1050,8 @@ static void expect_objects(void)
         for (int reg = 0; reg < REGISTERS; reg++) {
             markring_ref held = {0, 0, 0};
             uint32_t id = parts[node][reg >= FIRST].registers[reg];
-            int status =
-                markring_node_register(host_node(stations[node].host), (uint16_t)reg, &held);
+            int status = markring_node_register(
+                host_node(stations[node].host), (uint16_t)(first_register() + reg), &held);
             HOLDS(status == (id == 0 ? MARKRING_NOTHING : MARKRING_OK) && same(held, name_of(id)));
             reach(id, seen, counts);
         }
@@ -1383,7 +1406,8 @@ static void expect_absence(void)
     away->starts_at = now + 7200000;
     markring_answer answer;
     letter given = {it->node, node, false, false, true, 0, 0, 0, 0};
-    HOLDS(markring_node_give(host_node(at->host), node, new_letter(given), REGISTERS - 1, &answer)
+    HOLDS(markring_node_give(host_node(at->host), node, new_letter(given),
+              (uint16_t)(first_register() + REGISTERS - 1), &answer)
         == MARKRING_OK);
     letters[letter_count - 1].content = parts[it->node][1].registers[REGISTERS - 1];
     host_changed(at->host);
@@ -1531,7 +1555,9 @@ static void create(uint8_t node)
     memset(shape.space, 7, sizeof shape.space);
     shape.own = node;
     shape.nodes = nodes;
-    shape.registers = REGISTERS;
+    shape.registers = (uint16_t)(first_register() + REGISTERS);
+    shape.wide = is_wide;
+    shape.places = is_wide ? MORE_PLACES + PLACES : 0;
     shape.slots = SLOTS;
     shape.limit = limit;
     at->disk.seed = &seed;
@@ -1555,7 +1581,8 @@ static void create(uint8_t node)
         } else {
             disk_kill(&at->disk);
         }
-        if (done && below(3) == 0) {
+        // (Earlier versions had no wide spaces.)
+        if (done && below(3) == 0 && !is_wide) {
             make_old(&at->disk, node);
         }
         if (!done) {
@@ -1650,6 +1677,7 @@ int main(int count, char **given)
     unsigned long steps = count > 3 ? strtoul(given[3], NULL, 10) : 4000;
     for (run_seed = first; run_seed < first + seeds && failures == 0; run_seed++) {
         seed = run_seed * UINT64_C(0x9E3779B97F4A7C15) | 1;
+        is_wide = run_seed % 3 == 0;
         run(steps);
     }
     printf("%lu seeds: %lu requests, %lu answers, %lu crashes, %lu of them with the machine, %lu "

@@ -16,6 +16,19 @@ sys.path.insert(0, str(TOP / "bindings/python"))
 
 from markring import errors, remote  # noqa: E402
 
+# Whatever comes at all, comes within this many seconds, also if the machine is slow and busy.
+KEPT = 60.0
+
+
+class Patient(remote.Space):
+    """A connection whose calls wait that long, if they aren't told how long."""
+
+    def program(self, node: int, number: int, timeout: float = KEPT, registers: range = None) -> remote.Program:
+        return super().program(node, number, timeout, registers)
+
+    def ask(self, node: int, word: str, timeout: float = KEPT):
+        return super().ask(node, word, timeout)
+
 
 def free_port() -> int:
     with socket.socket() as it:
@@ -92,7 +105,8 @@ class Server:
     def start(self) -> None:
         with self.log.open("a") as log:
             self.process = subprocess.Popen(["nats-server", "-c", str(self.config)], stdout=log, stderr=log)
-        for _ in range(200):
+        end = time.monotonic() + KEPT
+        while time.monotonic() < end:
             with socket.socket() as it:
                 if it.connect_ex((self.address, self.port)) == 0:
                     return
@@ -121,10 +135,10 @@ class Cluster:
     variables = {}
 
     def __init__(
-        self, program: str, nodes: int, registers: int, slots: int, limit: int = 16384, run: tuple = ()
+        self, program: str, nodes: int, registers: int, slots: int, limit: int = 16384, run: tuple = (), options: tuple = ()
     ) -> None:
         self.program, self.nodes, self.registers, self.slots = program, nodes, registers, slots
-        self.limit, self.run_words = limit, list(run)
+        self.limit, self.run_words, self.create_words = limit, list(run), options
         self.place = tempfile.TemporaryDirectory(prefix="markring-")
         self.folder = Path(self.place.name)
         self.server = Server(self.folder, "test", nodes, self.address)
@@ -155,7 +169,7 @@ class Cluster:
 
     def create(self, node: int) -> None:
         words = ["create", self.node_folder(node), "test", self.id, node, self.nodes, self.registers, self.slots]
-        subprocess.run([self.program, *map(str, words), "--limit", str(self.limit)], check=True)
+        subprocess.run([self.program, *map(str, [*words, *self.create_words, "--limit", self.limit])], check=True)
 
     def log(self, node: int) -> str:
         return (self.folder / f"{node}.log").read_text()
@@ -178,12 +192,12 @@ class Cluster:
         it = self.processes[node]
         it.send_signal(number)
         self.kills += number == signal.SIGKILL
-        return it.wait(30)
+        return it.wait(KEPT)
 
-    def client(self, user: str = "program") -> remote.Space:
-        it = remote.Space(self.server.url(user), "test")
+    def client(self, user: str = "program") -> Patient:
+        it = Patient(self.server.url(user), "test")
         self.clients.append(it)
         return it
 
-    def states(self, operator: remote.Space, timeout: float = 10.0) -> list:
-        return [operator.ask(node, "status", timeout) for node in range(self.nodes)]
+    def states(self, operator: Patient) -> list:
+        return [operator.ask(node, "status") for node in range(self.nodes)]

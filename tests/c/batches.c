@@ -7,7 +7,7 @@
 //     batches SEEDS STEPS
 #include "check.h"
 
-enum { NODES = 3, REGISTERS = 4, SLOTS = 40, NET = 48 };
+enum { NODES = 3, REGISTERS = 4, SLOTS = 40, MOST_PLACES = 20, NET = 48 };
 
 typedef struct site {
     // The node with a log, and the one without.
@@ -26,6 +26,7 @@ typedef struct packet {
     uint8_t frame[48];
 } packet;
 
+static int is_wide;
 static site sites[NODES];
 static packet net[NET];
 static int in_net;
@@ -38,11 +39,12 @@ static void copy(bytes *to, const bytes *from)
     add(to, from->at, from->length);
 }
 
-// Images of a node with a log differ from others in the third byte.
+// Images of a node with a log differ from others in the third byte, as do those of a wide space.
 static int same_image(const bytes *logged, const bytes *plain)
 {
-    return logged->length == plain->length && logged->length > 3 && logged->at[2] == 3
-        && plain->at[2] == 2 && memcmp(logged->at, plain->at, 2) == 0
+    int version = is_wide ? 4 : 2;
+    return logged->length == plain->length && logged->length > 3 && logged->at[2] == version + 1
+        && plain->at[2] == version && memcmp(logged->at, plain->at, 2) == 0
         && memcmp(logged->at + 3, plain->at + 3, plain->length - 3) == 0;
 }
 
@@ -77,7 +79,7 @@ static void act(uint8_t own_number)
         event.kind = below(&seed, 2) != 0 ? MARKRING_EVENT_ALLOC : MARKRING_EVENT_GIVE;
     }
     event.node = (uint8_t)below(&seed, NODES);
-    event.place = (uint8_t)below(&seed, 4);
+    event.place = (uint8_t)below(&seed, is_wide ? MOST_PLACES + 2 : 4);
     event.reg = (uint16_t)below(&seed, REGISTERS);
     event.source = (uint16_t)below(&seed, REGISTERS);
     event.object = (uint16_t)below(&seed, REGISTERS);
@@ -324,11 +326,19 @@ static void damage(site *it)
     drop_bytes(&changed);
 }
 
+// A node of a wide space, or of a plain one.
+static int make(markring_node *node, uint8_t own_number)
+{
+    static const markring_shape SHAPE = {SLOTS, 0, REGISTERS, NODES, MOST_PLACES, 1};
+    return is_wide ? markring_node_make(node, &SHAPE, own_number, 0)
+                   : markring_node_new(node, NODES, REGISTERS, SLOTS, own_number, 0);
+}
+
 static void run(unsigned long steps)
 {
     for (uint8_t node = 0; node < NODES; node++) {
-        OK(markring_node_new(&sites[node].node, NODES, REGISTERS, SLOTS, node, 0));
-        OK(markring_node_new(&sites[node].twin, NODES, REGISTERS, SLOTS, node, 0));
+        OK(make(&sites[node].node, node));
+        OK(make(&sites[node].twin, node));
         OK(markring_node_log(&sites[node].node, 1));
         store(node);
         store(node);
@@ -521,6 +531,7 @@ int main(int length, char **words)
     plain_image();
     for (unsigned long i = 1; i <= seeds && failed == 0; i++) {
         seed = i * UINT64_C(0x9E3779B97F4A7C15) | 1;
+        is_wide = i % 2 == 0;
         run(steps);
         if (failed != 0) {
             printf("seed %lu failed\n", i);

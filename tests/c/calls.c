@@ -305,14 +305,15 @@ static void look_at_texts(void)
     static const char *const NAMES[] = {"OK", "Memory", "ArenaFull", "NoRegister", "EmptyRegister",
         "Remote", "Local", "NoNode", "NoLetter", "NoField", "TooManyFields", "SelfSend",
         "LinkSpent", "CyclesSpent", "NotDirector", "CycleRunning", "NothingToDo", "OutOfOrder",
-        "AckBeyond", "BadFrame", "WrongNode", "BadImage", "ImageTooLarge", "Disk", "Closed"};
-    for (int i = 0; i < 25; i++) {
+        "AckBeyond", "BadFrame", "WrongNode", "BadImage", "ImageTooLarge", "Disk", "Closed",
+        "TooManyBytes", "NoBytes"};
+    for (int i = 0; i < 27; i++) {
         HOLDS(strcmp(NAMES[i], markring_status_text(i)) == 0);
     }
     for (int i = MARKRING_NO_HANDLE; i <= MARKRING_AGES; i++) {
         HOLDS(strcmp("unknown", markring_status_text(i)) != 0);
     }
-    HOLDS(strcmp("unknown", markring_status_text(25)) == 0);
+    HOLDS(strcmp("unknown", markring_status_text(27)) == 0);
     HOLDS(strcmp("unknown", markring_status_text(-1)) == 0);
 }
 

@@ -192,6 +192,136 @@ static void sizes(void)
     }
 }
 
+static void shapes_of_space(const markring_shape *shape, int status)
+{
+    markring_space space = {0};
+    markring_cell cell = {0};
+    IS(status, markring_space_make(&space, shape, 0));
+    HOLDS((space.at != NULL) == (status == MARKRING_OK));
+    if (space.at == NULL) {
+        return;
+    }
+    markring_state state;
+    IS(MARKRING_IN_USE, markring_space_make(&space, shape, 0));
+    OK(open_space(&space));
+    OK(markring_space_cell(&space, 1, &cell));
+    OK(markring_cell_state(&cell, &state));
+    HOLDS(state.slots == shape->slots && state.registers == shape->registers);
+    HOLDS(state.places == shape->places && state.wide == shape->wide);
+    HOLDS(state.bytes == shape->bytes);
+    OK(markring_cell_free(&cell));
+    OK(markring_space_free(&space));
+}
+
+// Shapes of both kinds at, below and above each limit, in the order of the tests.
+static void shapes(void)
+{
+    // The fields of a shape in order, the node's number, and the status.
+    static const struct {
+        markring_shape shape;
+        uint8_t own;
+        int status;
+    } CASES[] = {
+        // plain: nodes, registers, slots, places
+        {{1, 0, 1, 2, 8, 0}, 0, MARKRING_OK},
+        {{1, 0, 1, 0, 8, 0}, 0, MARKRING_BAD_ARGUMENT},
+        {{1, 0, 1, 1, 8, 0}, 0, MARKRING_BAD_ARGUMENT},
+        {{1, 0, 1, 65, 8, 0}, 0, MARKRING_BAD_ARGUMENT},
+        {{1, 0, 0, 2, 8, 0}, 0, MARKRING_BAD_ARGUMENT},
+        {{1, 0, 257, 2, 8, 0}, 0, MARKRING_BAD_ARGUMENT},
+        {{0, 0, 1, 2, 8, 0}, 0, MARKRING_BAD_ARGUMENT},
+        {{1048577, 0, 1, 2, 8, 0}, 0, MARKRING_BAD_ARGUMENT},
+        {{1, 0, 1, 2, 0, 0}, 0, MARKRING_BAD_ARGUMENT},
+        {{1, 0, 1, 2, 7, 0}, 0, MARKRING_BAD_ARGUMENT},
+        {{1, 0, 1, 2, 9, 0}, 0, MARKRING_BAD_ARGUMENT},
+        {{1, 0, 1, 2, 255, 0}, 0, MARKRING_BAD_ARGUMENT},
+        {{1048576, 0, 256, 64, 8, 0}, 63, MARKRING_OK},
+        {{1048576, 0, 256, 64, 8, 0}, 64, MARKRING_NO_NODE},
+        // wide
+        {{1, 0, 1, 2, 0, 1}, 1, MARKRING_OK},
+        {{1, 0, 1, 2, 0, 1}, 2, MARKRING_NO_NODE},
+        {{1, 0, 1, 2, 8, 1}, 0, MARKRING_OK},
+        {{1, 0, 1, 2, 9, 1}, 0, MARKRING_OK},
+        {{1, 0, 1, 1, 9, 1}, 0, MARKRING_BAD_ARGUMENT},
+        {{1, 0, 1, 65, 9, 1}, 0, MARKRING_BAD_ARGUMENT},
+        {{1, 0, 0, 2, 9, 1}, 0, MARKRING_BAD_ARGUMENT},
+        {{1, 0, 257, 2, 9, 1}, 0, MARKRING_OK},
+        {{0, 0, 1, 2, 9, 1}, 0, MARKRING_BAD_ARGUMENT},
+        {{1048577, 0, 1, 2, 9, 1}, 0, MARKRING_OK},
+        {{16777217, 0, 1, 2, 9, 1}, 0, MARKRING_BAD_ARGUMENT},
+        {{UINT32_MAX, 0, 1, 2, 9, 1}, 0, MARKRING_BAD_ARGUMENT},
+        {{16777216, 0, 65535, 64, 255, 1}, 63, MARKRING_OK},
+        {{16777216, 0, 65535, 64, 255, 1}, 64, MARKRING_NO_NODE},
+        {{16777217, 0, 65535, 64, 255, 1}, 64, MARKRING_BAD_ARGUMENT},
+        // no kind, and bytes
+        {{1, 0, 1, 2, 8, 2}, 0, MARKRING_BAD_ARGUMENT},
+        {{1, 0, 1, 2, 8, 255}, 0, MARKRING_BAD_ARGUMENT},
+        {{1, 1, 1, 2, 8, 0}, 0, MARKRING_BAD_ARGUMENT},
+        {{1, 1, 1, 2, 8, 1}, 0, MARKRING_OK},
+        {{1, 16777216, 1, 2, 8, 1}, 0, MARKRING_OK},
+        {{1, 16777217, 1, 2, 8, 1}, 0, MARKRING_BAD_ARGUMENT},
+        {{1, UINT32_MAX, 1, 2, 8, 1}, 0, MARKRING_BAD_ARGUMENT},
+    };
+    for (size_t i = 0; i < sizeof CASES / sizeof *CASES; i++) {
+        const markring_shape *shape = &CASES[i].shape;
+        int status = CASES[i].status;
+        markring_node node = {0};
+        markring_state state;
+        IS(status, markring_node_make(&node, shape, CASES[i].own, 0));
+        HOLDS((node.at != NULL) == (status == MARKRING_OK));
+        shapes_of_space(shape, status == MARKRING_NO_NODE ? MARKRING_OK : status);
+        if (node.at != NULL) {
+            static const markring_shape WRONG = {0};
+            void *before = node.at;
+            IS(MARKRING_IN_USE, markring_node_make(&node, &WRONG, 0, 0));
+            HOLDS(node.at == before);
+            OK(markring_node_state(&node, &state));
+            HOLDS(state.nodes == shape->nodes && state.own == CASES[i].own);
+            HOLDS(state.slots == shape->slots && state.registers == shape->registers);
+            HOLDS(state.places == shape->places && state.wide == shape->wide);
+            HOLDS(state.bytes == shape->bytes);
+            OK(markring_node_free(&node));
+        }
+    }
+}
+
+// The image of a node of a wide space is read again, and has its shape; so is one with a log, by
+// its batches.
+static void wide_images(void)
+{
+    static const markring_shape SHAPE = {2000000, 0, 65535, 2, 255, 1};
+    static const uint8_t none[1] = {0};
+    markring_node node = {0}, again = {0};
+    markring_answer answer;
+    markring_state state;
+    OK(markring_node_make(&node, &SHAPE, 0, 0));
+    OK(markring_node_alloc(&node, 65534, 255, &answer));
+    IS(MARKRING_NO_REGISTER, markring_node_alloc(&node, 65535, 255, &answer));
+    OK(markring_node_store(&node, 65534, 254, 65534, &answer));
+    IS(MARKRING_NO_FIELD, markring_node_store(&node, 65534, 255, 65534, &answer));
+    for (int logs = 0; logs < 2; logs++) {
+        OK(markring_node_log(&node, (uint8_t)logs));
+        bytes image = image_of(&node);
+        EQUAL(4 + (uint64_t)logs, image.at[2]);
+        EQUAL(255, image.at[3]);
+        if (logs) {
+            IS(MARKRING_BAD_IMAGE,
+                markring_node_from_image(&again, image.at, image.length, 0));
+            OK(markring_node_from_batches(&again, image.at, image.length, none, 0, 0));
+        } else {
+            OK(markring_node_from_image(&again, image.at, image.length, 0));
+        }
+        OK(markring_node_state(&again, &state));
+        HOLDS(state.slots == 2000000 && state.registers == 65535 && state.places == 255);
+        HOLDS(state.wide == 1 && state.live == 1);
+        OK(markring_node_load(&again, 0, 65534, 254, &answer));
+        EQUAL(1, answer.reference.generation);
+        OK(markring_node_free(&again));
+        drop_bytes(&image);
+    }
+    OK(markring_node_free(&node));
+}
+
 // A frame, which is given to the node.
 static void give_frame(markring_node *node, const char *hexadecimal)
 {
@@ -474,6 +604,13 @@ static void disks(uint64_t seed, unsigned long count)
         OK(markring_node_free(&node));
         drop_bytes(&other);
     }
+    // A wide space of the same sizes is another one.
+    OK(markring_node_make(&node, &(markring_shape){5, 0, 3, 2, 8, 1}, 1, 0));
+    other = image_of(&node);
+    OK(markring_space_disk(&space, 1, other.at, other.length));
+    IS(MARKRING_WRONG_DISKS, open_space(&space));
+    OK(markring_node_free(&node));
+    drop_bytes(&other);
     OK(markring_space_disk(&space, 1, clean, 0));
     IS(MARKRING_BAD_IMAGE, open_space(&space));
     for (unsigned long i = 0; i < count; i++) {
@@ -540,6 +677,8 @@ int main(int length, char **given)
     empty_handles();
     empty_spaces();
     sizes();
+    shapes();
+    wide_images();
     events();
     images(seed, count);
     frames(seed, count);

@@ -8,13 +8,14 @@ typedef struct slot {
     uint64_t generation, mark, word;
     uint8_t places;
     markring_ref at[2]; // nothing, or a reference
+    uint32_t bytes;     // in a wide space, how many bytes it has; each is 7
 } slot;
 
 // What an image holds. Rows have few entries, of which the first `.._count` are written.
 typedef struct image {
-    uint8_t version, nodes, own, token, token_colour, colour, letter_from, body_tag;
+    uint8_t version, most_places, nodes, own, token, token_colour, colour, letter_from, body_tag;
     uint16_t registers;
-    uint32_t slots, cursor, used, free_count, grey_count, asked_count, letter_count;
+    uint32_t slots, most_bytes, cursor, used, free_count, grey_count, asked_count, letter_count;
     uint32_t free[2], grey[2];
     uint64_t cycle, ended, swept, reports[NODES - 1], base[NODES], received[NODES], stamp;
     int64_t earlier, recent;
@@ -39,9 +40,9 @@ static image busy(void)
     it.ended = it.swept = 1;
     it.colour = MARKRING_BLACK;
     it.used = SLOT_COUNT;
-    it.all[0] = (slot){1, 1, 2, 5, 2, {{0, 0, 0}, {2, 1, 1}}};
-    it.all[1] = (slot){0, 2, 0, 0, 0, {{0, 0, 0}, {0, 0, 0}}};
-    it.all[2] = (slot){1, 3, 1, 0, 0, {{0, 0, 0}, {0, 0, 0}}};
+    it.all[0] = (slot){1, 1, 2, 5, 2, {{0, 0, 0}, {2, 1, 1}}, 0};
+    it.all[1] = (slot){0, 2, 0, 0, 0, {{0, 0, 0}, {0, 0, 0}}, 0};
+    it.all[2] = (slot){1, 3, 1, 0, 0, {{0, 0, 0}, {0, 0, 0}}, 0};
     it.free_count = it.grey_count = it.asked_count = it.letter_count = 1;
     it.free[0] = 1;
     it.asked[0] = it.reg = FAR;
@@ -51,6 +52,17 @@ static image busy(void)
     it.received[0] = 4;
     it.body_tag = 1;
     it.stamp = 2;
+    return it;
+}
+
+// The same node in a wide space, whose objects have up to 9 places and 3 bytes.
+static image wide(void)
+{
+    image it = busy();
+    it.version = 4;
+    it.most_places = 9;
+    it.most_bytes = 3;
+    it.all[2].bytes = 2;
     return it;
 }
 
@@ -115,6 +127,12 @@ static void add_slots(bytes *to, const image *it)
         if (one->kind == 1) {
             add_number(to, one->mark, 8);
             add_number(to, one->word, 8);
+            if (it->version >= 4) {
+                add_number(to, one->bytes, 4);
+                for (uint32_t byte = 0; byte < one->bytes; byte++) {
+                    add_number(to, 7, 1);
+                }
+            }
             add_number(to, one->places, 1);
             for (int place = 0; place < one->places; place++) {
                 add_optional(to, place < 2 ? one->at[place] : (markring_ref){0, 0, 0});
@@ -143,6 +161,10 @@ static bytes spelled(const image *it)
     bytes all = {0};
     add_number(&all, 0x4D52, 2);
     add_number(&all, it->version, 1);
+    if (it->version >= 4) {
+        add_number(&all, it->most_places, 1);
+        add_number(&all, it->most_bytes, 4);
+    }
     add_number(&all, it->nodes, 1);
     add_number(&all, it->own, 1);
     add_number(&all, it->registers, 2);
@@ -215,6 +237,7 @@ static void sizes_and_phases(void)
     GOOD(zero, (void)0);
     BAD(busy, it.version = 0);
     BAD(busy, it.version = 3);
+    BAD(busy, it.version = 4);
     BAD(busy, it.own = 3);
     BAD(busy, it.registers = 0);
     GOOD(busy, it.registers = 256);
@@ -285,6 +308,46 @@ static void slots(void)
     GOOD(busy, it.ended = 2; it.grey_count = 0);
 }
 
+// The sizes and places of wide spaces.
+static void wide_sizes(void)
+{
+    GOOD(wide, (void)0);
+    BAD(wide, it.version = 5);
+    BAD(wide, it.version = 6);
+    BAD(wide, it.own = 3);
+    BAD(wide, it.registers = 0);
+    GOOD(wide, it.registers = 256);
+    GOOD(wide, it.registers = 257);
+    GOOD(wide, it.registers = 65535);
+    BAD(wide, it.slots = 2);
+    GOOD(wide, it.slots = 1048576);
+    GOOD(wide, it.slots = 1048577);
+    GOOD(wide, it.slots = 16777216);
+    BAD(wide, it.slots = 16777217);
+    GOOD(wide, it.all[2].places = 9);
+    BAD(wide, it.all[2].places = 10);
+    GOOD(wide, it.most_places = 2);
+    BAD(wide, it.most_places = 1);
+    BAD(wide, it.most_places = 0);
+    GOOD(wide, it.most_places = 8; it.all[2].places = 8);
+    BAD(wide, it.most_places = 8; it.all[2].places = 9);
+    GOOD(wide, it.all[2].bytes = 0);
+    GOOD(wide, it.all[2].bytes = 3);
+    BAD(wide, it.all[2].bytes = 4);
+    GOOD(wide, it.most_bytes = 2);
+    BAD(wide, it.most_bytes = 1);
+    BAD(wide, it.most_bytes = 0);
+    GOOD(wide, it.most_bytes = 0; it.all[2].bytes = 0);
+    GOOD(wide, it.most_bytes = 16777216);
+    BAD(wide, it.most_bytes = 16777217);
+    GOOD(wide, it.most_places = 255; it.all[2].places = 255);
+    BAD(wide, it.most_places = 254; it.all[2].places = 255);
+    GOOD(wide, it.slots = 16777216; it.reg.slot = 16777215);
+    BAD(wide, it.slots = 16777216; it.reg.slot = 16777216);
+    GOOD(wide, it.slots = 1048577; it.letter.slot = 1048576);
+    BAD(wide, it.slots = 1048577; it.letter.slot = 1048577);
+}
+
 static void references(void)
 {
     // To a node and a slot within the sizes.
@@ -342,6 +405,7 @@ int main(void)
 {
     sizes_and_phases();
     slots();
+    wide_sizes();
     references();
     links();
     return report();

@@ -3,13 +3,15 @@
 // stored image. Every answer is compared with a space without a collector (docs/PROOF.md), which is
 // written here from the rules. At checkpoints the programs stop, everything is received and saved,
 // and one whole cycle has to free the garbage: each node then has exactly the objects that the model
-// reaches.
+// reaches. Half of the spaces are wide.
 //
 //     random SEEDS STEPS [NODES]
 #include "check.h"
 
 // ROUNDS bounds what must end by itself.
-enum { MOST = 4, REGISTERS = 5, SLOTS = 48, PLACES = 8, IMAGE = 1 << 17, NET = 64, ROUNDS = 1000 };
+enum { MOST = 4, REGISTERS = 5, SLOTS = 48, IMAGE = 1 << 17, NET = 64, ROUNDS = 1000 };
+// The most places of an object in plain and in wide spaces.
+enum { PLAIN_PLACES = 8, PLACES = 20 };
 
 // ## The model
 
@@ -45,6 +47,12 @@ typedef struct model {
 } model;
 
 static const markring_ref NOTHING;
+static int is_wide;
+
+static uint8_t most_places(void)
+{
+    return is_wide ? PLACES : PLAIN_PLACES;
+}
 
 static object *find(model *it, markring_ref name)
 {
@@ -143,7 +151,9 @@ static int far_place(uint8_t own_number, uint16_t reg, uint8_t place)
     if (!markring_ref_is_some(it)) {
         return MARKRING_EMPTY_REGISTER;
     }
-    return it.node == own_number ? MARKRING_LOCAL : place >= 8 ? MARKRING_NO_FIELD : MARKRING_OK;
+    return it.node == own_number ? MARKRING_LOCAL
+        : place >= most_places() ? MARKRING_NO_FIELD
+                                 : MARKRING_OK;
 }
 
 static int is_congested(uint8_t own_number, uint8_t to)
@@ -182,7 +192,7 @@ static void alloc(uint8_t own_number, uint16_t reg, uint8_t places)
     int status = markring_node_alloc(&sites[own_number].node, reg, places, &answer);
     if (reg >= REGISTERS) {
         IS(MARKRING_NO_REGISTER, status);
-    } else if (places > 8) {
+    } else if (places > most_places()) {
         IS(MARKRING_TOO_MANY_FIELDS, status);
     } else if (status != MARKRING_ARENA_FULL && OK(status)) {
         object it = {0};
@@ -310,12 +320,15 @@ static void copy_or_drop(uint8_t own_number, uint16_t reg, uint16_t source, int 
 static void program(uint8_t own_number)
 {
     uint16_t reg = (uint16_t)below(&seed, REGISTERS), other = (uint16_t)below(&seed, REGISTERS);
-    uint8_t place = (uint8_t)below(&seed, 3);
+    // Numbers about the limit of wide spaces, too.
+    uint8_t more = is_wide && below(&seed, 2) != 0 ? PLACES - 2 : 0;
+    uint8_t place = (uint8_t)(more + below(&seed, 3));
     answers++;
     switch (below(&seed, 12)) {
     case 0:
     case 1:
-        alloc(own_number, (uint16_t)(reg + below(&seed, 8) / 7), (uint8_t)below(&seed, 10));
+        alloc(own_number, (uint16_t)(reg + below(&seed, 8) / 7),
+            (uint8_t)(more + below(&seed, more > 0 ? 4 : 10)));
         break;
     case 2: copy_or_drop(own_number, reg, other, 1); break;
     case 3: copy_or_drop(own_number, reg, other, 0); break;
@@ -398,6 +411,9 @@ static void offer(uint8_t from, uint8_t to, uint8_t place)
             add_number(&tags[from][to], 0, 1);
         }
         tags[from][to].at[number - 1] = it.frame[19];
+        // Behind the tag of a Put and a Get are a reference and the place.
+        int has_place = it.frame[19] == 5 || it.frame[19] == 6;
+        EQUAL(has_place && it.frame[33] >= PLAIN_PLACES ? 0x46 : 0x45, it.frame[0]);
     }
     // A full net loses the packet that makes room.
     int at = in_net < NET ? in_net++ : (int)below(&seed, NET);
@@ -610,7 +626,8 @@ static void run(unsigned long steps, uint8_t size)
     nodes = size != 0 ? size : (uint8_t)(2 + below(&seed, MOST - 1));
     limit = below(&seed, 2) != 0 ? 6 + below(&seed, 40) : 0;
     for (uint8_t node = 0; node < nodes; node++) {
-        OK(markring_node_new(&sites[node].node, nodes, REGISTERS, SLOTS, node, limit));
+        markring_shape shape = {SLOTS, 0, REGISTERS, nodes, most_places(), (uint8_t)is_wide};
+        OK(markring_node_make(&sites[node].node, &shape, node, limit));
         sites[node].image = (uint8_t *)own(malloc(IMAGE));
         store(node);
         store(node);
@@ -642,6 +659,7 @@ int main(int length, char **given)
     uint8_t size = length > 3 ? (uint8_t)strtoul(given[3], NULL, 10) : 0;
     for (unsigned long i = 1; i <= seeds && failed == 0; i++) {
         seed = i * UINT64_C(0x9E3779B97F4A7C15) | 1;
+        is_wide = i % 2 == 0;
         run(steps, size);
         if (failed != 0) {
             printf("seed %lu failed\n", i);

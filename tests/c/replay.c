@@ -110,6 +110,18 @@ static void print_bytes(const uint8_t *at, size_t length)
     putchar('\n');
 }
 
+// The bytes that a word spells, in two digits each.
+static bytes bytes_of(const char *word)
+{
+    bytes all = {0};
+    unsigned byte;
+    while (sscanf(word, "%2X", &byte) == 1) {
+        add_number(&all, byte, 1);
+        word += 2;
+    }
+    return all;
+}
+
 // ## Scripts
 
 static markring_node nodes[NODES];
@@ -270,6 +282,41 @@ static void hand(uint8_t from, uint8_t to)
     }
 }
 
+// Prints the bytes of an object that the line asks for.
+static void print_bytes_of_object(markring_node *node)
+{
+    static uint8_t all[LINE];
+    size_t length = 0;
+    int status = markring_node_bytes(node, (uint16_t)number_at(2), (uint32_t)number_at(3),
+        (uint32_t)number_at(4), all, sizeof all, &length);
+    if (status != MARKRING_OK) {
+        print_refusal(status);
+        return;
+    }
+    for (size_t i = 0; i < length; i++) {
+        printf("%02x", all[i]);
+    }
+    puts(length == 0 ? "-" : "");
+}
+
+// Writes bytes of an object, or all of them.
+static void write_bytes(markring_node *node)
+{
+    markring_answer answer;
+    int is_patch = strcmp(words[1], "patch") == 0;
+    uint16_t object = (uint16_t)number_at(2);
+    bytes all = bytes_of(words[is_patch ? 4 : 3]);
+    int status = is_patch
+        ? markring_node_patch(node, object, (uint32_t)number_at(3), all.at, all.length, &answer)
+        : markring_node_set_bytes(node, object, all.at, all.length, &answer);
+    if (status == MARKRING_OK) {
+        print_answer(&answer);
+    } else {
+        print_refusal(status);
+    }
+    drop_bytes(&all);
+}
+
 static void act(uint8_t node)
 {
     markring_event event;
@@ -330,10 +377,27 @@ static void step(uint8_t size)
             save_node(node);
         } else if (strcmp(words[1], "restart") == 0) {
             restart(node);
+        } else if (strcmp(words[1], "bytes") == 0) {
+            print_bytes_of_object(&nodes[node]);
+        } else if (strcmp(words[1], "setbytes") == 0 || strcmp(words[1], "patch") == 0) {
+            write_bytes(&nodes[node]);
         } else {
             act(node);
         }
     }
+}
+
+// Makes a node of the space that the line describes.
+static int make_node(markring_node *node, uint8_t own_number)
+{
+    uint8_t size = (uint8_t)number_at(1);
+    uint16_t registers = (uint16_t)number_at(2);
+    uint32_t slots = (uint32_t)number_at(3);
+    uint32_t object_bytes = (uint32_t)number_at(5);
+    markring_shape shape = {slots, object_bytes, registers, size, (uint8_t)number_at(4), 1};
+    return strcmp(words[0], "wide") == 0
+        ? markring_node_make(node, &shape, own_number, 0)
+        : markring_node_new(node, size, registers, slots, own_number, 0);
 }
 
 static void run_script(FILE *file)
@@ -345,14 +409,13 @@ static void run_script(FILE *file)
         if (count == 0 || words[0][0] == '#') {
             continue;
         }
-        if (strcmp(words[0], "space") != 0) {
+        if (strcmp(words[0], "space") != 0 && strcmp(words[0], "wide") != 0) {
             step(size);
             continue;
         }
         size = (uint8_t)number_at(1);
         for (uint8_t own_number = 0; own_number < size; own_number++) {
-            OK(markring_node_new(&nodes[own_number], size, (uint16_t)number_at(2),
-                (uint32_t)number_at(3), own_number, 0));
+            OK(make_node(&nodes[own_number], own_number));
             saved[own_number] = image_of(&nodes[own_number]);
         }
         puts("ok");
@@ -367,17 +430,6 @@ static void run_script(FILE *file)
 }
 
 // ## Cases of nodes
-
-static bytes bytes_of(const char *word)
-{
-    bytes all = {0};
-    unsigned byte;
-    while (sscanf(word, "%2X", &byte) == 1) {
-        add_number(&all, byte, 1);
-        word += 2;
-    }
-    return all;
-}
 
 static void debug_ref(markring_ref it, int optional)
 {

@@ -9,7 +9,7 @@ package, beside it, or in a folder in which the system looks for libraries.
 Calls keep the interpreter's lock, so any thread may use any of these objects.
 """
 from . import errors
-from ._space import Again, Batch, Cell, Ended, Freed, Image, Letter, Link, Node, Passed, Ref, Space, State, Taken, Watch
+from ._space import Again, Batch, Cell, Ended, Freed, Image, Letter, Link, Node, Passed, Ref, Shape, Space, State, Taken, Watch
 from .errors import Refusal
 
 __all__ = [
@@ -25,6 +25,7 @@ __all__ = [
     "Passed",
     "Ref",
     "Refusal",
+    "Shape",
     "Space",
     "State",
     "Taken",

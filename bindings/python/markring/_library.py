@@ -33,6 +33,17 @@ class RawAnswer(ctypes.Structure):
     ]
 
 
+class RawShape(ctypes.Structure):
+    _fields_ = [
+        ("slots", c_uint32),
+        ("bytes", c_uint32),
+        ("registers", c_uint16),
+        ("nodes", c_uint8),
+        ("places", c_uint8),
+        ("wide", c_uint8),
+    ]
+
+
 class RawState(ctypes.Structure):
     _fields_ = [
         ("nodes", c_uint8),
@@ -40,6 +51,8 @@ class RawState(ctypes.Structure):
         ("colour", c_uint8),
         ("has_token", c_uint8),
         ("registers", c_uint16),
+        ("places", c_uint8),
+        ("wide", c_uint8),
         ("slots", c_uint32),
         ("live", c_uint32),
         ("cycle", c_uint64),
@@ -49,6 +62,7 @@ class RawState(ctypes.Structure):
         ("recent", c_int64),
         ("grey", c_uint64),
         ("letters", c_uint64),
+        ("bytes", c_uint32),
     ]
 
 
@@ -76,6 +90,8 @@ EVENTS = {
     "clear": (U16, U8),
     "word": (U16,),
     "set_word": (U16, U64),
+    "set_bytes": (U16, c_char_p, SIZE),
+    "patch": (U16, U32, c_char_p, SIZE),
     "give": (U8, U32, U16),
     "accept": (U16,),
     "put": (U16, U8, U16),
@@ -94,12 +110,15 @@ BOTH = {
     "state": (POINTER(RawState),),
     "link": (U8, POINTER(RawLink)),
     "register": (U16, POINTER(RawRef)),
+    "bytes": (U16, U32, U32, c_char_p, SIZE, TO_SIZE),
+    "bytes_length": (U16, POINTER(U32)),
     "unsaved": (TO_FLAG,),
 }
 FUNCTIONS = {
     "node": {
         **BOTH,
         "new": (U8, U16, U32, U8, U64),
+        "make": (POINTER(RawShape), U8, U64),
         "take": (c_char_p, SIZE, ANSWER),
         "frame_at": (U8, U8, c_char_p, SIZE, TO_SIZE),
         "ack_for": (U8, c_char_p, SIZE, TO_SIZE),
@@ -115,6 +134,7 @@ FUNCTIONS = {
     },
     "space": {
         "new": (U8, U16, U32, U8),
+        "make": (POINTER(RawShape), U8),
         "disk": (U8, c_char_p, SIZE),
         "open": (TO_FLAG, TO_FLAG),
         "cell": (U8, AT),

@@ -80,8 +80,44 @@ class Batch(NamedTuple):
     mark: int
 
 
+class Shape(NamedTuple):
+    """The sizes of a space, and its kind. `Shape.plain` and `Shape.wide` make one.
+
+    Nodes: 2 to 64. Registers of a node: 1 to 256, in a wide space to 65,535. Slots: 1 to 1,048,576, in a wide space to
+    16,777,216. Places of an object: up to 8, in a wide space up to `places`, 0 to 255. Bytes of an object: none, in a wide
+    space up to `bytes`, 0 to 16,777,216.
+    """
+
+    nodes: int
+    registers: int
+    slots: int
+    places: int
+    bytes: int
+    is_wide: bool
+
+    @classmethod
+    def plain(cls, nodes: int, registers: int, slots: int) -> Shape:
+        """A plain space, whose objects have up to 8 places and no bytes."""
+        return cls(nodes, registers, slots, 8, 0, False)
+
+    @classmethod
+    def wide(cls, nodes: int, registers: int, slots: int, places: int, bytes: int) -> Shape:
+        """A wide space, whose objects have up to this many places and bytes."""
+        return cls(nodes, registers, slots, places, bytes, True)
+
+    def _raw(self) -> c.RawShape:
+        fields = {**self._asdict(), "wide": int(self.is_wide)}
+        del fields["is_wide"]
+        raw = c.RawShape(**fields)
+        # (ctypes cuts off what a number has too much.)
+        if any(getattr(raw, name) != value for name, value in fields.items()):
+            raise BadArgument()
+        return raw
+
+
 class State(NamedTuple):
-    """A node in numbers. `black` is the node's colour."""
+    """A node in numbers. `black` is the node's colour, `places` and `bytes` the most that an object may
+    have."""
 
     nodes: int
     own: int
@@ -97,6 +133,9 @@ class State(NamedTuple):
     recent: int
     grey: int
     letters: int
+    places: int
+    bytes: int
+    is_wide: bool
 
 
 class Link(NamedTuple):
@@ -197,6 +236,28 @@ class _Events(_Handle):
         """The object gets the word."""
         self._answer("set_word", object, word)
 
+    def bytes_len(self, object: int) -> int:
+        """How many bytes the object has."""
+        length = c.U32()
+        self._call("bytes_length", object, length)
+        return length.value
+
+    def read_bytes(self, object: int, offset: int = 0, count: Optional[int] = None) -> bytes:
+        """The object's bytes from `offset` on: `count` of them, or all. Raises `NoBytes` if it hasn't that many."""
+        if count is None:
+            count = max(self.bytes_len(object) - offset, 0)
+        buffer, needed = ctypes.create_string_buffer(count), c.SIZE()
+        self._call("bytes", object, offset, count, buffer, count, needed)
+        return buffer.raw
+
+    def set_bytes(self, object: int, data: bytes) -> None:
+        """The object gets these bytes in place of its own. Raises `TooManyBytes`."""
+        self._answer("set_bytes", object, data, len(data))
+
+    def patch(self, object: int, offset: int, data: bytes) -> None:
+        """Overwrites bytes of the object, from `offset` on. It makes them no longer. Raises `NoBytes`."""
+        self._answer("patch", object, offset, data, len(data))
+
     def give(self, to: int, label: int, register: int) -> int:
         """Sends a letter with the label and the register's content. Returns the message's number."""
         return self._answer("give", to, label, register).number
@@ -242,8 +303,8 @@ class _Events(_Handle):
         """The node in numbers."""
         raw = c.RawState()
         self._call("state", raw)
-        state = State(*(getattr(raw, it) for it in ("nodes", "own", "colour") + State._fields[3:]))
-        return state._replace(black=bool(raw.colour), has_token=bool(raw.has_token))
+        flags = {"black": bool(raw.colour), "has_token": bool(raw.has_token), "is_wide": bool(raw.wide)}
+        return State(**flags, **{it: getattr(raw, it) for it in State._fields if it not in flags})
 
     def link(self, peer: int) -> Link:
         """The links between the node and the node `peer`."""
@@ -286,10 +347,18 @@ class Node(_Events):
     _kind = "node"
 
     def __init__(self, nodes: int, registers: int, slots: int, own: int, limit: int = 0) -> None:
-        """Makes node `own` of `nodes`. If `limit` isn't 0, `give`, `put` and `get` raise `Congested` while that many
-        messages to the receiver aren't acknowledged."""
+        """Makes node `own` of `nodes`, in a plain space. If `limit` isn't 0, `give`, `put` and `get` raise `Congested`
+        while that many messages to the receiver aren't acknowledged."""
         super().__init__()
         self._call("new", nodes, registers, slots, own, limit)
+
+    @classmethod
+    def with_shape(cls, shape: Shape, own: int, limit: int = 0) -> Node:
+        """A new node `own` of a space of this shape, plain or wide."""
+        node = cls.__new__(cls)
+        _Handle.__init__(node)
+        node._call("make", shape._raw(), own, limit)
+        return node
 
     @classmethod
     def from_image(cls, data: bytes, limit: int = 0) -> Node:
@@ -382,9 +451,19 @@ class Space(_Handle):
     _kind = "space"
 
     def __init__(self, nodes: int, registers: int, slots: int, watches: int = 0) -> None:
+        """Makes a plain space."""
         super().__init__()
         self.nodes = nodes
         self._call("new", nodes, registers, slots, watches)
+
+    @classmethod
+    def with_shape(cls, shape: Shape, watches: int = 0) -> Space:
+        """A space of this shape, plain or wide."""
+        space = cls.__new__(cls)
+        _Handle.__init__(space)
+        space.nodes = shape.nodes
+        space._call("make", shape._raw(), watches)
+        return space
 
     def disk(self, node: int, image: bytes) -> None:
         """Gives the stored image from which a node will continue. Give those of all nodes or of none."""

@@ -67,9 +67,9 @@ class NoField(Refusal):
 
 
 class TooManyFields(Refusal):
-    """The object would have more than 8 places."""
+    """The object would have more places than the space allows."""
 
-    status, text = 10, "an object has at most 8 places"
+    status, text = 10, "the object would have too many places"
 
 
 class SelfSend(Refusal):
@@ -139,7 +139,7 @@ class BadImage(Refusal):
 
 
 class ImageTooLarge(Refusal):
-    """The image would exceed 67,108,864 bytes."""
+    """The image would exceed 67,108,864 bytes. In a wide space there is no limit."""
 
     status, text = 22, "the image would be too large"
 
@@ -154,6 +154,18 @@ class Closed(Refusal):
     """A cell's disk or a reopening failed, and no reopening has succeeded since."""
 
     status, text = 24, "the cell is closed"
+
+
+class TooManyBytes(Refusal):
+    """An object would have more bytes than the space allows; in a plain space, any."""
+
+    status, text = 25, "the object would have too many bytes"
+
+
+class NoBytes(Refusal):
+    """The object doesn't have all of these bytes."""
+
+    status, text = 26, "the object doesn't have these bytes"
 
 
 class NoHandle(Refusal):

@@ -1,7 +1,7 @@
 """Events, frames and images of nodes. What is expected comes from docs/RULES.md and docs/FORMATS.md."""
 import unittest
 
-from markring import Again, Ended, Freed, Letter, Link, Node, Passed, Ref, Refusal, Taken, errors
+from markring import Again, Ended, Freed, Letter, Link, Node, Passed, Ref, Refusal, Shape, Taken, errors
 
 
 def deliver(giver: Node, own: int, receiver: Node) -> list[Taken]:
@@ -63,7 +63,82 @@ class Nodes(unittest.TestCase):
                 call()
             self.assertIsInstance(caught.exception, Refusal)
             self.assertEqual(caught.exception.status, kind.status)
-        self.assertEqual(len(errors.CLASSES), 24 + 9)
+        self.assertEqual(len(errors.CLASSES), 26 + 9)
+
+    def test_sizes_of_shapes_are_tested(self) -> None:
+        plain = Shape.plain
+
+        def wide(nodes: int, registers: int, slots: int, places: int, count: int = 0) -> Shape:
+            return Shape.wide(nodes, registers, slots, places, count)
+
+        bad = [plain(2, 257, 1), plain(2, 1, 1_048_577), plain(2, 1, 1)._replace(places=7)]
+        bad += [plain(2, 1, 1)._replace(places=9), wide(1, 1, 1, 0), wide(65, 1, 1, 0), wide(2, 0, 1, 0)]
+        bad += [wide(2, 65_536, 1, 0), wide(2, 1, 0, 0), wide(2, 1, 16_777_217, 0), wide(2, 1, 1, 256)]
+        bad += [wide(2 + 256, 1, 1, 1), wide(2, 1, 1 << 32, 1), wide(2, 1, 1, -1), wide(2, -1, 1, 1)]
+        bad += [wide(2, 1, 1, 1, 16_777_217), wide(2, 1, 1, 1, -1), plain(2, 1, 1)._replace(bytes=1)]
+        for shape in bad:
+            with self.subTest(shape), self.assertRaises(errors.BadArgument):
+                Node.with_shape(shape, 0)
+        with self.assertRaises(errors.NoNode):
+            Node.with_shape(wide(2, 1, 1, 0), 2)
+        for shape in (plain(64, 256, 1_048_576), wide(64, 65_535, 16_777_216, 255, 16_777_216), wide(2, 1, 1, 0)):
+            with Node.with_shape(shape, 1) as node:
+                state = node.state()
+                self.assertEqual((state.nodes, state.registers, state.slots), shape[:3])
+                self.assertEqual((state.places, state.bytes, state.is_wide), shape[3:])
+
+    def test_objects_of_wide_nodes_have_bytes(self) -> None:
+        node = Node.with_shape(Shape.wide(2, 2, 16, 1, 10), 0)
+        self.addCleanup(node.close)
+        node.alloc(0, 1)
+        self.assertEqual((node.bytes_len(0), node.read_bytes(0)), (0, b""))
+        node.set_bytes(0, b"0123456789")
+        node.patch(0, 3, b"\0\xff")
+        self.assertEqual((node.bytes_len(0), node.read_bytes(0)), (10, b"012\0\xff56789"))
+        self.assertEqual((node.read_bytes(0, 4), node.read_bytes(0, 4, 2)), (b"\xff56789", b"\xff5"))
+        image = node.image()
+        again = Node.from_image(image.data)
+        self.addCleanup(again.close)
+        self.assertEqual(again.read_bytes(0), node.read_bytes(0))
+        for kind, call in (
+            (errors.TooManyBytes, lambda: node.set_bytes(0, b"01234567890")),
+            (errors.NoBytes, lambda: node.patch(0, 9, b"01")),
+            (errors.NoBytes, lambda: node.read_bytes(0, 9, 2)),
+            (errors.EmptyRegister, lambda: node.set_bytes(1, b"")),
+            (errors.NoRegister, lambda: node.read_bytes(2)),
+        ):
+            self.assertRaises(kind, call)
+        self.zero.alloc(0, 0)
+        self.assertRaises(errors.TooManyBytes, lambda: self.zero.set_bytes(0, b""))
+        self.assertRaises(errors.NoBytes, lambda: self.zero.patch(0, 0, b""))
+
+    def test_wide_nodes_have_more_registers_and_places(self) -> None:
+        shape = Shape.wide(2, 65_535, 16_777_216, 255, 16_777_216)
+        zero, one = Node.with_shape(shape, 0), Node.with_shape(shape, 1, limit=5)
+        self.addCleanup(zero.close)
+        self.addCleanup(one.close)
+        name = zero.alloc(65_534, 255)
+        zero.store(65_534, 254, 65_534)
+        self.assertEqual(zero.load(0, 65_534, 254), name)
+        for kind, call in (
+            (errors.NoRegister, lambda: zero.alloc(65_535, 0)),
+            (errors.NoField, lambda: zero.load(0, 65_534, 255)),
+            (errors.TooManyFields, lambda: self.zero.alloc(0, 9)),
+        ):
+            self.assertRaises(kind, call)
+        zero.give(1, 7, 65_534)
+        self.assertEqual(deliver(zero, 0, one), [Taken.RECEIVED])
+        one.accept(65_534)
+        self.assertRaises(errors.NoField, lambda: one.get(65_534, 255, 8))
+        one.get(65_534, 254, 8)
+        one.kept(one.image().mark)
+        self.assertEqual(one.frames(0)[0][1][0], 0x46)
+        self.assertRaises(errors.WrongNode, lambda: self.zero.take(one.frames(0)[0][1]))
+        self.assertEqual(deliver(one, 1, zero), [Taken.RECEIVED])
+        self.assertEqual(deliver(zero, 0, one), [Taken.REPEAT, Taken.RECEIVED])
+        self.assertEqual(one.accept(0).reference, name)
+        with Node.from_image(zero.image().data) as again:
+            self.assertEqual(again.state(), zero.state())
 
     def test_a_closed_node_is_refused(self) -> None:
         with Node(2, 4, 16, 0) as node:

@@ -3,7 +3,7 @@ import threading
 import time
 import unittest
 
-from markring import Cell, Ref, Space, Taken, errors
+from markring import Cell, Node, Ref, Shape, Space, Taken, errors
 
 ROUNDS = 30
 
@@ -26,6 +26,30 @@ def turn(cell: Cell, own: int) -> None:
 
 
 class Spaces(unittest.TestCase):
+    def test_a_wide_space_opens_on_its_images(self) -> None:
+        shape = Shape.wide(2, 300, 2_000_000, 20, 0)
+        for wrong in (shape._replace(slots=16_777_217), shape._replace(registers=0), shape._replace(is_wide=False)):
+            self.assertRaises(errors.BadArgument, lambda: Space.with_shape(wrong))
+        with Space.with_shape(shape) as space:
+            cells = space.open()
+        cells[0].alloc(299, 20)
+        cells[0].store(299, 19, 299)
+        images = [cell.image().data for cell in cells]
+        with Space.with_shape(shape) as space:
+            for node, image in enumerate(images):
+                space.disk(node, image)
+            again = space.open()
+        self.assertEqual(again[0].load(0, 299, 19), Ref(0, 0, 1))
+        self.assertEqual((again[1].state().places, again[1].state().is_wide), (20, True))
+        with Space.with_shape(shape._replace(places=21)) as space:
+            space.disk(0, images[0])
+            self.assertRaises(errors.WrongDisks, space.open)
+        with Space(2, 4, 16) as space, Node.with_shape(Shape.wide(2, 4, 16, 8, 0), 0) as node:
+            space.disk(0, node.image().data)
+            self.assertRaises(errors.WrongDisks, space.open)
+        for cell in cells + again:
+            cell.close()
+
     def test_letters_cross_while_cycles_run(self) -> None:
         with Space(2, 4, 64, watches=1) as space:
             cells = space.open()

@@ -1,6 +1,8 @@
 //! What nodes and cells have in common: their events, and calls that read them.
 
+use crate::node::filled;
 use crate::{Answer, Event, Freed, Letter, Link, Passed, Ref, Result, State};
+use alloc::vec::Vec;
 
 /// The events of a node, and calls that read it. [`Node`](crate::Node) has them, and
 /// with the feature `spaces` also `Cell`.
@@ -63,6 +65,46 @@ pub trait Events {
     ///
     /// `NoRegister`, `EmptyRegister`, `Remote`, `NoField`.
     fn set_word(&self, object: u16, word: u64) -> Result<()>;
+
+    /// Returns how many bytes the object has.
+    ///
+    /// # Errors
+    ///
+    /// `NoRegister`, `EmptyRegister`, `Remote`, `NoField`.
+    fn bytes_len(&self, object: u16) -> Result<u32>;
+
+    /// Fills the buffer with the object's bytes from `offset` on.
+    ///
+    /// # Errors
+    ///
+    /// `NoRegister`, `EmptyRegister`, `Remote`, `NoField`; `NoBytes` if there are fewer. The buffer
+    /// is then as it was.
+    fn read_bytes(&self, object: u16, offset: u32, buffer: &mut [u8]) -> Result<()>;
+
+    /// Returns all bytes of the object.
+    ///
+    /// # Errors
+    ///
+    /// `NoRegister`, `EmptyRegister`, `Remote`, `NoField`, `Memory`.
+    fn bytes(&self, object: u16) -> Result<Vec<u8>> {
+        let mut bytes = filled(self.bytes_len(object)? as usize)?;
+        self.read_bytes(object, 0, &mut bytes)?;
+        Ok(bytes)
+    }
+
+    /// The object gets these bytes in place of its own.
+    ///
+    /// # Errors
+    ///
+    /// `NoRegister`, `EmptyRegister`, `Remote`, `NoField`, `TooManyBytes`, `Memory`.
+    fn set_bytes(&self, object: u16, bytes: &[u8]) -> Result<()>;
+
+    /// Overwrites bytes of the object, from `offset` on. It makes them no longer.
+    ///
+    /// # Errors
+    ///
+    /// `NoRegister`, `EmptyRegister`, `Remote`, `NoField`, `NoBytes`.
+    fn patch(&self, object: u16, offset: u32, bytes: &[u8]) -> Result<()>;
 
     /// Sends a letter with the label and the content of the register to the node `to`. Returns the
     /// message's number.
@@ -178,7 +220,7 @@ pub trait Events {
 macro_rules! events {
     ($type:ty {
         $alloc:ident $copy:ident $drop:ident $load:ident $store:ident $clear:ident $word:ident
-        $set_word:ident $give:ident $accept:ident $put:ident $get:ident $begin:ident $scan:ident
+        $set_word:ident $bytes_length:ident $bytes:ident $set_bytes:ident $patch:ident $give:ident $accept:ident $put:ident $get:ident $begin:ident $scan:ident
         $pass:ident $sweep:ident $next:ident $act:ident $state:ident $link:ident $register:ident
         $unsaved:ident $image_size:ident $image:ident
     }) => {
@@ -259,6 +301,43 @@ macro_rules! events {
             fn set_word(&self, object: u16, word: u64) -> Result<()> {
                 self.answer(|at, answer| unsafe { ffi::$set_word(at, object, word, answer) })
                     .map(drop)
+            }
+
+            fn bytes_len(&self, object: u16) -> Result<u32> {
+                let mut length = 0;
+                checked(unsafe { ffi::$bytes_length(self.at.get(), object, &mut length) })?;
+                Ok(length)
+            }
+
+            fn read_bytes(&self, object: u16, offset: u32, buffer: &mut [u8]) -> Result<()> {
+                // (A count that doesn't fit is more than any object has.)
+                let count = u32::try_from(buffer.len()).unwrap_or(u32::MAX);
+                let (to, length, mut needed) = (buffer.as_mut_ptr(), buffer.len(), 0);
+                checked(unsafe {
+                    ffi::$bytes(
+                        self.at.get(),
+                        object,
+                        offset,
+                        count,
+                        to,
+                        length,
+                        &mut needed,
+                    )
+                })
+            }
+
+            fn set_bytes(&self, object: u16, bytes: &[u8]) -> Result<()> {
+                self.answer(|at, answer| unsafe {
+                    ffi::$set_bytes(at, object, bytes.as_ptr(), bytes.len(), answer)
+                })
+                .map(drop)
+            }
+
+            fn patch(&self, object: u16, offset: u32, bytes: &[u8]) -> Result<()> {
+                self.answer(|at, answer| unsafe {
+                    ffi::$patch(at, object, offset, bytes.as_ptr(), bytes.len(), answer)
+                })
+                .map(drop)
             }
 
             fn give(&self, to: u8, label: u32, register: u16) -> Result<u64> {

@@ -55,12 +55,25 @@ pub(crate) struct RawEvent {
 
 #[repr(C)]
 #[derive(Clone, Copy, Default)]
+pub(crate) struct RawShape {
+    pub(crate) slots: u32,
+    pub(crate) bytes: u32,
+    pub(crate) registers: u16,
+    pub(crate) nodes: u8,
+    pub(crate) places: u8,
+    pub(crate) wide: u8,
+}
+
+#[repr(C)]
+#[derive(Clone, Copy, Default)]
 pub(crate) struct RawState {
     pub(crate) nodes: u8,
     pub(crate) own: u8,
     pub(crate) colour: u8,
     pub(crate) has_token: u8,
     pub(crate) registers: u16,
+    pub(crate) places: u8,
+    pub(crate) wide: u8,
     pub(crate) slots: u32,
     pub(crate) live: u32,
     pub(crate) cycle: u64,
@@ -70,6 +83,7 @@ pub(crate) struct RawState {
     pub(crate) recent: i64,
     pub(crate) grey: u64,
     pub(crate) letters: u64,
+    pub(crate) bytes: u32,
 }
 
 #[repr(C)]
@@ -91,6 +105,12 @@ extern "C" {
         nodes: u8,
         registers: u16,
         slots: u32,
+        own: u8,
+        limit: u64,
+    ) -> c_int;
+    pub(crate) fn markring_node_make(
+        node: Place,
+        shape: *const RawShape,
         own: u8,
         limit: u64,
     ) -> c_int;
@@ -162,6 +182,7 @@ extern "C" {
         slots: u32,
         watches: u8,
     ) -> c_int;
+    pub(crate) fn markring_space_make(space: Place, shape: *const RawShape, watches: u8) -> c_int;
     pub(crate) fn markring_space_disk(
         space: Place,
         node: u8,
@@ -206,6 +227,10 @@ both! {
     markring_node_clear markring_cell_clear (object: u16, place: u8, answer: Reply);
     markring_node_word markring_cell_word (object: u16, answer: Reply);
     markring_node_set_word markring_cell_set_word (object: u16, word: u64, answer: Reply);
+    markring_node_set_bytes markring_cell_set_bytes
+        (object: u16, bytes: *const u8, length: usize, answer: Reply);
+    markring_node_patch markring_cell_patch
+        (object: u16, offset: u32, bytes: *const u8, length: usize, answer: Reply);
     markring_node_give markring_cell_give (to: u8, label: u32, reg: u16, answer: Reply);
     markring_node_accept markring_cell_accept (reg: u16, answer: Reply);
     markring_node_put markring_cell_put (object: u16, place: u8, reg: u16, answer: Reply);
@@ -222,5 +247,8 @@ both! {
     markring_node_state markring_cell_state (state: *mut RawState);
     markring_node_link markring_cell_link (peer: u8, link: *mut RawLink);
     markring_node_register markring_cell_register (reg: u16, reference: *mut RawRef);
+    markring_node_bytes markring_cell_bytes
+        (object: u16, offset: u32, count: u32, buffer: *mut u8, length: usize, needed: *mut usize);
+    markring_node_bytes_length markring_cell_bytes_length (object: u16, length: *mut u32);
     markring_node_unsaved markring_cell_unsaved (flag: *mut u8);
 }

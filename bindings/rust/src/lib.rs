@@ -8,6 +8,7 @@
 //!   images.
 //! - [`Events`]: what a node does.
 //! - [`Roots`], [`Root`]: registers that are chosen and emptied automatically.
+//! - [`Shape`]: how large a space is.
 //! - [`Space`], [`Cell`], [`Watch`], with the feature `spaces`: the nodes of a space in threads of
 //!   one process, which move frames in shared memory.
 //!
@@ -87,5 +88,6 @@ pub use root::{Accepted, Root, Roots};
 #[cfg(feature = "spaces")]
 pub use space::{Cell, Space, Watch};
 pub use value::{
-    Answer, Batch, Colour, Event, Frame, Freed, Image, Letter, Link, Passed, Ref, State, Taken,
+    Answer, Batch, Colour, Event, Frame, Freed, Image, Letter, Link, Passed, Ref, Shape, State,
+    Taken,
 };

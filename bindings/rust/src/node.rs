@@ -4,7 +4,7 @@ use crate::events::events;
 use crate::ffi;
 use crate::refusal::{checked, found};
 use crate::{Answer, Batch, Event, Events, Frame, Freed, Image, Letter, Link, Passed, Ref};
-use crate::{Refusal, Result, State, Taken};
+use crate::{Refusal, Result, Shape, State, Taken};
 use alloc::vec::Vec;
 use core::cell::UnsafeCell;
 use core::ffi::c_int;
@@ -78,6 +78,7 @@ events! {
     Node {
         markring_node_alloc markring_node_copy markring_node_drop markring_node_load
         markring_node_store markring_node_clear markring_node_word markring_node_set_word
+        markring_node_bytes_length markring_node_bytes markring_node_set_bytes markring_node_patch
         markring_node_give markring_node_accept markring_node_put markring_node_get
         markring_node_begin markring_node_scan markring_node_pass markring_node_sweep
         markring_node_next markring_node_act markring_node_state markring_node_link
@@ -86,7 +87,8 @@ events! {
 }
 
 impl Node {
-    /// Makes a new node: node `own` of a space of `nodes`, each with this many registers and slots.
+    /// Makes a new node: node `own` of a plain space of `nodes`, each with this many registers and
+    /// slots.
     ///
     /// # Errors
     ///
@@ -104,6 +106,31 @@ impl Node {
     /// As for [`Node::new`].
     pub fn with_limit(nodes: u8, registers: u16, slots: u32, own: u8, limit: u64) -> Result<Self> {
         Node::made(|at| unsafe { ffi::markring_node_new(at, nodes, registers, slots, own, limit) })
+    }
+
+    /// Makes a new node of a space of this shape, plain or wide. `limit` is as for
+    /// [`Node::with_limit`].
+    ///
+    /// ```
+    /// use markring::{Events, Node, Shape};
+    ///
+    /// # fn main() -> markring::Result<()> {
+    /// let node = Node::with_shape(Shape::wide(2, 1_000, 5_000_000, 200, 1_000_000), 0, 0)?;
+    /// node.alloc(999, 200)?;
+    /// node.store(999, 199, 999)?;
+    /// node.set_bytes(999, b"any bytes")?;
+    /// node.patch(999, 4, b"text_")?;
+    /// assert_eq!(node.bytes(999)?, b"any text_");
+    /// # Ok(())
+    /// # }
+    /// ```
+    ///
+    /// # Errors
+    ///
+    /// `BadArgument` if the shape isn't within the limits of its kind; `NoNode` if `own` isn't
+    /// below its number of nodes; `Memory`.
+    pub fn with_shape(shape: Shape, own: u8, limit: u64) -> Result<Self> {
+        Node::made(|at| unsafe { ffi::markring_node_make(at, &shape.to_raw(), own, limit) })
     }
 
     /// Makes the node of an image. All that it sent and received counts as saved. `limit` is as for

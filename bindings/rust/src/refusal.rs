@@ -71,8 +71,8 @@ refusals! {
     NoLetter = 8, "no letter waits";
     /// The object has no such place, or no object can have it, or the object isn't live.
     NoField = 9, "the object has no such place";
-    /// The object would have more than 8 places.
-    TooManyFields = 10, "an object has at most 8 places";
+    /// The object would have more places than the space allows.
+    TooManyFields = 10, "the object would have too many places";
     /// The letter is for the node itself.
     SelfSend = 11, "the letter is for the node itself";
     /// The link has no number left for the message.
@@ -95,12 +95,16 @@ refusals! {
     WrongNode = 20, "the frame isn't for this node, this space or this moment";
     /// The bytes don't spell a saved node.
     BadImage = 21, "the bytes aren't an image";
-    /// The image would exceed 67,108,864 bytes.
+    /// The image would exceed 67,108,864 bytes. In a wide space there is no limit.
     ImageTooLarge = 22, "the image would be too large";
     /// A cell's disk failed.
     Disk = 23, "the cell's disk failed";
     /// A cell's disk or a reopening failed, and no reopening has succeeded since.
     Closed = 24, "the cell is closed";
+    /// An object would have more bytes than the space allows; in a plain space, any.
+    TooManyBytes = 25, "the object would have too many bytes";
+    /// The object doesn't have all of these bytes.
+    NoBytes = 26, "the object doesn't have these bytes";
     /// The space is open already.
     InUse = 102, "the space is open already";
     /// An argument is out of range.
@@ -119,7 +123,7 @@ refusals! {
 }
 
 impl Refusal {
-    /// The number of the refusal: 1 to 24 as in the rules of the space, and from 101 on those of
+    /// The number of the refusal: 1 to 26 as in the rules of the space, and from 101 on those of
     /// the library.
     #[must_use]
     pub const fn number(self) -> u8 {

@@ -250,6 +250,33 @@ impl<'r, N: Events> Root<'r, N> {
         self.roots.node.set_word(self.register, word)
     }
 
+    /// All bytes of the object.
+    ///
+    /// # Errors
+    ///
+    /// Those of [`Events::bytes`].
+    pub fn bytes(&self) -> Result<Vec<u8>> {
+        self.roots.node.bytes(self.register)
+    }
+
+    /// The object gets these bytes in place of its own.
+    ///
+    /// # Errors
+    ///
+    /// Those of [`Events::set_bytes`].
+    pub fn set_bytes(&self, bytes: &[u8]) -> Result<()> {
+        self.roots.node.set_bytes(self.register, bytes)
+    }
+
+    /// Overwrites bytes of the object, from `offset` on.
+    ///
+    /// # Errors
+    ///
+    /// Those of [`Events::patch`].
+    pub fn patch(&self, offset: u32, bytes: &[u8]) -> Result<()> {
+        self.roots.node.patch(self.register, offset, bytes)
+    }
+
     /// Sends a letter with the reference to the node `to`. Returns the message's number.
     ///
     /// # Errors

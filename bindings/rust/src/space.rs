@@ -5,7 +5,8 @@ use crate::ffi;
 use crate::node::filled;
 use crate::refusal::{checked, found};
 use crate::{
-    Answer, Event, Events, Freed, Image, Letter, Link, Passed, Ref, Refusal, Result, State, Taken,
+    Answer, Event, Events, Freed, Image, Letter, Link, Passed, Ref, Refusal, Result, Shape, State,
+    Taken,
 };
 use alloc::vec::Vec;
 use core::cell::UnsafeCell;
@@ -44,15 +45,32 @@ pub struct Space {
 unsafe impl Send for Space {}
 
 impl Space {
-    /// Makes a space that isn't open yet, for this number of watches.
+    /// Makes a plain space that isn't open yet, for this number of watches.
     ///
     /// # Errors
     ///
     /// `BadArgument` if `nodes` isn't 2 to 64, or `registers` 1 to 256, or `slots` 1 to 1,048,576;
     /// `Memory`.
     pub fn new(nodes: u8, registers: u16, slots: u32, watches: u8) -> Result<Self> {
+        Space::made(nodes, |at| unsafe {
+            ffi::markring_space_new(at, nodes, registers, slots, watches)
+        })
+    }
+
+    /// Makes a space of this shape, plain or wide, that isn't open yet.
+    ///
+    /// # Errors
+    ///
+    /// `BadArgument` if the shape isn't within the limits of its kind; `Memory`.
+    pub fn with_shape(shape: Shape, watches: u8) -> Result<Self> {
+        Space::made(shape.nodes, |at| unsafe {
+            ffi::markring_space_make(at, &shape.to_raw(), watches)
+        })
+    }
+
+    fn made(nodes: u8, make: impl FnOnce(*mut ffi::Handle) -> c_int) -> Result<Self> {
         let at = UnsafeCell::new(ffi::Handle::empty());
-        checked(unsafe { ffi::markring_space_new(at.get(), nodes, registers, slots, watches) })?;
+        checked(make(at.get()))?;
         Ok(Space {
             at,
             nodes,
@@ -162,6 +180,7 @@ events! {
     Cell {
         markring_cell_alloc markring_cell_copy markring_cell_drop markring_cell_load
         markring_cell_store markring_cell_clear markring_cell_word markring_cell_set_word
+        markring_cell_bytes_length markring_cell_bytes markring_cell_set_bytes markring_cell_patch
         markring_cell_give markring_cell_accept markring_cell_put markring_cell_get
         markring_cell_begin markring_cell_scan markring_cell_pass markring_cell_sweep
         markring_cell_next markring_cell_act markring_cell_state markring_cell_link

@@ -1,6 +1,6 @@
 //! Plain values: references, events, answers, and a node in numbers.
 
-use crate::ffi::{RawAnswer, RawEvent, RawLink, RawRef, RawState};
+use crate::ffi::{RawAnswer, RawEvent, RawLink, RawRef, RawShape, RawState};
 use core::fmt;
 
 /// A reference `node.slot.generation`. It names one object, forever.
@@ -286,6 +286,61 @@ impl RawAnswer {
     }
 }
 
+/// The sizes of a space, and its kind: *plain* or *wide*.
+#[derive(Clone, Copy, Debug, PartialEq, Eq, Hash)]
+#[non_exhaustive]
+pub struct Shape {
+    /// The number of nodes, 2 to 64.
+    pub nodes: u8,
+    /// The number of registers of each node, 1 to 256; in a wide space to 65,535.
+    pub registers: u16,
+    /// The greatest number of slots of each node, 1 to 1,048,576; in a wide space to 16,777,216.
+    pub slots: u32,
+    /// The greatest number of places of an object: 8; in a wide space 0 to 255.
+    pub places: u8,
+    /// The greatest number of bytes of an object: 0; in a wide space 0 to 16,777,216.
+    pub bytes: u32,
+    /// Whether the space is wide.
+    pub is_wide: bool,
+}
+
+impl Shape {
+    /// A plain space, whose objects have up to 8 places and no bytes.
+    pub const fn plain(nodes: u8, registers: u16, slots: u32) -> Self {
+        Shape {
+            nodes,
+            registers,
+            slots,
+            places: 8,
+            bytes: 0,
+            is_wide: false,
+        }
+    }
+
+    /// A wide space, whose objects have up to this many places and bytes.
+    pub const fn wide(nodes: u8, registers: u16, slots: u32, places: u8, bytes: u32) -> Self {
+        Shape {
+            nodes,
+            registers,
+            slots,
+            places,
+            bytes,
+            is_wide: true,
+        }
+    }
+
+    pub(crate) fn to_raw(self) -> RawShape {
+        RawShape {
+            slots: self.slots,
+            bytes: self.bytes,
+            registers: self.registers,
+            nodes: self.nodes,
+            places: self.places,
+            wide: u8::from(self.is_wide),
+        }
+    }
+}
+
 /// A node in numbers.
 #[derive(Clone, Copy, Debug, PartialEq, Eq, Hash)]
 pub struct State {
@@ -297,6 +352,12 @@ pub struct State {
     pub registers: u16,
     /// The greatest number of slots.
     pub slots: u32,
+    /// The greatest number of places of an object.
+    pub places: u8,
+    /// The greatest number of bytes of an object.
+    pub bytes: u32,
+    /// Whether the space is wide.
+    pub is_wide: bool,
     /// The number of objects.
     pub live: u32,
     /// The last cycle that the node joined.
@@ -326,6 +387,9 @@ impl State {
             own: raw.own,
             registers: raw.registers,
             slots: raw.slots,
+            places: raw.places,
+            bytes: raw.bytes,
+            is_wide: raw.wide != 0,
             live: raw.live,
             cycle: raw.cycle,
             ended: raw.ended,

@@ -2,7 +2,7 @@
 //! docs/FORMATS.md of the repository.
 
 use markring::{Answer, Colour, Event, Events, Frame, Freed, Letter, Link, Node, Passed, Ref};
-use markring::{Refusal, Result, Taken};
+use markring::{Refusal, Result, Shape, Taken};
 
 fn reference(node: u8, slot: u32, generation: u64) -> Ref {
     Ref {
@@ -91,6 +91,91 @@ fn sizes_are_tested() {
     assert_eq!(new(2, 1, 1_048_577, 0), Some(Refusal::BadArgument));
     assert_eq!(new(2, 1, 1, 2), Some(Refusal::NoNode));
     assert_eq!(new(64, 256, 1_048_576, 63), None);
+}
+
+#[test]
+fn sizes_of_shapes_are_tested() {
+    let new = |shape, own| Node::with_shape(shape, own, 0).err();
+    let bad = Some(Refusal::BadArgument);
+    assert_eq!(new(Shape::plain(2, 257, 1), 0), bad);
+    assert_eq!(new(Shape::plain(2, 1, 1_048_577), 0), bad);
+    assert_eq!(new(Shape::plain(64, 256, 1_048_576), 63), None);
+    assert_eq!(new(Shape::wide(1, 1, 1, 0, 0), 0), bad);
+    assert_eq!(new(Shape::wide(65, 1, 1, 0, 0), 0), bad);
+    assert_eq!(new(Shape::wide(2, 0, 1, 0, 0), 0), bad);
+    assert_eq!(new(Shape::wide(2, 1, 0, 0, 0), 0), bad);
+    assert_eq!(new(Shape::wide(2, 1, 16_777_217, 0, 0), 0), bad);
+    assert_eq!(new(Shape::wide(2, 1, 1, 0, 0), 2), Some(Refusal::NoNode));
+    assert_eq!(
+        new(Shape::wide(64, 65_535, 16_777_216, 255, 16_777_216), 63),
+        None
+    );
+    let mut odd = Shape::plain(2, 1, 1);
+    for places in [0, 7, 9, 255] {
+        odd.places = places;
+        assert_eq!(new(odd, 0), bad);
+    }
+}
+
+#[test]
+fn objects_of_wide_nodes_have_bytes() -> Result<()> {
+    let node = Node::with_shape(Shape::wide(2, 2, 16, 1, 10), 0, 0)?;
+    node.alloc(0, 1)?;
+    assert_eq!((node.bytes_len(0)?, node.bytes(0)?), (0, Vec::new()));
+    node.set_bytes(0, b"0123456789")?;
+    node.patch(0, 3, &[0, 255])?;
+    assert_eq!(node.bytes(0)?, b"012\0\xff56789");
+    let mut three = [1; 3];
+    node.read_bytes(0, 4, &mut three)?;
+    assert_eq!(&three, b"\xff56");
+    let again = Node::from_image(&node.image()?.bytes, 0)?;
+    assert_eq!(again.bytes(0)?, node.bytes(0)?);
+    assert_eq!(node.set_bytes(0, &[0; 11]), Err(Refusal::TooManyBytes));
+    assert_eq!(node.patch(0, 9, &[0; 2]), Err(Refusal::NoBytes));
+    assert_eq!(node.read_bytes(0, 8, &mut three), Err(Refusal::NoBytes));
+    assert_eq!(node.bytes(1), Err(Refusal::EmptyRegister));
+    assert_eq!(&three, b"\xff56");
+    let plain = Node::new(2, 1, 1, 0)?;
+    plain.alloc(0, 0)?;
+    assert_eq!(plain.set_bytes(0, &[]), Err(Refusal::TooManyBytes));
+    assert_eq!(plain.patch(0, 0, &[]), Err(Refusal::NoBytes));
+    Ok(())
+}
+
+#[test]
+fn wide_nodes_have_more_registers_and_places() -> Result<()> {
+    let shape = Shape::wide(2, 65_535, 16_777_216, 255, 16_777_216);
+    let zero = Node::with_shape(shape, 0, 0)?;
+    let one = Node::with_shape(shape, 1, 0)?;
+    let object = zero.alloc(65_534, 255)?;
+    assert_eq!(zero.alloc(65_535, 0), Err(Refusal::NoRegister));
+    zero.store(65_534, 254, 65_534)?;
+    assert_eq!(zero.load(0, 65_534, 254)?, Some(object));
+    assert_eq!(zero.load(0, 65_534, 255), Err(Refusal::NoField));
+    let state = zero.state()?;
+    assert_eq!((state.registers, state.slots), (65_535, 16_777_216));
+    assert_eq!((state.places, state.is_wide), (255, true));
+    // Another node asks for the last place.
+    zero.give(1, 7, 65_534)?;
+    assert_eq!(deliver(&zero, 0, &one)?, [Taken::Received]);
+    one.accept(65_534)?;
+    assert_eq!(one.get(65_534, 255, 8), Err(Refusal::NoField));
+    one.get(65_534, 254, 8)?;
+    let image = one.image()?;
+    one.kept(image.mark)?;
+    let frames = one.frames(0, 0)?;
+    assert_eq!(frames[0].bytes[0], 0x46);
+    let plain = Node::new(2, 1, 1, 0)?;
+    assert_eq!(plain.take(&frames[0].bytes), Err(Refusal::WrongNode));
+    assert_eq!(deliver(&one, 1, &zero)?, [Taken::Received]);
+    assert_eq!(deliver(&zero, 0, &one)?, [Taken::Repeat, Taken::Received]);
+    assert_eq!(one.accept(0)?.reference, Some(object));
+    // The image is read as that of a wide node.
+    let again = Node::from_image(&zero.image()?.bytes, 0)?;
+    assert_eq!(again.state()?, zero.state()?);
+    let plain = plain.state()?;
+    assert_eq!((plain.places, plain.is_wide), (8, false));
+    Ok(())
 }
 
 #[test]

@@ -1,6 +1,6 @@
 //! Nodes in threads, with cycles of the collector while they work.
 
-use markring::{Cell, Events, Refusal, Result, Roots, Space, Taken, Watch};
+use markring::{Cell, Events, Refusal, Result, Roots, Shape, Space, Taken, Watch};
 use std::sync::atomic::{AtomicBool, AtomicU8, Ordering};
 use std::thread;
 
@@ -155,5 +155,32 @@ fn a_space_continues_from_its_images() -> Result<()> {
     assert_eq!(space.apart(), None);
     let cell = space.cell(0)?.expect("the space is open");
     assert_eq!(cell.word(3)?, 42);
+    Ok(())
+}
+
+#[test]
+fn a_wide_space_opens_on_its_images() -> Result<()> {
+    let shape = Shape::wide(2, 300, 2_000_000, 20, 0);
+    let small = Space::with_shape(Shape::wide(2, 0, 1, 20, 0), 0);
+    assert_eq!(small.err(), Some(Refusal::BadArgument));
+    let space = Space::with_shape(shape, 0)?;
+    space.open()?;
+    let cells = space.cells()?;
+    let object = cells[0].alloc(299, 20)?;
+    cells[0].store(299, 19, 299)?;
+    let images = [cells[0].image()?.bytes, cells[1].image()?.bytes];
+    let opened = |shape| {
+        let space = Space::with_shape(shape, 0)?;
+        space.disk(0, &images[0])?;
+        space.disk(1, &images[1])?;
+        space.open()?;
+        space.cells()
+    };
+    let again = opened(shape)?;
+    assert_eq!(again[0].load(0, 299, 19)?, Some(object));
+    let state = again[1].state()?;
+    assert_eq!((state.places, state.is_wide), (20, true));
+    let other = opened(Shape::wide(2, 300, 2_000_000, 21, 0));
+    assert_eq!(other.err(), Some(Refusal::WrongDisks));
     Ok(())
 }

@@ -7,7 +7,7 @@ use Rattle.std.specs.Prelude.{nat_le}
 use Rattle.std.proofs.lemmas.Bool.{cond_both, leb-true, true≢false}
 use Rattle.std.proofs.lemmas.Bool.Decides.{leb_tells}
 use Rattle.std.proofs.lemmas.List.{append-nil, drop_all, drop-append-le, take-append-le, length-take-le}
-use Rattle.ids.specs.declared.limits.TheConstants.{GREATEST_IMAGE}
+use Rattle.disk_shelf.specs.declared.persist.TheConstants.{GREATEST_SAVED}
 use Rattle.disk_shelf.specs.Logs.{LeadAll}
 use Rattle.disk_shelf.specs.Shelf.{record_of, recorded, told}
 use Rattle.disk_shelf.proofs.Records.{recorded_cut, recorded_front, recorded_is, recorded_short, recorded_tells, record_length}
@@ -53,7 +53,7 @@ recorded_within bytes batch is =
       | inr cut ↦ absurd (some_none is (recorded_cut bytes cut.1))
     ] in
     let same : batch ≡ take (told bytes) (drop 8 bytes) =
-    some_one (sym is ∙ recorded_is bytes (told bytes) refl tells.1 enough) in
+    some_one (sym is ∙ recorded_is bytes (told bytes) refl tells.1.most enough) in
     let long : length (take (told bytes) (drop 8 bytes)) ≡ told bytes =
     length-take-le (told bytes) (drop 8 bytes) (omega (arith, enough, length-drop 8 bytes)) in
     let count : told bytes ≡ length batch = sym long ∙ sym (ap length same) in
@@ -72,20 +72,20 @@ recorded_more bytes batch more is =
     ap (take (told bytes)) (drop-append-le 8 bytes more tells.0)
     ∙ take-append-le (told bytes) (drop 8 bytes) more
     (omega (arith, within.0, within.1, length-drop 8 bytes)) in
-    recorded_is (bytes ++ more) (told bytes) says tells.1
+    recorded_is (bytes ++ more) (told bytes) says tells.1.most
     (omega (arith, within.0, within.1, length-append bytes more))
     ∙ ap Some rest
-    ∙ sym (recorded_is bytes (told bytes) refl tells.1 (omega (arith, within.0, within.1)))
+    ∙ sym (recorded_is bytes (told bytes) refl tells.1.most (omega (arith, within.0, within.1)))
     ∙ is
 
-one_batch : (batch : List ℕ) → length batch ≤ GREATEST_IMAGE
+one_batch : (batch : List ℕ) → length batch ≤ GREATEST_SAVED
     → AreBatches (batch ∷ []) (record_of batch)
 one_batch batch short = (
   ap recorded (sym (append-nil (record_of batch))) ∙ recorded_front batch [] short,
   drop_all (8 + length batch) (record_of batch) (omega (arith, record_length batch)),
 )
 
-batches_more : (batches : List (List ℕ)) (batch bytes : List ℕ) → length batch ≤ GREATEST_IMAGE
+batches_more : (batches : List (List ℕ)) (batch bytes : List ℕ) → length batch ≤ GREATEST_SAVED
     → AreBatches batches bytes → AreBatches (batches ++ batch ∷ []) (bytes ++ record_of batch)
 batches_more [] batch bytes short are =
     subst (λ (l : List ℕ). AreBatches (batch ∷ []) (l ++ record_of batch)) (sym are)

@@ -1,11 +1,11 @@
 -- Spaces that are opened on images: what the disks of these images have, and what follows of the
 -- cells.
-use Rattle.std.proofs.Common.{◌≡◌, ℕ, ◌≤◌, ◌+◌, zero, suc, List, [], ◌++◌, false, Some, None, length, map, drop, refl, sym, arith, ap, ◌∙◌, subst}
+use Rattle.std.proofs.Common.{inl, ◌≡◌, ℕ, ◌≤◌, ◌+◌, zero, suc, Bool, List, [], ◌++◌, false, Some, None, length, map, drop, refl, sym, arith, ap, ◌∙◌, subst}
 use Rattle.std.specs.Prelude.{slice_get}
 use Rattle.std.proofs.lemmas.List.{append-nil, length-map}
 use Rattle.std.proofs.lemmas.Option.{slice_get_within}
 use Rattle.ids.specs.Limits.{Shaped}
-use Rattle.ids.specs.declared.limits.TheConstants.{GREATEST_IMAGE}
+use Rattle.disk_shelf.specs.declared.persist.TheConstants.{GREATEST_SAVED}
 use Rattle.ids.specs.declared.refusal.Refusal.{Refusal}
 use Rattle.ids.specs.declared.refusal.Refusal.TheVariants as refusal
 use Rattle.node.specs.Keeping.{WholeNode, alone}
@@ -13,7 +13,8 @@ use Rattle.disk.specs.Areas.{Areas}
 use Rattle.disk.specs.Memory.{blank, held_by}
 use Rattle.disk_shelf.specs.Shelf.{record_of, recorded}
 use Rattle.disk.specs.declared.memory.MemoryDisk.{MemoryDisk}
-use Rattle.disk_shelf.proofs.Records.{recorded_holds}
+use Rattle.disk_shelf.proofs.Quiet.{same_some}
+use Rattle.disk_shelf.proofs.Records.{recorded_front}
 use Rattle.node_store.specs.Plain.{IsPlain}
 use Rattle.node_store.proofs.Stores.{bare_read, keeps_read, keeps_some, plain_read}
 use Rattle.cell.specs.Cells.{CellView}
@@ -28,17 +29,11 @@ use Rattle.wire.proofs.Places.{mapped-from, mapped-there, some_at}
 use Rattle.c_values.specs.declared.fault.Fault.TheVariants as fault
 use Rattle.c_handles.specs.Opening.{AreOfTwoAges, Begins, EachOf, HasPlace, HoldsNoImage, HoldsOther, Image, IsShort, IsTooLarge, IsWhy, areas_in, fault_of}
 
-drop-none : {A : Type 0} (n : ℕ) → drop {A = A} n [] ≡ []
-drop-none zero = refl
-drop-none (suc n) = refl
-
 -- a disk that was made of an image opens to it
-opens : (image : List ℕ) → length image ≤ GREATEST_IMAGE
+opens : (image : List ℕ) → length image ≤ GREATEST_SAVED
     → recorded (record_of image) ≡ Some image
 opens image short =
-    let bytes = record_of image in
-    recorded_holds image [] bytes short
-    (sym (ap (λ (l : List ℕ). bytes ++ l) (drop-none (0 + length bytes)) ∙ append-nil bytes))
+    ap recorded (sym (append-nil (record_of image))) ∙ recorded_front image [] short
 
 -- the images and the disks that were made of them
 pub record AreDisksOf (images : List Image) (disks : List MemoryDisk) : Type 0 where
@@ -72,7 +67,7 @@ begins : (shape : Shaped) (k : ℕ) (i : Image) (n : WholeNode) → IsShort i
     → IsReadFrom shape k (areas_in i) n → Begins shape k i n
 begins shape k None n short read = read.blank refl
 begins shape k (Some v) n short read =
-    bare_read n (areas_in (Some v)) false v.items refl refl (opens v.items short)
+    bare_read n (areas_in (Some v)) false v.items refl refl (opens v.items short.0)
     (read.held (λ e. absurd cc))
 
 pub all-begin : (shape : Shaped) (images : List Image) (disks : List MemoryDisk)
@@ -90,7 +85,7 @@ plain-in : (shape : Shaped) (k : ℕ) (i : Image) (n : WholeNode) → IsShort i
 plain-in shape k None n short read = λ image found. absurd cc
 plain-in shape k (Some v) n short read =
     plain_read n (areas_in (Some v))
-    (v.items, opens v.items short, begins shape k (Some v) n short read)
+    (v.items, opens v.items short.0, begins shape k (Some v) n short read)
 
 pub no-logs : (shape : Shaped) (images : List Image) (disks : List MemoryDisk)
     (cells : List (CellView MemoryDisk)) → AreDisksOf images disks → length cells ≡ length disks
@@ -125,13 +120,14 @@ other-in : (shape : Shaped) (k : ℕ) (i : Image) → IsShort i → HoldsAnother
 other-in shape k None short h = absurd (keeps_some (alone h.node) blank h.opens refl)
 other-in shape k (Some v) short h =
     let whole = bare_read (alone h.node) (areas_in (Some v)) false v.items refl refl
-    (opens v.items short) h.opens in
+    (opens v.items short.0) h.opens in
     (h.node, whole.0, h.is_other)
 
-none-in : (i : Image) → HoldsNone (areas_in i) → HoldsNoImage i
-none-in None h = h.written refl
-none-in (Some v) h = λ n fits whole.
-    h.none n (keeps_read n (areas_in (Some v)) (v.items, opens v.items fits, whole))
+none-in : (seals : Bool) (i : Image) → HoldsNone seals (areas_in i) → HoldsNoImage i
+none-in seals None h = h.written refl
+none-in seals (Some v) h = λ n fits whole.
+    h.none n (keeps_read n (areas_in (Some v)) (v.items, opens v.items fits.0, whole))
+    (λ sealing mark is. inl (let first : mark ≡ 0 = sym (same_some is) in omega (arith, first)))
 
 large-in : (shape : Shaped) (k : ℕ) (i : Image) → cells.IsTooLarge shape k (areas_in i)
     → IsTooLarge shape k i
@@ -159,15 +155,15 @@ wrong-disks shape images disks k are =
     moved k are (λ d i short is h.
     other-in shape k i short (subst (λ (c : Areas). HoldsAnother shape k c) is h))
 
-module _ (moment faults : MemoryDisk → ℕ) (shape : Shaped) {images : List Image}
-    {disks : List MemoryDisk} (are : AreDisksOf images disks) where
+module _ (seals : MemoryDisk → Bool) (moment faults : MemoryDisk → ℕ) (shape : Shaped)
+    {images : List Image} {disks : List MemoryDisk} (are : AreDisksOf images disks) where
   pub why-refused : (k : ℕ) (e : Refusal)
-      → HasAt k (λ d. IsCause held_by moment faults shape k d e) disks
+      → HasAt k (λ d. IsCause held_by seals moment faults shape k d e) disks
       → IsWhy shape images (fault.Refused e)
   why-refused k refusal.Memory h = tt
   why-refused k refusal.Disk h = tt
   why-refused k refusal.BadImage h =
-      moved k are (λ d i short is x. none-in i (subst HoldsNone is x)) h
+      moved k are (λ d i short is x. none-in (seals d) i (subst (HoldsNone (seals d)) is x)) h
   why-refused k refusal.ImageTooLarge h =
       moved k are (λ d i short is x.
       large-in shape k i (subst (λ (c : Areas). cells.IsTooLarge shape k c) is x)) h
@@ -191,9 +187,11 @@ module _ (moment faults : MemoryDisk → ℕ) (shape : Shaped) {images : List Im
   why-refused k refusal.BadFrame h = h.is
   why-refused k refusal.WrongNode h = h.is
   why-refused k refusal.Closed h = h.is
+  why-refused k refusal.TooManyBytes h = h.is
+  why-refused k refusal.NoBytes h = h.is
 
   pub why : length disks ≡ shape.nodes → (e : Unopened)
-      → ages.IsWhy held_by moment faults shape disks e → IsWhy shape images (fault_of e)
+      → ages.IsWhy held_by seals moment faults shape disks e → IsWhy shape images (fault_of e)
   why many unopened.Disks h = absurd (h many)
   why many (unopened.Another k) h = wrong-disks shape images disks k are h
   why many (unopened.Ages sender receiver) h = two-ages shape images disks sender receiver are h

@@ -1,5 +1,5 @@
 -- No frame has more than 48 bytes, or 58 with its length and its number.
-use Rattle.std.proofs.Common.{◌≡◌, refl, ℕ, ◌≤◌, ◌∷◌, length, length-append, arith, Option, Some, None}
+use Rattle.std.proofs.Common.{◌≡◌, refl, ℕ, Bool, true, false, ◌≤◌, ◌∷◌, length, length-append, arith, Option, Some, None}
 use Rattle.std.specs.Int.{w32, w64, cast_unsigned, to_be_bytes}
 use Rattle.ids.specs.declared.names.Ref.{Ref}
 use Rattle.codec.specs.Formats.{number4, number8, signed8}
@@ -8,10 +8,11 @@ use Rattle.msg.specs.declared.body.Body.TheVariants as body
 use Rattle.msg.specs.declared.body.Colour.{Colour}
 use Rattle.msg.specs.declared.body.Colour.TheVariants.{White, Black}
 use Rattle.frames.specs.declared.version.Version.TheVariants.{Second}
-use Rattle.frames.specs.Formats.{reference, optional, colour, colour_tag, token, body_format, head, sent, known}
+use Rattle.frames.specs.Formats.{Sent, reference, optional, colour, colour_tag, token, body_format, head, framed, known}
 use Rattle.c_handles.specs.Frames.{packed}
 use Rattle.msg.specs.Frames.{Plain, data_frame, ack_frame}
-use Rattle.frames.specs.Grammar.{frame, spelling}
+use Rattle.frames.specs.Grammar.{data_tag, frame, spelling}
+use Rattle.msg.specs.Limits.{is_plain_body}
 
 four : (n : ℕ) → length (to_be_bytes w32 n) ≡ 4
 four n = refl
@@ -59,9 +60,15 @@ body-short (body.Get target place label) =
 body-short body.Ended = omega arith
 body-short body.Swept = omega arith
 
+data-short : (plain : Bool) (x : Sent) → length (data_tag plain x).bytes ≤ 48
+unfolding framed head number8
+data-short true x = omega (arith, body-short x.1.1)
+data-short false x = omega (arith, body-short x.1.1)
+
 pub frame_short : (f : Plain) → length (spelling f) ≤ 48
-unfolding spelling frame sent known head number8
-frame_short (data_frame from to number stamp b) = omega (arith, body-short b)
+unfolding spelling frame known head number8
+frame_short (data_frame from to number stamp b) =
+    data-short (is_plain_body b) ((from, (to, number)), (stamp, b))
 frame_short (ack_frame from to number) = omega arith
 
 pub packed_short : (f : Plain) → length (packed f) ≤ 58

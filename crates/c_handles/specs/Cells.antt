@@ -1,7 +1,7 @@
 -- A cell with its wire, as C uses it: what the calls do.
 use Rattle.std.specs.Prelude.{◌≡◌, ◌≢◌, ◌↔◌, ◌⊎◌, ℕ, ◌+◌, ◌<◌, ◌%◌, ◌^◌, ◌++◌, [], ◌∷◌, Bool, true, false, cond, ◌==◌, ◌&&◌, List, length, Option, Some, None, Result, Ok, Err, IfErr, IfOk, IsErrOf, IsTrue, OnErr, OnOk, replicate, slice_index_or}
 use Rattle.circular_buffer.specs.Buffer.{keep_last}
-use Rattle.ids.specs.declared.limits.TheConstants.{GREATEST_IMAGE, GREATEST_NODES, TRACE_EVENTS}
+use Rattle.ids.specs.declared.limits.TheConstants.{GREATEST_NODES, TRACE_EVENTS}
 use Rattle.ids.specs.declared.refusal.Refusal.{Refusal}
 use Rattle.ids.specs.declared.refusal.Refusal.TheVariants as refusal
 use Rattle.cell.specs.Lines.{call_of}
@@ -10,7 +10,7 @@ use Rattle.model.specs.View.{is_other, kept_view}
 use Rattle.model.specs.declared.event.Answer.{Answer}
 use Rattle.model.specs.declared.event.Event.{Event}
 use Rattle.node.specs.Keeping.{kept_whole, met, own_step}
-use Rattle.image.specs.Images.{image_of}
+use Rattle.image.specs.Images.{IsTooLarge, image_of}
 use Rattle.image.specs.Wholes.{IsWholeOf}
 use Rattle.disk.specs.Crashes.{Grew}
 use Rattle.disk.specs.Memory.{held_by, left_by}
@@ -169,7 +169,7 @@ pub record SavedAs (old new : SeatedCell) (r : Result (Unit {0}) Refusal) : Type
       → Grew old.cell.disk.account.failures new.cell.disk.account.failures
       × (new.cell.is_open ≡ false)
   pub too_large : IsErrOf r refusal.ImageTooLarge
-      ↔ IsTrue old.cell.is_open × (GREATEST_IMAGE < length (image_of old.cell.node.core))
+      ↔ IsTrue old.cell.is_open × IsTooLarge old.cell.node.core
   pub unchanged : IfErr r (λ e. e ≢ refusal.Disk
       → new.cell ≡ record old.cell { trace = new.cell.trace })
   pub others : IfErr r (λ e. (e ≡ refusal.Closed) ⊎ ((e ≡ refusal.ImageTooLarge)

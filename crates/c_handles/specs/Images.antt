@@ -1,12 +1,11 @@
 -- Images of a node that its caller stores.
-use Rattle.std.specs.Prelude.{◌≡◌, ℕ, ◌+◌, ◌<◌, ◌≤◌, ◌%◌, ◌^◌, zero, suc, Bool, true, false, ◌==◌, List, [], ◌∷◌, ◌++◌, length, Option, Some, None, Result, Ok, Err, slice_index_or}
+use Rattle.std.specs.Prelude.{◌≡◌, ℕ, ◌+◌, ◌%◌, ◌^◌, zero, suc, Bool, true, false, ◌==◌, List, [], ◌∷◌, ◌++◌, length, Option, Some, None, Result, Ok, Err, slice_index_or}
 use Rattle.std.specs.Global.{Vec}
-use Rattle.ids.specs.declared.limits.TheConstants.{GREATEST_IMAGE}
 use Rattle.ids.specs.declared.refusal.Refusal.TheVariants.{ImageTooLarge, Memory}
 use Rattle.model.specs.State.{got_from}
 use Rattle.model.specs.View.{NodeView, kept_view, link_to, used}
 use Rattle.node.specs.Keeping.{WholeNode, kept_whole, kept_whole_with}
-use Rattle.image.specs.Images.{image_of}
+use Rattle.image.specs.Images.{IsTooLarge, image_of}
 use Rattle.image.specs.Logged.{IsAnyWholeOf, logged_image}
 use Rattle.image.specs.Wholes.{saved_whole}
 use Rattle.c_values.specs.Bytes.{Wrote}
@@ -50,16 +49,16 @@ image_by false n = image_of n
 abbrev pub image_in : LoneNode → List ℕ
 image_in n = image_by n.logs n.node.core
 
--- the length of an image, or the reason why it has no length
-abbrev pub SizedAs : List ℕ → Result ℕ Fault → Type 0
-SizedAs image (Ok size) = size ≡ length image
-SizedAs image (Err (fault.Refused ImageTooLarge)) = GREATEST_IMAGE < length image
-SizedAs image (Err (fault.Refused Memory)) = length image ≤ GREATEST_IMAGE
-SizedAs image (Err e) = ⊥
+-- the length of the node's image, or the reason why it has none
+abbrev pub SizedAs : NodeView → List ℕ → Result ℕ Fault → Type 0
+SizedAs n image (Ok size) = size ≡ length image
+SizedAs n image (Err (fault.Refused ImageTooLarge)) = IsTooLarge n
+SizedAs n image (Err (fault.Refused Memory)) = IsTooLarge n → ⊥
+SizedAs n image (Err e) = ⊥
 
 -- the same of the image of a node without a log
 abbrev pub Sized : NodeView → Result ℕ Fault → Type 0
-Sized n = SizedAs (image_of n)
+Sized n = SizedAs n (image_of n)
 
 -- a node of which an image or a batch with this mark was taken, which holds this of the links
 abbrev pub marked : LoneNode → Vec Counts → ℕ → Option (List ℕ) → LoneNode
@@ -88,7 +87,7 @@ Imaged old new (Ok mark) held now before needed =
 Imaged old new (Err fault.ShortBuffer) held now before needed =
     (new ≡ old) × Wrote (image_in old) (Err fault.ShortBuffer) held now needed
 Imaged old new (Err (fault.Refused e)) held now before needed =
-    (new ≡ old) × SizedAs (image_in old) (Err (fault.Refused e)) × (now ≡ held)
+    (new ≡ old) × SizedAs old.node.core (image_in old) (Err (fault.Refused e)) × (now ≡ held)
     × (needed ≡ before)
 Imaged old new (Err e) held now before needed = ⊥
 
@@ -128,7 +127,7 @@ Logs on old new r = (new ≡ logging on old) × (r ≡ Ok tt)
 -- ---- The same for what a handle holds
 
 abbrev pub SizedSame : LoneNode → LoneNode → Result ℕ Fault → Type 0
-SizedSame old new r = (new ≡ old) × SizedAs (image_in old) r
+SizedSame old new r = (new ≡ old) × SizedAs old.node.core (image_in old) r
 
 -- bytes of what a handle holds are written
 abbrev pub HandleWrites : (LoneNode → LoneNode → Result ℕ Fault → List ℕ → List ℕ → ℕ → ℕ → Type 0)

@@ -40,14 +40,16 @@ lone n limit = record {
   is_kept = false;
 }
 
--- a new node, or the reason why there isn't one: the first that applies
-abbrev pub Made : Shaped → ℕ → ℕ → Result LoneNode Fault → Type 0
-Made sizes own limit (Ok n) =
+-- a new node, or the reason why there isn't one: the first that applies, and the only one if no
+-- sizes are described
+abbrev pub Made : Option Shaped → ℕ → ℕ → Result LoneNode Fault → Type 0
+Made None own limit r = r ≡ Err fault.BadArgument
+Made (Some sizes) own limit (Ok n) =
     IsShape sizes × (own < sizes.nodes) × (n ≡ lone (new_whole sizes own) limit)
-Made sizes own limit (Err fault.BadArgument) = IsShape sizes → ⊥
-Made sizes own limit (Err (fault.Refused NoNode)) = IsShape sizes × (sizes.nodes ≤ own)
-Made sizes own limit (Err (fault.Refused Memory)) = IsShape sizes × (own < sizes.nodes)
-Made sizes own limit (Err e) = ⊥
+Made (Some sizes) own limit (Err fault.BadArgument) = IsShape sizes → ⊥
+Made (Some sizes) own limit (Err (fault.Refused NoNode)) = IsShape sizes × (sizes.nodes ≤ own)
+Made (Some sizes) own limit (Err (fault.Refused Memory)) = IsShape sizes × (own < sizes.nodes)
+Made (Some sizes) own limit (Err e) = ⊥
 
 -- the node of an image, or the reason why there isn't one
 abbrev pub Read : List ℕ → ℕ → Result LoneNode Fault → Type 0

@@ -1,19 +1,20 @@
 -- How a space is opened: the nodes that it begins with, and its cells and watches in their places.
-use Rattle.std.specs.Prelude.{◌≡◌, ℕ, ◌<◌, ◌≤◌, [], ◌∷◌, false, All, List, length, map, slice_get, Option, Some, None}
+use Rattle.std.specs.Prelude.{◌≡◌, ℕ, ◌≤◌, [], ◌∷◌, false, All, List, length, map, slice_get, Option, Some, None}
 use Rattle.std.specs.Arc.{arc_value}
 use Rattle.std.specs.Global.{Box, Vec}
 use Rattle.std.specs.Option.{option_map}
 use Rattle.std_alloc.specs.Box.{box_value}
 use Rattle.ids.specs.Limits.{Shaped}
-use Rattle.ids.specs.declared.limits.TheConstants.{GREATEST_IMAGE}
 use Rattle.ids.specs.declared.refusal.Refusal.TheVariants.{BadImage, Disk, ImageTooLarge, Memory}
 use Rattle.model.specs.View.{NodeView}
 use Rattle.node.specs.Keeping.{WholeNode, new_whole}
 use Rattle.image.specs.Nodes.{IsImageOf}
-use Rattle.image.specs.Wholes.{IsWholeOf, whole_image}
+use Rattle.image.specs.Wholes.{IsWholeOf, IsWholeTooLarge}
 use Rattle.disk.specs.Areas.{Areas}
 use Rattle.disk.specs.Memory.{blank}
 use Rattle.disk_shelf.specs.Shelf.{record_of}
+use Rattle.disk_shelf.specs.declared.persist.TheConstants.{GREATEST_SAVED}
+use Rattle.image_parts.specs.Layouts.{IsTooLong, says_wide}
 use Rattle.disk.specs.declared.memory.MemoryDisk.{MemoryDisk}
 use Rattle.wire.specs.Readers.{IsMade}
 use Rattle.wire.specs.declared.seats.Watch.{Watch}
@@ -43,7 +44,9 @@ areas_in (Some image) = record { select = 0 ∷ []; a = record_of image.items; b
 -- what was given is no longer than an image may be
 abbrev pub IsShort : Image → Type 0
 IsShort None = Unit {0}
-IsShort (Some image) = length image.items ≤ GREATEST_IMAGE
+IsShort (Some image) =
+    (length image.items ≤ GREATEST_SAVED)
+    × (IsTooLong (says_wide image.items) (length image.items) → ⊥)
 
 -- a place of a list at which a property holds
 pub record HasPlace {X : Type 0} (Is : ℕ → X → Type 0) (xs : List X) : Type 0 where
@@ -85,12 +88,12 @@ HoldsOther shape own (Some image) =
 abbrev pub HoldsNoImage : Image → Type 0
 HoldsNoImage None = ⊥
 HoldsNoImage (Some image) =
-    (n : WholeNode) → length image.items ≤ GREATEST_IMAGE → IsWholeOf image.items n → ⊥
+    (n : WholeNode) → IsShort (Some image) → IsWholeOf image.items n → ⊥
 
--- no image was given, and that of the new node would be longer than an image may be
+-- no image was given, and that of the new node would be too large
 abbrev pub IsTooLarge : Shaped → ℕ → Image → Type 0
 IsTooLarge shape own (Some image) = ⊥
-IsTooLarge shape own None = GREATEST_IMAGE < length (whole_image (new_whole shape own))
+IsTooLarge shape own None = IsWholeTooLarge (new_whole shape own)
 
 -- the new or given nodes, of which these two aren't of one age
 pub record AreOfTwoAges (shape : Shaped) (images : List Image) (sender receiver : ℕ) : Type 0 where

@@ -1,9 +1,11 @@
 -- What reads of a node return.
-use Rattle.std.specs.Prelude.{ℕ, cond, Option, Some, None, Result, Ok, Err, slice_get, slice_index_or}
+use Rattle.std.specs.Prelude.{ℕ, List, cond, Option, Some, None, Result, Ok, Err, slice_get, slice_index_or}
 use Rattle.ids.specs.declared.names.Ref.{Ref}
+use Rattle.ids.specs.declared.refusal.Refusal.{Refusal}
 use Rattle.ids.specs.declared.refusal.Refusal.TheVariants.{NoNode, NoRegister}
 use Rattle.msg.specs.declared.frame.Data.{Data}
 use Rattle.model.specs.State.{LocalState, got_from}
+use Rattle.model.specs.Heaps.{heap_bytes, heap_bytes_len}
 use Rattle.model.specs.View.{NodeView, is_other, link_to, used}
 use Rattle.node.specs.Keeping.{WholeNode, waiting}
 use Rattle.c_values.specs.declared.fault.Fault.{Fault}
@@ -25,6 +27,19 @@ held_in None = Err (fault.Refused NoRegister)
 
 abbrev pub register_of : LocalState → ℕ → Result Ref Fault
 register_of p register = held_in (slice_get p.heap.registers register)
+
+-- what the node refuses, it refuses here too
+abbrev pub given : {A : Type 0} → Result A Refusal → Result A Fault
+given (Ok a) = Ok a
+given (Err e) = Err (fault.Refused e)
+
+-- this many bytes of an object, from this offset on
+abbrev pub object_bytes : LocalState → ℕ → ℕ → ℕ → Result (List ℕ) Fault
+object_bytes p object offset count = given (heap_bytes p.own p.heap object offset count)
+
+-- how many bytes an object has
+abbrev pub object_len : LocalState → ℕ → Result ℕ Fault
+object_len p object = given (heap_bytes_len p.own p.heap object)
 
 abbrev pub link_fields : NodeView → ℕ → CLink
 link_fields n peer = record {

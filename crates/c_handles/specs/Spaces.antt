@@ -31,11 +31,13 @@ pub record IsNewSpace (sizes : Shaped) (count : ℕ) (s : SeatedSpace) : Type 0 
   pub cells : s.cells.items ≡ replicate sizes.nodes None
   pub watching : s.watching.items ≡ []
 
-abbrev pub Made : Shaped → ℕ → Result SeatedSpace Fault → Type 0
-Made sizes watches (Ok s) = IsShape sizes × IsNewSpace sizes watches s
-Made sizes watches (Err fault.BadArgument) = IsShape sizes → ⊥
-Made sizes watches (Err (fault.Refused Memory)) = IsShape sizes
-Made sizes watches (Err e) = ⊥
+-- such a space, or the reason why there isn't one
+abbrev pub Made : Option Shaped → ℕ → Result SeatedSpace Fault → Type 0
+Made None watches r = r ≡ Err fault.BadArgument
+Made (Some sizes) watches (Ok s) = IsShape sizes × IsNewSpace sizes watches s
+Made (Some sizes) watches (Err fault.BadArgument) = IsShape sizes → ⊥
+Made (Some sizes) watches (Err (fault.Refused Memory)) = IsShape sizes
+Made (Some sizes) watches (Err e) = ⊥
 
 -- The image is the one of the node now, and replaces an earlier one; or nothing changes.
 pub record Gave (node : ℕ) (bytes : List ℕ) (old new : SeatedSpace) : Type 0 where

@@ -5,7 +5,8 @@ ghost use Rattle.c_handles.specs.Holds.{unboxed};
 ghost use Rattle.c_handles.specs.declared.seated.SeatedCell.{SeatedCell};
 ghost use Rattle.c_handles.specs.contracts.seated.SeatedCell.{the_row as Row};
 ghost use Rattle.c_values.specs.Faults.{Freed, Through, empty, read};
-ghost use Rattle.c_handles.specs.Reads.{link_of, register_of};
+ghost use Rattle.c_handles.specs.Reads.{link_of, object_bytes, object_len, register_of};
+ghost use Rattle.c_values.specs.Bytes.{WroteIf};
 ghost use Rattle.model.specs.Steps.{is_own};
 ghost use Rattle.node.specs.Summaries.{summary_of};
 ghost use Rattle.c_handles.specs.Cells.{CellActs, HandleImaged, Raised, Received, Reopened, Saved};
@@ -96,7 +97,7 @@ impl CellHandle {
     #[inline(always)]
     pub fn act(&mut self, alloc: Global, event: Event) -> Result<Answer, Fault>
         requires { is_own event ≡ true }
-        ensures { Through (CellActs event) self.old.held self.new.held result }
+        ensures { Through (CellActs event.entry) self.old.held self.new.held result }
     {
         let Some(mut cell) = self.take(alloc) else {
             return Err(Fault::NoHandle);
@@ -229,6 +230,42 @@ impl CellHandle {
         let found = cell.register(register);
         self.put(alloc, cell);
         found
+    }
+
+    /// Writes bytes of an object; see [`SeatedCell::bytes`].
+    pub fn bytes(
+        &mut self,
+        alloc: Global,
+        object: u16,
+        offset: u32,
+        count: u32,
+        buffer: &mut [u8],
+        needed: &mut usize,
+    ) -> Result<(), Fault>
+        ensures same { self.new.held ≡ self.old.held }
+        ensures wrote { WroteIf
+            (read (λ c. object_bytes c.cell.node.core.local object offset count) self.old.held) result
+            buffer.old buffer.new needed.old needed.new }
+    {
+        let Some(cell) = self.take(alloc) else {
+            return Err(Fault::NoHandle);
+        };
+        let wrote = cell.bytes(object, offset, count, buffer, needed);
+        self.put(alloc, cell);
+        wrote
+    }
+
+    /// How many bytes an object has; see [`SeatedCell::bytes_len`].
+    pub fn bytes_len(&mut self, alloc: Global, object: u16) -> Result<u32, Fault>
+        ensures same { self.new.held ≡ self.old.held }
+        ensures value { result ≡ read (λ c. object_len c.cell.node.core.local object) self.old.held }
+    {
+        let Some(cell) = self.take(alloc) else {
+            return Err(Fault::NoHandle);
+        };
+        let len = cell.bytes_len(object);
+        self.put(alloc, cell);
+        len
     }
 
     /// The links between the node and another one; see [`SeatedCell::link`].

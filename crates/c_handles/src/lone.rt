@@ -1,5 +1,6 @@
 //! A node whose caller moves its frames and stores its images.
 ghost use Rattle.std.specs.Prelude.{◌≡◌, ◌||◌, ◌&&◌, false, None, Ok};
+ghost use Rattle.c_values.specs.Fields.{described};
 ghost use Rattle.msg.specs.Frames.{plain};
 ghost use Rattle.node_store.specs.Logs.{is_turn};
 ghost use Rattle.c_handles.specs.Lone.{Acknowledged, Given, Made, Read, TookIn, is_congested};
@@ -12,9 +13,9 @@ pub(crate) mod reading;
 pub(crate) mod reopening;
 mod sending;
 
-use c_values::Fault;
+use c_values::{CShape, Fault};
 use frames::decode;
-use ids::{NodeId, Ref, Refusal, Shape};
+use ids::{NodeId, Ref, Refusal};
 use image::from_bytes;
 pub(crate) use images::Counts;
 use model::{Answer, Event};
@@ -66,18 +67,10 @@ impl LoneNode {
 
     /// A new node. Fails with `BadArgument` if these are no sizes of a space, then with `NoNode` if
     /// the space has no such node, and with `Memory`.
-    pub fn new(
-        alloc: Global,
-        nodes: u8,
-        registers: u16,
-        slots: u32,
-        own: u8,
-        limit: u64,
-    ) -> Result<LoneNode, Fault>
-        ensures { Made (record { nodes = nodes; registers = registers; slots = slots }) own limit
-            result }
+    pub fn new(alloc: Global, sizes: &CShape, own: u8, limit: u64) -> Result<LoneNode, Fault>
+        ensures { Made (described sizes.now) own limit result }
     {
-        let shape = Shape::new(nodes, registers, slots).ok_or(Fault::BadArgument)?;
+        let shape = sizes.shape().ok_or(Fault::BadArgument)?;
         let own = NodeId::new(own).ok_or(Fault::Refused(Refusal::NoNode))?;
         let node = Node::new(alloc, shape, own)?;
         Ok(LoneNode::of(alloc, node, limit))
@@ -139,7 +132,7 @@ impl LoneNode {
     /// as the node refuses the event.
     #[inline(always)]
     pub fn act(&mut self, event: Event) -> Result<Answer, Fault>
-        ensures { Given (is_congested self.old event) self.old self.new event result }
+        ensures { Given (is_congested self.old event.entry) self.old self.new event.entry result }
     {
         if self.is_congested(&event) {
             return Err(Fault::Congested);
@@ -152,7 +145,7 @@ impl LoneNode {
     pub fn act_plain(&mut self, event: Event) -> Result<Answer, Fault>
         requires { (is_turn event && self.old.logs) ≡ false }
 
-        ensures { Given (is_congested self.old event) self.old self.new event result }
+        ensures { Given (is_congested self.old event.entry) self.old self.new event.entry result }
     {
         if self.is_congested(&event) {
             return Err(Fault::Congested);
@@ -163,7 +156,7 @@ impl LoneNode {
     // Gives the node an event.
     #[inline(always)]
     fn perform(&mut self, event: Event) -> Result<Answer, Fault>
-        ensures { Given false self.old self.new event result }
+        ensures { Given false self.old self.new event.entry result }
     {
         if is_turn(&event) && self.logs {
             self.perform_noting(event)
@@ -178,7 +171,7 @@ impl LoneNode {
     fn perform_plain(&mut self, event: Event) -> Result<Answer, Fault>
         requires { (is_turn event && self.old.logs) ≡ false }
 
-        ensures { Given false self.old self.new event result }
+        ensures { Given false self.old self.new event.entry result }
     {
         let answer = self.node.act(event)?;
         if answer.is_change() {

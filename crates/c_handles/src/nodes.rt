@@ -9,17 +9,18 @@ ghost use Rattle.node.specs.Summaries.{summary_of};
 ghost use Rattle.node_store.specs.Logs.{is_turn};
 ghost use Rattle.c_values.specs.Faults.{Filled, Freed, Through, empty, read};
 ghost use Rattle.c_values.specs.Bytes.{WroteIf};
+ghost use Rattle.c_values.specs.Fields.{described};
 ghost use Rattle.c_handles.specs.Frames.{HandlePacks, ack_bytes, frame_bytes};
 ghost use Rattle.c_handles.specs.Batches.{HandleBatched, Reopened, batch_of, size_of};
 ghost use Rattle.c_handles.specs.Images.{HandleImaged, Kept, Logs, Released, SizedSame};
 ghost use Rattle.c_handles.specs.Logs.{logs_in};
 ghost use Rattle.c_handles.specs.Lone.{Made, NodeActs, Read, TookIn};
-ghost use Rattle.c_handles.specs.Reads.{link_of, register_of, waiting_number};
+ghost use Rattle.c_handles.specs.Reads.{link_of, object_bytes, object_len, register_of, waiting_number};
 
 use crate::Marked;
 use crate::held::Held;
 use crate::lone::LoneNode;
-use c_values::{CLink, Fault};
+use c_values::{CLink, CShape, Fault};
 use ids::Ref;
 use model::{Answer, Event};
 use node::Summary;
@@ -92,18 +93,14 @@ impl NodeHandle {
     pub fn fill_new(
         &mut self,
         alloc: Global,
-        nodes: u8,
-        registers: u16,
-        slots: u32,
+        sizes: &CShape,
         own: u8,
         limit: u64,
     ) -> Result<(), Fault>
-        ensures { Filled
-            (Made (record { nodes = nodes; registers = registers; slots = slots }) own limit)
-            self.old.held self.new.held result }
+        ensures { Filled (Made (described sizes.now) own limit) self.old.held self.new.held result }
     {
         self.test_empty(alloc)?;
-        let node = LoneNode::new(alloc, nodes, registers, slots, own, limit)?;
+        let node = LoneNode::new(alloc, sizes, own, limit)?;
         let full = Box::new(alloc, node)?;
         self.put(alloc, full);
         Ok(())
@@ -171,7 +168,7 @@ impl NodeHandle {
     pub fn act_plain(&mut self, alloc: Global, event: Event) -> Result<Answer, Fault>
         requires { (is_turn event && logs_in self.old.held) ≡ false }
 
-        ensures { Through (NodeActs event) self.old.held self.new.held result }
+        ensures { Through (NodeActs event.entry) self.old.held self.new.held result }
     {
         let Some(mut node) = self.take(alloc) else {
             return Err(Fault::NoHandle);
@@ -184,7 +181,7 @@ impl NodeHandle {
     /// Gives the node an event of its own; see [`LoneNode::act`].
     #[inline(always)]
     pub fn act(&mut self, alloc: Global, event: Event) -> Result<Answer, Fault>
-        ensures { Through (NodeActs event) self.old.held self.new.held result }
+        ensures { Through (NodeActs event.entry) self.old.held self.new.held result }
     {
         let Some(mut node) = self.take(alloc) else {
             return Err(Fault::NoHandle);
@@ -244,6 +241,42 @@ impl NodeHandle {
         let found = node.register(register);
         self.put(alloc, node);
         found
+    }
+
+    /// Writes bytes of an object; see [`LoneNode::bytes`].
+    pub fn bytes(
+        &mut self,
+        alloc: Global,
+        object: u16,
+        offset: u32,
+        count: u32,
+        buffer: &mut [u8],
+        needed: &mut usize,
+    ) -> Result<(), Fault>
+        ensures same { self.new.held ≡ self.old.held }
+        ensures wrote { WroteIf
+            (read (λ n. object_bytes n.node.core.local object offset count) self.old.held) result
+            buffer.old buffer.new needed.old needed.new }
+    {
+        let Some(node) = self.take(alloc) else {
+            return Err(Fault::NoHandle);
+        };
+        let wrote = node.bytes(object, offset, count, buffer, needed);
+        self.put(alloc, node);
+        wrote
+    }
+
+    /// How many bytes an object has; see [`LoneNode::bytes_len`].
+    pub fn bytes_len(&mut self, alloc: Global, object: u16) -> Result<u32, Fault>
+        ensures same { self.new.held ≡ self.old.held }
+        ensures value { result ≡ read (λ n. object_len n.node.core.local object) self.old.held }
+    {
+        let Some(node) = self.take(alloc) else {
+            return Err(Fault::NoHandle);
+        };
+        let len = node.bytes_len(object);
+        self.put(alloc, node);
+        len
     }
 
     /// The links between the node and another one; see [`LoneNode::link`].

@@ -15,8 +15,9 @@ use crate::watching::SeatedWatch;
 use c_values::Fault;
 use cell::{Cell, Unopened, open};
 use disk::MemoryDisk;
-use disk_shelf::disk_of_image;
-use ids::{GREATEST_IMAGE, Refusal, Saves, Shape};
+use disk_shelf::{GREATEST_SAVED, disk_of_image};
+use ids::{Refusal, Saves, Shape};
+use image_parts::is_too_long;
 use std::alloc::Global;
 use std::sync::Arc;
 use wire::{Watch, Wire};
@@ -52,7 +53,7 @@ fn disk_of(alloc: Global, image: &Option<Vec<u8>>) -> Result<MemoryDisk, Refusal
     let Some(image) = image else {
         return Ok(MemoryDisk::new(alloc));
     };
-    if image.len() as u64 > GREATEST_IMAGE {
+    if is_too_long(image) || image.len() as u64 > GREATEST_SAVED {
         return Err(Refusal::BadImage);
     }
     disk_of_image(alloc, image)

@@ -6,10 +6,11 @@ ghost use Rattle.model.specs.Steps.{is_own};
 ghost use Rattle.node.specs.Summaries.{summary_of};
 ghost use Rattle.wire.specs.Readers.{IsSeatOf};
 ghost use Rattle.c_handles.specs.Images.{Sized};
-ghost use Rattle.c_handles.specs.Reads.{link_of, register_of};
+ghost use Rattle.c_handles.specs.Reads.{link_of, object_bytes, object_len, register_of};
+ghost use Rattle.c_values.specs.Bytes.{WroteIf};
 
 use crate::Marked;
-use crate::lone::reading::{link_of, register_of};
+use crate::lone::reading::{bytes_len_of, bytes_of, link_of, register_of};
 use c_values::{CLink, Fault, put};
 use cell::Cell;
 use disk::MemoryDisk;
@@ -66,7 +67,7 @@ impl SeatedCell {
     #[inline(always)]
     pub fn act(&mut self, event: Event) -> Result<Answer, Fault>
         requires own { is_own event ≡ true }
-        ensures { CellActs event self.old self.new result }
+        ensures { CellActs event.entry self.old self.new result }
     {
         let answer = self.cell.act(&self.wire, event)?;
         self.is_fresh = false;
@@ -174,6 +175,29 @@ impl SeatedCell {
         ensures { result ≡ register_of self.now.cell.node.core.local register }
     {
         register_of(self.cell.node().core(), register)
+    }
+
+    /// Writes `count` bytes of an object, from `offset` on. Fails as the node does, and with
+    /// `ShortBuffer`.
+    pub fn bytes(
+        &self,
+        object: u16,
+        offset: u32,
+        count: u32,
+        buffer: &mut [u8],
+        needed: &mut usize,
+    ) -> Result<(), Fault>
+        ensures { WroteIf (object_bytes self.now.cell.node.core.local object offset count) result
+            buffer.old buffer.new needed.old needed.new }
+    {
+        bytes_of(self.cell.node(), object, offset, count, buffer, needed)
+    }
+
+    /// How many bytes an object has. Fails as the node does.
+    pub fn bytes_len(&self, object: u16) -> Result<u32, Fault>
+        ensures { result ≡ object_len self.now.cell.node.core.local object }
+    {
+        bytes_len_of(self.cell.node(), object)
     }
 
     /// What the node knows of the links between it and another node. Fails with `NoNode`.

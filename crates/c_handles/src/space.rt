@@ -1,11 +1,12 @@
 //! A space that the caller opens on images that it stored, or on none. Its cells and watches are
 //! then taken out, each for one thread.
 ghost use Rattle.std.specs.Prelude.{◌≡◌, vec_len};
+ghost use Rattle.c_values.specs.Fields.{described};
 
 use crate::opening::{begin, copied, places, seat_all, seat_watches};
 use crate::seated::SeatedCell;
 use crate::watching::SeatedWatch;
-use c_values::Fault;
+use c_values::{CShape, Fault};
 use ids::{Refusal, Shape};
 use std::alloc::Global;
 use std::sync::Arc;
@@ -29,19 +30,12 @@ impl SeatedSpace {
 
     /// A space that isn't open. Fails with `BadArgument` if these are no sizes of a space, and with
     /// `Memory`.
-    pub fn new(
-        alloc: Global,
-        nodes: u8,
-        registers: u16,
-        slots: u32,
-        watches: u8,
-    ) -> Result<SeatedSpace, Fault>
-        ensures { Made (record { nodes = nodes; registers = registers; slots = slots }) watches
-            result }
+    pub fn new(alloc: Global, sizes: &CShape, watches: u8) -> Result<SeatedSpace, Fault>
+        ensures { Made (described sizes.now) watches result }
     {
-        let shape = Shape::new(nodes, registers, slots).ok_or(Fault::BadArgument)?;
-        let images = places(alloc, nodes)?;
-        let cells = places(alloc, nodes)?;
+        let shape = sizes.shape().ok_or(Fault::BadArgument)?;
+        let images = places(alloc, shape.nodes())?;
+        let cells = places(alloc, shape.nodes())?;
         Ok(SeatedSpace {
             shape,
             watches,

@@ -5,6 +5,7 @@ ghost use Rattle.c_handles.specs.Holds.{unboxed};
 ghost use Rattle.c_handles.specs.declared.space.SeatedSpace.{SeatedSpace};
 ghost use Rattle.c_handles.specs.contracts.space.SeatedSpace.{the_row as Row};
 ghost use Rattle.c_values.specs.Faults.{Filled, Freed, Through, empty};
+ghost use Rattle.c_values.specs.Fields.{described};
 ghost use Rattle.c_handles.specs.Spaces.{Given, Made, Moved, Opens, TakenTested, TakesCell};
 ghost use Rattle.c_handles.specs.Spaces.{TakesWatch};
 
@@ -12,7 +13,7 @@ use crate::cell_handle::CellHandle;
 use crate::held::Held;
 use crate::space::SeatedSpace;
 use crate::watch_handle::WatchHandle;
-use c_values::Fault;
+use c_values::{CShape, Fault};
 use std::alloc::Global;
 use std::marker::{Model, Send};
 
@@ -89,20 +90,11 @@ impl SpaceHandle {
 
     /// Fills an empty handle with a space that isn't open; see [`SeatedSpace::new`]. Fails with
     /// `InUse` before that.
-    pub fn fill_new(
-        &mut self,
-        alloc: Global,
-        nodes: u8,
-        registers: u16,
-        slots: u32,
-        watches: u8,
-    ) -> Result<(), Fault>
-        ensures { Filled
-            (Made (record { nodes = nodes; registers = registers; slots = slots }) watches)
-            self.old.held self.new.held result }
+    pub fn fill_new(&mut self, alloc: Global, sizes: &CShape, watches: u8) -> Result<(), Fault>
+        ensures { Filled (Made (described sizes.now) watches) self.old.held self.new.held result }
     {
         self.test_empty(alloc)?;
-        let space = SeatedSpace::new(alloc, nodes, registers, slots, watches)?;
+        let space = SeatedSpace::new(alloc, sizes, watches)?;
         let full = Box::new(alloc, space)?;
         self.put(alloc, full);
         Ok(())

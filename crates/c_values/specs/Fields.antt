@@ -1,5 +1,7 @@
 -- What C sees of answers, events and numbers of nodes.
 use Rattle.std.specs.Prelude.{ℕ, pos, Bool, true, false, cond, ◌==◌, Option, Some, None}
+use Rattle.ids.specs.Limits.{Shaped, IsShape, wide_shape}
+use Rattle.ids.specs.declared.limits.TheConstants.{PLAIN_PLACES}
 use Rattle.ids.specs.declared.names.Ref.{Ref}
 use Rattle.msg.specs.declared.body.Colour.{Colour}
 use Rattle.msg.specs.declared.body.Colour.TheVariants.{White, Black}
@@ -13,6 +15,7 @@ use Rattle.model.specs.declared.summary.Summary.{Summary}
 use Rattle.c_values.specs.declared.fields.CRef.{CRef}
 use Rattle.c_values.specs.declared.fields.CAnswer.{CAnswer}
 use Rattle.c_values.specs.declared.fields.CEvent.{CEvent}
+use Rattle.c_values.specs.declared.fields.CShape.{CShape}
 use Rattle.c_values.specs.declared.fields.CState.{CState}
 
 abbrev pub bit : Bool → ℕ
@@ -110,6 +113,34 @@ event_of c =
     (cond (c.kind == 16) (Some (event.Sweep c.count))
     (cond (c.kind == 17) (Some (event.Next c.node)) None))))))))))))))))
 
+-- ---- Sizes of spaces
+
+abbrev pub plain_fields : ℕ → ℕ → ℕ → CShape
+plain_fields nodes registers slots = record {
+  slots = slots;
+  bytes = 0;
+  registers = registers;
+  nodes = nodes;
+  places = PLAIN_PLACES;
+  wide = 0;
+}
+
+-- the sizes of this kind, within their limits or not; `wide` is 0 or 1
+abbrev pub described : CShape → Option Shaped
+described c = cond (c.wide == 0) (Some (record {
+  nodes = c.nodes;
+  registers = c.registers;
+  slots = c.slots;
+  places = c.places;
+  bytes = c.bytes;
+  wide = false;
+})) (cond (c.wide == 1) (Some (wide_shape c.nodes c.registers c.slots c.places c.bytes)) None)
+
+-- sizes are described, and within the limits of their kind
+abbrev pub IsDescribed : Option Shaped → Type 0
+IsDescribed (Some sizes) = IsShape sizes
+IsDescribed None = ⊥
+
 -- ---- Numbers of nodes
 
 abbrev pub state_fields : Summary → CState
@@ -119,6 +150,8 @@ state_fields s = record {
   colour = colour_number s.colour;
   has_token = bit s.has_token;
   registers = s.shape.registers;
+  places = s.shape.places;
+  wide = bit s.shape.wide;
   slots = s.shape.slots;
   live = s.live;
   cycle = s.cycle;
@@ -128,4 +161,5 @@ state_fields s = record {
   recent = s.recent;
   grey = s.grey;
   letters = s.letters;
+  bytes = s.shape.bytes;
 }

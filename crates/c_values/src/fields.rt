@@ -1,12 +1,13 @@
 //! Answers, events and numbers of nodes as structs of plain numbers, which is how C sees them. The
 //! header `include/markring.h` has the same structs.
-ghost use Rattle.std.specs.Prelude.{◌≡◌, IfSome, true};
+ghost use Rattle.std.specs.Prelude.{◌≡◌, ◌↔◌, IfSome, IsSome, Some, true};
 ghost use Rattle.model.specs.Steps.{is_own};
 ghost use Rattle.c_values.specs.Fields.{answer_fields, colour_number, event_of, freed_fields};
 ghost use Rattle.c_values.specs.Fields.{letter_fields, no_answer, optional_fields};
-ghost use Rattle.c_values.specs.Fields.{reference_fields, state_fields, token_fields};
+ghost use Rattle.c_values.specs.Fields.{described, plain_fields, reference_fields, state_fields};
+ghost use Rattle.c_values.specs.Fields.{IsDescribed, token_fields};
 
-use ids::Ref;
+use ids::{PLAIN_PLACES, Ref, Shape};
 use model::{Answer, Event, Letter, Summary};
 use msg::{Colour, Token};
 
@@ -49,6 +50,19 @@ pub struct CEvent {
     pub word: u64,
 }
 
+/// The sizes of a space, and its kind: `wide` is 1 for a wide space and 0 for a plain one. Spaces
+/// have no bytes in their objects, so `bytes` is 0.
+#[repr(C)]
+#[derive(Clone, Copy)]
+pub struct CShape {
+    pub slots: u32,
+    pub bytes: u32,
+    pub registers: u16,
+    pub nodes: u8,
+    pub places: u8,
+    pub wide: u8,
+}
+
 /// A node in numbers.
 #[repr(C)]
 #[derive(Clone, Copy)]
@@ -58,6 +72,8 @@ pub struct CState {
     pub colour: u8,
     pub has_token: u8,
     pub registers: u16,
+    pub places: u8,
+    pub wide: u8,
     pub slots: u32,
     pub live: u32,
     pub cycle: u64,
@@ -67,6 +83,7 @@ pub struct CState {
     pub recent: i64,
     pub grey: u64,
     pub letters: u64,
+    pub bytes: u32,
 }
 
 /// The two links between a node and another one, in numbers of messages.
@@ -225,7 +242,7 @@ impl CAnswer {
 
 impl CEvent {
     /// The event that the fields describe. None if it isn't the kind of an event.
-    pub fn event(&self) -> Option<Event>
+    pub fn event(&self) -> Option<Event<'static>>
         ensures value { result ≡ event_of self.now }
         ensures own { IfSome result (λ e. is_own e ≡ true) }
     {
@@ -287,6 +304,43 @@ impl CEvent {
     }
 }
 
+impl CShape {
+    /// The fields of a plain space with these sizes, whether or not they are within its limits.
+    pub fn plain(nodes: u8, registers: u16, slots: u32) -> CShape
+        ensures { result ≡ plain_fields nodes registers slots }
+    {
+        CShape {
+            slots,
+            bytes: 0,
+            registers,
+            nodes,
+            places: PLAIN_PLACES,
+            wide: 0,
+        }
+    }
+
+    /// The shape that the fields describe. None if they describe none, or if one is out of its
+    /// limits.
+    pub fn shape(&self) -> Option<Shape>
+        ensures within { IsSome result ↔ IsDescribed (described self.now) }
+        ensures value { IfSome result (λ s. Some s ≡ described self.now) }
+    {
+        let CShape {
+            slots,
+            bytes,
+            registers,
+            nodes,
+            places,
+            wide,
+        } = *self;
+        match (wide, bytes, places) {
+            (0, 0, PLAIN_PLACES) => Shape::new(nodes, registers, slots),
+            (1, _, _) => Shape::wide(nodes, registers, slots, places, bytes),
+            _ => None,
+        }
+    }
+}
+
 impl CState {
     /// The fields of a node's numbers.
     pub fn of(state: Summary) -> CState
@@ -298,6 +352,8 @@ impl CState {
             colour: colour_number(state.colour),
             has_token: u8::from(state.has_token),
             registers: state.shape.registers(),
+            places: state.shape.places(),
+            wide: u8::from(state.shape.is_wide()),
             slots: state.shape.slots(),
             live: state.live,
             cycle: state.cycle,
@@ -307,6 +363,7 @@ impl CState {
             recent: state.recent,
             grey: state.grey as u64,
             letters: state.letters as u64,
+            bytes: state.shape.bytes(),
         }
     }
 }

@@ -11,5 +11,5 @@ mod results;
 
 pub use bytes::put;
 pub use fault::{Fault, OK};
-pub use fields::{CAnswer, CEvent, CLink, CRef, CState};
+pub use fields::{CAnswer, CEvent, CLink, CRef, CShape, CState};
 pub use results::{answered, flagged, status, written};

@@ -1,5 +1,5 @@
 -- What a closed space left on its disks is the world in which the next one begins.
-use Rattle.std.proofs.Common.{◌≡◌, ◌≤◌, ◌<◌, ℕ, All, List, [], Some, length, map, sym, ap, ◌∙◌, subst, slice_get, arith}
+use Rattle.std.proofs.Common.{◌≡◌, ◌≤◌, ◌<◌, ℕ, Bool, All, List, [], Some, length, map, sym, ap, ◌∙◌, subst, slice_get, arith}
 use Rattle.std.proofs.lemmas.List.{length-map}
 use Rattle.std.proofs.lemmas.List.Elements.{All-get_or}
 use Rattle.std.proofs.lemmas.Option.{get_or_from_slice_get, slice_get_within}
@@ -148,14 +148,14 @@ module _ {D : Type 0} {may_leave : D → Areas → Type 0} {shape : Shaped} {ope
       from.once.begun
 
   -- an opening never refuses them because of their ages
-  pub never-ages : (moment faults : D → ℕ) (e : Unopened)
-      → IsWhy seen moment faults shape disks e → IfAges (λ sender receiver. ⊥) e
-  never-ages moment faults e why =
+  pub never-ages : (seals : D → Bool) (moment faults : D → ℕ) (e : Unopened)
+      → IsWhy seen seals moment faults shape disks e → IfAges (λ sender receiver. ⊥) e
+  never-ages seals moment faults e why =
       ages-never seen shape disks
       (λ nodes count read.
       opened-again {Are = λ _. Unit {0}}
       (record { nodes = nodes; count = count; read = read; are = tt }))
-      moment faults e why
+      seals moment faults e why
 
 -- ---- Cells that were just opened
 

@@ -40,3 +40,4 @@ pub mod Sights
 pub mod Killed
 pub mod Answered
 pub mod TraceLines
+pub mod Bytes

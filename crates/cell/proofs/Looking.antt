@@ -1,16 +1,18 @@
 -- Disks that are read one after another, before anything is created on them, and their nodes, which
 -- are then put on shelves.
-use Rattle.std.proofs.Common.{◌≡◌, ◌≢◌, ◌<◌, ◌+◌, ◌++◌, ℕ, zero, suc, List, [], ◌∷◌, Option, Some, None, drop, get_or, length, length-append, length-set, set, slice_get, refl, sym, ap, ◌∙◌, subst, subst₂, arith, ⊎_elim}
+use Rattle.std.proofs.Common.{◌≡◌, ◌≢◌, ◌<◌, ◌+◌, ◌++◌, ℕ, zero, suc, Bool, true, inl, inr, List, [], ◌∷◌, Option, Some, None, drop, get_or, length, length-append, length-set, set, slice_get, refl, sym, ap, ◌∙◌, subst, subst₂, arith, ⊎_elim}
 use Rattle.std.proofs.lemmas.Option.{slice_get-get_or, slice_get_read, slice_get_within}
 use Rattle.ids.specs.Limits.{Shaped}
 use Rattle.ids.specs.declared.refusal.Refusal.{Refusal}
-use Rattle.disk.specs.Areas.{Areas}
+use Rattle.std.proofs.lemmas.Bool.Decides.{leb_tells}
+use Rattle.disk.specs.Areas.{Areas, IsBlank}
 use Rattle.disk.specs.Crashes.{Unmoved}
+use Rattle.disk_shelf.specs.Seals.{first_of, IsIntact}
 use Rattle.node_store.specs.declared.place.Place.{Place}
 use Rattle.node.specs.Keeping.{WholeNode}
 use Rattle.cell.specs.Ages.{IsWhy}
-use Rattle.cell.specs.Looking.{AreLookedAt, AreOn, AreUnmoved, IsLookedAt, IsOfReading}
-use Rattle.cell.specs.Opened.{AreBeside, AreFound, HasAt, IsCause, IsReadFrom}
+use Rattle.cell.specs.Looking.{AreIntact, AreLookedAt, AreOn, AreUnmoved, IsLookedAt, IsOfReading}
+use Rattle.cell.specs.Opened.{AreBeside, AreFound, HasAt, IsCause, IsReadFrom, unsealed}
 use Rattle.cell.specs.declared.fault.Unopened.{Unopened}
 use Rattle.cell.specs.declared.fault.Unopened.TheVariants as fault
 use Rattle.cell.proofs.Causes.{earlier-cause}
@@ -158,9 +160,10 @@ module _ {D : Type 0} {seen : D → Areas} {may_leave : D → Areas → Type 0} 
       (h.found.each k d there.0 n at.0 was there.1 stands at.1).read
 
   -- why a node of one of these disks couldn't be created
-  cause-before : (k : ℕ) (r : Refusal) → HasAt k (λ d. IsCause seen moment faults shape k d r) new
-      → HasAt k (λ d. IsCause seen moment faults shape k d r) old
-  cause-before k r cause =
+  cause-before : (seals : D → Bool) (k : ℕ) (r : Refusal)
+      → HasAt k (λ d. IsCause seen unsealed moment faults shape k d r) new
+      → HasAt k (λ d. IsCause seen seals moment faults shape k d r) old
+  cause-before seals k r cause =
       let count = h.quiet.count in
       let many = h.many in
       let inside = slice_get_within new k cause.value cause.there in
@@ -173,17 +176,55 @@ module _ {D : Type 0} {seen : D → Areas} {may_leave : D → Areas → Type 0} 
       record {
         value = was.0;
         there = was.1;
-        is = earlier-cause faults shape k r (h.quiet.each k was.0 cause.value was.1 cause.there)
-            it.fine cause.is;
+        is = earlier-cause seals faults shape k r
+            (h.quiet.each k was.0 cause.value was.1 cause.there) it.fine cause.is;
       }
 
-  pub why-before : (e : Unopened) → (IsOfReading e → ⊥) → IsWhy seen moment faults shape new e
-      → IsWhy seen moment faults shape old e
-  why-before fault.Disks read why = absurd (read tt)
-  why-before (fault.Another k) read why = absurd (read tt)
-  why-before (fault.Ages i j) read why = absurd (read tt)
-  why-before (fault.Failed k r) read why = cause-before k r why
-  why-before fault.Memory read why = tt
+  pub why-before : (seals : D → Bool) (e : Unopened) → (IsOfReading e → ⊥)
+      → IsWhy seen unsealed moment faults shape new e → IsWhy seen seals moment faults shape old e
+  why-before seals fault.Disks read why = absurd (read tt)
+  why-before seals (fault.Another k) read why = absurd (read tt)
+  why-before seals (fault.Ages i j) read why = absurd (read tt)
+  why-before seals (fault.Failed k r) read why = cause-before seals k r why
+  why-before seals fault.Memory read why = tt
+
+-- ---- Their seals
+
+-- of the first disks, up to this number, those that seal are intact
+pub record AreIntactTo {D : Type 0} (seen : D → Areas) (seals : D → Bool) (number : ℕ)
+    (disks : List D) : Type 0 where
+  pub each : (k : ℕ) (d : D) → k < number → slice_get disks k ≡ Some d → seals d ≡ true
+      → IsIntact (seen d)
+
+-- nothing was changed on a disk on which nothing was ever created
+pub blank-intact : {seen : Areas} → IsBlank seen → IsIntact seen
+blank-intact blank mark first =
+    let none : first_of [] ≡ Some mark = subst (λ l. first_of l ≡ Some mark) blank first in
+    absurd cc
+
+-- one more disk was compared
+pub intact-next : {D : Type 0} {seen : D → Areas} {seals : D → Bool} {disks : List D} {number : ℕ}
+    {x : D} → AreIntactTo seen seals number disks → slice_get disks number ≡ Some x
+    → (seals x ≡ true → IsIntact (seen x)) → AreIntactTo seen seals (number + 1) disks
+intact-next {D = D} {seen = seen} {seals = seals} {disks = disks} {number = number}
+    {x = x} before there
+    here = record {
+      each = λ k d inside at sealing. elim (leb_tells (k + 1) number) [
+        | inl fits ↦ before.each k d (let first = fits.1 in omega (arith, first)) at sealing
+        | inr past ↦
+            let last : k ≡ number = (let after = past.1 in omega (arith, after, inside)) in
+            let is : x ≡ d =
+            same-there disks number x d there
+            (subst (λ (j : ℕ). slice_get disks j ≡ Some d) last at) in
+            subst (λ (v : D). seals v ≡ true → IsIntact (seen v)) is here sealing
+      ];
+    }
+
+pub intact-all : {D : Type 0} {seen : D → Areas} {seals : D → Bool} {disks : List D} {number : ℕ}
+    → AreIntactTo seen seals number disks → length disks ≡ number → AreIntact seen seals disks
+intact-all {disks = disks} are many k d there sealing =
+    let inside = slice_get_within disks k d there in
+    are.each k d (omega (arith, inside, many)) there sealing
 
 -- ---- Their shelves
 

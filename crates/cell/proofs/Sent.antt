@@ -72,11 +72,13 @@ module _ (D : RattleType) (g : disk.Ghosts D.Denot) where
         let lock = SharedOn.the_type D W g w in
         let sent = held-send s in
         recorded_send (Struct (shape lock)) lock.D lock.to lock.to_one
-        (struct_send (shape lock) (search (sent, crosses), tt))
+        (struct_send (shape lock)
+        (search (sent, crosses), (search (crosses, sendable), tt)))
 
     pub shared-sync : IsSend D → IsSync (SharedOn.the_row D W g w)
     shared-sync s =
         let lock = SharedOn.the_type D W g w in
         let sent = held-send s in
         recorded_sync (Struct (shape lock)) lock.D lock.to lock.to_one
-        (struct_sync (shape lock) (search (sent, crosses), tt))
+        (struct_sync (shape lock)
+        (search (sent, crosses), (search (crosses, sendable), tt)))

@@ -1,7 +1,8 @@
 -- What programs see of a space whose wire began in a reached world.
 use Rattle.std.proofs.Common.{◌≡◌, ◌≢◌, ◌<◌, ◌≤◌, ◌+◌, ℕ, Bool, zero, suc, true, false, cond, ◌&&◌, List, [], ◌∷◌, ◌++◌, append-nil, append_assoc, length, Option, Some, None, Result, Ok, Err, refl, sym, ap, ◌∙◌, subst, arith, ⊎_elim, ◌==◌}
 use Rattle.std.specs.Prelude.{not, IfErr}
-use Rattle.std.proofs.lemmas.Bool.{and_from, cond_both, cond-true, eqb-false, lt-ltb, not_from_false}
+use Rattle.std.proofs.lemmas.Bool.{and_from, cond_both, cond-false, cond-true, eqb-false, lt-ltb, not_from_false}
+use Rattle.ids.specs.Limits.{Shaped}
 use Rattle.ids.specs.declared.refusal.Refusal.{Refusal}
 use Rattle.ids.specs.declared.refusal.Refusal.TheVariants.{Memory}
 use Rattle.msg.specs.declared.body.Message.{Message}
@@ -14,6 +15,7 @@ use Rattle.model.specs.declared.step.Outcome.TheVariants as outcome
 use Rattle.model.specs.declared.step.Step.{Step}
 use Rattle.model.specs.declared.step.Step.TheVariants as step
 use Rattle.model.specs.State.{LocalState, NodeState, got_from, node_at, slot_at}
+use Rattle.model.specs.Heaps.{heap_bytes}
 use Rattle.model.specs.Steps.{ack_of, act, is_own}
 use Rattle.model.specs.View.{NodeView, Follows, IsTold}
 use Rattle.model.specs.World.{World, happens, is_node, moved, new_world, outcome_of, released, run, take_step}
@@ -30,7 +32,7 @@ use Rattle.laws.proofs.Transparent.{collector-is-unseen}
 use Rattle.node.specs.Keeping.{Rings, met}
 use Rattle.wire.specs.Views.{Pair}
 use Rattle.cell.specs.Reached.{AreAlike, IsReached}
-use Rattle.cell.specs.Unseen.{CellsAreToldSo, NewIsUnseen, ReachedIsUnseen, SightsAreKept, SightsGoOn, sights_after, sights_before, space_after}
+use Rattle.cell.specs.Unseen.{CellsAreToldSo, CellsReadSo, NewIsUnseen, ReachedIsUnseen, SightsAreKept, SightsGoOn, sights_after, sights_before, space_after}
 use Rattle.cell.proofs.AlikeCuts.{CutsAlike, cuts-alike, reached-too}
 use Rattle.cell.proofs.AlikeRuns.{AreReleased, also-released, alike-sym, node-like, run-like, same-content, step-like}
 use Rattle.cell.proofs.Holding.{saved-count}
@@ -66,10 +68,10 @@ observed-append w (x ∷ xs) ys choice =
     (observed_in_cut (run (happens w x) xs) ys choice))
 
 -- the last part of a run of a space without a collector
-runs-then : (nodes : ℕ) (s : Space) (xs ys : List Sight) → IsRun nodes s (xs ++ ys)
-    → IsRun nodes (after s xs) ys
-runs-then nodes s [] ys runs = runs
-runs-then nodes s (x ∷ xs) ys runs = runs-then nodes (after_sight s x) xs ys runs.1
+runs-then : (shape : Shaped) (s : Space) (xs ys : List Sight) → IsRun shape s (xs ++ ys)
+    → IsRun shape (after s xs) ys
+runs-then shape s [] ys runs = runs
+runs-then shape s (x ∷ xs) ys runs = runs-then shape (after_sight s x) xs ys runs.1
 
 -- ---- Worlds that differ at most in acknowledged messages
 
@@ -160,6 +162,9 @@ looks-too {s} {c} {d} h looks = record {
         ap (λ (p : LocalState). slot_at p.heap r.slot) (h.locals r.node) ∙ found.1,
         found.2,
       ));
+  bytes = λ i object offset count.
+      ap (λ (p : LocalState). heap_bytes p.own p.heap object offset count) (h.locals i)
+      ∙ looks.bytes i object offset count;
 }
 
 cuts-then : (w : World) (r : IsReached w) (steps : List Step) (choice : ℕ → Bool)
@@ -176,7 +181,7 @@ reached-is-unseen w r steps choice =
     let unseen = collector-is-unseen r.shape r.limits all choice in
     let same = sym (sights-are w r steps choice) in
     let cuts = cuts-then w r steps choice in (
-      subst (IsRun r.shape.nodes (new_space r.shape)) same unseen.0,
+      subst (IsRun r.shape (new_space r.shape)) same unseen.0,
       looks-too cuts
           (subst (λ (v : World). LooksLike (space_after r steps choice) (cut v choice))
           (run-append (new_world r.shape) r.steps steps)
@@ -269,10 +274,21 @@ cells-are-told-so e result v log choice r below leads current told_it =
     (sight-of w choice me e result inside program current is)
     ∙ sym (append_assoc (sights_before r (choice_at_start log choice))
     (observed_in_cut v.opening log choice) (told me e result ∷ [])) in
-    let runs = subst (IsRun r.shape.nodes (new_space r.shape)) sights
+    let runs = subst (IsRun r.shape (new_space r.shape)) sights
     (reached-is-unseen v.opening r (log ++ last) choice).0 in
-    (runs-then r.shape.nodes (new_space r.shape) (sights_after r log choice)
+    (runs-then r.shape (new_space r.shape) (sights_after r log choice)
     (told me e result ∷ []) runs).0.2
+
+pub cells-read-so : CellsReadSo
+cells-read-so n v log choice r object offset count leads current shows =
+    let w : World = run v.opening log in
+    let here : cut w choice v.me ≡ v.pair.current =
+    cond-false (choice v.me) (node_at w.saved v.me) (node_at w.current v.me) current
+    ∙ ap (λ (p : Pair). p.current) leads.pair in
+    let same : n.local ≡ (cut w choice v.me).local =
+    shows.local ∙ ap (λ (s : NodeState). s.local) (sym here) in
+    ap (λ (p : LocalState). heap_bytes p.own p.heap object offset count) same
+    ∙ (reached-is-unseen v.opening r log choice).1.bytes v.me object offset count
 
 -- ---- From one space to the next
 

@@ -1,5 +1,5 @@
 -- The world in which an opening begins, by what its disks read as.
-use Rattle.std.proofs.Common.{◌≡◌, ℕ, List, Some, length, slice_get, ◌∙◌, arith}
+use Rattle.std.proofs.Common.{◌≡◌, ℕ, Bool, List, Some, length, slice_get, ◌∙◌, arith}
 use Rattle.std.proofs.lemmas.Option.{slice_get_within}
 use Rattle.ids.specs.Limits.{Shaped, IsShape}
 use Rattle.model.specs.World.{World}
@@ -23,21 +23,21 @@ AreReadOf seen shape disks nodes = AreBeside (λ k d n. IsReadFrom shape k (seen
 module _ {D : Type 0} (seen : D → Areas) (shape : Shaped) (disks : List D) where
   -- Nodes of one age are never refused because of their ages.
   pub never-apart : ((nodes : List WholeNode) → length nodes ≡ length disks
-      → AreReadOf seen shape disks nodes → AreOfOneAge nodes) → (moment faults : D → ℕ)
-      → (e : Unopened) → IsWhy seen moment faults shape disks e
+      → AreReadOf seen shape disks nodes → AreOfOneAge nodes) → (seals : D → Bool)
+      → (moment faults : D → ℕ) → (e : Unopened) → IsWhy seen seals moment faults shape disks e
       → IfAges (λ sender receiver. ⊥) e
-  never-apart ages moment faults (Ages i j) h =
+  never-apart ages seals moment faults (Ages i j) h =
       h.are.apart
       ((ages h.nodes h.count h.read).each i j h.are.sender h.are.receiver h.are.first h.are.second)
-  never-apart ages moment faults Disks h = tt
-  never-apart ages moment faults (Another k) h = tt
-  never-apart ages moment faults (Failed k r) h = tt
-  never-apart ages moment faults Memory h = tt
+  never-apart ages seals moment faults Disks h = tt
+  never-apart ages seals moment faults (Another k) h = tt
+  never-apart ages seals moment faults (Failed k r) h = tt
+  never-apart ages seals moment faults Memory h = tt
 
   -- so it is if a space may begin in the nodes that are read
   pub ages-never : ((nodes : List WholeNode) → length nodes ≡ length disks
-      → AreReadOf seen shape disks nodes → BeginReached nodes) → (moment faults : D → ℕ)
-      → (e : Unopened) → IsWhy seen moment faults shape disks e
+      → AreReadOf seen shape disks nodes → BeginReached nodes) → (seals : D → Bool)
+      → (moment faults : D → ℕ) → (e : Unopened) → IsWhy seen seals moment faults shape disks e
       → IfAges (λ sender receiver. ⊥) e
   ages-never begins =
       never-apart (λ nodes count read. begin-of-one-age nodes (begins nodes count read))

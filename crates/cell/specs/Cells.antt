@@ -9,7 +9,7 @@ use Rattle.disk.specs.Areas.{Areas}
 use Rattle.image.specs.Nodes.{HasImage}
 use Rattle.wire.specs.Readers.{known, seat_node, IsSame}
 use Rattle.wire.specs.declared.seats.NodeSeat.{NodeSeat}
-use Rattle.cell.specs.Desks.{HasDropped, AreTaken, IsSavedNode, IsUnsaved, StandsAt}
+use Rattle.cell.specs.Desks.{DeskView, HasDropped, AreTaken, IsSavedNode, IsUnsaved, StandsAt}
 use Rattle.cell.specs.Disks.{HoldsSaved, OpensToEither}
 use Rattle.node_store.specs.Plain.{StaysPlain}
 use Rattle.cell.specs.Events.{IsMarked}
@@ -32,6 +32,16 @@ pub record CellView (D : Type 0) : Type 0 where
   pub logs : Bool
   -- the last calls and their outcomes, oldest first
   pub trace : List TraceLine
+
+-- its node at its seat, without its disk
+abbrev pub desk_of : {D : Type 0} → CellView D → DeskView
+desk_of c = record {
+  node = c.node;
+  saved = c.saved;
+  seat = c.seat;
+  places = c.places;
+  unsaved = c.unsaved;
+}
 
 -- a cell that was just made
 abbrev pub new_cell : {D : Type 0} → WholeNode → NodeSeat → D → Bool → CellView D

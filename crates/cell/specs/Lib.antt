@@ -14,4 +14,6 @@ pub mod Unseen
 pub mod Opened
 pub mod Looking
 pub mod Locked
+pub mod Reading
+pub mod Shares
 pub mod Lines

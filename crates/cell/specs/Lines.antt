@@ -4,7 +4,7 @@ use Rattle.ids.specs.Refusals.{number_of}
 use Rattle.model.specs.declared.event.Event.{Event}
 use Rattle.model.specs.declared.event.Event.TheVariants as event
 use Rattle.cell.specs.declared.call.Call.{Call}
-use Rattle.cell.specs.declared.call.Call.TheVariants.{Alloc, Copy, Drop, Load, Store, Clear, Word, SetWord, Give, Accept, Put, Get, Begin, Scan, Pass, Sweep, Next, Data, Ack, Save, Reopen}
+use Rattle.cell.specs.declared.call.Call.TheVariants.{Alloc, Copy, Drop, Load, Store, Clear, Word, SetWord, SetBytes, Patch, Give, Accept, Put, Get, Begin, Scan, Pass, Sweep, Next, Data, Ack, Save, Reopen}
 use Rattle.cell.specs.declared.call.CallOutcome.{CallOutcome}
 use Rattle.cell.specs.declared.call.CallOutcome.TheVariants.{Done, Repeat, Early, Refused}
 use Rattle.cell.specs.declared.trace.TraceLine.{TraceLine}
@@ -18,6 +18,8 @@ call_of (event.Store object place register) = Store
 call_of (event.Clear object place) = Clear
 call_of (event.Word object) = Word
 call_of (event.SetWord object word) = SetWord
+call_of (event.SetBytes object bytes) = SetBytes
+call_of (event.Patch object offset bytes) = Patch
 call_of (event.Give to label register) = Give
 call_of (event.Accept register) = Accept
 call_of (event.Put object place register) = Put
@@ -39,6 +41,8 @@ word_of Store = codes "store"
 word_of Clear = codes "clear"
 word_of Word = codes "word"
 word_of SetWord = codes "setword"
+word_of SetBytes = codes "setbytes"
+word_of Patch = codes "patch"
 word_of Give = codes "give"
 word_of Accept = codes "accept"
 word_of Put = codes "put"

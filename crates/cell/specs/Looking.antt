@@ -6,6 +6,7 @@ use Rattle.ids.specs.declared.saves.Saves.{Saves}
 use Rattle.ids.specs.declared.saves.Saves.TheVariants.{Events, Images}
 use Rattle.disk.specs.Areas.{Areas}
 use Rattle.disk.specs.Crashes.{Unmoved, StaysBlank}
+use Rattle.disk_shelf.specs.Seals.{IsIntact}
 use Rattle.node_store.specs.Stores.{LiesAt, is_logged_at}
 use Rattle.node_store.specs.declared.place.Place.{Place}
 use Rattle.node.specs.Keeping.{WholeNode, new_whole}
@@ -20,6 +21,11 @@ pub record AreUnmoved {D : Type 0} (seen : D → Areas) (may_leave : D → Areas
   pub count : length new ≡ length old
   pub each : (k : ℕ) (d e : D) → slice_get old k ≡ Some d → slice_get new k ≡ Some e
       → Unmoved seen may_leave moment left_since d e
+
+-- Of each disk that seals what is saved on it, nothing that counts has changed.
+abbrev pub AreIntact : {D : Type 0} → (D → Areas) → (D → Bool) → List D → Type 0
+AreIntact {D} seen seals disks =
+    (k : ℕ) (d : D) → slice_get disks k ≡ Some d → seals d ≡ true → IsIntact (seen d)
 
 -- The disk holds the node in this place. Without a place, nothing was ever created on the disk, and
 -- the node is new.

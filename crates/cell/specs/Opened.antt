@@ -1,7 +1,6 @@
 -- Nodes in their stores, and a wire between them.
-use Rattle.std.specs.Prelude.{◌≡◌, ◌<◌, ◌⊎◌, ℕ, Bool, true, false, List, ◌++◌, length, map, replicate, Some, slice_get}
+use Rattle.std.specs.Prelude.{◌≡◌, ◌⊎◌, ℕ, Bool, true, false, List, ◌++◌, length, map, replicate, Some, slice_get}
 use Rattle.ids.specs.Limits.{Shaped}
-use Rattle.ids.specs.declared.limits.TheConstants.{GREATEST_IMAGE}
 use Rattle.ids.specs.declared.refusal.Refusal.{Refusal}
 use Rattle.ids.specs.declared.refusal.Refusal.TheVariants.{BadImage, Disk, ImageTooLarge}
 use Rattle.ids.specs.declared.saves.Saves.{Saves}
@@ -14,8 +13,9 @@ use Rattle.model.specs.World.{World}
 use Rattle.wire.specs.declared.seats.NodeSeat.{NodeSeat}
 use Rattle.disk.specs.Areas.{Areas, IsBlank}
 use Rattle.disk.specs.Crashes.{HasFailed}
+use Rattle.disk_shelf.specs.Seals.{IsIntact}
 use Rattle.node.specs.Keeping.{WholeNode, new_whole}
-use Rattle.image.specs.Wholes.{whole_image}
+use Rattle.image.specs.Wholes.{IsWholeTooLarge}
 use Rattle.node_store.specs.Plain.{IsPlain}
 use Rattle.cell.specs.Desks.{IsAtSeat}
 use Rattle.cell.specs.Disks.{OpensTo, OpensToNode}
@@ -51,35 +51,39 @@ pub record HoldsAnother (shape : Shaped) (own : ℕ) (seen : Areas) : Type 0 whe
   pub opens : OpensTo node seen
   pub is_other : IsNodeOf shape own node → ⊥
 
--- something was created on a disk that reads as `seen`, and it opens to no node
-pub record HoldsNone (seen : Areas) : Type 0 where
-  pub written : IsBlank seen → ⊥
-  pub none : (n : WholeNode) → OpensToNode n seen → ⊥
+-- no seal of this disk was compared
+abbrev pub unsealed : {D : Type 0} → D → Bool
+unsealed d = false
 
--- nothing was created on a disk that reads as `seen`, and the new node's image is longer than an
--- image may be
+-- Something was created on a disk that reads as `seen`, and it opens to no node; or the disk seals
+-- what is saved on it, and isn't intact.
+pub record HoldsNone (seals : Bool) (seen : Areas) : Type 0 where
+  pub written : IsBlank seen → ⊥
+  pub none : (n : WholeNode) → OpensToNode n seen → (seals ≡ true → IsIntact seen) → ⊥
+
+-- nothing was created on a disk that reads as `seen`, and the new node's image is too large
 pub record IsTooLarge (shape : Shaped) (own : ℕ) (seen : Areas) : Type 0 where
   pub blank : IsBlank seen
-  pub large : GREATEST_IMAGE < length (whole_image (new_whole shape own))
+  pub large : IsWholeTooLarge (new_whole shape own)
 
 -- why opening the node of this number from a disk fails, other than for lack of memory
-abbrev pub IsCause : {D : Type 0} → (D → Areas) → (D → ℕ) → (D → ℕ) → Shaped → ℕ → D → Refusal
-    → Type 0
-IsCause seen moment faults shape own disk Disk = HasFailed moment faults disk
-IsCause seen moment faults shape own disk BadImage = HoldsNone (seen disk)
-IsCause seen moment faults shape own disk ImageTooLarge = IsTooLarge shape own (seen disk)
-IsCause seen moment faults shape own disk e = ⊥
+abbrev pub IsCause : {D : Type 0} → (D → Areas) → (D → Bool) → (D → ℕ) → (D → ℕ) → Shaped → ℕ → D
+    → Refusal → Type 0
+IsCause seen seals moment faults shape own disk Disk = HasFailed moment faults disk
+IsCause seen seals moment faults shape own disk BadImage = HoldsNone (seals disk) (seen disk)
+IsCause seen seals moment faults shape own disk ImageTooLarge = IsTooLarge shape own (seen disk)
+IsCause seen seals moment faults shape own disk e = ⊥
 
 -- why the node of this number wasn't read from this disk, or wasn't created there
-abbrev pub IsWhyNot : {D : Type 0} → (D → Areas) → (D → ℕ) → (D → ℕ) → Shaped → ℕ → D → Unopened
-    → Type 0
-IsWhyNot seen moment faults shape own disk Disks = ⊥
-IsWhyNot seen moment faults shape own disk (Another node) =
+abbrev pub IsWhyNot : {D : Type 0} → (D → Areas) → (D → Bool) → (D → ℕ) → (D → ℕ) → Shaped → ℕ → D
+    → Unopened → Type 0
+IsWhyNot seen seals moment faults shape own disk Disks = ⊥
+IsWhyNot seen seals moment faults shape own disk (Another node) =
     (node ≡ own) × HoldsAnother shape own (seen disk)
-IsWhyNot seen moment faults shape own disk (Ages sender receiver) = ⊥
-IsWhyNot seen moment faults shape own disk (Failed node e) =
-    (node ≡ own) × IsCause seen moment faults shape own disk e
-IsWhyNot seen moment faults shape own disk Memory = Unit {0}
+IsWhyNot seen seals moment faults shape own disk (Ages sender receiver) = ⊥
+IsWhyNot seen seals moment faults shape own disk (Failed node e) =
+    (node ≡ own) × IsCause seen seals moment faults shape own disk e
+IsWhyNot seen seals moment faults shape own disk Memory = Unit {0}
 
 -- a list has a value at this place, of which a property holds
 pub record HasAt {X : Type 0} (place : ℕ) (Is : X → Type 0) (xs : List X) : Type 0 where

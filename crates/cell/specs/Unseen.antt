@@ -7,9 +7,11 @@ use Rattle.ids.specs.declared.refusal.Refusal.TheVariants.{Memory}
 use Rattle.model.specs.declared.event.Event.{Event}
 use Rattle.model.specs.declared.event.Answer.{Answer}
 use Rattle.model.specs.declared.step.Step.{Step}
+use Rattle.model.specs.Heaps.{heap_bytes}
+use Rattle.model.specs.View.{NodeView, Shows}
 use Rattle.model.specs.World.{World, new_world, run}
 use Rattle.model.specs.Cuts.{cut}
-use Rattle.laws.specs.Objects.{Sight, Space, IsRun, MayBeTold, after, is_program, new_space}
+use Rattle.laws.specs.Objects.{Sight, Space, IsRun, MayBeTold, after, bytes_told, is_program, new_space}
 use Rattle.laws.specs.Sights.{LooksLike, choice_at_start, observed_in_cut}
 use Rattle.node.specs.Keeping.{Rings, WholeNode, met, own_step}
 use Rattle.wire.specs.OneAge.{AreOfOneAge}
@@ -40,7 +42,7 @@ space_after r steps choice = after (new_space r.shape) (sights_after r steps cho
 abbrev pub ReachedIsUnseen : Type 0
 ReachedIsUnseen =
     (w : World) (r : IsReached w) (steps : List Step) (choice : ℕ → Bool)
-    → IsRun r.shape.nodes (new_space r.shape) (sights_after r steps choice)
+    → IsRun r.shape (new_space r.shape) (sights_after r steps choice)
     × LooksLike (space_after r steps choice) (cut (run w steps) choice)
 
 -- ---- What a cell's program is told
@@ -64,7 +66,17 @@ CellsAreToldSo =
     (e : Event) (result : Result Answer Refusal) (v : Known) (log : List Step)
     (choice : ℕ → Bool) (r : IsReached v.opening) → v.me < nodes_of v.opening
     → LeadsTo v log → choice v.me ≡ false → WasTold e result v
-    → MayBeTold (space_after r log choice) v.me r.shape.nodes e result
+    → MayBeTold (space_after r log choice) v.me r.shape e result
+
+-- Whoever reads bytes of an object of a cell's node is told the same as in the space without a
+-- collector, after the sights of any list of events that leads to what the cell's seat knows.
+abbrev pub CellsReadSo : Type 0
+CellsReadSo =
+    (n : NodeView) (v : Known) (log : List Step) (choice : ℕ → Bool) (r : IsReached v.opening)
+    (object offset count : ℕ)
+    → LeadsTo v log → choice v.me ≡ false → Shows n v.pair.current
+    → heap_bytes n.local.own n.local.heap object offset count
+    ≡ bytes_told (space_after r log choice) v.me object offset count
 
 -- ---- From one space to the next
 

@@ -12,6 +12,7 @@ ghost use Rattle.node_store.specs.Stores.{disk_of, is_ready_in, logs_in};
 mod acting;
 mod learning;
 mod pumping;
+mod reading;
 mod saving;
 
 use crate::Trace;
@@ -31,11 +32,12 @@ use std::snapshot::Snapshot;
 ///
 /// A save that fails with `Disk` closes the cell, and so does a failed reopening. The disk then
 /// opens to a node that shows either the last saved state or the current one, even after a crash. A
-/// closed cell refuses every event, save and frame with `Closed` until a reopening succeeds.
+/// closed cell refuses every event, save and frame, and to read bytes, with `Closed` until a
+/// reopening succeeds.
 ///
 /// Every event enters the history of the space once: an event of the node's own, a message that is
-/// received, a save, a reopening. A refused call enters nothing; neither do reading a word, a
-/// repeat, an early message, an acknowledgement or moving a frame.
+/// received, a save, a reopening. A refused call enters nothing; neither do reading a word or bytes,
+/// a repeat, an early message, an acknowledgement or moving a frame.
 ///
 /// Each message that the node keeps until its turn is one that the seat took from the wire. No save
 /// holds it, and a reopening loses it.

@@ -7,6 +7,7 @@
 //! it opens to node k of a space of this shape         that node as it was saved last
 //! it opens to another node, or of another shape       Another
 //! something was created on it, and it opens to none   Failed with BadImage
+//! its bytes have changed, as its seal shows           Failed with BadImage
 //! a call of the disk failed                           Failed with Disk
 //! ```
 //!
@@ -21,20 +22,21 @@ ghost use Rattle.ids.specs.Limits.{IsShape};
 ghost use Rattle.ids.specs.declared.refusal.Refusal.TheVariants.{BadImage, Memory};
 ghost use Rattle.disk.specs.Areas.{IsBlank};
 ghost use Rattle.disk.specs.Crashes.{LeavesOnly, Unmoved};
+ghost use Rattle.disk_shelf.specs.Seals.{IsIntact};
 ghost use Rattle.wire.specs.OneAge.{AreOfOneAge};
 ghost use Rattle.cell.specs.Ages.{IsWhy};
 ghost use Rattle.cell.specs.Disks.{OpensToNode};
-ghost use Rattle.cell.specs.Looking.{AreLookedAt, AreOn, AreUnmoved, HoldsNode, IsOfReading};
+ghost use Rattle.cell.specs.Looking.{AreIntact, AreLookedAt, AreOn, AreUnmoved, HoldsNode, IsOfReading};
 ghost use Rattle.cell.specs.Looking.{logs_at};
 ghost use Rattle.cell.specs.Opened.{AreBeside, AreFound, IsCause, IsChosen, IsNodeOf, IsReadFrom};
-ghost use Rattle.cell.specs.Opened.{IsWhyNot, StaysOrNew};
+ghost use Rattle.cell.specs.Opened.{IsWhyNot, StaysOrNew, unsealed};
 ghost use Rattle.cell.specs.declared.fault.Unopened.TheVariants as fault;
 ghost use Rattle.node.specs.Keeping.{new_whole};
 ghost use Rattle.node_store.specs.Stores.{disk_of, is_ready_in, logs_in};
 
 use crate::fault::Unopened;
 use disk::Disk;
-use disk_shelf::is_blank;
+use disk_shelf::{DIGEST, check_seals, is_blank};
 use ids::{NodeId, Refusal, Saves, Shape};
 use node::Node;
 use node_store::{Place, Store};
@@ -48,10 +50,7 @@ fn is_node_of(node: &Node, shape: Shape, own: NodeId) -> bool
     ensures other { result ≡ false → IsNodeOf shape own.number node.now.core → ⊥ }
 {
     let state = node.state();
-    let is_sized = state.shape.nodes() == shape.nodes()
-        && state.shape.registers() == shape.registers()
-        && state.shape.slots() == shape.slots();
-    is_sized && state.own == own.number
+    state.shape == shape && state.own == own.number
 }
 
 // Adds a value to a list.
@@ -77,13 +76,14 @@ fn failed(node: u8, refusal: Refusal) -> Unopened
 }
 
 // The node that a disk holds, and the area that holds it, if the node has this number and this
-// shape.
+// shape. This is the digest of the disk's log, if it has seals.
 fn read_node<D: Disk>(
     alloc: Global,
     shape: Shape,
     own: NodeId,
     disk: &mut D,
     saves: Saves,
+    digest: Option<[u8; DIGEST]>,
 ) -> Result<(Node, Option<Place>), Unopened>
     requires { IsBlank (D.seen disk.old) → ⊥ }
     ensures node { IfOk result (λ r. IsNodeOf shape own.number r.0.core) }
@@ -93,14 +93,14 @@ fn read_node<D: Disk>(
     ensures quiet { Unmoved D.seen D.may_leave D.moment D.left_since disk.old disk.new }
     ensures fine { OnOk result (D.faults disk.new ≡ D.faults disk.old) }
     ensures why { IfErr result
-        (IsWhyNot D.seen D.moment D.faults shape own.number disk.old) }
+        (IsWhyNot D.seen unsealed D.moment D.faults shape own.number disk.old) }
 {
     let (place, node) = match node_store::read_node(alloc, disk, saves) {
         Ok(found) => found,
         Err(refusal) => return Err(failed(own.number, refusal)),
     };
     if is_node_of(&node, shape, own) {
-        Ok((node, Some(place)))
+        Ok((node, Some(place.with_digest(digest))))
     } else {
         Err(Unopened::Another { node: own.number })
     }
@@ -133,14 +133,19 @@ fn look_at<D: Disk>(
     ensures holds { IfOk result (λ r. HoldsNode D.seen D.may_leave disk.new r.0 r.1) }
     ensures chosen { IfOk result (λ r. IsChosen saves (D.seen disk.old) (logs_at saves r.1)) }
     ensures read { IfOk result (λ r. IsReadFrom shape own.number (D.seen disk.old) r.0) }
+    ensures intact { OnOk result (IsTrue (D.seals disk.old) → IsIntact (D.seen disk.old)) }
     ensures quiet { Unmoved D.seen D.may_leave D.moment D.left_since disk.old disk.new }
     ensures fine { OnOk result (D.faults disk.new ≡ D.faults disk.old) }
     ensures why { IfErr result
-        (IsWhyNot D.seen D.moment D.faults shape own.number disk.old) }
+        (IsWhyNot D.seen D.seals D.moment D.faults shape own.number disk.old) }
 {
+    let digest = match check_seals(alloc, disk) {
+        Ok(digest) => digest,
+        Err(refusal) => return Err(failed(own.number, refusal)),
+    };
     match is_blank(disk) {
         Ok(true) => new_node(alloc, shape, own),
-        Ok(false) => read_node(alloc, shape, own, disk, saves),
+        Ok(false) => read_node(alloc, shape, own, disk, saves, digest),
         Err(_) => Err(Unopened::Failed {
             node: own.number,
             refusal: Refusal::Disk,
@@ -158,11 +163,12 @@ fn look_at_all<D: Disk>(
 ) -> Result<(Vec<Node>, Vec<Option<Place>>), Unopened>
     requires { length disks.old ≡ shape.nodes }
     ensures untouched { AreUnmoved D.seen D.may_leave D.moment D.left_since disks.old disks.new }
-    ensures why { IfErr result (IsWhy D.seen D.moment D.faults shape disks.old) }
+    ensures why { IfErr result (IsWhy D.seen D.seals D.moment D.faults shape disks.old) }
     ensures found { IfOk result (λ r. AreLookedAt D.seen D.may_leave D.faults shape shape.nodes
         disks.old disks.new r.0.items r.1.items) }
     ensures chosen { IfOk result (λ r. AreBeside
         (λ k d place. IsChosen saves (D.seen d) (logs_at saves place)) disks.old r.1.items) }
+    ensures intact { OnOk result (AreIntact D.seen D.seals disks.old) }
 {
     let mut nodes = Vec::new(alloc);
     let mut areas = Vec::new(alloc);
@@ -188,7 +194,7 @@ fn create<D: Disk + Drop>(
     ensures any_moment { IfOk result (λ s. LeavesOnly D.moment D.left_since disk (disk_of s)
         (StaysOrNew D.seen D.may_leave node.now.core.local.shape node.now.core.local.own disk)) }
     ensures logs { IfOk result (λ s. logs_in s ≡ logs_at saves None) }
-    ensures cause { IfErr result (λ r. r ≢ Memory → IsCause D.seen D.moment D.faults
+    ensures cause { IfErr result (λ r. r ≢ Memory → IsCause D.seen unsealed D.moment D.faults
         node.now.core.local.shape node.now.core.local.own disk r) }
     ensures not_bad { IfErr result (λ r. r ≢ BadImage) }
 {
@@ -212,7 +218,7 @@ fn put_on<D: Disk + Drop>(
     ensures any_moment { IfOk result (λ s. LeavesOnly D.moment D.left_since disk (disk_of s)
         (StaysOrNew D.seen D.may_leave node.now.core.local.shape node.now.core.local.own disk)) }
     ensures logs { IfOk result (λ s. logs_in s ≡ logs_at saves area) }
-    ensures cause { IfErr result (λ r. r ≢ Memory → IsCause D.seen D.moment D.faults
+    ensures cause { IfErr result (λ r. r ≢ Memory → IsCause D.seen unsealed D.moment D.faults
         node.now.core.local.shape node.now.core.local.own disk r) }
     ensures not_bad { IfErr result (λ r. r ≢ BadImage) }
 {
@@ -241,7 +247,7 @@ fn put_all_on<D: Disk + Drop>(
         (StaysOrNew D.seen D.may_leave shape k d)) disks.items v.items) }
     ensures logs { IfOk result (λ v.
         AreBeside (λ k place s. logs_in s ≡ logs_at saves place) areas.now v.items) }
-    ensures why { IfErr result (IsWhy D.seen D.moment D.faults shape disks.items) }
+    ensures why { IfErr result (IsWhy D.seen unsealed D.moment D.faults shape disks.items) }
     ensures all_read { IfErr result (λ e. IsOfReading e → ⊥) }
 {
     let mut stores = Vec::new(alloc);
@@ -264,9 +270,10 @@ fn put_all_on<D: Disk + Drop>(
 /// an allocation failed. The other errors name the node of the disk that is their cause:
 ///
 /// - `Another`, if the disk holds a node of another shape or number;
-/// - `Failed` with `BadImage`, if something was created on the disk and it opens to no node;
+/// - `Failed` with `BadImage`, if something was created on the disk and it opens to no node; or if
+/// the disk [seals](Disk::seals), and its seal shows that its bytes have changed;
 /// - `Failed` with `ImageTooLarge`, if the disk is blank and the image of its new node would be
-/// longer than an image may be;
+/// too large;
 /// - `Failed` with `Disk`, if a call of the disk failed during this call.
 ///
 /// If all nodes are found, it fails with `Ages` exactly if two of them can't be the saved states of
@@ -274,7 +281,8 @@ fn put_all_on<D: Disk + Drop>(
 /// has dropped some that the second lacks.
 ///
 /// A crash at any moment since a call began that succeeds leaves on each disk what it could have
-/// left before. If nothing was ever created on the disk, it may also leave such a disk or the new node.
+/// left before. If nothing was ever created on the disk, it may also leave such a disk or the new
+/// node.
 ///
 /// There are no other causes. All disks are read, and the nodes compared, before anything is
 /// created. So after `Disks`, `Another`, `Ages` and `BadImage` the disks are still in the vector,
@@ -286,7 +294,7 @@ pub fn find<D: Disk + Drop>(
     saves: Saves,
 ) -> Result<(Vec<Node>, Vec<Store<D>>), Unopened>
     ensures disks { vec_len disks.old ≢ shape.nodes → IsErrOf result fault.Disks }
-    ensures why { IfErr result (IsWhy D.seen D.moment D.faults shape disks.old.items) }
+    ensures why { IfErr result (IsWhy D.seen D.seals D.moment D.faults shape disks.old.items) }
     ensures untouched { IfErr result (λ e. IsOfReading e →
         AreUnmoved D.seen D.may_leave D.moment D.left_since disks.old.items disks.new.items) }
     ensures taken { OnOk result (disks.new.items ≡ []) }
@@ -302,6 +310,7 @@ pub fn find<D: Disk + Drop>(
     ensures read { IfOk result (λ r. AreBeside
         (λ k d n. IsReadFrom shape k (D.seen d) n) disks.old.items r.0.items) }
     ensures all { IfOk result (λ r. length r.0.items ≡ length disks.old.items) }
+    ensures intact { OnOk result (AreIntact D.seen D.seals disks.old.items) }
     ensures one_age { IfOk result (λ r. AreOfOneAge r.0.items) }
     ensures limits { IsShape shape }
 {

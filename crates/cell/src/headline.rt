@@ -25,6 +25,7 @@ ghost use Rattle.cell.specs.Theorems.{
 };
 ghost use Rattle.cell.specs.Unseen.{
   CellsAreToldSo,
+  CellsReadSo,
   NewIsUnseen,
   ReachedIsUnseen,
   SightsAreKept,
@@ -110,6 +111,8 @@ pub fn laws()
     // So it is with each answer of a cell, also a word that was read and a refusal: it is one that
     // a program may get in that space, after the sights that led to what the cell's seat knew.
     ensures told { CellsAreToldSo }
+    // The bytes of an object that are read at a cell are those of that space too.
+    ensures read { CellsReadSo }
     // In a new space nothing was seen; what happens then adds to that.
     ensures unseen { NewIsUnseen }
     ensures seen_on { SightsGoOn }

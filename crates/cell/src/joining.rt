@@ -1,6 +1,6 @@
 //! Makes the cells of nodes that are in stores, and the wire between them. The caller names the
 //! world whose states the nodes are in; the theorems hold if a run reaches it.
-ghost use Rattle.std.specs.Prelude.{◌≡◌, ◌≢◌, ℕ, true, All, IfErr, IfOk, IsErrOf, MatchResult, Some, length};
+ghost use Rattle.std.specs.Prelude.{◌≡◌, ◌≢◌, ℕ, true, All, IfErr, IfOk, IsErrOf, MatchResult, OnOk, Some, length};
 ghost use Rattle.std.specs.Prelude.{map, slice_get, vec_len};
 ghost use Rattle.ids.specs.declared.refusal.Refusal.TheVariants.{Memory};
 ghost use Rattle.disk.specs.Crashes.{LeavesOnly};
@@ -15,6 +15,7 @@ ghost use Rattle.cell.specs.Closing.{AreOfOneKill, AreOfOneMoment, HaveBegun};
 ghost use Rattle.cell.specs.Reached.{IsReached};
 ghost use Rattle.cell.specs.Theorems.{AreFresh, AreHeldOn, AreLeftOn};
 ghost use Rattle.cell.specs.Disks.{OpensToNode};
+ghost use Rattle.cell.specs.Looking.{AreIntact};
 ghost use Rattle.cell.specs.Opened.{
   cores,
   world_of,
@@ -116,7 +117,7 @@ pub fn open<D: Disk + Drop>(
     saves: Saves,
 ) -> Result<(Wire, Vec<Cell<D>>, Vec<Watch>), Unopened>
     ensures disks { vec_len disks ≢ shape.nodes → IsErrOf result fault.Disks }
-    ensures why { IfErr result (IsWhy D.seen D.moment D.faults shape disks.items) }
+    ensures why { IfErr result (IsWhy D.seen D.seals D.moment D.faults shape disks.items) }
     ensures read { IfOk result (λ r. AreBeside (λ k d n. IsReadFrom shape k (D.seen d) n)
         disks.items (map (λ c. c.node) r.1.items)) }
     ensures any_moment { IfOk result (λ r. AreBeside (λ k d c.
@@ -128,6 +129,7 @@ pub fn open<D: Disk + Drop>(
         → slice_get (map (λ c. c.node) r.1.items) k ≡ Some n → IsNodeOf shape k n.core) }
     ensures count { IfOk result (λ r. vec_len r.1 ≡ shape.nodes) }
     ensures all { IfOk result (λ r. length r.1.items ≡ length disks.items) }
+    ensures intact { OnOk result (AreIntact D.seen D.seals disks.items) }
     ensures one_age { IfOk result (λ r. AreOfOneAge (map (λ c. c.node) r.1.items)) }
     ensures closed { (opening : World) → IsReached opening → nodes_of opening ≡ shape.nodes
         → AreOfOneMoment D.may_leave opening disks.items

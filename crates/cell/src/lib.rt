@@ -10,6 +10,7 @@
 //! pump_out   nothing
 //! reopen     a restart; after a save in which the disk failed, that save if the disk has it
 //! raise      nothing
+//! bytes      nothing
 //! ```
 //!
 //! These hold between any two calls (`IsSound` in `specs/Cells.antt`, ensured by [`Cell::node`]):
@@ -21,8 +22,8 @@
 //! crash. If [`Cell::unsaved`] is false, that is also the current state.
 //!
 //! - A save in which the disk fails closes the cell, and so does a failed reopening. The disk then
-//! opens to the last saved state or to the current one. Every call that acts or moves a frame fails
-//! with `Closed` until a reopening succeeds. A reopening never fails with `BadImage`.
+//! opens to the last saved state or to the current one. Every call that acts, reads bytes or moves
+//! a frame fails with `Closed` until a reopening succeeds. A reopening never fails with `BadImage`.
 //!
 //! - Each message that the node keeps until its turn is one whose frame the seat took. No save
 //! holds it, and a reopening loses it.

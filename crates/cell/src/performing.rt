@@ -29,13 +29,14 @@ fn is_unsaved_after(counts: bool, was: bool) -> bool
 impl Desk {
     // What an event of the node's own is to its core, and which step of the space it is. `Next` of
     // a waiting message is the delivery of that message.
-    fn meant(&self, event: Event) -> (Event, Step)
+    fn meant<'a>(&self, event: Event<'a>) -> (Event<'a>, Step<'a>)
         requires own { is_own event ≡ true }
-        ensures event { result.0 ≡ met self.now.node.early event }
-        ensures step { result.1 ≡ own_step self.now.node.early (known self.now.seat).me event }
+        ensures event { result.0 ≡ met self.now.node.early event.entry }
+        ensures step { result.1
+            ≡ own_step self.now.node.early (known self.now.seat).me event.entry }
         ensures may { MayAct (known self.now.seat) result.0 result.1 }
-        ensures due { (from : ℕ) (d : Data) → event ≡ events.Next from → result.0 ≡ events.Data d
-            → IsDue (known self.now.seat) self.now.node.core.local d }
+        ensures due { (from : ℕ) (d : Data) → event.entry ≡ events.Next from
+            → result.0 ≡ events.Data d → IsDue (known self.now.seat) self.now.node.core.local d }
     {
         let own = Step::Act(self.own, event);
         let Event::Next { from } = event else {
@@ -56,11 +57,11 @@ impl Desk {
     pub(crate) fn act(&mut self, wire: &Wire, event: Event) -> Result<Answer, Refusal>
         requires wire { IsSeatOf wire.now self.old.seat }
         requires own { is_own event ≡ true }
-        ensures given { Given event (met self.old.node.early event)
-            (own_step self.old.node.early (known self.old.seat).me event) result
+        ensures given { Given event.entry (met self.old.node.early event.entry)
+            (own_step self.old.node.early (known self.old.seat).me event.entry) result
             self.old.node self.new.node (known self.old.seat) (known self.new.seat) }
         ensures memory_free { IsTrue (is_memory_free self.old.node.core.local
-            (met self.old.node.early event))
+            (met self.old.node.early event.entry))
             → IfErr result (λ e. e ≢ Memory) }
         ensures unsaved { self.new.unsaved ≡ unsaved_after result self.old.unsaved }
         ensures same { IsSame self.old.seat self.new.seat }
@@ -86,7 +87,7 @@ impl Desk {
         requires may { MayAct (known self.old.seat) meant.now step }
         requires due { (from : ℕ) (d : Data) → event ≡ events.Next from
             → meant.now ≡ events.Data d → IsDue (known self.old.seat) self.old.node.core.local d }
-        ensures given { Given event meant.now step result
+        ensures given { Given event.entry meant.now step.entry result
             self.old.node self.new.node (known self.old.seat) (known self.new.seat) }
         ensures memory_free { IsTrue (is_memory_free self.old.node.core.local meant.now)
             → IfErr result (λ e. e ≢ Memory) }

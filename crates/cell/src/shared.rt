@@ -6,6 +6,7 @@ ghost use Rattle.std.specs.Prelude.{
   ◌↔◌,
   ◌⊎◌,
   ◌<◌,
+  ◌^◌,
   false,
   length,
   slice_index_or,
@@ -18,10 +19,9 @@ ghost use Rattle.std.specs.Prelude.{
   OnOk,
 };
 ghost use Rattle.std.specs.Arc.{arc_value};
-ghost use Rattle.ids.specs.declared.limits.TheConstants.{GREATEST_IMAGE};
 ghost use Rattle.ids.specs.declared.refusal.Refusal.TheVariants as refusal;
 ghost use Rattle.disk.specs.Crashes.{Grew};
-ghost use Rattle.image.specs.Images.{image_of};
+ghost use Rattle.image.specs.Images.{IsTooLarge};
 ghost use Rattle.model.specs.Steps.{is_own};
 ghost use Rattle.model.specs.View.{is_other, kept_view};
 ghost use Rattle.wire.specs.Readers.{known, outbox, IsSeatOf};
@@ -29,16 +29,20 @@ ghost use Rattle.wire.specs.Rule.{nodes_of};
 ghost use Rattle.wire.specs.Sending.{frame_due, IsSent};
 ghost use Rattle.cell.specs.Closing.{HasBegun};
 ghost use Rattle.cell.specs.Events.{saved_by};
+ghost use Rattle.cell.specs.Cells.{desk_of};
 ghost use Rattle.cell.specs.Locked.{WasAnswered};
 ghost use Rattle.cell.specs.Pumping.{is_out, PumpedIn};
+ghost use Rattle.cell.specs.Reading.{node_bytes, Fills, WasFilled};
 ghost use Rattle.cell.specs.Names.{name_of, raised_on, seat_name, IsNamed};
 
 use crate::cell::Cell;
+use crate::desk::Desk;
 use disk::Disk;
 use ids::Refusal;
 use model::{Answer, Event};
 use std::alloc::Global;
 use std::marker::{Brand, PhantomData};
+use std::snapshot::Snapshot;
 use std::sync::{Arc, Mutex, Wait};
 use wire::{Inbound, Outbound, Raised, Wire};
 use workers::Station;
@@ -110,15 +114,18 @@ struct Held<D: Disk, W: Naming> {
 /// A cell that threads share, with its wire. Each call locks the cell for its own duration. Between
 /// two calls, all that the cell guarantees about its node, seat and disk holds, and the seat
 /// belongs to the wire. No clause says what a call did to the cell, because another thread's call
-/// may follow before the caller looks.
+/// may follow before the caller looks. But a proof knows the node and the seat with which it was
+/// made.
 pub struct SharedOn<D: Disk, W: Naming> {
     held: Mutex<Held<D, W>>,
+    // The node and the seat of the cell as they were when it was put behind the lock.
+    first: Snapshot<Desk>,
 }
 
 // Written out, so that the crates above need not prove again how each field is dropped.
 impl<D: Disk + Drop, W: Naming> Drop for SharedOn<D, W> {
     fn drop(self) {
-        let SharedOn { held: _ } = self;
+        let SharedOn { held: _, first: _ } = self;
     }
 }
 
@@ -149,7 +156,7 @@ impl<D: Disk, W: Naming> Held<D, W> {
         ensures disk { IsErrOf result Refusal.Disk
             → Grew (D.faults self.old.cell.disk) (D.faults self.new.cell.disk) }
         ensures too_large { IsErrOf result Refusal.ImageTooLarge
-            → GREATEST_IMAGE < length (image_of self.old.cell.node.core) }
+            → IsTooLarge self.old.cell.node.core }
         ensures others { IfErr result (λ e. (e ≡ refusal.Closed) ⊎ ((e ≡ refusal.ImageTooLarge)
             ⊎ ((e ≡ refusal.Memory) ⊎ (e ≡ refusal.Disk)))) }
     {
@@ -188,6 +195,20 @@ impl<D: Disk, W: Naming> Held<D, W> {
         let Held { cell, wire, .. } = self;
         cell.pump_out(wire, to)
     }
+
+    // As `Cell::bytes` does, into a buffer.
+    fn bytes(&self, object: u16, offset: u32, buffer: &mut [u8]) -> Result<(), Refusal>
+        requires { length buffer.old < 2 ^ 32 }
+        ensures read { IsTrue self.now.cell.is_open
+            → Fills (node_bytes self.now.cell.node object offset (length buffer.old))
+            buffer.old buffer.new result }
+        ensures closed { self.now.cell.is_open ≡ false
+            → IsErrOf result Refusal.Closed × (buffer.new ≡ buffer.old) }
+    {
+        let bytes = self.cell.bytes(object, offset, buffer.len() as u32)?;
+        buffer.copy_from_slice(bytes);
+        Ok(())
+    }
 }
 
 impl<D: Disk, W: Naming> SharedOn<D, W> {
@@ -196,13 +217,16 @@ impl<D: Disk, W: Naming> SharedOn<D, W> {
         requires seat { IsSeatOf (arc_value wire) cell.seat }
         requires name { IsNamed W.wire (name_of (arc_value wire)) }
         requires begun { IsTrue W.begun → HasBegun cell }
+        ensures first { result.first.value ≡ desk_of cell }
     {
+        let first = cell.first();
         SharedOn {
             held: Mutex::new(Held {
                 cell,
                 wire,
                 name: PhantomData,
             }),
+            first,
         }
     }
 
@@ -214,7 +238,7 @@ impl<D: Disk, W: Naming> SharedOn<D, W> {
         ensures width { result.seat.nodes ≡ nodes_of (known result.seat).opening }
         ensures begun { IsTrue W.begun → HasBegun result }
     {
-        let SharedOn { held } = self;
+        let SharedOn { held, first: _ } = self;
         let Held {
             cell,
             wire: _,
@@ -227,13 +251,33 @@ impl<D: Disk, W: Naming> SharedOn<D, W> {
     /// was when this call had locked the cell.
     pub fn act<R: Wait>(&self, rt: &R, event: Event) -> Result<Answer, Refusal>
         requires own { is_own event ≡ true }
-        ensures answered { WasAnswered D.may_leave W.wire event result }
+        ensures answered { WasAnswered D.may_leave W.wire event.entry result }
     {
         let mut held = self.held.lock(rt);
         let Held { cell, wire, .. } = &mut *held;
         // Called for its contract.
         let _node = cell.node();
         cell.act(wire, event)
+    }
+
+    /// Fills the buffer with the bytes from `offset` on of the object that the register `object`
+    /// names; see [`Cell::bytes`]. They are those of the node as it was when this call had locked
+    /// the cell. If the call fails, the buffer is unchanged.
+    pub fn bytes<R: Wait>(
+        &self,
+        rt: &R,
+        object: u16,
+        offset: u32,
+        buffer: &mut [u8],
+    ) -> Result<(), Refusal>
+        requires { length buffer.old < 2 ^ 32 }
+        ensures read { WasFilled D.may_leave W.wire object offset buffer.old buffer.new result }
+    {
+        let locked = self.held.lock(rt);
+        let held = &*locked;
+        // Called for its contract.
+        let _node = held.cell.node();
+        held.bytes(object, offset, buffer)
     }
 
     /// Gives the node the waiting message from another node, or else the frame in the mailbox from

@@ -1,5 +1,6 @@
 pub mod Laws
 pub mod Numbers
+pub mod Runs
 pub mod Growing
 pub mod Writing
 pub mod Wholes

@@ -17,10 +17,10 @@ use Rattle.codec.specs.Formats.{signed8, made_at}
 use Rattle.codec.specs.Reading.{IsBytes, Took, IsSound}
 use Rattle.codec.proofs.Laws.{made_takes, made_again}
 
-IsBytes-drop : (n : ℕ) (bytes : List ℕ) → IsBytes bytes → IsBytes (drop n bytes)
+pub IsBytes-drop : (n : ℕ) (bytes : List ℕ) → IsBytes bytes → IsBytes (drop n bytes)
 IsBytes-drop n bytes h i = rw get_or-drop (h (n + i))
 
-IsBytes-take : (n : ℕ) (bytes : List ℕ) → IsBytes bytes → IsBytes (take n bytes)
+pub IsBytes-take : (n : ℕ) (bytes : List ℕ) → IsBytes bytes → IsBytes (take n bytes)
 IsBytes-take n bytes h i =
     elim (cases_lt i n) [
       | inl lt ↦ rw (get_or-take n bytes i 0 lt) (h i)
@@ -29,7 +29,7 @@ IsBytes-take n bytes h i =
     ]
 
 -- if a choice between `None` and a value gives a value, the test was false
-none_else : {A : Type 0} (b : Bool) (x y : A) → cond b None (Some x) ≡ Some y
+pub none_else : {A : Type 0} (b : Bool) (x y : A) → cond b None (Some x) ≡ Some y
     → (b ≡ false) × (x ≡ y)
 none_else true x y e = absurd cc
 none_else false x y e = (refl, cc)

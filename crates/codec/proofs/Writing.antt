@@ -7,7 +7,7 @@ use Rattle.std.proofs.lemmas.List.{append-nil, take_more, length-append}
 use Rattle.std.proofs.lemmas.List.Concat.{flat_map-cons}
 use Rattle.std.proofs.lemmas.Grind.{flat_map-append}
 use Rattle.codec.specs.declared.writer.Writer.{Writer}
-use Rattle.codec.specs.Formats.{number4}
+use Rattle.codec.specs.Formats.{number4, bytes4}
 use Rattle.codec.specs.Writing.{Says, Writes, IsBeyond}
 use Rattle.codec.proofs.Laws.{longer}
 
@@ -107,3 +107,11 @@ uncounted spell P xs is count long =
     so (λ never. absurd never)
     (is.any (number4.spell (length xs) ++ flat_map spell xs)
     (omega (arith, count, sum, longer spell long xs)))
+
+-- more bytes than are allowed
+pub uncounted_bytes : {a b : Writer} (part : List ℕ) → IsBeyond (length part) a b
+    → Writes a b (bytes4.spell part) (bytes4.IsWide part)
+unfolding bytes4
+uncounted_bytes part is =
+    let sum = length-append (number4.spell (length part)) part in
+    so (λ never. absurd never) (is.any (number4.spell (length part) ++ part) (omega (arith, sum)))

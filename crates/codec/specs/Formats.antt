@@ -1,6 +1,6 @@
 -- How values are spelled as bytes; formats are composed of other formats.
 use Rattle.std.specs.Prelude.{ℕ, ℤ, zero, suc, ◌<◌, ◌^◌, ◌≡◌, ◌==◌, List, [], ◌∷◌, ◌++◌, length}
-use Rattle.std.specs.Prelude.{drop, Bool, Option, Some, None, IfSome, IsTrue, nat_lt, ⊤}
+use Rattle.std.specs.Prelude.{take, drop, Bool, Option, Some, None, IfSome, IsTrue, nat_lt, ⊤}
 use Rattle.std.specs.Prelude.{if◌then◌else◌}
 use Rattle.std.specs.List.{flat_map, AllByRecursion}
 use Rattle.std.specs.Option.{option_and_then}
@@ -192,6 +192,24 @@ many F n = record {
 -- how many there are, and each of them
 abbrev pub counted : {A : Type 0} → Format ℕ → Format A → Format (List A)
 counted count F = mapped (joined count (many F)) (λ x. x.1) (λ xs. (length xs, xs))
+
+-- ---- runs of bytes
+
+abbrev pub run_at : ℕ → Reader (List ℕ)
+run_at n bytes = if nat_lt (length bytes) n then None else Some (take n bytes, drop n bytes)
+
+-- this many bytes, as they are
+abbrev pub run : ℕ → Format (List ℕ)
+run n = record {
+  spell = λ bytes. bytes;
+  IsWide = λ _. ⊤;
+  IsWithin = λ bytes. length bytes ≡ n;
+  read = run_at n;
+}
+
+-- how many bytes there are, in four bytes, and the bytes
+unfoldable pub bytes4 : Format (List ℕ)
+bytes4 = mapped (joined number4 run) (λ x. x.1) (λ bytes. (length bytes, bytes))
 
 -- ---- the whole
 

@@ -4,6 +4,7 @@
 ghost use Rattle.std.specs.Prelude.{◌≡◌, ◌≤◌, length, Some, None};
 ghost use Rattle.byteorder.specs.Endian.{big_number};
 ghost use Rattle.codec.specs.Formats.{byte, number_at, number2, number4, number8, signed8};
+ghost use Rattle.codec.specs.Formats.{run, bytes4};
 ghost use Rattle.codec.specs.Readers.{left, is_open, is_whole, enough, passing, Takes, Reads};
 
 use byteorder::{BigEndian, ByteOrder};
@@ -93,6 +94,33 @@ impl<'a> Reader<'a> {
         ensures { Reads signed8 self.old self.new result }
     {
         BigEndian::read_i64(self.take(8))
+    }
+
+    // The next `count` bytes.
+    fn run(&mut self, count: usize) -> &'a [u8]
+        ensures { Reads (run count) self.old self.new result.now }
+    {
+        match self.rest {
+            Some(bytes) if count <= bytes.len() => {
+                let (taken, rest) = bytes.split_at(count);
+                self.rest = Some(rest);
+                taken
+            }
+            _ => {
+                self.rest = None;
+                &[]
+            }
+        }
+    }
+
+    /// Reads a number in four bytes, and that many bytes. If there are fewer, the reader fails. It
+    /// copies no byte.
+    #[tactic(auto, unfolding(crate::specs::Formats::bytes4))]
+    pub fn bytes(&mut self) -> &'a [u8]
+        ensures { Reads bytes4 self.old self.new result.now }
+    {
+        let count = self.u32();
+        self.run(count as usize)
     }
 
     /// Makes the reader fail unless a value that was read has passed a test.

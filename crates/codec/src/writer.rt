@@ -1,10 +1,11 @@
-//! Writes bytes one after another, up to a limit. Errors are sticky: after the first one the writer
-//! discards everything and reports it in [`finish`](Writer::finish). So callers need not check each
-//! write.
+//! Writes bytes one after another, up to a limit if there is one. Errors are sticky: after the
+//! first one the writer discards everything and reports it in [`finish`](Writer::finish). So
+//! callers need not check each write.
 ghost use Rattle.std.specs.Prelude.{◌≡◌, ◌≢◌, ◌<◌, ◌≤◌, [], List, ℕ, length, nat_le, ⊤, true, false};
 ghost use Rattle.std.specs.Prelude.{◌+◌, OnOk, IfOk, IfErr, vec_len, vec_capacity};
-ghost use Rattle.codec.specs.Formats.{byte, number4, number8};
+ghost use Rattle.codec.specs.Formats.{byte, number4, number8, bytes4};
 ghost use Rattle.codec.specs.Writing.{Says, IsOpen, Writes, IsBeyond, Puts, HasNone, HasRoom};
+ghost use Rattle.codec.specs.Writing.{IsOver, IsUpTo, MayLose, most_counted};
 ghost use Rattle.ids.specs.declared.refusal.Refusal.TheVariants.{Memory, ImageTooLarge};
 
 use crate::piece::Piece;
@@ -19,26 +20,39 @@ pub(crate) enum Kept {
     /// None are there, because an allocation failed. This is their number, which is within the
     /// limit.
     Counted(usize),
-    /// None are there, because they are more than the limit.
+    /// None are there, because they are more than the limit. Without a limit they are more than
+    /// memory has room for, or values of a list are too many to be counted.
     TooMany,
 }
 
-/// Writes bytes one after another, up to a limit. Once there would be more, or an allocation fails,
-/// all bytes are dropped, and [`finish`](Writer::finish) returns the error. No call before that
-/// returns one.
+/// Writes bytes one after another, up to a limit if there is one. Once there would be more, or an
+/// allocation fails, all bytes are dropped, and [`finish`](Writer::finish) returns the error. No
+/// call before that returns one.
 #[derive(Drop)]
 pub struct Writer {
     // Has no capacity if nothing is kept, so that one comparison before a write covers all cases.
     bytes: Vec<u8>,
-    limit: u32,
+    limit: Option<u32>,
     kept: Kept,
 }
 
+// Whether this many bytes and more of them are within the limit, if there is one.
+fn allows(limit: Option<u32>, count: usize, more: usize) -> bool
+    ensures within { result ≡ true → IsUpTo limit (count + more) }
+    ensures over { result ≡ false → IsOver limit (count + more) }
+{
+    match limit {
+        Some(limit) => count <= limit as usize && more <= limit as usize - count,
+        None => true,
+    }
+}
+
 impl Writer {
-    /// A writer of at most `limit` bytes, in the memory of `bytes`, whose content is dropped. It
-    /// reserves room for `first` bytes at once, and more as bytes are written.
+    /// A writer of at most `limit` bytes, or of any number if that is `None`, in the memory of
+    /// `bytes`, whose content is dropped. It reserves room for `first` bytes at once, and more as
+    /// bytes are written.
     #[inline(always)]
-    pub fn new(bytes: Vec<u8>, limit: u32, first: usize) -> Writer
+    pub fn new(bytes: Vec<u8>, limit: Option<u32>, first: usize) -> Writer
         ensures limit { result.limit ≡ limit }
         ensures empty { Says result [] }
     {
@@ -57,7 +71,7 @@ impl Writer {
     // A writer in this memory, which is too small for the first bytes.
     #[cold]
     #[inline(never)]
-    fn expanded(bytes: Vec<u8>, limit: u32, first: usize) -> Writer
+    fn expanded(bytes: Vec<u8>, limit: Option<u32>, first: usize) -> Writer
         requires { bytes.items ≡ [] }
         ensures limit { result.limit ≡ limit }
         ensures empty { Says result [] }
@@ -175,16 +189,28 @@ impl Writer {
             Kept::Counted(count) => count,
             Kept::TooMany => return false,
         };
-        let limit = self.limit as usize;
-        if count > limit || part.len() > limit - count {
+        if !allows(self.limit, count, part.len()) {
             self.give_up(Kept::TooMany);
             return false;
         }
         if matches!(self.kept, Kept::All) && self.bytes.reserve(part.len()).is_ok() {
             return true;
         }
-        self.give_up(Kept::Counted(count + part.len()));
+        self.lose(count, part.len());
         false
+    }
+
+    // Drops all bytes, since memory ran out. They are counted if there is a limit.
+    fn lose(&mut self, count: usize, more: usize)
+        requires { IsUpTo self.old.limit (count + more) }
+        ensures limit { self.new.limit ≡ self.old.limit }
+        ensures none { HasNone self.new }
+        ensures lost { (text : List ℕ) → length text ≡ count + more → Says self.new text }
+    {
+        match self.limit {
+            Some(_limit) => self.give_up(Kept::Counted(count + more)),
+            None => self.give_up(Kept::TooMany),
+        }
     }
 
     // Drops all bytes.
@@ -204,21 +230,23 @@ impl Writer {
     /// # Errors
     ///
     /// [`Refusal::ImageTooLarge`] if they are more than the limit. Otherwise [`Refusal::Memory`] if
-    /// an allocation failed.
+    /// an allocation failed, or a list was too long to be counted and there is no limit.
     pub fn finish(self) -> Result<Vec<u8>, Refusal>
         ensures within { OnOk result (IsOpen self) }
         ensures written { (text : List ℕ) → Says self text → IfOk result (λ v. v.items ≡ text) }
-        ensures fits { (text : List ℕ) → Says self text → OnOk result (length text ≤ self.limit) }
+        ensures fits { (text : List ℕ) → Says self text
+            → OnOk result (IsUpTo self.limit (length text)) }
         ensures refused { (text : List ℕ) → Says self text → IfErr result (λ e. e ≢ Memory
-            → (e ≡ ImageTooLarge) × (self.limit < length text)) }
+            → (e ≡ ImageTooLarge) × IsOver self.limit (length text)) }
         ensures last { (text : List ℕ) → Says self text → IfErr result (λ e. e ≡ Memory
-            → length text ≤ self.limit) }
+            → IsUpTo self.limit (length text)) }
     {
         let Writer { bytes, limit, kept } = self;
-        match kept {
-            Kept::All if bytes.len() <= limit as usize => Ok(bytes),
-            Kept::All | Kept::TooMany => Err(Refusal::ImageTooLarge),
-            Kept::Counted(_) => Err(Refusal::Memory),
+        match (kept, limit) {
+            (Kept::All, None) => Ok(bytes),
+            (Kept::All, Some(limit)) if bytes.len() <= limit as usize => Ok(bytes),
+            (Kept::All | Kept::TooMany, Some(_)) => Err(Refusal::ImageTooLarge),
+            (Kept::Counted(_), _) | (Kept::TooMany, None) => Err(Refusal::Memory),
         }
     }
 
@@ -240,16 +268,16 @@ impl Writer {
     }
 
     /// Appends how many values follow, in four bytes, and returns whether that many are allowed,
-    /// which they are up to the limit. If not, the writer fails as if it had been given a text of
-    /// at least that many bytes.
+    /// which they are up to the limit, or up to what four bytes can say. If not, the writer fails
+    /// as if it had been given a text of at least that many bytes.
     #[tactic(auto, unfolding(crate::specs::Formats::number4))]
     #[inline(always)]
     pub fn count(&mut self, count: usize) -> bool
-        ensures told { result ≡ nat_le count self.old.limit }
+        ensures told { result ≡ nat_le count (most_counted self.old.limit) }
         ensures fits { result ≡ true → Puts number4 self.old self.new count }
         ensures over { result ≡ false → IsBeyond count self.old self.new }
     {
-        if count > self.limit as usize {
+        if count > self.limit.unwrap_or(u32::MAX) as usize {
             self.give_up(Kept::TooMany);
             return false;
         }
@@ -264,5 +292,14 @@ impl Writer {
         ensures { Puts number8 self.old self.new number }
     {
         self.array(number.to_be_bytes());
+    }
+    /// Appends how many bytes there are, in four bytes, and the bytes.
+    #[tactic(auto, unfolding(crate::specs::Formats::bytes4))]
+    pub fn bytes(&mut self, part: &[u8])
+        ensures { Puts bytes4 self.old self.new part.now }
+    {
+        if self.count(part.len()) {
+            self.append(part);
+        }
     }
 }

@@ -4,13 +4,11 @@ use Rattle.std.specs.Io.KnownBytes.{Appends, Keeps}
 use Rattle.std.specs.Str.Lines.{lines}
 use Rattle.std.proofs.KnownBytes.{Appends-nil, Appends-trans, Appends-kept}
 use Rattle.std.proofs.lemmas.List.{nil_from_length}
-use Rattle.commands.specs.declared.reading.Unread.{Unread}
 use Rattle.commands.specs.declared.simulation.Reply.{Reply}
 use Rattle.commands.specs.declared.simulation.Reply.TheVariants as reply
 use Rattle.commands.specs.declared.simulation.State.{State}
 use Rattle.commands.specs.declared.simulation.State.TheVariants as state
-use Rattle.script.specs.Grammar.{line_of, words_of}
-use Rattle.commands.specs.Script.{Held, awaited, ShowsHeld, TakesLine, GoesOn, Replies, PrintsReply, PrintsReplies, PrintsUnread, printed, reply_text, status_after, status_of}
+use Rattle.commands.specs.Script.{Held, awaited, ShowsHeld, TakesText, GoesOn, Replies, PrintsReply, PrintsReplies, printed, reply_text, status_after, status_of}
 
 -- a reply after others
 printed_push : (n : ℕ) (rs : List Reply) (r : Reply)
@@ -33,6 +31,7 @@ status_after_le reply.Nothing = omega arith
 status_after_le (reply.Outcome o) = omega arith
 status_after_le (reply.Summary s) = omega arith
 status_after_le (reply.Report freed) = omega arith
+status_after_le (reply.Bytes text) = omega arith
 status_after_le (reply.Refused e) = omega arith
 status_after_le reply.NoCommand = omega arith
 
@@ -86,6 +85,7 @@ goes_on reply.Nothing rs P goes p = p
 goes_on (reply.Outcome o) rs P goes p = p
 goes_on (reply.Summary s) rs P goes p = p
 goes_on (reply.Report freed) rs P goes p = p
+goes_on (reply.Bytes text) rs P goes p = p
 goes_on (reply.Refused e) rs P goes p = p
 
 ends_here : (r : Reply) → r ≡ reply.NoCommand → (P : Type 0) → GoesOn r [] P
@@ -98,6 +98,7 @@ last_reply reply.Nothing e = absurd cc
 last_reply (reply.Outcome o) e = absurd cc
 last_reply (reply.Summary s) e = absurd cc
 last_reply (reply.Report freed) e = absurd cc
+last_reply (reply.Bytes text) e = absurd cc
 last_reply (reply.Refused x) e = absurd cc
 
 no_last : (r : Reply) → status_after r ≢ 2 → r ≢ reply.NoCommand
@@ -109,8 +110,8 @@ pub record Turn (p q : Point) : Type 0 where
   pub status : ℕ
   pub step : lines p.rest ≡ text ∷ lines q.rest
   pub counts : q.count ≡ p.count + 1
-  pub says : PrintsReply (λ h r later. TakesLine h (line_of (words_of text)) r later)
-      q.count p.state q.state p.output q.output status
+  pub says : PrintsReply (λ h r later. TakesText h text r later) q.count
+      p.state q.state p.output q.output status
   pub worse : q.status ≡ max p.status status
 
 module _ (script : List ℕ) (start : Option (List ℕ)) (p q : Point)

@@ -1,11 +1,15 @@
 -- How a script's space follows the definitions.
-use Rattle.std.proofs.Common.{◌≡◌, ℕ, true, List, [], ◌∷◌, ◌++◌, Result, Ok, Err, Option, Some, None, is_some, OnOk, IfOk, refl, ap, inl, subst, sym}
+use Rattle.std.proofs.Common.{◌≡◌, ◌∙◌, ℕ, true, false, List, [], ◌∷◌, ◌++◌, Result, Ok, Err, Option, Some, None, is_some, OnOk, IfOk, refl, ap, inl, subst, sym}
 use Rattle.std.specs.Io.KnownBytes.{Appends}
 use Rattle.script.specs.declared.line.Line.{Line}
 use Rattle.script.specs.Operands.{read}
+use Rattle.std.specs.Borrow.{Bor}
+use Rattle.std.proofs.lemmas.Bool.{false≢true}
+use Rattle.hex.specs.declared.error.FromHexError.{FromHexError}
+use Rattle.commands.specs.declared.simulation.Reply.{Reply}
 use Rattle.ids.specs.Limits.{Shaped}
 use Rattle.ids.specs.declared.refusal.Refusal.{Refusal}
-use Rattle.model.specs.World.{FollowsStep, World, new_world, take_step}
+use Rattle.model.specs.World.{World, new_world, take_step}
 use Rattle.model.specs.declared.step.Step.{Step}
 use Rattle.model.specs.declared.step.Outcome.{Outcome}
 use Rattle.model.specs.declared.step.Outcome.TheVariants as outcome
@@ -18,7 +22,7 @@ use Rattle.commands.specs.declared.freed.Freed.{Freed}
 use Rattle.commands.specs.Freed.{KeepsSums, freed_after, freed_in, freed_with, sweeper}
 use Rattle.commands.specs.declared.simulation.State.{State}
 use Rattle.commands.proofs.Sizes.{refused_too_large}
-use Rattle.commands.specs.Script.{Held, PrintsReply, RefusesStep, StepDone, StepRefused, StepTaken, awaited, denied, there, ShowsHeld, TakesSpace, TakesStep, none_kept}
+use Rattle.commands.specs.Script.{Held, PrintsReply, IsRead, RefusesStep, StepDone, StepRefused, StepTaken, awaited, denied, there, ShowsHeld, TakesBytes, TakesRead, TakesSpace, TakesStep, TakesWrite, hex_bytes, is_wide, none_kept}
 
 -- what holds of the text that was printed, with its status
 pub printed_as : {A E : Type 0} {Q P : ℕ → Type 0} (r : Result ℕ E) → OnOk r A
@@ -32,6 +36,12 @@ pub read_some : {X : Type 0} (done : Option X) (l : Line) (said : Option Line)
 read_some None l said e done = absurd cc
 read_some (Some d) l said e done = e
 
+-- a line that wasn't read is outside the grammar
+pub read_none : {X : Type 0} (done : Option X) (l : Line) (said : Option Line)
+    → read done l ≡ said → is_some done ≡ false → None ≡ said
+read_none None l said e done = e
+read_none (Some d) l said e done = absurd cc
+
 pub made_shows : (h : Held) (sizes : Shaped) (x : SpaceView) (f : Freed)
     → ShowsHeld state.Unopened h → ShowsSpace x (new_world sizes)
     → x.early ≡ none_kept sizes.nodes → KeepsSums f.sums []
@@ -41,6 +51,13 @@ made_shows awaited sizes x f shown made none fresh =
     (there (new_world sizes) (none_kept sizes.nodes) [], inl (refl, refl), (made, none, fresh))
 made_shows denied sizes x f shown made none fresh = absurd shown
 made_shows (there w all sums) sizes x f shown made none fresh = absurd shown
+
+-- a step before there is a space
+pub awaited_shows : (h : Held) (step : Step) → ShowsHeld state.Unopened h
+    → (k : Held) × TakesStep h step reply.NoCommand k × ShowsHeld state.Unopened k
+awaited_shows awaited step shown = (awaited, (refl, refl), shown)
+awaited_shows denied step shown = absurd shown
+awaited_shows (there w all sums) step shown = absurd shown
 
 -- a step of a space that was refused
 pub denied_shows : (h : Held) (step : Step) (e : Refusal)
@@ -118,6 +135,70 @@ step_refused {s} {x} {y} {e} stepped f = record {
         (stepped.follows w there).1,
       ));
 }
+
+-- ---- bytes of objects
+
+-- the event that writes the bytes was answered
+pub write_taken : (s : Bor (List ℕ) → Step) {x y : SpaceView} {o : Outcome}
+    {spelled : Result (List ℕ) FromHexError} (b : Bor (List ℕ)) → spelled ≡ Ok b.now
+    → SteppedSpace (Ok o) x y (s b) → sweeper (s b) ≡ None → (f : Freed) (h : Held)
+    → ShowsHeld (state.Open x f) h
+    → (k : Held) × TakesBytes h spelled s (reply.Outcome o) k × ShowsHeld (state.Open y f) k
+write_taken s {o = o} b is stepped none f h shown =
+    let t = outcome_shows h f f shown stepped
+    (λ w sums there kept. subst (λ z. KeepsSums f.sums (freed_with w z (freed_in o) sums))
+    (sym none) kept) in (
+      t.0,
+      subst (λ z. TakesBytes h z s (reply.Outcome o) t.0) (sym is) (inl (b, refl, t.1)),
+      t.2,
+    )
+
+-- it was refused
+pub write_refused : (s : Bor (List ℕ) → Step) {x y : SpaceView} {e : Refusal}
+    {spelled : Result (List ℕ) FromHexError} (b : Bor (List ℕ)) → spelled ≡ Ok b.now
+    → SteppedSpace (Err e) x y (s b) → (f : Freed) (h : Held) → ShowsHeld (state.Open x f) h
+    → (k : Held) × TakesBytes h spelled s (reply.Refused e) k × ShowsHeld (state.Open y f) k
+write_refused s {e = e} b is stepped f h shown =
+    let t = (step_refused {line = []} stepped f).refused h shown in (
+      t.0,
+      subst (λ z. TakesBytes h z s (reply.Refused e) t.0) (sym is) (inl (b, refl, t.1)),
+      t.2,
+    )
+
+-- in a wide space a line that only wide spaces have means that
+pub wide_writes : (s : Bor (List ℕ) → Step) {x y : SpaceView} (r : Reply) (word : List ℕ)
+    (f : Freed) → ((w : World) → ShowsSpace x w → is_wide w ≡ true)
+    → ((g : Freed) (h : Held) → ShowsHeld (state.Open x g) h
+    → (k : Held) × TakesBytes h (hex_bytes word) s r k × ShowsHeld (state.Open y g) k)
+    → (h : Held) → ShowsHeld (state.Open x f) h
+    → (k : Held) × TakesWrite h word s r k × ShowsHeld (state.Open y f) k
+wide_writes s r word f wide inner awaited shown = absurd shown
+wide_writes s r word f wide inner denied shown = absurd shown
+wide_writes s r word f wide inner (there w all sums) shown =
+    let t = inner f (there w all sums) shown in (
+      t.0,
+      record {
+        wide = λ _. t.1;
+        plain = λ narrow. absurd (false≢true (sym narrow ∙ wide w shown.0));
+      },
+      t.2,
+    )
+
+pub wide_reads : {x : SpaceView} (read : World → Result (List ℕ) Refusal) (r : Reply) (f : Freed)
+    → ((w : World) → ShowsSpace x w → is_wide w ≡ true)
+    → ((w : World) → ShowsSpace x w → IsRead (read w) r)
+    → (h : Held) → ShowsHeld (state.Open x f) h
+    → (k : Held) × TakesRead h read r k × ShowsHeld (state.Open x f) k
+wide_reads read r f wide inner awaited shown = absurd shown
+wide_reads read r f wide inner denied shown = absurd shown
+wide_reads read r f wide inner (there w all sums) shown = (
+  there w all sums,
+  record {
+    wide = λ _. (inner w shown.0, refl);
+    plain = λ narrow. absurd (false≢true (sym narrow ∙ wide w shown.0));
+  },
+  shown,
+)
 
 -- the outcome was printed
 pub prints_taken : {s : Step} {old new : State} {line : List ℕ} {before after : Option (List ℕ)}

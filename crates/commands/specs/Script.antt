@@ -1,11 +1,18 @@
 -- What a script prints, and its exit status.
-use Rattle.std.specs.Prelude.{◌≡◌, ◌≢◌, ℕ, ◌+◌, ◌<◌, true, length, max, List, [], ◌∷◌, ◌++◌, ◌⊎◌, Option, Some, None, Result, Ok, Err, OnOk, IfErr, codes, decimal, replicate}
+use Rattle.std.specs.Prelude.{◌≡◌, ◌≢◌, ℕ, ◌+◌, ◌<◌, true, length, max, List, [], ◌∷◌, ◌++◌, ◌⊎◌, Option, Some, None, Result, Ok, Err, OnOk, IfErr, codes, decimal, replicate, cond, Bool, false, string_bytes}
 use Rattle.std.specs.Io.KnownBytes.{Appends}
 use Rattle.std.specs.Str.Lines.{lines}
-use Rattle.ids.specs.Limits.{Shaped, IsShape}
-use Rattle.ids.specs.declared.limits.TheConstants.{GREATEST_IMAGE}
+use Rattle.std.specs.Borrow.{Bor}
+use Rattle.std.specs.Str.{bytes_eq}
+use Rattle.hex.specs.Hex.{decode_of, encode_lower}
+use Rattle.hex.specs.declared.error.FromHexError.{FromHexError}
+use Rattle.ids.specs.Limits.{Shaped, IsShape, plain_shape, wide_shape}
 use Rattle.ids.specs.declared.refusal.Refusal.{Refusal}
 use Rattle.ids.specs.declared.refusal.Refusal.TheVariants.{Memory, NoNode, ImageTooLarge}
+use Rattle.model.specs.declared.event.Event.{Event}
+use Rattle.model.specs.declared.event.Event.TheVariants as event
+use Rattle.commands.specs.declared.simulation.Writing.{Writing}
+use Rattle.commands.specs.declared.simulation.Writing.TheVariants as writing
 use Rattle.model.specs.World.{World, IsStepRefusal, acknowledged, new_world, is_step_memory_free, take_step}
 use Rattle.model.specs.declared.step.Outcome.{Outcome}
 use Rattle.model.specs.declared.step.Outcome.TheVariants as outcome
@@ -13,7 +20,7 @@ use Rattle.model.specs.declared.step.Step.{Step}
 use Rattle.model.specs.declared.step.Step.TheVariants as step
 use Rattle.model.specs.State.{node_at}
 use Rattle.model.specs.View.{NodeView}
-use Rattle.image.specs.Images.{image_of}
+use Rattle.image.specs.Images.{IsTooLarge}
 use Rattle.script.specs.declared.line.Line.{Line}
 use Rattle.script.specs.declared.line.Line.TheVariants as line
 use Rattle.std.specs.declared.io.ErrorKind.TheVariants as kind
@@ -24,7 +31,8 @@ use Rattle.commands.specs.declared.simulation.State.{State}
 use Rattle.commands.specs.declared.simulation.State.TheVariants as state
 use Rattle.commands.specs.Freed.{KeepsSums, freed_after}
 use Rattle.script.specs.Grammar.{line_of, words_of}
-use Rattle.world.specs.Shows.{ShowsNode, summary_at}
+use Rattle.script.specs.Words.{last_of}
+use Rattle.world.specs.Shows.{ShowsNode, summary_at, bytes_read}
 use Rattle.world.specs.Spaces.{KeepsAfter, ShowsSpace, step_met}
 use Rattle.script.specs.Text.{outcome_text, refused_text, report_text, summary_text}
 use Rattle.node.specs.Keeping.{Rings, no_rings}
@@ -52,13 +60,13 @@ abbrev pub Moves : (Held → Held → Type 0) → State → State → Type 0
 Moves becomes old new =
     (h : Held) → ShowsHeld old h → (later : Held) × becomes h later × ShowsHeld new later
 
--- The step saves a node, and an image of a node that shows its state is longer than an image may
--- be. A state doesn't say which messages the node has dropped.
+-- The step saves a node, and an image of a node that shows its state is too large. A state doesn't
+-- say which messages the node has dropped.
 abbrev pub MayBeTooLarge : World → Step → Type 0
 MayBeTooLarge w (step.Save i) =
     (n : NodeView)
     × ShowsNode (node_at w.saved i) (acknowledged w i) n (node_at w.current i)
-    × (GREATEST_IMAGE < length (image_of n))
+    × IsTooLarge n
 MayBeTooLarge w s = ⊥
 
 -- A step is refused like this, on a space whose nodes keep these messages. A step that allocates
@@ -82,6 +90,7 @@ IsStepReply w all sums step (reply.Refused e) later =
 IsStepReply w all sums step reply.Nothing later = ⊥
 IsStepReply w all sums step (reply.Summary s) later = ⊥
 IsStepReply w all sums step (reply.Report freed) later = ⊥
+IsStepReply w all sums step (reply.Bytes text) later = ⊥
 IsStepReply w all sums step reply.NoCommand later = ⊥
 
 abbrev pub TakesStep : Held → Step → Reply → Held → Type 0
@@ -127,6 +136,71 @@ TakesReport awaited r later = (r ≡ reply.NoCommand) × (later ≡ awaited)
 TakesReport denied r later = (r ≡ reply.Refused Memory) × (later ≡ denied)
 TakesReport (there w all sums) r later = IsReport sums r × (later ≡ there w all sums)
 
+-- ---- bytes of objects
+
+-- the bytes that a word spells, with two hexadecimal digits for each; `-` spells none
+abbrev pub hex_bytes : List ℕ → Result (List ℕ) FromHexError
+hex_bytes word = cond (bytes_eq word (codes "-")) (Ok []) (decode_of word)
+
+-- what spells these bytes in an answer
+abbrev pub hex_text : List ℕ → List ℕ
+hex_text [] = codes "-"
+hex_text (b ∷ bs) = encode_lower (b ∷ bs)
+
+abbrev pub wide_in : Option Summary → Bool
+wide_in None = false
+wide_in (Some s) = s.shape.wide
+
+abbrev pub is_wide : World → Bool
+is_wide w = wide_in (summary_at w 0)
+
+-- A line that only the scripts of wide spaces have means this there.
+pub record OnlyInWide (w : World) (h : Held) (Means : Reply → Held → Type 0) (r : Reply)
+    (later : Held) : Type 0 where
+  pub wide : is_wide w ≡ true → Means r later
+  pub plain : is_wide w ≡ false → (r ≡ reply.NoCommand) × (later ≡ h)
+
+-- the event that writes these bytes
+abbrev pub writes : Writing → Bor (List ℕ) → Event
+writes (writing.All object) bytes = event.SetBytes object bytes
+writes (writing.Part object offset) bytes = event.Patch object offset bytes
+
+-- An event writes the bytes that a word spells. If the word spells none, the line is outside the
+-- grammar.
+abbrev pub WritesBytes : Held → Result (List ℕ) FromHexError → (Bor (List ℕ) → Step) → Reply → Held
+    → Type 0
+WritesBytes h (Err e) s r later = (r ≡ reply.NoCommand) × (later ≡ h)
+WritesBytes h (Ok bytes) s r later =
+    (b : Bor (List ℕ)) × (b.now ≡ bytes) × TakesStep h (s b) r later
+
+-- the same, or there is no memory for the bytes
+abbrev pub TakesBytes : Held → Result (List ℕ) FromHexError → (Bor (List ℕ) → Step) → Reply → Held
+    → Type 0
+TakesBytes h spelled s r later =
+    WritesBytes h spelled s r later ⊎ ((r ≡ reply.Refused Memory) × (later ≡ h))
+
+abbrev pub TakesWrite : Held → List ℕ → (Bor (List ℕ) → Step) → Reply → Held → Type 0
+TakesWrite awaited word s r later = (r ≡ reply.NoCommand) × (later ≡ awaited)
+TakesWrite denied word s r later = (r ≡ reply.Refused Memory) × (later ≡ denied)
+TakesWrite (there w all sums) word s r later =
+    OnlyInWide w (there w all sums) (TakesBytes (there w all sums) (hex_bytes word) s) r later
+
+-- the bytes that were read are printed, unless there is no memory for their text
+abbrev pub IsRead : Result (List ℕ) Refusal → Reply → Type 0
+IsRead (Ok bytes) (reply.Bytes text) = string_bytes text ≡ hex_text bytes
+IsRead (Ok bytes) (reply.Refused e) = e ≡ Memory
+IsRead (Ok bytes) r = ⊥
+IsRead (Err e) r = r ≡ reply.Refused e
+
+abbrev pub TakesRead : Held → (World → Result (List ℕ) Refusal) → Reply → Held → Type 0
+TakesRead awaited read r later = (r ≡ reply.NoCommand) × (later ≡ awaited)
+TakesRead denied read r later = (r ≡ reply.Refused Memory) × (later ≡ denied)
+TakesRead (there w all sums) read r later =
+    OnlyInWide w (there w all sums)
+    (λ r later. IsRead (read w) r × (later ≡ there w all sums)) r later
+
+-- ---- lines
+
 -- the messages that the nodes of a new space keep
 abbrev pub none_kept : ℕ → List Rings
 none_kept nodes = replicate nodes (no_rings nodes)
@@ -144,20 +218,33 @@ TakesSpace denied sizes r later = (r ≡ reply.NoCommand) × (later ≡ denied)
 TakesSpace (there w all sums) sizes r later =
     (r ≡ reply.NoCommand) × (later ≡ there w all sums)
 
--- `space` occurs only once and first, and its sizes are within the limits
+-- `space` or `wide` occurs only once and first, and its sizes are within the limits
 pub record AsksSpace (h : Held) (sizes : Shaped) (r : Reply) (later : Held) : Type 0 where
   pub within : IsShape sizes → TakesSpace h sizes r later
   pub outside : (IsShape sizes → ⊥) → (r ≡ reply.NoCommand) × (later ≡ h)
 
--- what is printed for a line that says this, and the space afterwards
-abbrev pub TakesLine : Held → Option Line → Reply → Held → Type 0
-TakesLine h None r later = (r ≡ reply.NoCommand) × (later ≡ h)
-TakesLine h (Some line.Blank) r later = (r ≡ reply.Nothing) × (later ≡ h)
-TakesLine h (Some (line.Space nodes registers slots)) r later =
-    AsksSpace h (record { nodes = nodes; registers = registers; slots = slots }) r later
-TakesLine h (Some (line.Step step)) r later = TakesStep h step r later
-TakesLine h (Some (line.State node)) r later = TakesState h node r later
-TakesLine h (Some line.Report) r later = TakesReport h r later
+-- what is printed for a line that says this and ends in this word, and the space afterwards
+abbrev pub TakesLine : Held → Option Line → List ℕ → Reply → Held → Type 0
+TakesLine h None word r later = (r ≡ reply.NoCommand) × (later ≡ h)
+TakesLine h (Some line.Blank) word r later = (r ≡ reply.Nothing) × (later ≡ h)
+TakesLine h (Some (line.Space nodes registers slots)) word r later =
+    AsksSpace h (plain_shape nodes registers slots) r later
+TakesLine h (Some (line.Wide nodes registers slots places bytes)) word r later =
+    AsksSpace h (wide_shape nodes registers slots places bytes) r later
+TakesLine h (Some (line.Step step)) word r later = TakesStep h step r later
+TakesLine h (Some (line.SetBytes node object)) word r later =
+    TakesWrite h word (λ b. step.Act node (writes (writing.All object) b)) r later
+TakesLine h (Some (line.Patch node object offset)) word r later =
+    TakesWrite h word (λ b. step.Act node (writes (writing.Part object offset) b)) r later
+TakesLine h (Some (line.Bytes node object offset count)) word r later =
+    TakesRead h (λ w. bytes_read w node object offset count) r later
+TakesLine h (Some (line.State node)) word r later = TakesState h node r later
+TakesLine h (Some line.Report) word r later = TakesReport h r later
+
+-- the same for the text of a line
+abbrev pub TakesText : Held → List ℕ → Reply → Held → Type 0
+TakesText h text r later =
+    TakesLine h (line_of (words_of text)) (last_of (words_of text) []) r later
 
 -- what is printed for the reply to the line of this number
 abbrev pub reply_text : ℕ → Reply → List ℕ
@@ -165,6 +252,7 @@ reply_text number reply.Nothing = []
 reply_text number (reply.Outcome o) = outcome_text o ++ (10 ∷ [])
 reply_text number (reply.Summary s) = summary_text s ++ (10 ∷ [])
 reply_text number (reply.Report freed) = report_text freed.items
+reply_text number (reply.Bytes text) = string_bytes text ++ (10 ∷ [])
 reply_text number (reply.Refused e) = refused_text e ++ (10 ∷ [])
 reply_text number reply.NoCommand =
     codes "line " ++ (decimal number ++ (codes ": not a command" ++ (10 ∷ [])))
@@ -179,6 +267,7 @@ status_after reply.Nothing = 0
 status_after (reply.Outcome o) = 0
 status_after (reply.Summary s) = 0
 status_after (reply.Report freed) = 0
+status_after (reply.Bytes text) = 0
 status_after (reply.Refused e) = 1
 status_after reply.NoCommand = 2
 
@@ -206,7 +295,7 @@ abbrev pub Replies : Held → List (List ℕ) → List Reply → Type 0
 Replies h [] rs = rs ≡ []
 Replies h (l ∷ ls) [] = ⊥
 Replies h (l ∷ ls) (r ∷ rs) =
-    (later : Held) × TakesLine h (line_of (words_of l)) r later × GoesOn r rs (Replies later ls rs)
+    (later : Held) × TakesText h l r later × GoesOn r rs (Replies later ls rs)
 
 -- The program printed the replies to the script's lines, and its exit status is that of the worst.
 -- The contents of the output before and afterwards are described if they are known.

@@ -49,6 +49,17 @@ pub(crate) fn print_outcome<W: Write>(out: &mut W, outcome: &Outcome) -> Result<
     print_line(&printer, out)
 }
 
+/// Prints a line of this text.
+pub(crate) fn put_text<W: Write>(out: &mut W, text: &str) -> Result<(), Lost>
+    ensures { OnOk result
+        (Appends (W.contents out.old) (W.contents out.new) (text.now ++ 10 ∷ [])) }
+{
+    match writeln!(out, "{}", text) {
+        Ok(()) => Ok(()),
+        Err(_) => Err(Lost { _failed: () }),
+    }
+}
+
 /// Prints a node in numbers.
 pub(crate) fn put_summary<W: Write>(out: &mut W, summary: Summary) -> Result<(), Lost>
     ensures { OnOk result

@@ -1,6 +1,6 @@
 //! Runs a script over a space of nodes. For each line the space takes a step, and the reply is
 //! printed; a line outside the grammar is the last. The status is that of the worst reply.
-ghost use Rattle.std.specs.Prelude.{◌≡◌, ◌≤◌, ℕ, List, Some, IfOk, OnOk, IfErr, IsTrue, ◌≢◌, ◌++◌, ◌∷◌, [], string_bytes};
+ghost use Rattle.std.specs.Prelude.{◌≡◌, ◌≤◌, ℕ, List, Some, IfOk, OnOk, IfErr, IsTrue, ◌≢◌, ◌⊎◌, Ok, Err, ◌++◌, ◌∷◌, [], string_bytes};
 ghost use Rattle.std.specs.Io.KnownBytes.{Appends};
 ghost use Rattle.model.specs.declared.event.Event.{Event};
 ghost use Rattle.model.specs.declared.step.Step.{Step};
@@ -9,9 +9,13 @@ ghost use Rattle.model.specs.Steps.{is_own};
 ghost use Rattle.model.specs.World.{World, is_own_step};
 ghost use Rattle.world.specs.Spaces.{ShowsSpace};
 ghost use Rattle.commands.specs.Freed.{KeepsSums, freed_with};
-ghost use Rattle.script.specs.Grammar.{line_of, words_of};
+ghost use Rattle.script.specs.Grammar.{words_of};
+ghost use Rattle.script.specs.Words.{last_of};
+ghost use Rattle.hex.specs.declared.error.FromHexError.TheVariants as hex_error;
+ghost use Rattle.world.specs.Shows.{bytes_read};
 ghost use Rattle.commands.specs.Script.{Moves, PrintsReplies};
-ghost use Rattle.commands.specs.Script.{PrintsUnread, TakesLine, TakesReport, TakesSpace};
+ghost use Rattle.commands.specs.Script.{PrintsUnread, TakesLine, TakesText, TakesReport, TakesSpace};
+ghost use Rattle.commands.specs.Script.{IsRead, TakesBytes, TakesRead, TakesWrite, hex_bytes, hex_text, is_wide, writes};
 ghost use Rattle.commands.specs.Script.{TakesState, TakesStep, reply_text, status_after};
 ghost use Rattle.commands.specs.Script.{PrintsReply, StepDone};
 ghost use Rattle.commands.specs.declared.freed.Freed.{Freed};
@@ -24,15 +28,16 @@ ghost use Rattle.script.specs.declared.line.Line.TheVariants as line;
 use crate::freed::{Freed, freed_by, sweeper};
 use crate::output::{
     Lost, flush, print_line, print_no_command, print_outcome, print_refusal, print_unread,
-    put_report, put_summary,
+    put_report, put_summary, put_text,
 };
 use crate::reading::Unread;
 use crate::splitting::first_line;
+use hex::FromHexError;
 use ids::{Refusal, Shape};
 use model::{Answer, Event, Outcome, Step};
 use node::Summary;
-use script::{Line, Printer};
-use std::alloc::Global;
+use script::{Line, Printer, last_word};
+use std::alloc::{AllocError, Global};
 use std::io::Write;
 use words::{DONE, UNREADABLE};
 use world::Sim;
@@ -57,9 +62,36 @@ enum Reply {
     Summary(Summary),
     /// How many objects the sweeps of each cycle freed, from the first cycle on.
     Report(Vec<u64>),
+    /// Bytes that were read, as text.
+    Bytes(String),
     Refused(Refusal),
     /// The line is outside the grammar.
     NoCommand,
+}
+
+/// How a line writes bytes of an object.
+#[derive(Clone, Copy)]
+enum Writing {
+    /// In place of all that the object has.
+    All { object: u16 },
+    /// Over a part, from this offset on.
+    Part { object: u16, offset: u32 },
+}
+
+impl Writing {
+    /// The event that writes these bytes.
+    fn event(self, bytes: &[u8]) -> Event
+        ensures { result ≡ writes self bytes.entry }
+    {
+        match self {
+            Writing::All { object } => Event::SetBytes { object, bytes },
+            Writing::Part { object, offset } => Event::Patch {
+                object,
+                offset,
+                bytes,
+            },
+        }
+    }
 }
 
 /// Runs a script in one thread, prints the replies to its lines, and returns the exit status. The
@@ -132,14 +164,14 @@ fn run_line<W: Write>(
     out: &mut W,
 ) -> Result<u8, Lost>
     ensures { IfOk result (PrintsReply
-        (λ h r later. TakesLine h (line_of (words_of text.now)) r later) number
+        (λ h r later. TakesText h text.now r later) number
         state.old state.new (W.contents out.old) (W.contents out.new)) }
 {
     if said.read(text).is_none() {
         return print_no_command(out, number);
     }
     let Line::Step(step) = &*said else {
-        return run_other(alloc, state, number, said, out);
+        return run_other(alloc, state, number, said, text, out);
     };
     match state {
         State::Unopened => print_no_command(out, number),
@@ -286,11 +318,12 @@ fn run_other<W: Write>(
     state: &mut State,
     number: usize,
     said: &Line,
+    text: &str,
     out: &mut W,
 ) -> Result<u8, Lost>
     requires { (step : Step) → said.now ≢ line.Step step }
     ensures { IfOk result (PrintsReply
-        (λ h r later. TakesLine h (Some said.now) r later) number
+        (λ h r later. TakesLine h (Some said.now) (last_of (words_of text.now) []) r later) number
         state.old state.new (W.contents out.old) (W.contents out.new)) }
 {
     let reply = match *said {
@@ -301,6 +334,31 @@ fn run_other<W: Write>(
             registers,
             slots,
         } => take_space(alloc, state, nodes, registers, slots),
+        Line::Wide {
+            nodes,
+            registers,
+            slots,
+            places,
+            bytes,
+        } => take_wide(alloc, state, nodes, registers, slots, places, bytes),
+        Line::SetBytes { node, object } => {
+            let writing = Writing::All { object };
+            write(alloc, state, node, writing, last_word(text))
+        }
+        Line::Patch {
+            node,
+            object,
+            offset,
+        } => {
+            let writing = Writing::Part { object, offset };
+            write(alloc, state, node, writing, last_word(text))
+        }
+        Line::Bytes {
+            node,
+            object,
+            offset,
+            count,
+        } => read(alloc, state, node, object, offset, count),
         Line::State(node) => show_state(state, node),
         Line::Report => report(alloc, state),
     };
@@ -319,6 +377,7 @@ fn print_reply<W: Write>(out: &mut W, number: usize, reply: &Reply) -> Result<u8
         Reply::Outcome(outcome) => return print_outcome(out, outcome),
         Reply::Summary(summary) => put_summary(out, *summary)?,
         Reply::Report(sums) => put_report(out, sums)?,
+        Reply::Bytes(text) => put_text(out, text)?,
         Reply::Refused(refusal) => return print_refusal(out, *refusal),
         Reply::NoCommand => return print_no_command(out, number),
     }
@@ -328,11 +387,32 @@ fn print_reply<W: Write>(out: &mut W, number: usize, reply: &Reply) -> Result<u8
 /// Creates the space of these sizes, if no line asked for one before and they are within the
 /// limits.
 fn take_space(alloc: Global, state: &mut State, nodes: u8, registers: u16, slots: u32) -> Reply
-    ensures { Moves
-        (λ h later. TakesLine h (Some (line.Space nodes registers slots)) result later)
+    ensures { (word : List ℕ) → Moves
+        (λ h later. TakesLine h (Some (line.Space nodes registers slots)) word result later)
         state.old state.new }
 {
     match Shape::new(nodes, registers, slots) {
+        Some(shape) => open(alloc, state, shape),
+        None => Reply::NoCommand,
+    }
+}
+
+/// Creates the wide space of these sizes, if no line asked for a space before and they are within
+/// the limits.
+fn take_wide(
+    alloc: Global,
+    state: &mut State,
+    nodes: u8,
+    registers: u16,
+    slots: u32,
+    places: u8,
+    bytes: u32,
+) -> Reply
+    ensures { (word : List ℕ) → Moves (λ h later.
+        TakesLine h (Some (line.Wide nodes registers slots places bytes)) word result later)
+        state.old state.new }
+{
+    match Shape::wide(nodes, registers, slots, places, bytes) {
         Some(shape) => open(alloc, state, shape),
         None => Reply::NoCommand,
     }
@@ -356,6 +436,108 @@ fn open(alloc: Global, state: &mut State, shape: Shape) -> Reply
             *state = State::Refused(refusal);
             Reply::Refused(refusal)
         }
+    }
+}
+
+/// Whether the space is wide.
+fn is_wide(space: &Sim) -> bool
+    ensures { (w : World) → ShowsSpace space.now w → result ≡ is_wide w }
+{
+    match space.state(0) {
+        Some(summary) => summary.shape.is_wide(),
+        None => false,
+    }
+}
+
+/// Gives a node the event that writes the bytes that the word spells, if a line has asked for a
+/// wide space.
+fn write(alloc: Global, state: &mut State, node: u8, writing: Writing, word: &str) -> Reply
+    ensures { Moves (λ h later.
+        TakesWrite h word.now (λ b. steps.Act node (writes writing b)) result later)
+        state.old state.new }
+{
+    match state {
+        State::Unopened => Reply::NoCommand,
+        State::Refused(refusal) => Reply::Refused(*refusal),
+        State::Open { space, .. } => {
+            if is_wide(space) {
+                write_in(alloc, space, node, writing, word)
+            } else {
+                Reply::NoCommand
+            }
+        }
+    }
+}
+
+/// The same in a wide space.
+fn write_in(alloc: Global, space: &mut Sim, node: u8, writing: Writing, word: &str) -> Reply
+    ensures { (f : Freed) → Moves (λ h later.
+        TakesBytes h (hex_bytes word.now) (λ b. steps.Act node (writes writing b)) result later)
+        (state.Open space.old f) (state.Open space.new f) }
+{
+    match spelled(alloc, word) {
+        Ok(bytes) => match space.act(node, writing.event(bytes.as_slice())) {
+            Ok(answer) => Reply::Outcome(Outcome::Answer(answer)),
+            Err(refusal) => Reply::Refused(refusal),
+        },
+        Err(FromHexError::OutOfMemory) => Reply::Refused(Refusal::Memory),
+        Err(_) => Reply::NoCommand,
+    }
+}
+
+/// The bytes that a word spells, with two hexadecimal digits for each; `-` spells none.
+fn spelled(alloc: Global, word: &str) -> Result<Vec<u8>, FromHexError>
+    ensures ok { IfOk result (λ bytes. hex_bytes word.now ≡ Ok bytes.items) }
+    ensures err { IfErr result (λ e. (e ≡ hex_error.OutOfMemory) ⊎ (hex_bytes word.now ≡ Err e)) }
+{
+    if word == "-" {
+        Ok(Vec::new(alloc))
+    } else {
+        hex::decode(alloc, word)
+    }
+}
+
+/// Reads bytes of an object, if a line has asked for a wide space.
+fn read(alloc: Global, state: &State, node: u8, object: u16, offset: u32, count: u32) -> Reply
+    ensures { Moves (λ h later.
+        TakesRead h (λ w. bytes_read w node object offset count) result later)
+        state.now state.now }
+{
+    match state {
+        State::Unopened => Reply::NoCommand,
+        State::Refused(refusal) => Reply::Refused(*refusal),
+        State::Open { space, .. } => {
+            if is_wide(space) {
+                read_in(alloc, space, node, object, offset, count)
+            } else {
+                Reply::NoCommand
+            }
+        }
+    }
+}
+
+/// The same in a wide space.
+fn read_in(alloc: Global, space: &Sim, node: u8, object: u16, offset: u32, count: u32) -> Reply
+    ensures { (w : World) → ShowsSpace space.now w
+        → IsRead (bytes_read w node object offset count) result }
+{
+    match space.bytes(node, object, offset, count) {
+        Ok(bytes) => match told(alloc, bytes) {
+            Ok(text) => Reply::Bytes(text),
+            Err(_) => Reply::Refused(Refusal::Memory),
+        },
+        Err(refusal) => Reply::Refused(refusal),
+    }
+}
+
+/// The text that spells these bytes.
+fn told(alloc: Global, bytes: &[u8]) -> Result<String, AllocError>
+    ensures { IfOk result (λ text. string_bytes text ≡ hex_text bytes.now) }
+{
+    if bytes.is_empty() {
+        String::from_str(alloc, "-")
+    } else {
+        hex::encode(alloc, bytes)
     }
 }
 

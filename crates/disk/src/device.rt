@@ -1,6 +1,6 @@
 //! A disk as its users see it: what a read gives, and what a crash may leave. Only a successful
 //! sync makes the two the same.
-ghost use Rattle.std.specs.Prelude.{◌≡◌, ◌≤◌, ◌↔◌, ℕ, length, IfOk, IsErr, IsErrOf, OnOk, OnErr};
+ghost use Rattle.std.specs.Prelude.{◌≡◌, ◌≤◌, ◌↔◌, ℕ, Bool, length, IfOk, IsErr, IsErrOf, OnOk, OnErr};
 ghost use Rattle.ids.specs.declared.refusal.Refusal.TheVariants.{Disk as DiskRefused};
 ghost use Rattle.disk.specs.Areas.{Areas, part, Changes, Holds, Torn, Reads};
 ghost use Rattle.disk.specs.Crashes.{Follows, Reaches, Only, Elapses, HasCause};
@@ -57,6 +57,9 @@ pub trait Disk {
     /// How many calls have failed.
     ghost faults: { Self → ℕ };
 
+    /// What is saved here gets a seal, and is compared with it.
+    ghost seals: { Self → Bool };
+
     /// Reads the bytes of an area from the offset `at` on, and returns how many were read: fewer
     /// than asked for only if the area ends. After a failure, `into` may hold anything.
     fn read(&mut self, area: Area, at: usize, into: &mut [u8]) -> Result<usize, DiskFault>
@@ -107,6 +110,11 @@ pub trait Disk {
     /// How many calls have failed. Each failure increases it, up to the greatest number of 64 bits.
     fn failures(&self) -> u64
         ensures { result ≡ faults self.now };
+
+    /// Whether what is saved on this disk gets a seal: a digest that shows at an opening whether
+    /// the saved bytes have changed. It is for devices on which bytes may change by themselves.
+    fn seals(&self) -> bool
+        ensures { result ≡ seals self.now };
 
     /// A crash may leave what a read gives.
     ghost reads_left: { (disk : Self) → may_leave disk (seen disk) };

@@ -47,6 +47,8 @@ pub struct FileDisk<F = File> {
     doubted: bool,
     // A sync failed, so the system may have dropped what it hadn't written.
     stale: bool,
+    // What is saved gets a seal.
+    seals: bool,
 }
 
 // Written out, so that the crates above need not prove again how each field is dropped.
@@ -59,6 +61,7 @@ impl<F: Drop> Drop for FileDisk<F> {
             account: _,
             doubted: _,
             stale: _,
+            seals: _,
         } = self;
     }
 }
@@ -66,16 +69,22 @@ impl<F: Drop> Drop for FileDisk<F> {
 impl FileDisk {
     /// Opens the disk in this folder. A missing folder or file is created, for this user alone, and
     /// what is found counts as unsynced. While this disk exists, no other one can be opened in the
-    /// folder.
+    /// folder. `seals` says whether what is saved gets seals.
     ///
     /// Fails with `Disk` if the system refuses something, if one of the files isn't a regular file,
     /// or if another `FileDisk` has the folder open. Fails with `Memory` if there isn't enough
     /// memory for what the files hold.
-    pub fn at<R: Files<File = File>>(rt: &R, alloc: Global, folder: &str) -> Result<Self, Refusal>
+    pub fn at<R: Files<File = File>>(
+        rt: &R,
+        alloc: Global,
+        folder: &str,
+        seals: bool,
+    ) -> Result<Self, Refusal>
         ensures unsynced { IfOk result (λ d. IsUnsynced d.account.state) }
+        ensures seals { IfOk result (λ d. d.seals ≡ seals) }
         ensures refused { IfErr result (λ e. (e ≡ Refusal.Disk) ⊎ (e ≡ Refusal.Memory)) }
     {
-        match open_folder(rt, alloc, Path::new(folder)) {
+        match open_folder(rt, alloc, Path::new(folder), seals) {
             Ok(disk) => Ok(disk),
             Err(error) => Err(refusal_of(error)),
         }
@@ -90,12 +99,14 @@ impl FileDisk {
         alloc: Global,
         folder: &str,
         count: u8,
+        seals: bool,
     ) -> Result<Vec<Self>, Refusal>
         ensures count { IfOk result (λ ds. length ds.items ≡ count) }
         ensures unsynced { IfOk result (λ ds. All (λ d. IsUnsynced d.account.state) ds.items) }
+        ensures seals { IfOk result (λ ds. All (λ d. d.seals ≡ seals) ds.items) }
         ensures refused { IfErr result (λ e. (e ≡ Refusal.Disk) ⊎ (e ≡ Refusal.Memory)) }
     {
-        match open_each(rt, alloc, Path::new(folder), count) {
+        match open_each(rt, alloc, Path::new(folder), count, seals) {
             Ok(disks) => Ok(disks),
             Err(error) => Err(refusal_of(error)),
         }
@@ -118,11 +129,13 @@ fn open_folder<R: Files<File = File>>(
     rt: &R,
     alloc: Global,
     folder: Path<'_>,
+    seals: bool,
 ) -> io::Result<FileDisk>
-    ensures { IfOk result (λ d. IsUnsynced d.account.state) }
+    ensures unsynced { IfOk result (λ d. IsUnsynced d.account.state) }
+    ensures seals { IfOk result (λ d. d.seals ≡ seals) }
 {
     make_folder(rt, alloc, folder)?;
-    open_made(rt, alloc, folder)
+    open_made(rt, alloc, folder, seals)
 }
 
 /// The disks in the folders `0`, `1` and so on of a folder.
@@ -131,13 +144,15 @@ fn open_each<R: Files<File = File>>(
     alloc: Global,
     folder: Path<'_>,
     count: u8,
+    seals: bool,
 ) -> io::Result<Vec<FileDisk>>
     ensures count { IfOk result (λ ds. length ds.items ≡ count) }
     ensures unsynced { IfOk result (λ ds. All (λ d. IsUnsynced d.account.state) ds.items) }
+    ensures seals { IfOk result (λ ds. All (λ d. d.seals ≡ seals) ds.items) }
 {
     make_folder(rt, alloc, folder)?;
     make_parts(rt, alloc, folder, count)?;
-    open_parts(rt, alloc, folder, count)
+    open_parts(rt, alloc, folder, count, seals)
 }
 
 /// Creates the folders `0`, `1` and so on of a folder, if they are missing, and makes their names
@@ -161,14 +176,16 @@ fn open_parts<R: Files<File = File>>(
     alloc: Global,
     folder: Path<'_>,
     count: u8,
+    seals: bool,
 ) -> io::Result<Vec<FileDisk>>
     ensures count { IfOk result (λ ds. length ds.items ≡ count) }
     ensures unsynced { IfOk result (λ ds. All (λ d. IsUnsynced d.account.state) ds.items) }
+    ensures seals { IfOk result (λ ds. All (λ d. d.seals ≡ seals) ds.items) }
 {
     let mut disks = Vec::new(alloc);
     for part in 0..count {
         let path = part_of(alloc, folder, part)?;
-        let disk = open_made(rt, alloc, path.as_path())?;
+        let disk = open_made(rt, alloc, path.as_path(), seals)?;
         disks.push(disk)?;
     }
     Ok(disks)
@@ -181,8 +198,14 @@ fn part_of(alloc: Global, folder: Path<'_>, part: u8) -> io::Result<PathBuf> {
 }
 
 /// The disk in a folder that exists.
-fn open_made<R: Files<File = File>>(rt: &R, alloc: Global, folder: Path<'_>) -> io::Result<FileDisk>
-    ensures { IfOk result (λ d. IsUnsynced d.account.state) }
+fn open_made<R: Files<File = File>>(
+    rt: &R,
+    alloc: Global,
+    folder: Path<'_>,
+    seals: bool,
+) -> io::Result<FileDisk>
+    ensures unsynced { IfOk result (λ d. IsUnsynced d.account.state) }
+    ensures seals { IfOk result (λ d. d.seals ≡ seals) }
 {
     let (mut select, mut a, mut b) = open_files(rt, alloc, folder)?;
     open_to_sync(rt, folder)?.sync_all()?;
@@ -196,6 +219,7 @@ fn open_made<R: Files<File = File>>(rt: &R, alloc: Global, folder: Path<'_>) -> 
         account,
         doubted: false,
         stale: false,
+        seals,
     })
 }
 
@@ -369,7 +393,7 @@ fn load(account: &mut Account, area: Area, file: &mut File) -> io::Result<()>
 
 impl<F: FileExt + OpenFile> FileDisk<F> {
     /// The disk in these files, which should hold what `memory` holds. That isn't taken on trust:
-    /// the first sync compares them, and fails while they differ.
+    /// the first sync compares them, and fails while they differ. What is saved gets no seals.
     pub fn over(select: F, a: F, b: F, memory: MemoryDisk) -> Self
         ensures { result.account ≡ memory.account }
     {
@@ -380,6 +404,7 @@ impl<F: FileExt + OpenFile> FileDisk<F> {
             account: memory.into_account(),
             doubted: true,
             stale: false,
+            seals: false,
         }
     }
 
@@ -539,6 +564,8 @@ impl<F: FileExt + OpenFile> Disk for FileDisk<F> {
 
     ghost faults = { λ d. d.account.failures };
 
+    ghost seals = { λ d. d.seals };
+
     fn read(&mut self, area: Area, at: usize, into: &mut [u8]) -> Result<usize, DiskFault> {
         let n = self.account.state.held.read(area, at, into);
         let ends = n < into.len();
@@ -570,6 +597,10 @@ impl<F: FileExt + OpenFile> Disk for FileDisk<F> {
 
     fn failures(&self) -> u64 {
         self.account.failures
+    }
+
+    fn seals(&self) -> bool {
+        self.seals
     }
 
     ghost reads_left = { λ d. reads_left d.account.state };

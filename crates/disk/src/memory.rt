@@ -1,7 +1,7 @@
 //! A disk in memory, which can be made to fail and to crash. It keeps what a write replaces only
 //! while a crash may bring that back.
 ghost use Rattle.std.specs.Prelude.{◌≡◌, ◌≤◌, ◌↔◌, length, IfOk, IfErr, IsErr, IsErrOf, OnOk};
-ghost use Rattle.std.specs.Prelude.{IsTrue, OnErr};
+ghost use Rattle.std.specs.Prelude.{IsTrue, OnErr, false};
 ghost use Rattle.disk.specs.Areas.{Areas, Changes, Holds, Reads, Torn, part};
 ghost use Rattle.disk.specs.Crashes.{Follows, HasCause, Only, Reaches};
 ghost use Rattle.disk.specs.Record.{areas_of, leaves, left_since, moments, Passes, synced};
@@ -210,6 +210,8 @@ impl Disk for MemoryDisk {
 
     ghost faults = { λ d. d.account.failures };
 
+    ghost seals = { λ _. false };
+
     /// Fails only as planned.
     fn read(&mut self, area: Area, at: usize, into: &mut [u8]) -> Result<usize, DiskFault>
         ensures bytes { IfOk result (λ n.
@@ -287,6 +289,11 @@ impl Disk for MemoryDisk {
 
     fn failures(&self) -> u64 {
         self.account.failures
+    }
+
+    /// Memory needs no seals.
+    fn seals(&self) -> bool {
+        false
     }
 
     ghost reads_left = { λ d. reads_left d.account.state };

@@ -1,5 +1,5 @@
 -- Which refusals a call of a journal can't give.
-use Rattle.std.proofs.Common.{◌≢◌, ◌<◌, ◌≤◌, ℕ, Result, Err, IfErr, IsErrOf, arith, refl, subst}
+use Rattle.std.proofs.Common.{◌≢◌, Result, Err, IfErr, IsErrOf, refl, subst}
 use Rattle.ids.specs.declared.refusal.Refusal.{Refusal}
 use Rattle.ids.specs.declared.refusal.Refusal.TheVariants.{Closed, Disk, ImageTooLarge, Memory}
 
@@ -14,9 +14,6 @@ memory_no_large is = absurd cc
 
 pub disk_no_large : Disk ≢ ImageTooLarge
 disk_no_large is = absurd cc
-
-pub not_above : {m n : ℕ} → m ≤ n → n < m → ⊥
-not_above within above = omega (arith, within, above)
 
 -- a refusal is another one
 pub not_refused : {T : Type 0} {x : Refusal} {r : Result T Refusal} → IfErr r (λ e. e ≢ x) →

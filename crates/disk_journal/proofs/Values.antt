@@ -1,6 +1,6 @@
 -- Values that disks restore: each is what an image and the batches behind it lead to.
 use Rattle.std.proofs.Common.{◌≡◌, ℕ, Bool, true, false, List, [], ◌∷◌, ◌++◌}
-use Rattle.std.proofs.Common.{Option, Some, None, inl, inr, ⊎_elim, refl, sym, ◌∙◌, subst, ap}
+use Rattle.std.proofs.Common.{IfSome, Option, Some, None, inl, inr, ⊎_elim, refl, sym, ◌∙◌, subst, ap}
 use Rattle.std.proofs.Math.Logic.{∥∥₁_elim}
 use Rattle.std.proofs.Props.{props}
 use Rattle.disk.specs.Areas.{Areas, part}
@@ -159,7 +159,8 @@ module _ {V : Type 0} {logs : List ℕ → Bool} {reads : List ℕ → V → Typ
   -- at any moment of that write, of an image that is spelled so
   pub turned_leaves : {D : Type 0} {moment : D → ℕ} {left_since : D → ℕ → Areas → Type 0}
       {before after : D} {image spelled : List ℕ} {old new : V} {d : Areas} →
-      logs image ≡ true → reads image new → spelled ≡ image → (r : Restores logs reads leads old d) →
+      logs image ≡ true → reads image new → spelled ≡ image
+      → (r : Restores logs reads leads old d) →
       LeavesOnly moment left_since before after
       (OldOrWhole (logs r.image) r.image r.batches spelled) →
       LeavesOnly moment left_since before after (RestoresEither logs reads leads old new)
@@ -207,3 +208,18 @@ module _ {D : Type 0} {seen : D → Areas} {may_leave : D → Areas → Type 0}
           ((behind end ends).1 found.image found.logged.0)),
     );
   }
+
+-- the same place, at which perhaps no batch is added
+pub kept_less : {D : Type 0} {seen : D → Areas} {may_leave : D → Areas → Type 0}
+    {logs : List ℕ → Bool} {disk : D} {in_b other : Bool} {last less : Option ℕ} →
+    IsKept seen may_leave logs disk in_b last → other ≡ in_b
+    → IfSome less (λ end. last ≡ Some end) →
+    IsKept seen may_leave logs disk other less
+kept_less {seen = seen} {may_leave} {logs} {disk} {in_b} {last = last}
+    {less = less} kept same some =
+    subst (λ b. IsKept seen may_leave logs disk b less) (sym same) (record {
+      only = kept.only;
+      selected = kept.selected;
+      behind = λ end is.
+          kept.behind end (subst (λ o. IfSome o (λ e. last ≡ Some e)) is some);
+    })

@@ -1,7 +1,7 @@
 -- Which batches go behind a log, and which values are saved whole.
 use Rattle.std.specs.Prelude.{ℕ, ◌+◌, ◌-◌, ◌&&◌, leb, max, if◌then◌else◌, List, length}
 use Rattle.std.specs.Prelude.{Option, Some, None}
-use Rattle.ids.specs.declared.limits.TheConstants.{GREATEST_IMAGE}
+use Rattle.disk_shelf.specs.declared.persist.TheConstants.{GREATEST_SAVED}
 use Rattle.disk_journal.specs.declared.journal.Tail.{Tail}
 use Rattle.disk_journal.specs.declared.journal.TheConstants.{LEAST_LOG}
 
@@ -10,7 +10,7 @@ use Rattle.disk_journal.specs.declared.journal.TheConstants.{LEAST_LOG}
 abbrev pub room_at : ℕ → Option ℕ → ℕ → Option ℕ
 room_at start None len = None
 room_at start (Some end) len =
-    if leb len GREATEST_IMAGE && leb (9 + len) (max start LEAST_LOG - (end - start))
+    if leb len GREATEST_SAVED && leb (9 + len) (max start LEAST_LOG - (end - start))
     then Some end
     else None
 

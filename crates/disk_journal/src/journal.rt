@@ -1,23 +1,26 @@
 //! A crash-consistent store of one value, kept as an image and a log of what happened since. A
 //! batch of the log costs its own bytes and two syncs, however large the image of the value is. A
 //! crash leaves the value that was there or the new one.
-ghost use Rattle.std.specs.Prelude.{◌≡◌, ◌≢◌, ◌↔◌, ◌<◌, ◌≤◌, ◌++◌, ◌-◌, List, ℕ, Bool, [], ◌∷◌};
+ghost use Rattle.std.specs.Prelude.{◌≡◌, ◌≢◌, ◌↔◌, ◌<◌, ◌≤◌, ◌+◌, ◌++◌, ◌-◌, List, ℕ, Bool, [], ◌∷◌};
 ghost use Rattle.std.specs.Prelude.{length, take, drop, IfErr, IfOk, IfSome, IsErr, IsErrOf, IsTrue};
 ghost use Rattle.std.specs.Prelude.{MatchResult, None, OnOk, Some, true, false};
-ghost use Rattle.ids.specs.declared.limits.TheConstants.{GREATEST_IMAGE};
 ghost use Rattle.disk.specs.Areas.{Areas};
 ghost use Rattle.disk.specs.Crashes.{HasCause, LeavesOnly, OnlyRead, StaysBlank, Unmoved};
-ghost use Rattle.disk_shelf.specs.Logs.{IsKept, OldOrNewLog, Opens, Restores};
+ghost use Rattle.disk_shelf.specs.Logs.{IsKept, IsShut, OldOrNewLog, Opens, Restores};
 ghost use Rattle.disk_shelf.specs.Refusals.{AfterSave, IsHandedBack, IsUnread, IsUnwritten};
 ghost use Rattle.disk_shelf.specs.Shelf.{record_of};
+ghost use Rattle.disk_shelf.specs.declared.persist.TheConstants.{GREATEST_SAVED};
 ghost use Rattle.disk_journal.specs.Journal.{RestoresEither, RestoresNone};
 ghost use Rattle.disk_journal.specs.Tails.{place_for};
 
 use disk::{Disk, MemoryDisk, OverMemory, Plan};
 use disk_shelf::log::{begin, extend, replay_log, shut, turn};
-use disk_shelf::{HEAD, Persist, Replay, recall_image, record, spelled};
-use ids::{GREATEST_IMAGE, Refusal};
-use std::alloc::Global;
+use disk_shelf::{
+    DIGEST, GREATEST_SAVED, HEAD, Persist, Replay, first_digest, log_sealed, next_digest,
+    recall_image, record, spelled,
+};
+use ids::Refusal;
+use std::alloc::{AllocError, Global};
 use std::marker::PhantomData;
 
 /// A disk opens to at most one image with its batches. The function does nothing; its contract
@@ -46,19 +49,45 @@ pub struct Tail {
     start: usize,
     // The offset of the last gate, if a log follows the image.
     end: Option<usize>,
+    // The digest of the log, if all of it has seals, and a batch is to have one too.
+    digest: Option<[u8; DIGEST]>,
 }
 
 impl Tail {
+    /// The same place. Batches that are added there get seals if this is the digest of the log
+    /// there, as [`check_seals`](disk_shelf::check_seals) returned it.
+    pub fn with_digest(self, digest: Option<[u8; DIGEST]>) -> Tail
+        ensures side { result.in_b ≡ self.in_b }
+        ensures end { result.end ≡ self.end }
+    {
+        Tail { digest, ..self }
+    }
+
+    // The same place. No batch is added there if `renews` is true: the next save writes the image.
+    fn renewed(self, renews: bool) -> Tail
+        ensures side { result.in_b ≡ self.in_b }
+        ensures end { IfSome result.end (λ end. self.end ≡ Some end) }
+    {
+        if !renews {
+            return self;
+        }
+        Tail {
+            end: None,
+            digest: None,
+            ..self
+        }
+    }
+
     // The offset of the last gate, if the batch goes behind it. If not, the value is saved whole.
     fn place_for(&self, batch: &[u8]) -> Option<usize>
         ensures value { result ≡ place_for self.now batch.now }
         ensures here { IfSome result (λ end. self.now.end ≡ Some end) }
-        ensures fits { IfSome result (λ _. length batch.now ≤ GREATEST_IMAGE) }
+        ensures fits { IfSome result (λ _. length batch.now ≤ GREATEST_SAVED) }
     {
         let end = self.end?;
         let most = self.start.max(LEAST_LOG);
         let left = most.saturating_sub(end.saturating_sub(self.start));
-        let fits = batch.len() as u64 <= GREATEST_IMAGE && batch.len() + HEAD + 1 <= left;
+        let fits = batch.len() as u64 <= GREATEST_SAVED && batch.len() + HEAD + 1 <= left;
         fits.then_some(end)
     }
 }
@@ -67,9 +96,11 @@ impl Tail {
 /// a log of batches, which lead from what the image is read as to the value.
 ///
 /// A [`save`](Journal::save) adds a batch to the log, or else writes the image of the value, with
-/// an empty log, into the other area. A failure of the disk closes the journal, and so does a
-/// failed [`reopen`](Journal::reopen). Saves then fail with `Closed` until a `reopen` succeeds,
-/// which shows whether the disk has the old value or the new one.
+/// an empty log, into the other area. If the disk [seals](Disk::seals), it adds a seal; an opening
+/// doesn't compare it, but [`check_seals`](disk_shelf::check_seals) does. A failure of the disk
+/// closes the journal, and so does a failed [`reopen`](Journal::reopen). Saves then fail with
+/// `Closed` until a `reopen` succeeds, which shows whether the disk has the old value or the new
+/// one.
 pub struct Journal<D: Disk, P: Replay> {
     alloc: Global,
     disk: D,
@@ -98,20 +129,78 @@ impl<D: Disk + Drop, P: Replay> Drop for Journal<D, P> {
 fn spelled_shut<P: Persist>(alloc: Global, value: &P::Value) -> Result<Vec<u8>, Refusal>
     ensures bytes { IfOk result (λ v. v.items ≡ record_of (P.image value.now) ++ 0 ∷ []) }
     ensures readable { OnOk result (P.reads (P.image value.now) (P.saved value.now)) }
-    ensures within { OnOk result (length (P.image value.now) ≤ GREATEST_IMAGE) }
-    ensures refused { IfErr result (IsUnwritten (P.image value.now)) }
+    ensures fits { OnOk result (length (P.image value.now) ≤ GREATEST_SAVED) }
+    ensures within { OnOk result (P.too_large value.now → ⊥) }
+    ensures refused { IfErr result (IsUnwritten (P.too_large value.now)) }
 {
     let bytes = spelled::<P>(alloc, value)?;
     Ok(shut(bytes)?)
 }
 
-/// The image in what is written for it, with the gate behind it.
-fn image_before_gate(bytes: &[u8]) -> &[u8]
-    requires { 9 ≤ length bytes.now }
+/// The image in what is written for it, up to the gate at this offset.
+fn image_before_gate(bytes: &[u8], gate: usize) -> &[u8]
+    requires behind { 8 ≤ gate }
+    requires inside { gate ≤ length bytes.now }
 
-    ensures { result.now ≡ take (length bytes.now - 9) (drop 8 bytes.now) }
+    ensures { result.now ≡ take (gate - 8) (drop 8 bytes.now) }
 {
-    &bytes[HEAD..bytes.len() - 1]
+    &bytes[HEAD..gate]
+}
+
+/// What is written for a value, with the gate behind its image, and what is behind the gate.
+struct Spelled {
+    bytes: Vec<u8>,
+    // The offset of the gate.
+    gate: usize,
+    // The digest of the log, which is empty, if its seal is behind the gate.
+    digest: Option<[u8; DIGEST]>,
+}
+
+/// What is written for a value: the length of its image, the image, the gate behind it, and the
+/// seal of the log if `seals` is true. Fails as [`Persist::to_bytes`] does.
+fn spelled_log<P: Persist>(alloc: Global, seals: bool, value: &P::Value) -> Result<Spelled, Refusal>
+    ensures bytes { IfOk result (λ s. IsShut (P.image value.now) s.bytes.items) }
+    ensures gate { IfOk result (λ s. s.gate ≡ 8 + length (P.image value.now)) }
+    ensures readable { OnOk result (P.reads (P.image value.now) (P.saved value.now)) }
+    ensures fits { OnOk result (length (P.image value.now) ≤ GREATEST_SAVED) }
+    ensures within { OnOk result (P.too_large value.now → ⊥) }
+    ensures refused { IfErr result (IsUnwritten (P.too_large value.now)) }
+{
+    let bytes = spelled_shut::<P>(alloc, value)?;
+    let gate = bytes.len() - 1;
+    if !seals {
+        return Ok(Spelled {
+            bytes,
+            gate,
+            digest: None,
+        });
+    }
+    let digest = first_digest(image_before_gate(&bytes, gate));
+    let bytes = log_sealed(bytes, &digest, &digest)?;
+    Ok(Spelled {
+        bytes,
+        gate,
+        digest: Some(digest),
+    })
+}
+
+/// What is written for a batch: its length, the batch, the gate behind it, and the seal of the log
+/// if this is the log's digest before the batch. Returns the log's digest with the batch, too.
+/// Fails if there is no memory for that.
+fn spelled_batch(
+    alloc: Global,
+    digest: Option<[u8; DIGEST]>,
+    batch: &[u8],
+) -> Result<(Vec<u8>, Option<[u8; DIGEST]>), AllocError>
+    ensures { IfOk result (λ r. IsShut batch.now r.0.items) }
+{
+    let bytes = shut(record(alloc, batch)?)?;
+    let Some(before) = digest else {
+        return Ok((bytes, None));
+    };
+    let now = next_digest(&before, batch);
+    let bytes = log_sealed(bytes, &before, &now)?;
+    Ok((bytes, Some(now)))
 }
 
 /// Syncs a disk on which something was created, and returns the value that it holds, with its
@@ -135,7 +224,13 @@ where
     let mut value = P::from_bytes(alloc, &image)?;
     let end = replay_log::<D, P>(alloc, disk, in_b, &image, &mut value)?;
     let start = HEAD + image.len();
-    Ok((Tail { in_b, start, end }, value))
+    let tail = Tail {
+        in_b,
+        start,
+        end,
+        digest: None,
+    };
+    Ok((tail, value))
 }
 
 impl<D: Disk, P: Replay> Journal<D, P> {
@@ -181,25 +276,30 @@ impl<D: Disk, P: Replay> Journal<D, P> {
             (RestoresNone P.logs P.reads P.leads (P.saved value.now)))
             (λ e. LeavesOnly D.moment D.left_since disk e.0
             (RestoresNone P.logs P.reads P.leads (P.saved value.now))) }
-        ensures within { OnOk result (length (P.image value.now) ≤ GREATEST_IMAGE) }
-        ensures refused { IfErr result (IsHandedBack D.faults (P.image value.now) disk) }
+        ensures within { OnOk result (P.too_large value.now → ⊥) }
+        ensures refused { IfErr result (IsHandedBack D.faults (P.too_large value.now) disk) }
     {
-        let bytes = match spelled_shut::<P>(alloc, value) {
-            Ok(bytes) => bytes,
+        let seals = disk.seals();
+        let Spelled {
+            bytes,
+            gate,
+            digest,
+        } = match spelled_log::<P>(alloc, seals, value) {
+            Ok(spelled) => spelled,
             Err(refusal) => return Err((disk, refusal)),
         };
-        match begin(&mut disk, image_before_gate(&bytes), &bytes) {
+        match begin(&mut disk, image_before_gate(&bytes, gate), &bytes, seals) {
             Ok(()) => {}
             Err(_) => return Err((disk, Refusal::Disk)),
         }
-        let start = bytes.len() - 1;
         Ok(Journal {
             alloc,
             disk,
             tail: Tail {
                 in_b: false,
-                start,
-                end: Some(start),
+                start: gate,
+                end: Some(gate),
+                digest,
             },
             ready: true,
             kind: PhantomData,
@@ -257,7 +357,8 @@ impl<D: Disk, P: Replay> Journal<D, P> {
     /// After `Ok` the journal is open, and a crash leaves that value.
     ///
     /// Fails as [`open`](Journal::open) does; the journal is then closed. Its disk holds what it
-    /// held, even after a crash.
+    /// held, even after a crash. If the disk [seals](Disk::seals), the next save writes the whole
+    /// image, since the log's digest isn't known any more.
     pub fn reopen(&mut self) -> Result<P::Value, Refusal>
     where
         P::Value: Drop,
@@ -272,7 +373,8 @@ impl<D: Disk, P: Replay> Journal<D, P> {
     {
         self.ready = false;
         let (tail, value) = read_logged::<D, P>(self.alloc, &mut self.disk)?;
-        self.tail = tail;
+        let seals = self.disk.seals();
+        self.tail = tail.renewed(seals);
         self.ready = true;
         Ok(value)
     }
@@ -281,7 +383,7 @@ impl<D: Disk, P: Replay> Journal<D, P> {
     fn append(&mut self, end: usize, batch: &[u8]) -> Result<(), Refusal>
         requires ready { IsTrue self.old.ready }
         requires end { self.old.tail.end ≡ Some end }
-        requires fits { length batch.now ≤ GREATEST_IMAGE }
+        requires fits { length batch.now ≤ GREATEST_SAVED }
 
         ensures added { OnOk result ((image : List ℕ) (batches : List (List ℕ))
             → Opens image batches (D.seen self.old.disk)
@@ -297,10 +399,12 @@ impl<D: Disk, P: Replay> Journal<D, P> {
         let Some(next) = end.checked_add(batch.len() + HEAD + 1) else {
             return Err(Refusal::Memory);
         };
-        let bytes = shut(record(self.alloc, batch)?)?;
+        let (bytes, digest) = spelled_batch(self.alloc, self.tail.digest, batch)?;
         self.ready = false;
-        extend(&mut self.disk, self.tail.in_b, end, batch, &bytes)?;
+        let seals = digest.is_some();
+        extend(&mut self.disk, self.tail.in_b, end, batch, &bytes, seals)?;
         self.tail.end = Some(next);
+        self.tail.digest = digest;
         self.ready = true;
         Ok(())
     }
@@ -317,18 +421,28 @@ impl<D: Disk, P: Replay> Journal<D, P> {
             (RestoresEither P.logs P.reads P.leads old (P.saved value.now)) }
         ensures after { AfterSave D.faults self.old.disk self.new.disk self.old.ready self.new.ready
             result }
-        ensures too_large { IsErrOf result Refusal.ImageTooLarge ↔
-            (GREATEST_IMAGE < length (P.image value.now)) }
+        ensures too_large { IsErrOf result Refusal.ImageTooLarge ↔ P.too_large value.now }
     {
-        let bytes = spelled_shut::<P>(self.alloc, value)?;
+        let seals = self.disk.seals();
+        let Spelled {
+            bytes,
+            gate,
+            digest,
+        } = spelled_log::<P>(self.alloc, seals, value)?;
         self.ready = false;
         let in_b = self.tail.in_b;
-        turn(&mut self.disk, in_b, image_before_gate(&bytes), &bytes)?;
-        let start = bytes.len() - 1;
+        turn(
+            &mut self.disk,
+            in_b,
+            image_before_gate(&bytes, gate),
+            &bytes,
+            seals,
+        )?;
         self.tail = Tail {
             in_b: !in_b,
-            start,
-            end: Some(start),
+            start: gate,
+            end: Some(gate),
+            digest,
         };
         self.ready = true;
         Ok(())
@@ -341,8 +455,8 @@ impl<D: Disk, P: Replay> Journal<D, P> {
     /// after `Ok` it leaves the new one.
     ///
     /// Fails with `Closed` exactly if the journal is closed; with `ImageTooLarge` if the image is
-    /// written and is longer than an image may be; with `Memory`; and with `Disk` if the device
-    /// failed. `Disk` closes the journal; the others change nothing.
+    /// written and the value is too large; with `Memory`; and with `Disk` if the device failed.
+    /// `Disk` closes the journal; the others change nothing.
     pub fn save(&mut self, value: &P::Value, batch: Option<&[u8]>) -> Result<(), Refusal>
         ensures saved { OnOk result ((old : P.Value)
             → Restores P.logs P.reads P.leads old (D.seen self.old.disk)
@@ -357,7 +471,7 @@ impl<D: Disk, P: Replay> Journal<D, P> {
             result }
         ensures too_large { IsErrOf result Refusal.ImageTooLarge ↔ IsTrue self.old.ready
             × (IfSome batch.entry (λ b. place_for self.old.tail b.now ≡ None))
-            × (GREATEST_IMAGE < length (P.image value.now)) }
+            × P.too_large value.now }
     {
         if !self.ready {
             return Err(Refusal::Closed);

@@ -6,3 +6,5 @@ pub mod Logs
 pub mod Turns
 pub mod Quiet
 pub mod Values
+pub mod Seals
+pub mod Checks

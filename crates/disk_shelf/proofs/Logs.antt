@@ -6,12 +6,12 @@ use Rattle.std.proofs.lemmas.List.{append-nil, take-take, drop-take, drop-drop, 
 use Rattle.std.proofs.lemmas.List.{length-take-le}
 use Rattle.std.specs.Int.{w64, from_be_bytes}
 use Rattle.std.proofs.lemmas.Bool.Decides.{leb_tells}
-use Rattle.ids.specs.declared.limits.TheConstants.{GREATEST_IMAGE}
+use Rattle.disk_shelf.specs.declared.persist.TheConstants.{GREATEST_SAVED}
 use Rattle.disk.specs.Areas.{Areas, part, Changes, Holds, Torn}
 use Rattle.std.proofs.Math.Logic.{∥∥₁_elim, ∥∥₁_map}
 use Rattle.std.proofs.Props.{props}
 use Rattle.disk.specs.Crashes.{Only}
-use Rattle.disk_shelf.specs.Logs.{EndsAt, HasLog, IsLogged, IsLoggedIf, IsLoggedTo, log_length, OldOrNewLog}
+use Rattle.disk_shelf.specs.Logs.{EndsAt, HasLog, IsLogged, IsLoggedIf, IsLoggedTo, IsShut, log_length, OldOrNewLog}
 use Rattle.disk_shelf.specs.Logs.{Opens, OpensIf}
 use Rattle.disk.specs.declared.device.Area.{Area}
 use Rattle.disk_shelf.specs.Shelf.{told, recorded, record_of, side, half}
@@ -38,7 +38,7 @@ recorded_inside held image is =
     let inside : told held + 8 ≤ length held =
     ⊎_elim (λ fits. fits.1) (λ cut. let none = recorded_cut held cut.1 in absurd cc)
     (leb_tells (told held + 8) (length held)) in
-    let whole = recorded_is held (told held) refl tells.1 inside in
+    let whole = recorded_is held (told held) refl tells.1.most inside in
     let same : take (told held) (drop 8 held) ≡ image = some_same (sym whole ∙ is) in
     let long : length (take (told held) (drop 8 held)) ≡ told held =
     length-take-le (told held) (drop 8 held) (omega (arith, inside, length-drop 8 held)) in
@@ -61,9 +61,9 @@ recorded_kept held new image is same long =
     let says : told new ≡ told held = ap (from_be_bytes w64) first in
     let rest : take (told held) (drop 8 new) ≡ take (told held) (drop 8 held) =
     part_kept 8 (told held) (8 + length image) held new (omega (arith, inside.0)) same in
-    recorded_is new (told held) says tells.1 (omega (arith, inside.0, long))
+    recorded_is new (told held) says tells.1.most (omega (arith, inside.0, long))
     ∙ ap Some rest
-    ∙ sym (recorded_is held (told held) refl tells.1 (omega (arith, inside.0, inside.1)))
+    ∙ sym (recorded_is held (told held) refl tells.1.most (omega (arith, inside.0, inside.1)))
     ∙ is
 
 -- a gate needs only its byte
@@ -222,7 +222,7 @@ module _ {end : ℕ} {image : List ℕ} {batches : List (List ℕ)} {held : List
     offset = ends.offset;
   }
 
-  module _ (batch rest : List ℕ) (fits : length batch ≤ GREATEST_IMAGE)
+  module _ (batch rest : List ℕ) (fits : length batch ≤ GREATEST_SAVED)
       (laid : drop (end + 1) held ≡ record_of batch ++ 0 ∷ rest) where
     -- a batch is behind the last gate, which has become odd
     gate_opened : (new : List ℕ) → Torn end 1 held new → side (drop end new) ≡ Some true →
@@ -254,31 +254,33 @@ module _ {end : ℕ} {image : List ℕ} {batches : List (List ℕ)} {held : List
         (side_some (drop end new) (omega (arith, long, length-drop end new)))
 
     -- and once it is written
-    pub gate_written : (new : List ℕ) → Holds end (1 ∷ []) held new →
+    pub gate_written : (v : ℕ) (new : List ℕ) → (v % 2 == 1) ≡ true → Holds end (v ∷ []) held new →
         Ends (end + 9 + length batch) image (batches ++ batch ∷ []) new
-    gate_written new is =
+    gate_written v new odd is =
         let front = take end held in
         let tail = drop (end + 1) held in
         let torn : Torn end 1 held new = subst (Torn end 1 held) (sym is)
-        (torn_pasted end 1 (1 ∷ []) held (omega (arith, end_inside)) (omega arith)) in
+        (torn_pasted end 1 (v ∷ []) held (omega (arith, end_inside)) (omega arith)) in
         let size : length front ≡ end = length-take-le end held (omega (arith, end_inside)) in
-        let gate : drop end new ≡ 1 ∷ tail =
-        ap (drop end) (is ∙ append_assoc front (1 ∷ []) tail)
-        ∙ drop_at front (1 ∷ tail) end size in
-        gate_opened new torn (ap side gate)
+        let gate : drop end new ≡ v ∷ tail =
+        ap (drop end) (is ∙ append_assoc front (v ∷ []) tail)
+        ∙ drop_at front (v ∷ tail) end size in
+        gate_opened new torn (ap side gate ∙ ap Some odd)
 
   -- a batch is laid behind the last gate
-  pub batch_laid : (batch bytes new : List ℕ) → bytes ≡ record_of batch ++ 0 ∷ [] →
+  pub batch_laid : (batch bytes new : List ℕ) → IsShut batch bytes →
       Holds (end + 1) bytes held new →
       drop (end + 1) new
-      ≡ record_of batch ++ 0 ∷ drop (end + 1 + length bytes) held
+      ≡ record_of batch
+      ++ 0 ∷ (drop (9 + length batch) bytes ++ drop (end + 1 + length bytes) held)
   batch_laid batch bytes new spelled is =
       let front = take (end + 1) held in
       let tail = drop (end + 1 + length bytes) held in
       let size : length front ≡ end + 1 = length-take-le (end + 1) held end_inside in
       ap (drop (end + 1)) (is ∙ append_assoc front bytes tail)
       ∙ drop_at front (bytes ++ tail) (end + 1) size
-      ∙ ap (λ l. l ++ tail) spelled ∙ append_assoc (record_of batch) (0 ∷ []) tail
+      ∙ ap (λ l. l ++ tail) spelled
+      ∙ append_assoc (record_of batch) (0 ∷ drop (9 + length batch) bytes) tail
 
   pub laid_ends : (bytes new : List ℕ) → Holds (end + 1) bytes held new →
       Ends end image batches new
@@ -349,8 +351,8 @@ pub record Adding (in_b : Bool) (area : Area) (end : ℕ) (batch bytes : List �
   pub here : area ≡ half in_b
   pub selected : side s.select ≡ Some in_b
   pub found : ∥ EndsAt end (part (half in_b) s) ∥₁
-  pub spelled : bytes ≡ record_of batch ++ 0 ∷ []
-  pub fits : length batch ≤ GREATEST_IMAGE
+  pub spelled : IsShut batch bytes
+  pub fits : length batch ≤ GREATEST_SAVED
 
 module _ {in_b : Bool} {area : Area} {end : ℕ} {batch bytes : List ℕ} {s : Areas}
     (adding : Adding in_b area end batch bytes s) where
@@ -380,7 +382,7 @@ module _ {in_b : Bool} {area : Area} {end : ℕ} {batch bytes : List ℕ} {s : A
       }
 
   rest : List ℕ
-  rest = drop (end + 1 + length bytes) (part (half in_b) s)
+  rest = drop (9 + length batch) bytes ++ drop (end + 1 + length bytes) (part (half in_b) s)
 
   module _ (t : Areas) (written : Changes area (Holds (end + 1) bytes) s t) where
     middle : (side t.select ≡ Some in_b)
@@ -411,46 +413,47 @@ module _ {in_b : Bool} {area : Area} {end : ℕ} {batch bytes : List ℕ} {s : A
         (gate_torn (ends_between image batches opens) batch rest adding.fits
         (behind image batches opens) (part (half in_b) c) after.1)
 
-    ends_after : (image : List ℕ) (batches : List (List ℕ)) → Opens image batches s →
-        (c : Areas) → Changes area (Holds end (1 ∷ [])) t c →
-        Ends (end + 9 + length batch) image (batches ++ batch ∷ []) (part (half in_b) c)
-    ends_after image batches opens c ch =
-        let step = Holds end (1 ∷ []) in
-        let after = here_changed in_b step t c middle.0 (step_here step t c ch) in
-        gate_written (ends_between image batches opens) batch rest adding.fits
-        (behind image batches opens) (part (half in_b) c) after.1
+    module _ (v : ℕ) (odd : (v % 2 == 1) ≡ true) where
+      ends_after : (image : List ℕ) (batches : List (List ℕ)) → Opens image batches s →
+          (c : Areas) → Changes area (Holds end (v ∷ [])) t c →
+          Ends (end + 9 + length batch) image (batches ++ batch ∷ []) (part (half in_b) c)
+      ends_after image batches opens c ch =
+          let step = Holds end (v ∷ []) in
+          let after = here_changed in_b step t c middle.0 (step_here step t c ch) in
+          gate_written (ends_between image batches opens) batch rest adding.fits
+          (behind image batches opens) v (part (half in_b) c) odd after.1
 
-    still_selected : (c : Areas) → Changes area (Holds end (1 ∷ [])) t c →
-        side c.select ≡ Some in_b
-    still_selected c ch =
-        (here_changed in_b (Holds end (1 ∷ [])) t c middle.0
-        (step_here (Holds end (1 ∷ [])) t c ch)).0
+      still_selected : (c : Areas) → Changes area (Holds end (v ∷ [])) t c →
+          side c.select ≡ Some in_b
+      still_selected c ch =
+          (here_changed in_b (Holds end (v ∷ [])) t c middle.0
+          (step_here (Holds end (v ∷ [])) t c ch)).0
 
-    -- and once it is written, the batch counts
-    pub batch_added : (image : List ℕ) (batches : List (List ℕ)) → Opens image batches s →
-        (c : Areas) → Changes area (Holds end (1 ∷ [])) t c →
-        Opens image (batches ++ batch ∷ []) c
-    batch_added image batches opens c ch = record {
-      in_b = in_b;
-      selected = still_selected c ch;
-      holds = (ends_after image batches opens c ch).logged;
-    }
+      -- and once it is written, the batch counts
+      pub batch_added : (image : List ℕ) (batches : List (List ℕ)) → Opens image batches s →
+          (c : Areas) → Changes area (Holds end (v ∷ [])) t c →
+          Opens image (batches ++ batch ∷ []) c
+      batch_added image batches opens c ch = record {
+        in_b = in_b;
+        selected = still_selected c ch;
+        holds = (ends_after image batches opens c ch).logged;
+      }
 
-    pub end_moved : (c : Areas) → Changes area (Holds end (1 ∷ [])) t c →
-        (side c.select ≡ Some in_b) × ∥ EndsAt (end + 9 + length batch) (part (half in_b) c) ∥₁
-    end_moved c ch = (
-      still_selected c ch,
-      ∥∥₁_map adding.found (λ found.
-          let opens : Opens found.image found.batches s =
-          record { in_b = in_b; selected = adding.selected; holds = found.logged } in
-          let after = ends_after found.image found.batches opens c ch in
-          record {
-            image = found.image;
-            batches = found.batches ++ batch ∷ [];
-            logged = after.logged;
-            offset = after.offset;
-          }),
-    )
+      pub end_moved : (c : Areas) → Changes area (Holds end (v ∷ [])) t c →
+          (side c.select ≡ Some in_b) × ∥ EndsAt (end + 9 + length batch) (part (half in_b) c) ∥₁
+      end_moved c ch = (
+        still_selected c ch,
+        ∥∥₁_map adding.found (λ found.
+            let opens : Opens found.image found.batches s =
+            record { in_b = in_b; selected = adding.selected; holds = found.logged } in
+            let after = ends_after found.image found.batches opens c ch in
+            record {
+              image = found.image;
+              batches = found.batches ++ batch ∷ [];
+              logged = after.logged;
+              offset = after.offset;
+            }),
+      )
 
 -- after a sync
 pub logged_by : {D T E : Type 0} (seen : D → Areas) (may_leave : D → Areas → Type 0) (in_b : Bool)

@@ -1,6 +1,6 @@
 -- Calls that change nothing of a disk, and refusals that are passed on.
-use Rattle.std.proofs.Common.{◌≡◌, ◌≢◌, ◌∙◌, ◌⊎◌, ℕ, Result, Ok, Err, IsErrOf, OnOk, Option, None, Some}
-use Rattle.std.proofs.Common.{ap, inl, inr, refl, sym, ⊎_elim}
+use Rattle.std.proofs.Common.{◌≡◌, ◌≢◌, ◌∙◌, ℕ, Result, Ok, Err, IsErrOf, OnOk, Option, None, Some}
+use Rattle.std.proofs.Common.{ap, inl, inr, refl, sym}
 use Rattle.ids.specs.declared.refusal.Refusal.{Refusal}
 use Rattle.ids.specs.declared.refusal.Refusal.TheVariants.{BadImage, Closed, Disk, Memory}
 use Rattle.disk.specs.Areas.{Areas}
@@ -130,8 +130,3 @@ disk_no_bad is = absurd cc
 
 pub disk_no_memory : {T : Type 0} → IsErrOf {T = T} (Err Disk) Memory → ⊥
 disk_no_memory is = absurd cc
-
-pub told_no_memory : {T : Type 0} {e : Refusal} → (e ≡ BadImage) ⊎ (e ≡ Disk) →
-    IsErrOf {T = T} (Err e) Memory → ⊥
-told_no_memory others is =
-    ⊎_elim (λ (bad : _ ≡ BadImage). absurd cc) (λ (disk : _ ≡ Disk). absurd cc) others

@@ -1,23 +1,24 @@
 -- What is written for an image, and what is read.
 use Rattle.std.proofs.Common.{◌≡◌, ℕ, ◌+◌, ◌-◌, ◌≤◌, ◌<◌, List, [], ◌++◌, length, take, drop, Some}
-use Rattle.std.proofs.Common.{None, Bool, true, false, inl, inr, refl, sym, ◌∙◌, ap, arith}
+use Rattle.std.proofs.Common.{None, Option, Bool, true, false, inl, inr, refl, subst, sym, ◌∙◌, ap, arith}
 use Rattle.std.proofs.Common.{length-append, length-drop}
 use Rattle.std.specs.Int.{w64, to_be_bytes, from_be_bytes}
 use Rattle.std.proofs.lemmas.Nat.{from_be_bytes-to_be_bytes_8}
 use Rattle.std.proofs.lemmas.List.{append-nil, append_assoc, drop_all, take_all, take_at, drop_at}
 use Rattle.std.proofs.lemmas.List.{drop-drop, length-take-le}
 use Rattle.std.proofs.lemmas.Bool.Decides.{leb_tells, nat_tests}
-use Rattle.ids.specs.declared.limits.TheConstants.{GREATEST_IMAGE}
+use Rattle.disk_shelf.specs.declared.persist.TheConstants.{GREATEST_SAVED}
 use Rattle.disk.specs.Areas.{Holds, Reads}
-use Rattle.disk_shelf.specs.Shelf.{IsWhole}
+use Rattle.disk_shelf.specs.Seals.{behind}
+use Rattle.disk_shelf.specs.Shelf.{IsLength, IsWhole}
 use Rattle.disk_shelf.specs.Shelf.{told, recorded, record_of, TellsLength}
 
 -- what is read from an area that says a length
-pub recorded_is : (held : List ℕ) (n : ℕ) → told held ≡ n → n ≤ GREATEST_IMAGE →
+pub recorded_is : (held : List ℕ) (n : ℕ) → told held ≡ n → n ≤ GREATEST_SAVED →
     n + 8 ≤ length held → recorded held ≡ Some (take n (drop 8 held))
 unfolding recorded
 recorded_is held n is fits within =
-    let small : told held ≤ GREATEST_IMAGE = omega (arith, is, fits) in
+    let small : told held ≤ GREATEST_SAVED = omega (arith, is, fits) in
     let inside : told held + 8 ≤ length held = omega (arith, is, within) in
     let here : recorded held ≡ Some (take (told held) (drop 8 held)) =
     grind (arith, nat_tests, small, inside) in
@@ -28,7 +29,7 @@ pub recorded_short : (held : List ℕ) → length held < 8 → recorded held ≡
 unfolding recorded
 recorded_short held short = grind (arith, nat_tests)
 
-pub recorded_long : (held : List ℕ) → GREATEST_IMAGE < told held → recorded held ≡ None
+pub recorded_long : (held : List ℕ) → GREATEST_SAVED < told held → recorded held ≡ None
 unfolding recorded
 recorded_long held long = grind (arith, nat_tests)
 
@@ -43,11 +44,29 @@ recorded_tells held image is = (
     | inl long ↦ long.1
     | inr short ↦ let none = recorded_short held short.1 in cc
   ],
-  elim (leb_tells (told held) GREATEST_IMAGE) [
-    | inl fits ↦ fits.1
-    | inr past ↦ let none = recorded_long held past.1 in cc
-  ],
+  record {
+    most = elim (leb_tells (told held) GREATEST_SAVED) [
+      | inl fits ↦ fits.1
+      | inr past ↦ let none = recorded_long held past.1 in cc
+    ];
+    there = λ _. elim (leb_tells (told held + 8) (length held)) [
+      | inl all ↦ all.1
+      | inr cut ↦ let none = recorded_cut held cut.1 in cc
+    ];
+  },
 )
+
+pub length_again : {m n : ℕ} {held held' : List ℕ} → m ≡ n → held ≡ held' → IsLength m held →
+    IsLength n held'
+length_again {n = n} {held = held} is same length =
+    subst (IsLength n) same (subst (λ k. IsLength k held) is length)
+
+-- an area that doesn't say so holds no image
+pub untold_none : (held : List ℕ) → (TellsLength held → ⊥) → recorded held ≡ None
+untold_none held not = by (recorded held) refl where
+  by : (o : Option (List ℕ)) → recorded held ≡ o → o ≡ None
+  by None is = refl
+  by (Some image) is = absurd (not (recorded_tells held image is))
 
 -- the image in what is written for it
 pub record_image : (image : List ℕ) → drop 8 (record_of image) ≡ image
@@ -58,12 +77,6 @@ pub record_length : (image : List ℕ) → length (record_of image) ≡ 8 + leng
 unfolding record_of
 record_length image = length-append (to_be_bytes w64 (length image)) image
 
-pub record_long : (image : List ℕ) → 8 ≤ length (record_of image)
-unfolding record_of
-record_long image =
-    let size : length (to_be_bytes w64 (length image)) ≡ 8 = refl in
-    omega (arith, length-append (to_be_bytes w64 (length image)) image, size)
-
 -- the length is put in place of the first eight bytes
 pub put_all : (n : ℕ) (bytes text : List ℕ) → n ≡ length bytes → 8 ≤ length bytes →
     text ≡ record_of (drop 8 bytes) → take n text ≡ record_of (drop 8 bytes)
@@ -73,22 +86,42 @@ put_all n bytes text all long is =
     take_all n text fits ∙ is
 
 -- what is written for an image, as a slice
-pub text_long : (image : List ℕ) {bytes text : List ℕ} → text ≡ bytes → bytes ≡ record_of image →
-    8 ≤ length text
-text_long image same is = omega (arith, ap length same, ap length is, record_long image)
+pub text_long : (image rest : List ℕ) {end : ℕ} {bytes text : List ℕ} → text ≡ bytes →
+    bytes ≡ record_of image ++ rest → end ≡ 8 + length image →
+    (8 ≤ end) × (end ≤ length text)
+text_long image rest same is at = (
+  omega (arith, at),
+  omega (
+    arith,
+    ap length same,
+    ap length is,
+    at,
+    record_length image,
+    length-append (record_of image) rest,
+  ),
+)
 
 -- the image in it
-pub image_seen : {image bytes text part : List ℕ} → text ≡ bytes → bytes ≡ record_of image →
-    part ≡ drop 8 text → part ≡ image
-image_seen {image} same is here = here ∙ ap (drop 8) (same ∙ is) ∙ record_image image
+pub image_seen : (image rest : List ℕ) (end : ℕ) {bytes text part : List ℕ} → text ≡ bytes →
+    bytes ≡ record_of image ++ rest → end ≡ 8 + length image → part ≡ take (end - 8) (drop 8 text) →
+    part ≡ image
+unfolding record_of
+image_seen image rest end same is at here =
+    let head = to_be_bytes w64 (length image) in
+    here ∙ ap (λ l. take (end - 8) (drop 8 l)) (same ∙ is ∙ append_assoc head image rest)
+    ∙ ap (take (end - 8)) (drop_at head (image ++ rest) 8 refl)
+    ∙ take_at image rest (end - 8) (omega (arith, at))
 
-pub spelled_again : (image : List ℕ) {bytes text again part : List ℕ} → again ≡ bytes →
-    text ≡ bytes → bytes ≡ record_of image → part ≡ drop 8 text → again ≡ record_of part
-spelled_again image other same is here =
-    other ∙ is ∙ ap record_of (sym (image_seen {image = image} same is here))
+pub spelled_again : (seals : Bool) (image : List ℕ) (end : ℕ) {bytes text again part : List ℕ} →
+    again ≡ bytes → text ≡ bytes → bytes ≡ record_of image ++ behind seals image →
+    end ≡ 8 + length image → part ≡ take (end - 8) (drop 8 text) →
+    again ≡ record_of part ++ behind seals part
+spelled_again seals image end other same is at here =
+    other ∙ is ∙ ap (λ l. record_of l ++ behind seals l)
+    (sym (image_seen image (behind seals image) end same is at here))
 
 -- what was written is read, whatever follows it
-pub recorded_front : (image rest : List ℕ) → length image ≤ GREATEST_IMAGE →
+pub recorded_front : (image rest : List ℕ) → length image ≤ GREATEST_SAVED →
     recorded (record_of image ++ rest) ≡ Some image
 unfolding record_of told
 recorded_front image rest fits =
@@ -108,10 +141,12 @@ recorded_front image rest fits =
     recorded_is new n tells fits (omega (arith, long))
     ∙ ap (λ (l : List ℕ). Some (take n l)) behind ∙ ap Some (take_at image rest n refl)
 
-pub recorded_holds : (image old new : List ℕ) → length image ≤ GREATEST_IMAGE →
-    Holds 0 (record_of image) old new → recorded new ≡ Some image
-recorded_holds image old new fits is =
-    ap recorded is ∙ recorded_front image (drop (0 + length (record_of image)) old) fits
+pub recorded_holds : (image rest : List ℕ) (old new : List ℕ) → length image ≤ GREATEST_SAVED →
+    Holds 0 (record_of image ++ rest) old new → recorded new ≡ Some image
+recorded_holds image rest old new fits is =
+    let tail = drop (0 + length (record_of image ++ rest)) old in
+    ap recorded (is ∙ append_assoc (record_of image) rest tail)
+    ∙ recorded_front image (rest ++ tail) fits
 
 -- what was read fills the buffer, if that many bytes were read
 pub whole_read : {held old new : List ℕ} {at n : ℕ} (all : Bool) → Reads held at n old new →
@@ -152,7 +187,7 @@ image_read {held} {held'} {old} {new} rest n whole all size same tells fits =
     let enough : n ≤ length held' - 8 = omega (arith, whole.enough all, size) in
     let long : length new ≡ n =
     ap length is ∙ length-take-le n (drop 8 held') (omega (arith, length-drop 8 held')) in
-    recorded_is held n tells (omega (arith, tells, fits.1))
+    recorded_is held n tells (omega (arith, tells, fits.1.most))
     (omega (arith, within, fits.0, enough))
     ∙ ap (λ (l : List ℕ). Some (take n (drop 8 l))) (sym same)
     ∙ ap Some (sym (take_at new rest n long ∙ is))

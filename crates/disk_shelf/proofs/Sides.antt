@@ -1,10 +1,10 @@
 -- How a step on one area affects what a disk opens to.
 use Rattle.std.proofs.Common.{◌≡◌, ◌⊎◌, inl, inr, ⊎_elim, ℕ, ◌≤◌, ◌%◌, ◌==◌, Bool, true, false, not}
-use Rattle.std.proofs.Common.{List, [], ◌∷◌, length, Option, Some, None, Result, Ok, Err, OnOk}
+use Rattle.std.proofs.Common.{List, [], ◌∷◌, ◌++◌, length, Option, Some, None, Result, Ok, Err, OnOk}
 use Rattle.std.proofs.Common.{is_some, refl, sym, ◌∙◌, ap, subst, arith}
 use Rattle.disk.specs.Areas.{Areas, part, Changes, Holds, Torn}
 use Rattle.disk.specs.Crashes.{Follows, Only, StaysBlank}
-use Rattle.ids.specs.declared.limits.TheConstants.{GREATEST_IMAGE}
+use Rattle.disk_shelf.specs.declared.persist.TheConstants.{GREATEST_SAVED}
 use Rattle.disk_shelf.proofs.Records.{recorded_holds}
 use Rattle.disk.specs.declared.device.Area.{Area}
 use Rattle.disk_shelf.specs.Shelf.{record_of, recorded, side, half, image_at, opened, OldOrNew, NoneOrNew}
@@ -120,7 +120,7 @@ pub settled_by : {in_b : Bool} {image : List ℕ} {here : Areas} {outcomes : Are
 settled_by {in_b} {here = here} v s says only written is =
     (only, (written_selector in_b v s here says written).0, ap is_some is)
 
-changed_part : (area : Area) (step : List ℕ → List ℕ → Type 0) (s c : Areas) →
+pub changed_part : (area : Area) (step : List ℕ → List ℕ → Type 0) (s c : Areas) →
     Changes area step s c → step (part area s) (part area c)
 changed_part Select step s c ch = ch.0
 changed_part A step s c ch = ch.0
@@ -130,8 +130,9 @@ changed_part B step s c ch = ch.0
 pub record Aside (in_b : Bool) (area : Area) (image bytes : List ℕ) (s c : Areas) : Type 0 where
   pub other : area ≡ half (not in_b)
   pub selected : side s.select ≡ Some in_b
-  pub spelled : bytes ≡ record_of image
-  pub fits : length image ≤ GREATEST_IMAGE
+  pub rest : List ℕ
+  pub spelled : bytes ≡ record_of image ++ rest
+  pub fits : length image ≤ GREATEST_SAVED
   pub written : Changes area (Holds 0 bytes) s c
 
 module _ {in_b : Bool} {area : Area} {image bytes : List ℕ} {s c : Areas}
@@ -141,16 +142,18 @@ module _ {in_b : Bool} {area : Area} {image bytes : List ℕ} {s c : Areas}
   torn_half x ch = (kept_aside (Torn 0 (length bytes)) in_b s x aside.selected
       (subst (λ a. Changes a (Torn 0 (length bytes)) s x) aside.other ch)).1
 
-  written : Changes (half (not in_b)) (Holds 0 (record_of image)) s c
+  pub written : Changes (half (not in_b)) (Holds 0 (record_of image ++ aside.rest)) s c
   written = subst (λ l. Changes (half (not in_b)) (Holds 0 l) s c) aside.spelled
       (subst (λ a. Changes a (Holds 0 bytes) s c) aside.other aside.written)
 
   stays : (side c.select ≡ Some in_b) × (opened c ≡ opened s)
-  stays = kept_aside (Holds 0 (record_of image)) in_b s c aside.selected written
+  stays = kept_aside (Holds 0 (record_of image ++ aside.rest)) in_b s c aside.selected written
 
   pub is_there : recorded (part (half (not in_b)) c) ≡ Some image
-  is_there = recorded_holds image (part (half (not in_b)) s) (part (half (not in_b)) c) aside.fits
-      (changed_part (half (not in_b)) (Holds 0 (record_of image)) s c written)
+  is_there =
+      recorded_holds image aside.rest (part (half (not in_b)) s)
+      (part (half (not in_b)) c) aside.fits
+      (changed_part (half (not in_b)) (Holds 0 (record_of image ++ aside.rest)) s c written)
 
   both_held : BothHeld in_b (opened s) image c
   both_held = record {

@@ -1,11 +1,12 @@
--- An image that is written into the area that isn't selected, or into both, with no batch behind it.
+-- An image that is written into the area that isn't selected, or into both, with no batch behind
+-- it.
 use Rattle.std.proofs.Common.{◌≡◌, inl, inr, ⊎_elim, ℕ, ◌+◌, ◌≤◌, ◌%◌, ◌==◌, Bool, true, false}
 use Rattle.std.proofs.Common.{not, List, [], ◌∷◌, ◌++◌, length, drop, Some}
 use Rattle.std.proofs.Common.{refl, sym, ◌∙◌, ap, subst, arith, append_assoc}
 use Rattle.std.proofs.lemmas.List.{drop_at}
-use Rattle.ids.specs.declared.limits.TheConstants.{GREATEST_IMAGE}
+use Rattle.disk_shelf.specs.declared.persist.TheConstants.{GREATEST_SAVED}
 use Rattle.disk.specs.Areas.{Areas, part, Changes, Holds, Torn}
-use Rattle.disk_shelf.specs.Logs.{EndsAt, IsLogged, IsLoggedIf, NoneOrLog, OldOrWhole, Opens, OpensIf}
+use Rattle.disk_shelf.specs.Logs.{EndsAt, IsLogged, IsLoggedIf, IsShut, NoneOrLog, OldOrWhole, Opens, OpensIf}
 use Rattle.disk_shelf.specs.Shelf.{recorded, record_of, side, half}
 use Rattle.disk.specs.declared.device.Area.{Area}
 use Rattle.disk.specs.declared.device.Area.TheVariants.{Select}
@@ -36,12 +37,14 @@ opens_by {logged} {image} {batches} in_b s c selected same holds = record {
 }
 
 -- an image was laid at the start of an area, and an even gate behind it
-pub image_laid : (image bytes old new : List ℕ) → length image ≤ GREATEST_IMAGE →
-    bytes ≡ record_of image ++ 0 ∷ [] → Holds 0 bytes old new → IsLogged image [] new
+pub image_laid : (image bytes old new : List ℕ) → length image ≤ GREATEST_SAVED →
+    IsShut image bytes → Holds 0 bytes old new → IsLogged image [] new
 image_laid image bytes old new fits spelled is =
-    let tail = drop (0 + length bytes) old in
+    let more = drop (9 + length image) bytes in
+    let tail = more ++ drop (0 + length bytes) old in
     let whole : new ≡ record_of image ++ (0 ∷ tail) =
-    is ∙ ap (λ l. l ++ tail) spelled ∙ append_assoc (record_of image) (0 ∷ []) tail in
+    is ∙ ap (λ l. l ++ drop (0 + length bytes) old) spelled
+    ∙ append_assoc (record_of image) (0 ∷ more) (drop (0 + length bytes) old) in
     let behind : drop (8 + length image) new ≡ 0 ∷ tail =
     ap (drop (8 + length image)) whole
     ∙ drop_at (record_of image) (0 ∷ tail) (8 + length image) (record_length image) in
@@ -65,8 +68,8 @@ selector_only step false s c ch = ch.1
 pub record Turning (in_b : Bool) (area : Area) (image bytes : List ℕ) (s : Areas) : Type 0 where
   pub other : area ≡ half (not in_b)
   pub selected : side s.select ≡ Some in_b
-  pub spelled : bytes ≡ record_of image ++ 0 ∷ []
-  pub fits : length image ≤ GREATEST_IMAGE
+  pub spelled : IsShut image bytes
+  pub fits : length image ≤ GREATEST_SAVED
 
 module _ {in_b : Bool} {area : Area} {image bytes : List ℕ} {s : Areas}
     (turning : Turning in_b area image bytes s) where

@@ -1,3 +1,4 @@
 pub mod Shelf
 pub mod Logs
 pub mod Refusals
+pub mod Seals

@@ -1,11 +1,11 @@
 -- How a disk holds an image and the batches behind it: each batch behind a gate, and a gate behind
 -- the last one.
-use Rattle.std.specs.Prelude.{◌≡◌, ◌⊎◌, ℕ, ◌+◌, Bool, true, false, List, [], ◌∷◌, length, drop}
+use Rattle.std.specs.Prelude.{◌≡◌, ◌⊎◌, ℕ, ◌+◌, Bool, true, false, List, [], ◌∷◌, ◌++◌, length, drop}
 use Rattle.std.specs.Prelude.{Option, Some, None, Vec}
 use Rattle.std.specs.declared.alloc.Global.{Global}
 use Rattle.disk.specs.Areas.{Areas, IsBlank, part}
 use Rattle.disk.specs.Crashes.{Only}
-use Rattle.disk_shelf.specs.Shelf.{half, recorded, side}
+use Rattle.disk_shelf.specs.Shelf.{half, record_of, recorded, side}
 
 -- These batches follow one another, each behind an odd gate; an even gate ends them. What follows
 -- is ignored.
@@ -21,6 +21,10 @@ abbrev pub IsNext : List ℕ → Option (Vec ℕ Global) → Type 0
 IsNext rest None = side rest ≡ Some false
 IsNext rest (Some batch) =
     (side rest ≡ Some true) × (recorded (drop 1 rest) ≡ Some batch.items)
+
+-- what is written for an image or a batch: its record, an even gate, and what is ignored
+abbrev pub IsShut : List ℕ → List ℕ → Type 0
+IsShut image bytes = bytes ≡ record_of image ++ 0 ∷ drop (9 + length image) bytes
 
 -- an area holds this image, and these batches right behind it
 abbrev pub IsLogged : List ℕ → List (List ℕ) → List ℕ → Type 0

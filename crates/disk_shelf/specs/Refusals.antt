@@ -1,7 +1,6 @@
 -- What is known of a disk after a call was refused, and of a store after a save.
-use Rattle.std.specs.Prelude.{◌≡◌, ◌≢◌, ◌⊎◌, ◌↔◌, ◌<◌, Bool, List, ℕ, length, true, false}
+use Rattle.std.specs.Prelude.{◌≡◌, ◌≢◌, ◌⊎◌, ◌↔◌, Bool, ℕ, true, false}
 use Rattle.std.specs.Prelude.{IfErr, IsErrOf, OnOk, Result}
-use Rattle.ids.specs.declared.limits.TheConstants.{GREATEST_IMAGE}
 use Rattle.ids.specs.declared.refusal.Refusal.{Refusal}
 use Rattle.ids.specs.declared.refusal.Refusal.TheVariants.{BadImage, Closed, Disk, ImageTooLarge, Memory}
 use Rattle.disk.specs.Areas.{Areas}
@@ -21,24 +20,24 @@ abbrev pub IsSaveRefusal : Refusal → Type 0
 IsSaveRefusal e = (e ≡ Closed) ⊎ ((e ≡ ImageTooLarge) ⊎ ((e ≡ Memory) ⊎ (e ≡ Disk)))
 
 -- No value was read from a disk. `BadImage` says that it holds none, and `Memory` that it says at
--- least how long an image is.
+-- least how long an image is, and as many bytes are there if they are many.
 pub record IsUnread {V : Type 0} (holds : V → Areas → Type 0) (d : Areas) (e : Refusal) : Type 0
   where
     pub bad : e ≡ BadImage → (value : V) → holds value d → ⊥
     pub memory : e ≡ Memory → SelectsLength d
     pub others : IsReadRefusal e
 
--- no bytes were written for a value with this image
-pub record IsUnwritten (image : List ℕ) (e : Refusal) : Type 0 where
-  pub too_large : e ≡ ImageTooLarge ↔ GREATEST_IMAGE < length image
+-- no bytes were written for a value, which is too large or not
+pub record IsUnwritten (large : Type 0) (e : Refusal) : Type 0 where
+  pub too_large : e ≡ ImageTooLarge ↔ large
   pub others : (e ≡ Memory) ⊎ (e ≡ ImageTooLarge)
 
--- A value with this image wasn't saved on a new disk, which was handed back. Only a failure of the
--- disk changes it.
-pub record IsHandedBack {D : Type 0} (faults : D → ℕ) (image : List ℕ) (disk : D)
+-- A value, which is too large or not, wasn't saved on a new disk, which was handed back. Only a
+-- failure of the disk changes it.
+pub record IsHandedBack {D : Type 0} (faults : D → ℕ) (large : Type 0) (disk : D)
     (back : D × Refusal) : Type 0 where
   pub failed : back.1 ≡ Disk → Grew (faults disk) (faults back.0)
-  pub too_large : back.1 ≡ ImageTooLarge ↔ GREATEST_IMAGE < length image
+  pub too_large : back.1 ≡ ImageTooLarge ↔ large
   pub unchanged : back.1 ≢ Disk → back.0 ≡ disk
   pub others : IsCreationRefusal back.1
 

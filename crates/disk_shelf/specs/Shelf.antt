@@ -4,6 +4,7 @@ use Rattle.std.specs.Prelude.{List, [], ◌∷◌, ◌++◌, length, take, drop}
 use Rattle.std.specs.Prelude.{Option, Some, None, is_some, if◌then◌else◌, IsTrue}
 use Rattle.std.specs.Int.{w64, to_be_bytes, from_be_bytes}
 use Rattle.ids.specs.declared.limits.TheConstants.{GREATEST_IMAGE}
+use Rattle.disk_shelf.specs.declared.persist.TheConstants.{GREATEST_SAVED}
 use Rattle.disk.specs.Areas.{Areas, IsBlank, part}
 use Rattle.disk.specs.Crashes.{Only}
 use Rattle.disk.specs.declared.device.Area.{Area}
@@ -14,17 +15,23 @@ unfoldable pub told : List ℕ → ℕ
 told held = from_be_bytes w64 (take 8 held)
 
 -- The image that an area holds: as many bytes as the length says, right after that length. What
--- follows is ignored. An area that is too short, or says a length greater than an image may have,
+-- follows is ignored. An area that is too short, or says a length greater than anything saved has,
 -- holds no image.
 unfoldable pub recorded : List ℕ → Option (List ℕ)
 recorded held =
-    if leb 8 (length held) && leb (told held) GREATEST_IMAGE && leb (told held + 8) (length held)
+    if leb 8 (length held) && leb (told held) GREATEST_SAVED && leb (told held + 8) (length held)
     then Some (take (told held) (drop 8 held))
     else None
 
+-- An image that an area says to be that long may be there. If it is longer than `GREATEST_IMAGE`,
+-- all of its bytes are.
+pub record IsLength (len : ℕ) (held : List ℕ) : Type 0 where
+  pub most : len ≤ GREATEST_SAVED
+  pub there : GREATEST_IMAGE < len → len + 8 ≤ length held
+
 -- an area says how long its image is, and an image may have that length
 abbrev pub TellsLength : List ℕ → Type 0
-TellsLength held = (8 ≤ length held) × (told held ≤ GREATEST_IMAGE)
+TellsLength held = (8 ≤ length held) × IsLength (told held) held
 
 -- what is written for an image
 unfoldable pub record_of : List ℕ → List ℕ

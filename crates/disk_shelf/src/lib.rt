@@ -8,8 +8,10 @@
 pub mod log;
 mod persist;
 mod save;
+mod seal;
 mod shelf;
 
-pub use persist::{HEAD, Persist, Replay};
+pub use persist::{GREATEST_SAVED, HEAD, Persist, Replay};
 pub use save::record;
+pub use seal::{DIGEST, check_seals, first_digest, log_sealed, next_digest};
 pub use shelf::{Selected, Shelf, disk_of_image, is_blank, read_value, recall_image, spelled};

@@ -1,27 +1,23 @@
 //! The disk calls that keep batches behind an image, and find them again; the crate `disk_journal`
 //! makes them. The byte before a batch, its gate, makes it count; it is written only once the batch
 //! is synced.
-ghost use Rattle.std.specs.Prelude.{◌≡◌, ◌+◌, ◌<◌, ◌≤◌, ◌^◌, ◌++◌, ◌⊎◌, List, ℕ, [], ◌∷◌, length, not};
-ghost use Rattle.std.specs.Prelude.{Bool, drop, IfErr, IfOk, IsErr, IsErrOf, OnOk, Some, false};
-ghost use Rattle.ids.specs.declared.limits.TheConstants.{GREATEST_IMAGE};
+ghost use Rattle.std.specs.Prelude.{◌≡◌, ◌+◌, ◌<◌, ◌≤◌, ◌^◌, ◌%◌, ◌==◌, ◌++◌, ◌⊎◌, List, ℕ, [], ◌∷◌, length, not};
+ghost use Rattle.std.specs.Prelude.{Bool, drop, IfErr, IfOk, IsErr, IsErrOf, OnOk, Some, false, true};
 ghost use Rattle.disk.specs.Areas.{Areas, part};
 ghost use Rattle.disk.specs.Crashes.{HasCause, LeavesOnly, Only, StaysBlank, Unmoved};
 ghost use Rattle.disk_shelf.specs.Refusals.{IsReadRefusal};
-ghost use Rattle.disk_shelf.specs.Logs.{HasLog, IsKept, IsLoggedTo, IsNext, LeadAll, NoneOrLog};
+ghost use Rattle.disk_shelf.specs.Logs.{HasLog, IsKept, IsLoggedTo, IsNext, IsShut, LeadAll, NoneOrLog};
 ghost use Rattle.disk_shelf.specs.Logs.{OldOrNewLog, OldOrWhole, Opens, OpensIf, Reached, Restores};
-ghost use Rattle.disk_shelf.specs.Shelf.{half as half_of, record_of, recorded, side};
+ghost use Rattle.disk_shelf.specs.Seals.{gate_of};
+ghost use Rattle.disk_shelf.specs.declared.persist.TheConstants.{GREATEST_SAVED};
+ghost use Rattle.disk_shelf.specs.Shelf.{half as half_of, recorded, side};
 
-use crate::save::{half, load, mark, parity, put, put_both};
+use crate::save::{half, load, parity, put, put_both};
+use crate::seal::{OPEN, OPEN_SEALED, SHUT, log_mark};
 use crate::{HEAD, Replay};
 use disk::{Area, Disk, DiskFault};
 use ids::Refusal;
 use std::alloc::{AllocError, Global};
-
-/// A gate that opens a batch.
-const OPEN: u8 = 1;
-
-/// A gate that ends the log.
-const SHUT: u8 = 0;
 
 /// What is written for an image or a batch, with the gate behind it. Fails if there is no memory
 /// for the gate; the bytes are then dropped.
@@ -33,7 +29,16 @@ pub fn shut(bytes: Vec<u8>) -> Result<Vec<u8>, AllocError>
     Ok(bytes)
 }
 
-/// Adds a batch, as these bytes, behind the gate at the offset `end`, and then opens the gate.
+/// What the gate before a batch becomes.
+fn open_gate(seals: bool) -> u8
+    ensures value { result ≡ gate_of seals }
+    ensures odd { (result % 2 == 1) ≡ true }
+{
+    if seals { OPEN_SEALED } else { OPEN }
+}
+
+/// Adds a batch, as these bytes, behind the gate at the offset `end`, and then opens the gate. If
+/// `seals` is true, the log has had seals until now, and one is behind the batch.
 ///
 /// A crash at any moment since the call began leaves the old log or the one with the batch; after
 /// `Ok` it leaves the latter. Fails if the device failed. Which of the two logs the disk has then,
@@ -44,10 +49,11 @@ pub fn extend<D: Disk>(
     end: usize,
     batch: &[u8],
     bytes: &[u8],
+    seals: bool,
 ) -> Result<(), DiskFault>
     requires logged { IsLoggedTo D.seen D.may_leave disk.old in_b end }
-    requires spelled { bytes.now ≡ record_of batch.now ++ 0 ∷ [] }
-    requires fits { length batch.now ≤ GREATEST_IMAGE }
+    requires spelled { IsShut batch.now bytes.now }
+    requires fits { length batch.now ≤ GREATEST_SAVED }
     requires room { end + 1 < 2 ^ 64 }
 
     ensures any_moment { (image : List ℕ) (batches : List (List ℕ))
@@ -61,21 +67,28 @@ pub fn extend<D: Disk>(
     ensures cause { HasCause (D.faults disk.old) (D.faults disk.new) (IsErr result) }
 {
     let area = half(in_b);
+    let gate = open_gate(seals);
     put(disk, area, end + 1, bytes)?;
-    put(disk, area, end, &[OPEN])
+    put(disk, area, end, &[gate])
 }
 
 /// Writes an image, as these bytes, into the area that isn't selected, and then selects that area.
-/// No batch is behind the image.
+/// No batch is behind the image. If `seals` is true, the seal of a log is.
 ///
 /// A crash at any moment since the call began leaves the old image with its batches, or the new
 /// image; after `Ok` it leaves the new one. Fails if the device failed. Which of the two the disk
 /// has then, shows when it is read again.
-pub fn turn<D: Disk>(disk: &mut D, in_b: bool, image: &[u8], bytes: &[u8]) -> Result<(), DiskFault>
+pub fn turn<D: Disk>(
+    disk: &mut D,
+    in_b: bool,
+    image: &[u8],
+    bytes: &[u8],
+    seals: bool,
+) -> Result<(), DiskFault>
     requires durable { Only (D.seen disk.old) (D.may_leave disk.old) }
     requires selected { side (D.seen disk.old).select ≡ Some in_b }
-    requires spelled { bytes.now ≡ record_of image.now ++ 0 ∷ [] }
-    requires fits { length image.now ≤ GREATEST_IMAGE }
+    requires spelled { IsShut image.now bytes.now }
+    requires fits { length image.now ≤ GREATEST_SAVED }
 
     ensures any_moment { (logged : Bool) (old : List ℕ) (batches : List (List ℕ))
         → OpensIf logged old batches (D.seen disk.old)
@@ -86,20 +99,25 @@ pub fn turn<D: Disk>(disk: &mut D, in_b: bool, image: &[u8], bytes: &[u8]) -> Re
         (IsLoggedTo D.seen D.may_leave disk.new (not in_b) (8 + length image.now)) }
     ensures cause { HasCause (D.faults disk.old) (D.faults disk.new) (IsErr result) }
 {
-    let choice = mark(!in_b);
+    let choice = log_mark(seals, !in_b);
     put(disk, half(!in_b), 0, bytes)?;
     put(disk, Area::Select, 0, &[choice])
 }
 
 /// Saves the first image of a disk, as these bytes: into both areas, so that a torn selector opens
-/// to it too. No batch is behind it.
+/// to it too. No batch is behind it. If `seals` is true, the seal of a log is.
 ///
 /// A crash at any moment since the call began leaves an empty selector or the image; after `Ok` it
 /// leaves the image. Fails if the device failed.
-pub fn begin<D: Disk>(disk: &mut D, image: &[u8], bytes: &[u8]) -> Result<(), DiskFault>
+pub fn begin<D: Disk>(
+    disk: &mut D,
+    image: &[u8],
+    bytes: &[u8],
+    seals: bool,
+) -> Result<(), DiskFault>
     requires blank { StaysBlank (D.may_leave disk.old) }
-    requires spelled { bytes.now ≡ record_of image.now ++ 0 ∷ [] }
-    requires fits { length image.now ≤ GREATEST_IMAGE }
+    requires spelled { IsShut image.now bytes.now }
+    requires fits { length image.now ≤ GREATEST_SAVED }
 
     ensures any_moment { LeavesOnly D.moment D.left_since disk.old disk.new (NoneOrLog image.now) }
     ensures begun { OnOk result (Opens image.now [] (D.seen disk.new)) }
@@ -107,7 +125,7 @@ pub fn begin<D: Disk>(disk: &mut D, image: &[u8], bytes: &[u8]) -> Result<(), Di
         (IsLoggedTo D.seen D.may_leave disk.new false (8 + length image.now)) }
     ensures cause { HasCause (D.faults disk.old) (D.faults disk.new) (IsErr result) }
 {
-    let choice = mark(false);
+    let choice = log_mark(seals, false);
     put_both(disk, bytes)?;
     put(disk, Area::Select, 0, &[choice])
 }

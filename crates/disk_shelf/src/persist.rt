@@ -1,14 +1,17 @@
 //! How a shelf keeps values: each as bytes, its image. A value that is read back may differ from
 //! the saved one in what its image doesn't hold.
-ghost use Rattle.std.specs.Prelude.{◌≡◌, ◌≢◌, ◌<◌, ◌≤◌, ◌++◌, List, ℕ, length, replicate};
+ghost use Rattle.std.specs.Prelude.{◌≡◌, ◌≢◌, ◌++◌, List, ℕ, replicate};
 ghost use Rattle.std.specs.Prelude.{Bool, IfErr, IfOk, OnOk, true};
-ghost use Rattle.ids.specs.declared.limits.TheConstants.{GREATEST_IMAGE};
 
 use ids::Refusal;
 use std::alloc::Global;
 
 /// How many bytes hold the length of an image.
 pub const HEAD: usize = 8;
+
+/// The greatest length of an image or a batch on a disk, 2^63 - 9: with its length before it, it
+/// still has a place in memory.
+pub const GREATEST_SAVED: u64 = 9_223_372_036_854_775_799;
 
 /// A way to save values as bytes, their images. It is a separate type from the values' own, so that
 /// their crate and this one don't depend on each other.
@@ -25,17 +28,19 @@ pub trait Persist {
     /// The value that is read back after this one was saved.
     ghost saved: { Self.Value → Self.Value };
 
+    /// This value is never saved: its image is longer than an image of its kind may be.
+    ghost too_large: { Self.Value → Type 0 };
+
     /// The value's image behind [`HEAD`] zeros, in whose place a shelf puts the image's length.
     /// [`from_bytes`](Persist::from_bytes) reads the image as the value once saved. Fails with
-    /// `ImageTooLarge` if the image is longer than an image may be, else with `Memory`.
+    /// `ImageTooLarge` if the value is too large, else with `Memory`.
     fn to_bytes(alloc: Global, value: &Self::Value) -> Result<Vec<u8>, Refusal>
         ensures bytes { IfOk result (λ v. v.items ≡ replicate HEAD 0 ++ image value.now) }
-        ensures within { OnOk result (length (image value.now) ≤ GREATEST_IMAGE) }
+        ensures within { OnOk result (too_large value.now → ⊥) }
         ensures readable { OnOk result (reads (image value.now) (saved value.now)) }
         ensures refused { IfErr result (λ e. e ≢ Refusal.Memory
-            → (e ≡ Refusal.ImageTooLarge) × (GREATEST_IMAGE < length (image value.now))) }
-        ensures last { IfErr result (λ e. e ≡ Refusal.Memory
-            → length (image value.now) ≤ GREATEST_IMAGE) };
+            → (e ≡ Refusal.ImageTooLarge) × too_large value.now) }
+        ensures last { IfErr result (λ e. e ≡ Refusal.Memory → too_large value.now → ⊥) };
 
     /// The value that these bytes are read as. Fails with `BadImage` if there is no such value, and
     /// with `Memory`.

@@ -1,15 +1,17 @@
 //! The disk calls that save an image and find it again, without the value that it represents. Each
 //! function makes only a few calls, so that its contract says what a crash leaves after each.
-ghost use Rattle.std.specs.Prelude.{◌≡◌, ◌≢◌, ◌⊎◌, ◌%◌, ◌==◌, ◌≤◌, [], length, drop, IfErr, IfOk, IsErr};
-ghost use Rattle.std.specs.Prelude.{IsErrOf, OnOk, Some, None, false, not};
-ghost use Rattle.ids.specs.declared.limits.TheConstants.{GREATEST_IMAGE};
+ghost use Rattle.std.specs.Prelude.{◌≡◌, ◌⊎◌, ◌++◌, ◌%◌, ◌==◌, ◌≤◌, ◌-◌, length, drop, take, IfErr, IfOk, IsErr};
+ghost use Rattle.std.specs.Prelude.{IsErrOf, IsTrue, OnOk, Some, None, false, not, ◌<◌, ◌^◌, ◌↔◌};
 ghost use Rattle.disk.specs.Areas.{Changes, Holds, IsBlank, part, Torn};
 ghost use Rattle.disk.specs.Crashes.{HasCause, LeavesOnly, Only, StaysBlank, Unmoved};
 ghost use Rattle.disk_shelf.specs.Refusals.{IsReadRefusal};
+ghost use Rattle.disk_shelf.specs.Seals.{behind, IsIntact};
 ghost use Rattle.disk_shelf.specs.Shelf.{IsSettled, IsWhole, NoneOrNew, OldOrNew, half as half_of, opened};
-ghost use Rattle.disk_shelf.specs.Shelf.{record_of, recorded, side, told, TellsLength};
+ghost use Rattle.disk_shelf.specs.Shelf.{IsLength, record_of, recorded, side, told, TellsLength};
+ghost use Rattle.disk_shelf.specs.declared.persist.TheConstants.{GREATEST_SAVED};
 
-use crate::HEAD;
+use crate::seal::mark;
+use crate::{GREATEST_SAVED, HEAD};
 use disk::{Area, Disk, DiskFault};
 use ids::{GREATEST_IMAGE, Refusal};
 use std::alloc::{AllocError, Global};
@@ -19,13 +21,6 @@ pub(crate) fn half(in_b: bool) -> Area
     ensures { result ≡ half_of in_b }
 {
     if in_b { Area::B } else { Area::A }
-}
-
-/// The selector's byte for a side.
-pub(crate) fn mark(in_b: bool) -> u8
-    ensures { (result % 2 == 1) ≡ in_b }
-{
-    if in_b { 1 } else { 0 }
 }
 
 /// What is written for an image: its length, and the image. Fails if there is no memory for that.
@@ -50,13 +45,14 @@ pub(crate) fn put_length(bytes: &mut [u8])
     bytes[..HEAD].copy_from_slice(&(len as u64).to_be_bytes());
 }
 
-/// The image in what is written for it.
-pub(crate) fn image_in(bytes: &[u8]) -> &[u8]
-    requires { HEAD ≤ length bytes.now }
+/// The image in what is written for it, up to this offset.
+pub(crate) fn image_in(bytes: &[u8], end: usize) -> &[u8]
+    requires behind { HEAD ≤ end }
+    requires inside { end ≤ length bytes.now }
 
-    ensures { result.now ≡ drop 8 bytes.now }
+    ensures { result.now ≡ take (end - 8) (drop 8 bytes.now) }
 {
-    &bytes[HEAD..]
+    &bytes[HEAD..end]
 }
 
 /// Writes an area from an offset on, and syncs.
@@ -109,46 +105,55 @@ pub(crate) fn put_both<D: Disk>(disk: &mut D, bytes: &[u8]) -> Result<(), DiskFa
 }
 
 /// Saves the first image of a disk, as these bytes: into both areas, so that a torn selector opens
-/// to it too.
-pub(crate) fn lay<D: Disk>(disk: &mut D, image: &[u8], bytes: &[u8]) -> Result<(), DiskFault>
+/// to it too. The bytes end with the image's seal if `seals` is true.
+pub(crate) fn lay<D: Disk>(
+    disk: &mut D,
+    seals: bool,
+    image: &[u8],
+    bytes: &[u8],
+) -> Result<(), DiskFault>
     requires blank { StaysBlank (D.may_leave disk.old) }
-    requires spelled { bytes.now ≡ record_of image.now }
-    requires fits { length image.now ≤ GREATEST_IMAGE }
+    requires spelled { bytes.now ≡ record_of image.now ++ behind seals image.now }
+    requires fits { length image.now ≤ GREATEST_SAVED }
 
     ensures any_moment { LeavesOnly D.moment D.left_since disk.old disk.new (NoneOrNew image.now) }
     ensures opened { OnOk result (opened (D.seen disk.new) ≡ Some image.now) }
+    ensures intact { OnOk result (IsIntact (D.seen disk.new)) }
     ensures settled { OnOk result (IsSettled D.seen D.may_leave disk.new false) }
     ensures cause { HasCause (D.faults disk.old) (D.faults disk.new) (IsErr result) }
 {
-    let choice = mark(false);
+    let choice = mark(seals, false);
     put_both(disk, bytes)?;
     put(disk, Area::Select, 0, &[choice])
 }
 
 /// Writes an image, as these bytes, into the area that isn't selected, and then selects that area.
+/// The bytes end with the image's seal if `seals` is true.
 pub(crate) fn swap<D: Disk>(
     disk: &mut D,
     in_b: bool,
+    seals: bool,
     image: &[u8],
     bytes: &[u8],
 ) -> Result<(), DiskFault>
     requires settled { IsSettled D.seen D.may_leave disk.old in_b }
-    requires spelled { bytes.now ≡ record_of image.now }
-    requires fits { length image.now ≤ GREATEST_IMAGE }
+    requires spelled { bytes.now ≡ record_of image.now ++ behind seals image.now }
+    requires fits { length image.now ≤ GREATEST_SAVED }
 
     ensures any_moment { LeavesOnly D.moment D.left_since disk.old disk.new
         (OldOrNew (opened (D.seen disk.old)) image.now) }
     ensures opened { OnOk result (opened (D.seen disk.new) ≡ Some image.now) }
+    ensures intact { OnOk result (IsIntact (D.seen disk.new)) }
     ensures settled { OnOk result (IsSettled D.seen D.may_leave disk.new (not in_b)) }
     ensures cause { HasCause (D.faults disk.old) (D.faults disk.new) (IsErr result) }
 {
-    let choice = mark(!in_b);
+    let choice = mark(seals, !in_b);
     put(disk, half(!in_b), 0, bytes)?;
     put(disk, Area::Select, 0, &[choice])
 }
 
 /// Fills `into` from the offset `at` of an area on. Returns whether there are enough bytes.
-fn read_whole<D: Disk>(
+pub(crate) fn read_whole<D: Disk>(
     disk: &mut D,
     area: Area,
     at: usize,
@@ -163,23 +168,52 @@ fn read_whole<D: Disk>(
     Ok(found >= into.len())
 }
 
+/// Whether an image at an offset of an area may have this length. More than [`GREATEST_IMAGE`]
+/// bytes must be there, so that no damaged length makes a reader take much memory. Fails with
+/// `Memory` only at an offset of 2^63 or more.
+fn may_have<D: Disk>(disk: &mut D, area: Area, at: usize, len: u64) -> Result<bool, Refusal>
+    ensures exact { IfOk result (λ all.
+        IsTrue all ↔ IsLength len (drop at (part area (D.seen disk.old)))) }
+    ensures far { IsErrOf result Refusal.Memory → 2 ^ 63 ≤ at }
+    ensures quiet { Unmoved D.seen D.may_leave D.moment D.left_since disk.old disk.new }
+    ensures cause { HasCause (D.faults disk.old) (D.faults disk.new) (IsErrOf result Refusal.Disk) }
+    ensures others { IfErr result (λ e. (e ≡ Refusal.Memory) ⊎ (e ≡ Refusal.Disk)) }
+{
+    if len <= GREATEST_IMAGE {
+        return Ok(true);
+    }
+    if len > GREATEST_SAVED {
+        return Ok(false);
+    }
+    let Some(last) = at.checked_add(len as usize + HEAD - 1) else {
+        return Err(Refusal::Memory);
+    };
+    let mut byte = [0; 1];
+    let there = read_whole(disk, area, last, &mut byte)?;
+    Ok(there)
+}
+
 /// The length of the image at an offset of an area, as the first bytes there say. Fails with
-/// `BadImage` if there are too few bytes, or if the length is greater than an image may have.
-fn told_length<D: Disk>(disk: &mut D, area: Area, at: usize) -> Result<usize, Refusal>
+/// `BadImage` if there are too few bytes, or if no image there may have that length. Fails with
+/// `Memory` only at an offset of 2^63 or more.
+pub(crate) fn told_length<D: Disk>(disk: &mut D, area: Area, at: usize) -> Result<usize, Refusal>
     ensures told { IfOk result (λ n. told (drop at (part area (D.seen disk.old))) ≡ n) }
     ensures tells { OnOk result (TellsLength (drop at (part area (D.seen disk.old)))) }
     ensures none { IsErrOf result Refusal.BadImage →
         recorded (drop at (part area (D.seen disk.old))) ≡ None }
+    ensures untold { IsErrOf result Refusal.BadImage →
+        TellsLength (drop at (part area (D.seen disk.old))) → ⊥ }
+    ensures far { IsErrOf result Refusal.Memory → 2 ^ 63 ≤ at }
     ensures quiet { Unmoved D.seen D.may_leave D.moment D.left_since disk.old disk.new }
     ensures cause { HasCause (D.faults disk.old) (D.faults disk.new) (IsErrOf result Refusal.Disk) }
-    ensures others { IfErr result (λ e. (e ≡ Refusal.BadImage) ⊎ (e ≡ Refusal.Disk)) }
+    ensures others { IfErr result IsReadRefusal }
 {
     let mut head = [0; HEAD];
     if !read_whole(disk, area, at, &mut head)? {
         return Err(Refusal::BadImage);
     }
     let len = u64::from_be_bytes(head);
-    if len > GREATEST_IMAGE {
+    if !may_have(disk, area, at, len)? {
         return Err(Refusal::BadImage);
     }
     Ok(len as usize)
@@ -197,7 +231,7 @@ pub(crate) fn load<D: Disk>(
         recorded (drop at (part area (D.seen disk.old))) ≡ Some v.items) }
     ensures none { IsErrOf result Refusal.BadImage →
         recorded (drop at (part area (D.seen disk.old))) ≡ None }
-    ensures memory { IsErrOf result Refusal.Memory →
+    ensures memory { IsErrOf result Refusal.Memory → at < 2 ^ 63 →
         TellsLength (drop at (part area (D.seen disk.old))) }
     ensures quiet { Unmoved D.seen D.may_leave D.moment D.left_since disk.old disk.new }
     ensures cause { HasCause (D.faults disk.old) (D.faults disk.new) (IsErrOf result Refusal.Disk) }

@@ -1,19 +1,21 @@
 //! A crash-consistent store of one value, which is saved over and over: a crash leaves the old
 //! value or the new one. The image is written into the area that isn't selected; one byte of the
 //! selector then makes it the one that counts.
-ghost use Rattle.std.specs.Prelude.{◌≡◌, ◌↔◌, ◌<◌, ◌≤◌, List, ℕ, [], ◌∷◌, length};
+ghost use Rattle.std.specs.Prelude.{◌≡◌, ◌↔◌, ◌<◌, ◌≤◌, ◌+◌, ◌++◌, List, ℕ, [], ◌∷◌, length};
 ghost use Rattle.std.specs.Prelude.{IfErr, IfOk, IsErr, IsErrOf, IsTrue, MatchResult, OnOk};
 ghost use Rattle.std.specs.Prelude.{None, Some, true, false};
-ghost use Rattle.ids.specs.declared.limits.TheConstants.{GREATEST_IMAGE};
 ghost use Rattle.disk.specs.Areas.{IsBlank};
 ghost use Rattle.disk.specs.Crashes.{HasCause, LeavesOnly, Only, OnlyRead, StaysBlank, Unmoved};
 ghost use Rattle.disk.specs.Memory.{IsFaultless, held_by, left_by};
 ghost use Rattle.disk_shelf.specs.Refusals.{AfterSave, IsHandedBack, IsReadRefusal, IsUnread, IsUnwritten};
+ghost use Rattle.disk_shelf.specs.Seals.{behind, IsIntact};
 ghost use Rattle.disk_shelf.specs.Shelf.{IsSettled, NoneOrNew, OldOrNew, OpensAs, OpensTo};
 ghost use Rattle.disk_shelf.specs.Shelf.{opened, record_of, SelectsLength, side};
+ghost use Rattle.disk_shelf.specs.declared.persist.TheConstants.{GREATEST_SAVED};
 
-use crate::Persist;
 use crate::save::{chosen, half, image_in, lay, load, put_length, record, swap};
+use crate::seal::sealed;
+use crate::{GREATEST_SAVED, HEAD, Persist};
 use disk::{Disk, DiskFault, MemoryDisk, OverMemory, Plan};
 use ids::Refusal;
 use std::alloc::Global;
@@ -22,7 +24,9 @@ use std::alloc::Global;
 ///
 /// A save writes the other area, syncs, writes the selector, and syncs. A failure of the disk
 /// closes the shelf, and so does a failed [`reopen`](Shelf::reopen). Saves then fail with `Closed`
-/// until a `reopen` succeeds, which shows whether the disk has the old value or the new one.
+/// until a `reopen` succeeds, which shows whether the disk has the old value or the new one. If the
+/// disk [seals](Disk::seals), a save adds a seal; an opening doesn't compare it, but
+/// [`check_seals`](crate::check_seals) does.
 pub struct Shelf<D: Disk> {
     alloc: Global,
     disk: D,
@@ -140,12 +144,38 @@ where
 pub fn spelled<P: Persist>(alloc: Global, value: &P::Value) -> Result<Vec<u8>, Refusal>
     ensures bytes { IfOk result (λ v. v.items ≡ record_of (P.image value.now)) }
     ensures readable { OnOk result (P.reads (P.image value.now) (P.saved value.now)) }
-    ensures within { OnOk result (length (P.image value.now) ≤ GREATEST_IMAGE) }
-    ensures refused { IfErr result (IsUnwritten (P.image value.now)) }
+    ensures fits { OnOk result (length (P.image value.now) ≤ GREATEST_SAVED) }
+    ensures within { OnOk result (P.too_large value.now → ⊥) }
+    ensures refused { IfErr result (IsUnwritten (P.too_large value.now)) }
 {
     let mut bytes = P::to_bytes(alloc, value)?;
+    if bytes.len() as u64 - HEAD as u64 > GREATEST_SAVED {
+        // (no vector is so long)
+        return Err(Refusal::Memory);
+    }
     put_length(&mut bytes);
     Ok(bytes)
+}
+
+/// The offset at which a value's image ends in what is written for the value, and what is written:
+/// with a seal at the end if `seals` is true. Fails as [`Persist::to_bytes`] does.
+fn spelled_sealed<P: Persist>(
+    alloc: Global,
+    seals: bool,
+    value: &P::Value,
+) -> Result<(usize, Vec<u8>), Refusal>
+    ensures bytes { IfOk result (λ r.
+        r.1.items ≡ record_of (P.image value.now) ++ behind seals (P.image value.now)) }
+    ensures end { IfOk result (λ r. r.0 ≡ 8 + length (P.image value.now)) }
+    ensures readable { OnOk result (P.reads (P.image value.now) (P.saved value.now)) }
+    ensures fits { OnOk result (length (P.image value.now) ≤ GREATEST_SAVED) }
+    ensures within { OnOk result (P.too_large value.now → ⊥) }
+    ensures refused { IfErr result (IsUnwritten (P.too_large value.now)) }
+{
+    let bytes = spelled::<P>(alloc, value)?;
+    let end = bytes.len();
+    let bytes = sealed(seals, bytes)?;
+    Ok((end, bytes))
 }
 
 impl<D: Disk> Shelf<D> {
@@ -183,20 +213,22 @@ impl<D: Disk> Shelf<D> {
 
         ensures created { IfOk result (λ s. OpensTo (P.image value.now) (D.seen s.disk)) }
         ensures ready { IfOk result (λ s. s.ready ≡ true) }
+        ensures intact { IfOk result (λ s. IsIntact (D.seen s.disk)) }
         ensures readable { MatchResult result
             (λ _. P.reads (P.image value.now) (P.saved value.now))
             (λ e. e.1 ≡ Refusal.Disk → P.reads (P.image value.now) (P.saved value.now)) }
         ensures any_moment { MatchResult result
             (λ s. LeavesOnly D.moment D.left_since disk s.disk (NoneOrNew (P.image value.now)))
             (λ e. LeavesOnly D.moment D.left_since disk e.0 (NoneOrNew (P.image value.now))) }
-        ensures within { OnOk result (length (P.image value.now) ≤ GREATEST_IMAGE) }
-        ensures refused { IfErr result (IsHandedBack D.faults (P.image value.now) disk) }
+        ensures within { OnOk result (P.too_large value.now → ⊥) }
+        ensures refused { IfErr result (IsHandedBack D.faults (P.too_large value.now) disk) }
     {
-        let bytes = match spelled::<P>(alloc, value) {
-            Ok(bytes) => bytes,
+        let seals = disk.seals();
+        let (end, bytes) = match spelled_sealed::<P>(alloc, seals, value) {
+            Ok(spelled) => spelled,
             Err(refusal) => return Err((disk, refusal)),
         };
-        match lay(&mut disk, image_in(&bytes), &bytes) {
+        match lay(&mut disk, seals, image_in(&bytes, end), &bytes) {
             Ok(()) => {}
             Err(_) => return Err((disk, Refusal::Disk)),
         }
@@ -282,6 +314,7 @@ impl<D: Disk> Shelf<D> {
     /// change nothing.
     pub fn save<P: Persist>(&mut self, value: &P::Value) -> Result<(), Refusal>
         ensures saved { OnOk result (OpensTo (P.image value.now) (D.seen self.new.disk)) }
+        ensures intact { OnOk result (IsIntact (D.seen self.new.disk)) }
         ensures readable { MatchResult result
             (λ _. P.reads (P.image value.now) (P.saved value.now))
             (λ e. e ≡ Refusal.Disk → P.reads (P.image value.now) (P.saved value.now)) }
@@ -291,14 +324,21 @@ impl<D: Disk> Shelf<D> {
         ensures after { AfterSave D.faults self.old.disk self.new.disk self.old.ready self.new.ready
             result }
         ensures too_large { IsErrOf result Refusal.ImageTooLarge ↔
-            IsTrue self.old.ready × (GREATEST_IMAGE < length (P.image value.now)) }
+            IsTrue self.old.ready × P.too_large value.now }
     {
         if !self.ready {
             return Err(Refusal::Closed);
         }
-        let bytes = spelled::<P>(self.alloc, value)?;
+        let seals = self.disk.seals();
+        let (end, bytes) = spelled_sealed::<P>(self.alloc, seals, value)?;
         self.ready = false;
-        swap(&mut self.disk, self.in_b, image_in(&bytes), &bytes)?;
+        swap(
+            &mut self.disk,
+            self.in_b,
+            seals,
+            image_in(&bytes, end),
+            &bytes,
+        )?;
         self.in_b = !self.in_b;
         self.ready = true;
         Ok(())

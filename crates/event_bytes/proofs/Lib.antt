@@ -1,3 +1,4 @@
 pub mod Joins
 pub mod Sound
 pub mod Within
+pub mod Starts

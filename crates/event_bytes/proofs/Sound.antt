@@ -4,14 +4,16 @@ use Rattle.codec.specs.Formats.{Fits, byte, number4, nothing}
 use Rattle.codec.specs.Reading.{IsSound}
 use Rattle.codec.proofs.Laws.{nothing_sound, ◌⊗◌, made_again, ◌⊕◌, found, tagged_takes}
 use Rattle.codec.proofs.Numbers.{byte_sound, number2_sound, number4_sound, number8_sound}
+use Rattle.codec.proofs.Runs.{bytes4_sound}
 use Rattle.frames.specs.Formats.{sent, known}
 use Rattle.msg.specs.Frames.{Plain, data_frame, ack_frame}
 use Rattle.frames.proofs.Formats.{sent_sound, known_sound}
 use Rattle.event_bytes.specs.Entries.{Entry, alloc, copy, dropped, load, store, clear, word, set_word}
-use Rattle.event_bytes.specs.Entries.{give, accept, put, get, begin, scan, pass, sweep, next, received}
-use Rattle.event_bytes.specs.Entries.{acknowledged, one, two, placed, loaded, stored, worded, given}
-use Rattle.event_bytes.specs.Entries.{asked, alloc_at, copy_at, load_at, store_at, clear_at}
-use Rattle.event_bytes.specs.Entries.{set_word_at, give_at, put_at, get_at, received_at}
+use Rattle.event_bytes.specs.Entries.{set_bytes, patch, give, accept, put, get, begin, scan, pass}
+use Rattle.event_bytes.specs.Entries.{sweep, next, received, acknowledged, one, two, placed, loaded}
+use Rattle.event_bytes.specs.Entries.{stored, worded, filled, patched, given, asked, alloc_at}
+use Rattle.event_bytes.specs.Entries.{copy_at, load_at, store_at, clear_at, set_word_at}
+use Rattle.event_bytes.specs.Entries.{set_bytes_at, patch_at, give_at, put_at, get_at, received_at}
 use Rattle.event_bytes.specs.Entries.{acknowledged_at, entries, entry}
 
 two_sound : IsSound two
@@ -29,6 +31,12 @@ stored_sound = number2_sound ⊗ byte_sound ⊗ number2_sound
 worded_sound : IsSound worded
 worded_sound = number2_sound ⊗ number8_sound
 
+filled_sound : IsSound filled
+filled_sound = number2_sound ⊗ bytes4_sound
+
+patched_sound : IsSound patched
+patched_sound = number2_sound ⊗ number4_sound ⊗ bytes4_sound
+
 given_sound : IsSound given
 given_sound = byte_sound ⊗ number4_sound ⊗ number2_sound
 
@@ -37,8 +45,8 @@ asked_sound = number2_sound ⊗ byte_sound ⊗ number4_sound
 
 entry_again : (e : Entry) (rest : List ℕ) → Fits entry e →
     entry.read (entry.spell e ++ rest) ≡ Some (e, rest)
-unfolding entry alloc_at copy_at load_at store_at clear_at set_word_at give_at put_at get_at
-    received_at acknowledged_at
+unfolding entry alloc_at copy_at load_at store_at clear_at set_word_at set_bytes_at patch_at
+    give_at put_at get_at received_at acknowledged_at
 entry_again (alloc r p) rest fits =
     made_again placed (λ x. alloc x.0 x.1) placed_sound (r, p) rest fits.wide fits.within
 entry_again (copy r s) rest fits =
@@ -57,6 +65,11 @@ entry_again (word o) rest fits =
     made_again one word number2_sound o rest fits.wide fits.within
 entry_again (set_word o v) rest fits =
     made_again worded (λ x. set_word x.0 x.1) worded_sound (o, v) rest fits.wide fits.within
+entry_again (set_bytes o b) rest fits =
+    made_again filled (λ x. set_bytes x.0 x.1) filled_sound (o, b) rest fits.wide fits.within
+entry_again (patch o n b) rest fits =
+    made_again patched (λ x. patch x.0 x.1.0 x.1.1) patched_sound (o, (n, b)) rest fits.wide
+    fits.within
 entry_again (give t l r) rest fits =
     made_again given (λ x. give x.0 x.1.0 x.1.1) given_sound (t, (l, r)) rest fits.wide
     fits.within
@@ -83,8 +96,8 @@ entry_again (acknowledged f t n) rest fits =
     fits.within
 
 pub entry_sound : IsSound entry
-unfolding entry alloc_at copy_at load_at store_at clear_at set_word_at give_at put_at get_at
-    received_at acknowledged_at
+unfolding entry alloc_at copy_at load_at store_at clear_at set_word_at set_bytes_at patch_at
+    give_at put_at get_at received_at acknowledged_at
 entry_sound = record {
   takes = tagged_takes entry entries (
       found placed entry 1 (λ x. alloc x.0 x.1) placed_sound (λ _. refl) (λ _ w. w) (λ _ w. w)
@@ -110,6 +123,10 @@ entry_sound = record {
       ⊕ found nothing entry 15 (λ _. pass) nothing_sound (λ _. refl) (λ _ w. w) (λ _ w. w)
       ⊕ found number4 entry 16 sweep number4_sound (λ _. refl) (λ _ w. w) (λ _ w. w)
       ⊕ found byte entry 17 next byte_sound (λ _. refl) (λ _ w. w) (λ _ w. w)
+      ⊕ found filled entry 18 (λ x. set_bytes x.0 x.1) filled_sound
+      (λ _. refl) (λ _ w. w) (λ _ w. w)
+      ⊕ found patched entry 19 (λ x. patch x.0 x.1.0 x.1.1) patched_sound
+      (λ _. refl) (λ _ w. w) (λ _ w. w)
       ⊕ found known entry 0x42 (λ x. acknowledged x.0 x.1.0 x.1.1) known_sound
       (λ _. refl) (λ _ w. w) (λ _ w. w)
       ⊕ found sent entry 0x45 (λ x. received x.0.0 x.0.1.0 x.0.1.1 x.1.0 x.1.1) sent_sound

@@ -1,6 +1,7 @@
 -- What events say is within the limits of their spellings.
+use Rattle.std.proofs.Common.{refl}
 use Rattle.codec.specs.Formats.{Fits}
-use Rattle.codec.specs.Formats.{number2, number4, number8}
+use Rattle.codec.specs.Formats.{number2, number4, number8, bytes4}
 use Rattle.frames.specs.declared.version.Version.TheVariants.{Second}
 use Rattle.frames.specs.Formats.{sent, known, head}
 use Rattle.frames.proofs.Written.{any_body}
@@ -11,7 +12,7 @@ use Rattle.event_bytes.specs.Events.{entry_of}
 
 -- what an event says is within the limits
 pub entry_within : (e : Event) → entry.IsWithin (entry_of e)
-unfolding entry sent known head number2 number4 number8
+unfolding entry sent known head number2 number4 number8 bytes4
 entry_within (event.Data d) = (((tt, (tt, tt)), (tt, any_body Second d.body)), d.fits)
 entry_within (event.Ack a) = ((tt, (tt, tt)), a.fits)
 entry_within (event.Alloc register places) = (tt, tt)
@@ -20,6 +21,8 @@ entry_within (event.Load register object place) = (tt, (tt, tt))
 entry_within (event.Store object place register) = (tt, (tt, tt))
 entry_within (event.Clear object place) = (tt, tt)
 entry_within (event.SetWord object value) = (tt, tt)
+entry_within (event.SetBytes object bytes) = (tt, (tt, refl))
+entry_within (event.Patch object offset bytes) = (tt, (tt, (tt, refl)))
 entry_within (event.Give to label register) = (tt, (tt, tt))
 entry_within (event.Put object place register) = (tt, (tt, tt))
 entry_within (event.Get object place label) = (tt, (tt, tt))

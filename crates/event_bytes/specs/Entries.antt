@@ -1,7 +1,7 @@
 -- Events as plain data, and the one spelling of each.
 use Rattle.std.specs.Prelude.{ℕ, List, [], ◌∷◌}
 use Rattle.codec.specs.Formats.{Format, Reader, Behind, byte, number2, number4, number8, nothing}
-use Rattle.codec.specs.Formats.{◌&◌, tag, tagged, made_at}
+use Rattle.codec.specs.Formats.{bytes4, ◌&◌, tag, tagged, made_at}
 use Rattle.msg.specs.declared.body.Body.{Body}
 use Rattle.frames.specs.Formats.{sent, known}
 
@@ -23,6 +23,10 @@ pub data Entry : Type 0 where
   word : ℕ → Entry
   -- object and word
   set_word : ℕ → ℕ → Entry
+  -- object and bytes
+  set_bytes : ℕ → List ℕ → Entry
+  -- object, offset and bytes
+  patch : ℕ → ℕ → List ℕ → Entry
   -- node, label and register
   give : ℕ → ℕ → ℕ → Entry
   -- register
@@ -63,6 +67,12 @@ stored = number2 & byte & number2
 abbrev pub worded : Format (ℕ × ℕ)
 worded = number2 & number8
 
+abbrev pub filled : Format (ℕ × List ℕ)
+filled = number2 & bytes4
+
+abbrev pub patched : Format (ℕ × (ℕ × List ℕ))
+patched = number2 & number4 & bytes4
+
 abbrev pub given : Format (ℕ × (ℕ × ℕ))
 given = byte & number4 & number2
 
@@ -78,6 +88,8 @@ entry_tag (store object place register) = tag 5 stored (object, (place, register
 entry_tag (clear object place) = tag 6 placed (object, place)
 entry_tag (word object) = tag 7 one object
 entry_tag (set_word object value) = tag 8 worded (object, value)
+entry_tag (set_bytes object bytes) = tag 18 filled (object, bytes)
+entry_tag (patch object offset bytes) = tag 19 patched (object, (offset, bytes))
 entry_tag (give to label register) = tag 9 given (to, (label, register))
 entry_tag (accept register) = tag 10 one register
 entry_tag (put object place register) = tag 11 stored (object, (place, register))
@@ -108,6 +120,12 @@ clear_at bytes = made_at placed (λ x. clear x.0 x.1) bytes
 
 unfoldable pub set_word_at : Reader Entry
 set_word_at bytes = made_at worded (λ x. set_word x.0 x.1) bytes
+
+unfoldable pub set_bytes_at : Reader Entry
+set_bytes_at bytes = made_at filled (λ x. set_bytes x.0 x.1) bytes
+
+unfoldable pub patch_at : Reader Entry
+patch_at bytes = made_at patched (λ x. patch x.0 x.1.0 x.1.1) bytes
 
 unfoldable pub give_at : Reader Entry
 give_at bytes = made_at given (λ x. give x.0 x.1.0 x.1.1) bytes
@@ -143,6 +161,8 @@ entries =
     ∷ (15, made_at nothing (λ _. pass))
     ∷ (16, made_at number4 sweep)
     ∷ (17, made_at byte next)
+    ∷ (18, set_bytes_at)
+    ∷ (19, patch_at)
     ∷ (0x42, acknowledged_at)
     ∷ (0x45, received_at)
     ∷ []

@@ -1,11 +1,13 @@
--- The events of the code as plain data.
+-- The events of the code as plain data, and the two parts of their spellings.
+use Rattle.std.specs.Prelude.{◌≡◌, ◌^◌, ◌-◌, ℕ, List, [], ◌++◌, length, min}
+use Rattle.codec.specs.Formats.{Behind, number2, number4, ◌&◌, tag}
 use Rattle.msg.specs.declared.frame.Ack.{Ack}
 use Rattle.msg.specs.declared.frame.Data.{Data}
 use Rattle.model.specs.declared.event.Event.{Event}
 use Rattle.model.specs.declared.event.Event.TheVariants as event
 use Rattle.event_bytes.specs.Entries.{Entry, alloc, copy, dropped, load, store, clear, word, set_word}
-use Rattle.event_bytes.specs.Entries.{give, accept, put, get, begin, scan, pass, sweep, next, received}
-use Rattle.event_bytes.specs.Entries.{acknowledged}
+use Rattle.event_bytes.specs.Entries.{set_bytes, patch, give, accept, put, get, begin, scan, pass}
+use Rattle.event_bytes.specs.Entries.{sweep, next, received, acknowledged, entry, entry_tag}
 
 abbrev pub received_of : Data → Entry
 received_of d = received d.from d.to d.number d.stamp d.body
@@ -22,6 +24,8 @@ entry_of (event.Store object place register) = store object place register
 entry_of (event.Clear object place) = clear object place
 entry_of (event.Word object) = word object
 entry_of (event.SetWord object value) = set_word object value
+entry_of (event.SetBytes object bytes) = set_bytes object bytes.now
+entry_of (event.Patch object offset bytes) = patch object offset bytes.now
 entry_of (event.Give to label register) = give to label register
 entry_of (event.Accept register) = accept register
 entry_of (event.Put object place register) = put object place register
@@ -33,3 +37,26 @@ entry_of (event.Sweep count) = sweep count
 entry_of (event.Next from) = next from
 entry_of (event.Data d) = received_of d
 entry_of (event.Ack a) = acknowledged_of a
+
+-- the bytes that the event writes, with which its spelling ends
+abbrev pub tail_of : Event → List ℕ
+tail_of (event.SetBytes object bytes) = bytes.now
+tail_of (event.Patch object offset bytes) = bytes.now
+tail_of e = []
+
+-- how many bytes there are, as far as four bytes can say it
+abbrev pub count_of : List ℕ → ℕ
+count_of bytes = min (length bytes) (2 ^ 32 - 1)
+
+-- what is before these bytes
+abbrev pub start_of : Event → Behind
+start_of (event.SetBytes object bytes) =
+    tag 18 (number2 & number4) (object, count_of bytes.now)
+start_of (event.Patch object offset bytes) =
+    tag 19 (number2 & number4 & number4) (object, (offset, count_of bytes.now))
+start_of e = entry_tag (entry_of e)
+
+-- With the bytes that the event writes behind it, what was added is the spelling of the event.
+pub record AddsStart (old new : List ℕ) (e : Event) : Type 0 where
+  pub is : new ++ tail_of e ≡ old ++ entry.spell (entry_of e)
+  pub known : entry.IsWide (entry_of e)

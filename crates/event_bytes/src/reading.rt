@@ -6,13 +6,13 @@ ghost use Rattle.codec.specs.Readers.{Reads, Takes};
 ghost use Rattle.codec.specs.Reading.{IsSound};
 ghost use Rattle.frames.specs.Formats.{head};
 ghost use Rattle.event_bytes.specs.Entries.{alloc_at, copy_at, load_at, store_at, clear_at};
-ghost use Rattle.event_bytes.specs.Entries.{set_word_at, give_at, put_at, get_at, received_at};
-ghost use Rattle.event_bytes.specs.Entries.{acknowledged_at, entry};
+ghost use Rattle.event_bytes.specs.Entries.{set_word_at, set_bytes_at, patch_at, give_at, put_at};
+ghost use Rattle.event_bytes.specs.Entries.{get_at, received_at, acknowledged_at, entry};
 ghost use Rattle.event_bytes.specs.Events.{acknowledged_of, entry_of, received_of};
 
 use crate::tags::{
-    ACCEPT, ACK, ALLOC, BEGIN, CLEAR, COPY, DATA, DROP, GET, GIVE, LOAD, NEXT, PASS, PUT, SCAN,
-    SET_WORD, STORE, SWEEP, WORD,
+    ACCEPT, ACK, ALLOC, BEGIN, CLEAR, COPY, DATA, DROP, GET, GIVE, LOAD, NEXT, PASS, PATCH, PUT,
+    SCAN, SET_BYTES, SET_WORD, STORE, SWEEP, WORD,
 };
 use codec::Reader;
 use frames::Version;
@@ -28,7 +28,7 @@ pub fn spellings()
 {}
 
 #[tactic(auto, unfolding(crate::specs::Entries::alloc_at), using(crate::proofs::Joins::both_read, crate::proofs::Joins::made_of))]
-fn read_alloc(reader: &mut Reader) -> Event
+fn read_alloc<'a>(reader: &mut Reader<'a>) -> Event<'a>
     ensures { Takes alloc_at reader.old reader.new (Some (entry_of result)) }
 {
     let register = reader.u16();
@@ -37,7 +37,7 @@ fn read_alloc(reader: &mut Reader) -> Event
 }
 
 #[tactic(auto, unfolding(crate::specs::Entries::copy_at), using(crate::proofs::Joins::both_read, crate::proofs::Joins::made_of))]
-fn read_copy(reader: &mut Reader) -> Event
+fn read_copy<'a>(reader: &mut Reader<'a>) -> Event<'a>
     ensures { Takes copy_at reader.old reader.new (Some (entry_of result)) }
 {
     let register = reader.u16();
@@ -46,7 +46,7 @@ fn read_copy(reader: &mut Reader) -> Event
 }
 
 #[tactic(auto, unfolding(crate::specs::Entries::load_at), using(crate::proofs::Joins::both_read, crate::proofs::Joins::made_of))]
-fn read_load(reader: &mut Reader) -> Event
+fn read_load<'a>(reader: &mut Reader<'a>) -> Event<'a>
     ensures { Takes load_at reader.old reader.new (Some (entry_of result)) }
 {
     let register = reader.u16();
@@ -60,7 +60,7 @@ fn read_load(reader: &mut Reader) -> Event
 }
 
 #[tactic(auto, unfolding(crate::specs::Entries::store_at), using(crate::proofs::Joins::both_read, crate::proofs::Joins::made_of))]
-fn read_store(reader: &mut Reader) -> Event
+fn read_store<'a>(reader: &mut Reader<'a>) -> Event<'a>
     ensures { Takes store_at reader.old reader.new (Some (entry_of result)) }
 {
     let object = reader.u16();
@@ -74,7 +74,7 @@ fn read_store(reader: &mut Reader) -> Event
 }
 
 #[tactic(auto, unfolding(crate::specs::Entries::clear_at), using(crate::proofs::Joins::both_read, crate::proofs::Joins::made_of))]
-fn read_clear(reader: &mut Reader) -> Event
+fn read_clear<'a>(reader: &mut Reader<'a>) -> Event<'a>
     ensures { Takes clear_at reader.old reader.new (Some (entry_of result)) }
 {
     let object = reader.u16();
@@ -83,7 +83,7 @@ fn read_clear(reader: &mut Reader) -> Event
 }
 
 #[tactic(auto, unfolding(crate::specs::Entries::set_word_at), using(crate::proofs::Joins::both_read, crate::proofs::Joins::made_of))]
-fn read_set_word(reader: &mut Reader) -> Event
+fn read_set_word<'a>(reader: &mut Reader<'a>) -> Event<'a>
     ensures { Takes set_word_at reader.old reader.new (Some (entry_of result)) }
 {
     let object = reader.u16();
@@ -91,8 +91,31 @@ fn read_set_word(reader: &mut Reader) -> Event
     Event::SetWord { object, word }
 }
 
+#[tactic(auto, unfolding(crate::specs::Entries::set_bytes_at), using(crate::proofs::Joins::both_read, crate::proofs::Joins::made_of))]
+fn read_set_bytes<'a>(reader: &mut Reader<'a>) -> Event<'a>
+    ensures { Takes set_bytes_at reader.old reader.new (Some (entry_of result)) }
+{
+    let object = reader.u16();
+    let bytes = reader.bytes();
+    Event::SetBytes { object, bytes }
+}
+
+#[tactic(auto, unfolding(crate::specs::Entries::patch_at), using(crate::proofs::Joins::both_read, crate::proofs::Joins::made_of))]
+fn read_patch<'a>(reader: &mut Reader<'a>) -> Event<'a>
+    ensures { Takes patch_at reader.old reader.new (Some (entry_of result)) }
+{
+    let object = reader.u16();
+    let offset = reader.u32();
+    let bytes = reader.bytes();
+    Event::Patch {
+        object,
+        offset,
+        bytes,
+    }
+}
+
 #[tactic(auto, unfolding(crate::specs::Entries::give_at), using(crate::proofs::Joins::both_read, crate::proofs::Joins::made_of))]
-fn read_give(reader: &mut Reader) -> Event
+fn read_give<'a>(reader: &mut Reader<'a>) -> Event<'a>
     ensures { Takes give_at reader.old reader.new (Some (entry_of result)) }
 {
     let to = reader.u8();
@@ -106,7 +129,7 @@ fn read_give(reader: &mut Reader) -> Event
 }
 
 #[tactic(auto, unfolding(crate::specs::Entries::put_at), using(crate::proofs::Joins::both_read, crate::proofs::Joins::made_of))]
-fn read_put(reader: &mut Reader) -> Event
+fn read_put<'a>(reader: &mut Reader<'a>) -> Event<'a>
     ensures { Takes put_at reader.old reader.new (Some (entry_of result)) }
 {
     let object = reader.u16();
@@ -120,7 +143,7 @@ fn read_put(reader: &mut Reader) -> Event
 }
 
 #[tactic(auto, unfolding(crate::specs::Entries::get_at), using(crate::proofs::Joins::both_read, crate::proofs::Joins::made_of))]
-fn read_get(reader: &mut Reader) -> Event
+fn read_get<'a>(reader: &mut Reader<'a>) -> Event<'a>
     ensures { Takes get_at reader.old reader.new (Some (entry_of result)) }
 {
     let object = reader.u16();
@@ -161,10 +184,10 @@ fn read_ack(reader: &mut Reader) -> Option<Ack>
     Ack::new(by, of, number)
 }
 
-/// Reads an event from the front of what is left. If no event is there, the reader has failed, or
-/// the call returns `None`.
+/// Reads an event from the front of what is left, whose bytes it borrows. If no event is there, the
+/// reader has failed, or the call returns `None`.
 #[tactic(auto, unfolding(crate::specs::Entries::entry), using(crate::proofs::Joins::tags))]
-pub fn read_event(reader: &mut Reader) -> Option<Event>
+pub fn read_event<'a>(reader: &mut Reader<'a>) -> Option<Event<'a>>
     ensures { Takes entry.read reader.old reader.new (option_map entry_of result) }
 {
     match reader.u8() {
@@ -193,8 +216,16 @@ pub fn read_event(reader: &mut Reader) -> Option<Event>
             count: reader.u32(),
         }),
         NEXT => Some(Event::Next { from: reader.u8() }),
-        DATA => read_data(reader).map(Event::Data),
-        ACK => read_ack(reader).map(Event::Ack),
+        SET_BYTES => Some(read_set_bytes(reader)),
+        PATCH => Some(read_patch(reader)),
+        DATA => match read_data(reader) {
+            Some(message) => Some(Event::Data(message)),
+            None => None,
+        },
+        ACK => match read_ack(reader) {
+            Some(ack) => Some(Event::Ack(ack)),
+            None => None,
+        },
         _ => None,
     }
 }

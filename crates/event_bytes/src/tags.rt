@@ -34,6 +34,10 @@ pub(crate) const SWEEP: u8 = 16;
 
 pub(crate) const NEXT: u8 = 17;
 
+pub(crate) const SET_BYTES: u8 = 18;
+
+pub(crate) const PATCH: u8 = 19;
+
 pub(crate) const ACK: u8 = 0x42;
 
 pub(crate) const DATA: u8 = 0x45;

@@ -1,16 +1,17 @@
 //! Writes events as bytes. Each event has one spelling. It is put together in a piece, which
-//! allocates nothing.
-ghost use Rattle.std.specs.Prelude.{◌≡◌, ◌≤◌, ◌+◌, ◌∷◌, length};
-ghost use Rattle.codec.specs.Formats.{number2};
+//! allocates nothing; the bytes that an event writes into an object follow the piece as they are.
+ghost use Rattle.std.specs.Prelude.{◌≡◌, ◌≤◌, ◌<◌, ◌+◌, ◌^◌, ◌∷◌, length};
+ghost use Rattle.codec.specs.Formats.{number2, number4, ◌&◌};
 ghost use Rattle.codec.specs.Pieces.{Adds, Gains};
 ghost use Rattle.codec.specs.declared.piece.TheConstants.{GREATEST_PIECE};
 ghost use Rattle.frames.specs.Formats.{head};
 ghost use Rattle.event_bytes.specs.Entries.{asked, entry, given, loaded, placed, stored, two, worded};
-ghost use Rattle.event_bytes.specs.Events.{acknowledged_of, entry_of, received_of};
+ghost use Rattle.event_bytes.specs.Events.{acknowledged_of, count_of, received_of, start_of};
+ghost use Rattle.event_bytes.specs.Events.{AddsStart, tail_of};
 
 use crate::tags::{
-    ACCEPT, ACK, ALLOC, BEGIN, CLEAR, COPY, DATA, DROP, GET, GIVE, LOAD, NEXT, PASS, PUT, SCAN,
-    SET_WORD, STORE, SWEEP, WORD,
+    ACCEPT, ACK, ALLOC, BEGIN, CLEAR, COPY, DATA, DROP, GET, GIVE, LOAD, NEXT, PASS, PATCH, PUT,
+    SCAN, SET_BYTES, SET_WORD, STORE, SWEEP, WORD,
 };
 use codec::Piece;
 use frames::writing::add_body;
@@ -109,6 +110,40 @@ fn add_asked(piece: &mut Piece, tag: u8, object: u16, place: u8, label: u32)
     piece.u32(label);
 }
 
+// ---- bytes of objects: what is before them
+
+// How many bytes there are, as far as four bytes can say it.
+fn count_of(bytes: &[u8]) -> u32
+    ensures { result ≡ count_of bytes.now }
+{
+    u32::try_from(bytes.len()).unwrap_or(u32::MAX)
+}
+
+#[tactic(auto, using(crate::proofs::Joins::gained))]
+fn add_filled(piece: &mut Piece, object: u16, bytes: &[u8])
+    requires { length piece.old + 48 ≤ GREATEST_PIECE }
+    ensures { Gains piece.old piece.new
+        (18 ∷ (number2 & number4).spell (object, count_of bytes.now)) 48
+        ((number2 & number4).IsWide (object, count_of bytes.now)) }
+{
+    piece.u8(SET_BYTES);
+    piece.u16(object);
+    piece.u32(count_of(bytes));
+}
+
+#[tactic(auto, using(crate::proofs::Joins::gained))]
+fn add_patched(piece: &mut Piece, object: u16, offset: u32, bytes: &[u8])
+    requires { length piece.old + 48 ≤ GREATEST_PIECE }
+    ensures { Gains piece.old piece.new
+        (19 ∷ (number2 & number4 & number4).spell (object, (offset, count_of bytes.now))) 48
+        ((number2 & number4 & number4).IsWide (object, (offset, count_of bytes.now))) }
+{
+    piece.u8(PATCH);
+    piece.u16(object);
+    piece.u32(offset);
+    piece.u32(count_of(bytes));
+}
+
 // ---- messages and acknowledgements
 
 #[tactic(auto, unfolding(frames::specs::Formats::head), using(crate::proofs::Joins::gained))]
@@ -141,11 +176,12 @@ fn add_ack(piece: &mut Piece, ack: &Ack)
     add_head(piece, ack.by, ack.of, ack.number);
 }
 
-/// Appends the bytes that spell the event to the piece, which must have room for them.
+// ---- an event
+
 #[tactic(auto, unfolding(crate::specs::Entries::entry), using(crate::proofs::Joins::gained))]
-pub fn add_event(piece: &mut Piece, event: &Event)
+fn add_start(piece: &mut Piece, event: &Event)
     requires { length piece.old + 48 ≤ GREATEST_PIECE }
-    ensures { Adds entry 48 piece.old piece.new (entry_of event.now) }
+    ensures { Gains piece.old piece.new (start_of event.now).bytes 48 (start_of event.now).is_wide }
 {
     match *event {
         Event::Alloc { register, places } => add_placed(piece, ALLOC, register, places),
@@ -164,6 +200,12 @@ pub fn add_event(piece: &mut Piece, event: &Event)
         Event::Clear { object, place } => add_placed(piece, CLEAR, object, place),
         Event::Word { object } => add_one(piece, WORD, object),
         Event::SetWord { object, word } => add_worded(piece, SET_WORD, object, word),
+        Event::SetBytes { object, bytes } => add_filled(piece, object, bytes),
+        Event::Patch {
+            object,
+            offset,
+            bytes,
+        } => add_patched(piece, object, offset, bytes),
         Event::Give {
             to,
             label,
@@ -193,5 +235,33 @@ pub fn add_event(piece: &mut Piece, event: &Event)
         }
         Event::Data(message) => add_data(piece, &message),
         Event::Ack(ack) => add_ack(piece, &ack),
+    }
+}
+
+/// Appends the bytes that spell the event to the piece, except for the event's own bytes, which
+/// follow (see [`tail`]). The piece must have room for them. If the event has 2^32 bytes or more,
+/// it has no spelling.
+pub fn add_event(piece: &mut Piece, event: &Event)
+    requires { length piece.old + 48 ≤ GREATEST_PIECE }
+    ensures start { length (tail_of event.now) < 2 ^ 32
+        → AddsStart piece.old piece.new event.now }
+    ensures few { length piece.new ≤ length piece.old + 48 }
+{
+    add_start(piece, event);
+}
+
+/// The bytes that the event writes, with which its spelling ends; none if it writes no bytes.
+#[inline(always)]
+pub fn tail<'a>(event: &Event<'a>) -> &'a [u8]
+    ensures { result.now ≡ tail_of event.now }
+{
+    match *event {
+        Event::SetBytes { object: _, bytes }
+        | Event::Patch {
+            object: _,
+            offset: _,
+            bytes,
+        } => bytes,
+        _ => &[],
     }
 }

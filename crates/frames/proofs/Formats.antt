@@ -1,5 +1,5 @@
 -- The formats of the parts of frames are sound.
-use Rattle.std.proofs.Common.{◌≡◌, ℕ, List, [], ◌∷◌, ◌++◌, Some, refl, arith}
+use Rattle.std.proofs.Common.{◌≡◌, ℕ, Bool, List, [], ◌∷◌, ◌++◌, Some, refl, arith}
 use Rattle.codec.specs.Formats.{Format, Fits, number4, number8, nothing, made_at}
 use Rattle.codec.specs.Reading.{IsSound}
 use Rattle.codec.proofs.Growing.{Grows, Later, same, mapped_grows, option_grows, ◌⊛◌}
@@ -14,7 +14,7 @@ use Rattle.frames.specs.declared.version.Version.{Version}
 use Rattle.frames.specs.declared.version.Version.TheVariants.{First, Second}
 use Rattle.frames.specs.Formats.{generation, reference, optional, colour, token, give, put, get}
 use Rattle.frames.specs.Formats.{give_at, put_at, get_at, bodies, body_format, head, sent}
-use Rattle.frames.specs.Formats.{sent_fits, known, head_fits}
+use Rattle.frames.specs.Formats.{sent_fits, is_framed, framed, known, head_fits}
 
 -- a format that grows from the first version to the second is sound in both
 pub any : {A : Type 0} (F : Version → Format A) → Grows (F First) (F Second) → (v : Version)
@@ -33,7 +33,8 @@ generation_grows = record {
 pub reference_grows : Grows (reference First) (reference Second)
 unfolding reference
 reference_grows =
-    mapped_grows _ _ (same byte_sound ⊛ same number4_sound ⊛ generation_grows) (λ _. refl) (λ _. refl)
+    mapped_grows _ _ (same byte_sound ⊛ same number4_sound ⊛ generation_grows) (λ _. refl)
+    (λ _. refl)
 
 pub optional_grows : Grows (optional First) (optional Second)
 unfolding optional
@@ -80,15 +81,18 @@ body_again v body.Begin rest fits = refl
 body_again v (body.Token t) rest fits =
     made_again token body.Token token_sound t rest fits.wide fits.within
 body_again v (body.Mark target) rest fits =
-    made_again (reference v) body.Mark (any reference reference_grows v) target rest fits.wide fits.within
+    made_again (reference v) body.Mark (any reference reference_grows v) target rest fits.wide
+    fits.within
 body_again v (body.Give label r) rest fits =
     made_again (give v) (λ x. body.Give x.0 x.1) (any give give_grows v) (label, r) rest fits.wide
     fits.within
 body_again v (body.Put target place r) rest fits =
-    made_again (put v) (λ x. body.Put x.0 x.1.0 x.1.1) (any put put_grows v) (target, (place, r)) rest
+    made_again (put v) (λ x. body.Put x.0 x.1.0 x.1.1) (any put put_grows v)
+    (target, (place, r)) rest
     fits.wide fits.within
 body_again v (body.Get target place label) rest fits =
-    made_again (get v) (λ x. body.Get x.0 x.1.0 x.1.1) (any get get_grows v) (target, (place, label)) rest
+    made_again (get v) (λ x. body.Get x.0 x.1.0 x.1.1) (any get get_grows v)
+    (target, (place, label)) rest
     fits.wide fits.within
 body_again v body.Ended rest fits = refl
 body_again v body.Swept rest fits = refl
@@ -101,7 +105,8 @@ body_sound v =
       takes = tagged_takes F (bodies v) (
           found nothing F 1 (λ _. body.Begin) nothing_sound (λ _. refl) (λ _ w. w) (λ _ w. w)
           ⊕ found token F 2 body.Token token_sound (λ _. refl) (λ _ w. w) (λ _ w. w)
-          ⊕ found (reference v) F 3 body.Mark (any reference reference_grows v) (λ _. refl) (λ _ w. w) (λ _ w. w)
+          ⊕ found (reference v) F 3 body.Mark (any reference reference_grows v) (λ _. refl)
+          (λ _ w. w) (λ _ w. w)
           ⊕ found (give v) F 4 (λ x. body.Give x.0 x.1) (any give give_grows v)
           (λ _. refl) (λ _ w. w) (λ _ w. w)
           ⊕ found (put v) F 5 (λ x. body.Put x.0 x.1.0 x.1.1) (any put put_grows v)
@@ -139,6 +144,11 @@ head_sound = byte_sound ⊗ byte_sound ⊗ number8_sound
 pub sent_sound : IsSound sent
 unfolding sent
 sent_sound = kept_sound _ sent_fits (head_sound ⊗ number8_sound ⊗ body_sound Second)
+
+pub framed_sound : (plain : Bool) → IsSound (framed plain)
+unfolding framed
+framed_sound plain =
+    kept_sound _ (is_framed plain) (head_sound ⊗ number8_sound ⊗ body_sound Second)
 
 pub known_sound : IsSound known
 unfolding known

@@ -1,19 +1,24 @@
 -- What is read has that spelling, what has a spelling is read, and no spelling is a prefix of
 -- another.
-use Rattle.std.proofs.Common.{◌≡◌, ℕ, List, [], ◌∷◌, ◌++◌, Option, Some, None, refl, sym, ap, ◌∙◌}
-use Rattle.std.specs.Prelude.{IfOk}
+use Rattle.std.proofs.Common.{◌≡◌, ℕ, Bool, true, false, List, [], ◌∷◌, ◌++◌, Option, Some, None}
+use Rattle.std.proofs.Common.{refl, sym, ap, subst, ◌∙◌}
+use Rattle.std.proofs.lemmas.Bool.{and_parts, not-true}
+use Rattle.std.specs.Prelude.{IfOk, IsTrue, ◌&&◌, not}
 use Rattle.std.specs.Option.{option_map, ok_or}
 use Rattle.std.specs.Result.{IsOkAnd}
 use Rattle.ids.specs.declared.refusal.Refusal.{Refusal}
 use Rattle.codec.specs.Formats.{whole_at}
 use Rattle.codec.specs.Reading.{IsBytes, IsSound}
-use Rattle.codec.proofs.Laws.{◌⊕◌, found, tagged_takes, made_again}
+use Rattle.codec.specs.Formats as codec
+use Rattle.codec.proofs.Laws.{◌⊕◌, found, tagged_takes, made_takes, made_again}
 use Rattle.codec.proofs.Wholes.{whole_takes, whole_again, begins_none}
+use Rattle.msg.specs.declared.body.Body.{Body}
 use Rattle.msg.specs.declared.frame.Frame.{Frame}
-use Rattle.frames.specs.Grammar.{spelling, frame, Fits, data_at, ack_at}
+use Rattle.frames.specs.Grammar.{spelling, frame, Fits, data_tag, data_at, ack_at}
 use Rattle.msg.specs.Frames.{Plain, data_frame, ack_frame, plain}
-use Rattle.frames.specs.Formats.{Sent, Head, sent, known}
-use Rattle.frames.proofs.Formats.{sent_sound, known_sound}
+use Rattle.msg.specs.Limits.{is_plain_body}
+use Rattle.frames.specs.Formats.{Sent, Head, is_behind, is_framed, framed, known}
+use Rattle.frames.proofs.Formats.{framed_sound, known_sound}
 
 abbrev pub data_of : Sent → Plain
 data_of x = data_frame x.0.0 x.0.1.0 x.0.1.1 x.1.0 x.1.1
@@ -21,20 +26,62 @@ data_of x = data_frame x.0.0 x.0.1.0 x.0.1.1 x.1.0 x.1.1
 abbrev ack_of : Head → Plain
 ack_of x = ack_frame x.0 x.1.0 x.1.1
 
+-- the body of what is behind a first byte is of that kind
+is_of : (plain : Bool) (b : Body) (fits : Bool) → IsTrue (fits && is_behind plain b)
+    → is_plain_body b ≡ plain
+is_of true b fits is = (and_parts fits (is_plain_body b) is).1
+is_of false b fits is = not-true _ (and_parts fits (not (is_plain_body b)) is).1
+
+behind_first : (plain : Bool) (x : Sent) → codec.Fits (framed plain) x → IsTrue (is_framed plain x)
+unfolding framed
+behind_first plain x fits = fits.within.1
+
+data_again : (plain : Bool) (x : Sent) (rest : List ℕ) → (data_tag plain x).is_wide
+    → (data_tag plain x).is_within
+    → frame.read ((data_tag plain x).bytes ++ rest) ≡ Some (data_of x, rest)
+unfolding frame data_at ack_at
+data_again true x rest wide within =
+    made_again (framed true) data_of (framed_sound true) x rest wide within
+data_again false x rest wide within =
+    made_again (framed false) data_of (framed_sound false) x rest wide within
+
 frame_again : (f : Plain) (rest : List ℕ) → Fits f
     → frame.read (frame.spell f ++ rest) ≡ Some (f, rest)
 unfolding frame data_at ack_at
 frame_again (data_frame from to number stamp body) rest fits =
-    made_again sent data_of sent_sound ((from, (to, number)), (stamp, body)) rest fits.wide
-    fits.within
+    data_again (is_plain_body body) ((from, (to, number)), (stamp, body)) rest fits.wide fits.within
 frame_again (ack_frame from to number) rest fits =
     made_again known ack_of known_sound (from, (to, number)) rest fits.wide fits.within
+
+-- what follows a first byte is spelled with that byte
+abbrev first_byte : Bool → ℕ
+first_byte true = 0x45
+first_byte false = 0x46
+
+abbrev IsMade : Bool → Bool → Sent → Type 0
+IsMade plain b x =
+    ((data_tag b x).bytes ≡ first_byte plain ∷ (framed plain).spell x)
+    × ((data_tag b x).is_wide × (data_tag b x).is_within)
+
+made_so : (plain : Bool) (x : Sent) → codec.Fits (framed plain) x → IsMade plain plain x
+made_so true x fits = (refl, (fits.wide, fits.within))
+made_so false x fits = (refl, (fits.wide, fits.within))
+
+data_made : (plain : Bool) (x : Sent) → codec.Fits (framed plain) x
+    → (frame.spell (data_of x) ≡ first_byte plain ∷ (framed plain).spell x) × Fits (data_of x)
+unfolding frame
+data_made plain x fits =
+    let is = is_of plain x.1.1 _ (behind_first plain x fits) in
+    let made = subst (λ (b : Bool). IsMade plain b x) (sym is) (made_so plain x fits) in
+    (made.0, record { wide = made.1.0; within = made.1.1 })
 
 frame_sound : IsSound frame
 unfolding frame data_at ack_at
 frame_sound = record {
-  takes = tagged_takes frame ((0x45, data_at) ∷ (0x42, ack_at) ∷ []) (
-      found sent frame 0x45 data_of sent_sound (λ _. refl) (λ _ w. w) (λ _ w. w)
+  takes = tagged_takes frame
+      ((0x45, data_at true) ∷ (0x46, data_at false) ∷ (0x42, ack_at) ∷ []) (
+      made_takes (0x45 ∷ []) data_of (framed_sound true) (data_made true)
+      ⊕ made_takes (0x46 ∷ []) data_of (framed_sound false) (data_made false)
       ⊕ found known frame 0x42 ack_of known_sound (λ _. refl) (λ _ w. w) (λ _ w. w)
       ⊕ tt
       );
@@ -55,11 +102,12 @@ pub is_read : (bytes : List ℕ) (o : Option Frame) (e : Refusal) (f : Plain)
     → IsOkAnd (ok_or o e) (λ x. plain x ≡ f)
 unfolding spelling
 is_read bytes o e f read fits same =
-    read_is o (sym read ∙ ap (whole_at frame.read) same ∙ whole_again frame frame_sound f fits) where
-      read_is : (p : Option Frame) → option_map plain p ≡ Some f
-          → IsOkAnd (ok_or p e) (λ x. plain x ≡ f)
-      read_is None h = absurd cc
-      read_is (Some x) h = cc
+    read_is o (sym read ∙ ap (whole_at frame.read) same ∙ whole_again frame frame_sound f fits)
+  where
+    read_is : (p : Option Frame) → option_map plain p ≡ Some f
+        → IsOkAnd (ok_or p e) (λ x. plain x ≡ f)
+    read_is None h = absurd cc
+    read_is (Some x) h = cc
 
 -- ---- the law
 

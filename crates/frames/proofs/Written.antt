@@ -1,5 +1,7 @@
 -- What is written is a frame's spelling.
-use Rattle.std.proofs.Common.{ℕ, Option, Some, None}
+use Rattle.std.proofs.Common.{◌≡◌, ℕ, Bool, true, false, Option, Some, None, refl}
+use Rattle.std.proofs.lemmas.Bool.{and_from, not_from_false}
+use Rattle.std.specs.Prelude.{IsTrue}
 use Rattle.ids.specs.declared.names.Ref.{Ref}
 use Rattle.codec.specs.Formats.{number4, number8, signed8}
 use Rattle.msg.specs.declared.body.Body.{Body}
@@ -10,7 +12,8 @@ use Rattle.msg.specs.declared.body.Token.{Token}
 use Rattle.msg.specs.declared.frame.Frame.{Frame}
 use Rattle.msg.specs.declared.frame.Frame.TheVariants as frame
 use Rattle.frames.specs.Formats.{generation, reference, optional, colour, token, body_format}
-use Rattle.frames.specs.Formats.{head, sent, known}
+use Rattle.frames.specs.Formats.{head, Sent, framed, known}
+use Rattle.msg.specs.Limits.{data_fits, is_plain_body}
 use Rattle.msg.specs.Frames.{plain}
 use Rattle.frames.specs.declared.version.Version.{Version}
 use Rattle.frames.specs.declared.version.Version.TheVariants.{First, Second}
@@ -52,8 +55,20 @@ any_body v (body.Get target place label) = (any_reference v target, (tt, tt))
 any_body v body.Ended = tt
 any_body v body.Swept = tt
 
+-- what is behind the first byte of its kind
+data_within : (b : Bool) (x : Sent) → is_plain_body x.1.1 ≡ b
+    → IsTrue (data_fits x.0.0 x.0.1.0 x.0.1.1 x.1.0 x.1.1) → (grammar.data_tag b x).is_within
+unfolding framed head number8
+data_within true x is fits =
+    (((tt, (tt, tt)), (tt, any_body Second x.1.1)), and_from _ _ fits is)
+data_within false x is fits =
+    (((tt, (tt, tt)), (tt, any_body Second x.1.1)), and_from _ _ fits (not_from_false _ is))
+
 pub frame_fits : (f : Frame) → grammar.frame.IsWide (plain f) → Fits (plain f)
-unfolding grammar.frame sent known head number8
-frame_fits (frame.Data d) wide =
-    record { wide = wide; within = (((tt, (tt, tt)), (tt, any_body Second d.body)), d.fits) }
+unfolding grammar.frame known head number8
+frame_fits (frame.Data d) wide = record {
+  wide = wide;
+  within = data_within (is_plain_body d.body) ((d.from, (d.to, d.number)), (d.stamp, d.body)) refl
+      d.fits;
+}
 frame_fits (frame.Ack a) wide = record { wide = wide; within = ((tt, (tt, tt)), a.fits) }

@@ -1,5 +1,5 @@
 -- How the parts of frames are spelled.
-use Rattle.std.specs.Prelude.{ℕ, Bool, List, [], ◌∷◌, Option}
+use Rattle.std.specs.Prelude.{ℕ, Bool, true, false, ◌&&◌, not, List, [], ◌∷◌, Option}
 use Rattle.codec.specs.Formats.{Format, Reader, Behind, byte, number4, number8, signed8, nothing}
 use Rattle.codec.specs.Formats.{mapped, ◌&◌, kept, tag, tagged, made_at, option}
 use Rattle.ids.specs.declared.names.Ref.{Ref}
@@ -10,7 +10,7 @@ use Rattle.msg.specs.declared.body.Colour.TheVariants.{White, Black}
 use Rattle.msg.specs.declared.body.Token.{Token}
 use Rattle.frames.specs.declared.version.Version.{Version}
 use Rattle.frames.specs.declared.version.Version.TheVariants.{First, Second}
-use Rattle.msg.specs.Limits.{data_fits, ack_fits}
+use Rattle.msg.specs.Limits.{data_fits, ack_fits, is_plain_body}
 
 -- a generation, which has four bytes in the first version
 abbrev pub generation : Version → Format ℕ
@@ -105,6 +105,18 @@ sent_fits x = data_fits x.0.0 x.0.1.0 x.0.1.1 x.1.0 x.1.1
 
 unfoldable pub sent : Format Sent
 sent = kept (head & number8 & body_format Second) sent_fits
+
+-- A message belongs behind the first byte of those for which plain spaces have room, or behind that
+-- of the others.
+abbrev pub is_behind : Bool → Body → Bool
+is_behind true b = is_plain_body b
+is_behind false b = not (is_plain_body b)
+
+abbrev pub is_framed : Bool → Sent → Bool
+is_framed plain x = sent_fits x && is_behind plain x.1.1
+
+unfoldable pub framed : Bool → Format Sent
+framed plain = kept (head & number8 & body_format Second) (is_framed plain)
 
 abbrev pub head_fits : Head → Bool
 head_fits x = ack_fits x.0 x.1.0 x.1.1

@@ -1,11 +1,11 @@
 //! Parses frames from bytes. Each call reads a value from the front of what is left. If the bytes
 //! there don't spell one, the reader fails, or the call returns no value.
-ghost use Rattle.std.specs.Prelude.{◌≡◌, Some, IfOk, IfErr};
+ghost use Rattle.std.specs.Prelude.{◌≡◌, Some, IfOk, IfErr, true, false};
 ghost use Rattle.std.specs.Option.{option_map};
 ghost use Rattle.std.specs.Result.{IsOkAnd};
 ghost use Rattle.ids.specs.declared.refusal.Refusal.TheVariants.{BadFrame};
 ghost use Rattle.frames.specs.Formats.{generation, reference, optional, colour, token};
-ghost use Rattle.frames.specs.Formats.{give_at, put_at, get_at, body_format, head};
+ghost use Rattle.frames.specs.Formats.{give_at, put_at, get_at, body_format, head, is_framed};
 ghost use Rattle.frames.specs.Grammar.{Fits, spelling, data_at, ack_at, frame};
 ghost use Rattle.codec.specs.Formats.{whole_at};
 ghost use Rattle.codec.specs.Readers.{Reads, Takes};
@@ -13,13 +13,15 @@ ghost use Rattle.msg.specs.Frames.{Plain, plain, plain_ack};
 
 use crate::tags::{
     ABSENT, ACK, BEGIN, BLACK, DATA, ENDED, GET, GIVE, MARK, PRESENT, PUT, SWEPT, TOKEN, WHITE,
+    WIDE_DATA,
 };
 use crate::version::Version;
 use codec::Reader;
 use ids::{Generation, Ref, Refusal};
-use msg::{Ack, Body, Colour, Data, Frame, Token, data_fits};
+use msg::{Ack, Body, Colour, Data, Frame, Token, data_fits, is_plain_body, plain_data_fits};
 
 /// Reads a generation.
+#[inline(always)]
 pub fn read_generation(reader: &mut Reader, version: Version) -> Generation
     ensures { Reads (generation version) reader.old reader.new result }
 {
@@ -31,6 +33,7 @@ pub fn read_generation(reader: &mut Reader, version: Version) -> Generation
 
 /// Reads a reference; its numbers are not limited.
 #[tactic(auto, unfolding(crate::specs::Formats::reference), using(crate::proofs::Joins::both_read, crate::proofs::Joins::made))]
+#[inline(always)]
 pub fn read_reference(reader: &mut Reader, version: Version) -> Ref
     ensures { Reads (reference version) reader.old reader.new result }
 {
@@ -46,6 +49,7 @@ pub fn read_reference(reader: &mut Reader, version: Version) -> Ref
 
 /// Reads an optional reference; its numbers are not limited.
 #[tactic(auto, unfolding(crate::specs::Formats::optional), using(crate::proofs::Joins::tags))]
+#[inline(always)]
 pub fn read_optional(reader: &mut Reader, version: Version) -> Option<Ref>
     ensures { Reads (optional version) reader.old reader.new result }
 {
@@ -61,6 +65,7 @@ pub fn read_optional(reader: &mut Reader, version: Version) -> Option<Ref>
 
 /// Reads a colour.
 #[tactic(auto, unfolding(crate::specs::Formats::colour), using(crate::proofs::Joins::tags))]
+#[inline(always)]
 pub fn read_colour(reader: &mut Reader) -> Colour
     ensures { Reads colour reader.old reader.new result }
 {
@@ -76,6 +81,7 @@ pub fn read_colour(reader: &mut Reader) -> Colour
 
 /// Reads a token.
 #[tactic(auto, unfolding(crate::specs::Formats::token), using(crate::proofs::Joins::both_read, crate::proofs::Joins::made))]
+#[inline(always)]
 pub fn read_token(reader: &mut Reader) -> Token
     ensures { Reads token reader.old reader.new result }
 {
@@ -85,6 +91,7 @@ pub fn read_token(reader: &mut Reader) -> Token
 }
 
 #[tactic(auto, unfolding(crate::specs::Formats::give_at), using(crate::proofs::Joins::both_read, crate::proofs::Joins::made_of))]
+#[inline(always)]
 fn read_give(reader: &mut Reader, version: Version) -> Body
     ensures { Takes (give_at version) reader.old reader.new (Some result) }
 {
@@ -94,6 +101,7 @@ fn read_give(reader: &mut Reader, version: Version) -> Body
 }
 
 #[tactic(auto, unfolding(crate::specs::Formats::put_at), using(crate::proofs::Joins::both_read, crate::proofs::Joins::made_of))]
+#[inline(always)]
 fn read_put(reader: &mut Reader, version: Version) -> Body
     ensures { Takes (put_at version) reader.old reader.new (Some result) }
 {
@@ -108,6 +116,7 @@ fn read_put(reader: &mut Reader, version: Version) -> Body
 }
 
 #[tactic(auto, unfolding(crate::specs::Formats::get_at), using(crate::proofs::Joins::both_read, crate::proofs::Joins::made_of))]
+#[inline(always)]
 fn read_get(reader: &mut Reader, version: Version) -> Body
     ensures { Takes (get_at version) reader.old reader.new (Some result) }
 {
@@ -146,6 +155,7 @@ pub fn read_body(reader: &mut Reader, version: Version) -> Body
 }
 
 #[tactic(auto, unfolding(crate::specs::Formats::head), using(crate::proofs::Joins::both_read))]
+#[inline(always)]
 fn read_head(reader: &mut Reader) -> (u8, (u8, u64))
     ensures { Reads head reader.old reader.new result }
 {
@@ -155,13 +165,15 @@ fn read_head(reader: &mut Reader) -> (u8, (u8, u64))
     (from, (to, number))
 }
 
+// A message for which plain spaces have room.
+#[inline(always)]
 fn read_data(reader: &mut Reader) -> Option<Frame>
-    ensures { Takes data_at reader.old reader.new (option_map plain result) }
+    ensures { Takes (data_at true) reader.old reader.new (option_map plain result) }
 {
     let (from, (to, number)) = read_head(reader);
     let stamp = reader.u64();
     let body = read_body(reader, Version::Second);
-    if data_fits(from, to, number, stamp, &body) {
+    if plain_data_fits(from, to, number, stamp, &body) {
         Some(Frame::Data(Data {
             from,
             to,
@@ -174,7 +186,39 @@ fn read_data(reader: &mut Reader) -> Option<Frame>
     }
 }
 
+// Whether a message of these parts is within the limits, and plain spaces have no room for it.
+fn wide_data_fits(from: u8, to: u8, number: u64, stamp: u64, body: &Body) -> bool
+    ensures { result ≡ is_framed false ((from, (to, number)), (stamp, body.now)) }
+{
+    data_fits(from, to, number, stamp, body) && !is_plain_body(body)
+}
+
+// Any other message, with the reader behind it. (The reader isn't borrowed, so in the caller it
+// stays in registers.)
+#[inline(never)]
+fn read_wide_data<'a>(start: Reader<'a>) -> (Option<Frame>, Reader<'a>)
+    ensures { Takes (data_at false) start.entry result.1 (option_map plain result.0) }
+{
+    let mut reader = start;
+    let (from, (to, number)) = read_head(&mut reader);
+    let stamp = reader.u64();
+    let body = read_body(&mut reader, Version::Second);
+    if wide_data_fits(from, to, number, stamp, &body) {
+        let message = Data {
+            from,
+            to,
+            number,
+            stamp,
+            body,
+        };
+        (Some(Frame::Data(message)), reader)
+    } else {
+        (None, reader)
+    }
+}
+
 #[tactic(auto, unfolding(crate::specs::Grammar::ack_at, crate::specs::Formats::known), using(crate::proofs::Joins::tested))]
+#[inline(always)]
 fn read_ack(reader: &mut Reader) -> Option<Ack>
     ensures { Takes ack_at reader.old reader.new (option_map plain_ack result) }
 {
@@ -183,11 +227,17 @@ fn read_ack(reader: &mut Reader) -> Option<Ack>
 }
 
 #[tactic(auto, unfolding(crate::specs::Grammar::frame), using(crate::proofs::Joins::tags))]
+#[inline(always)]
 fn read_frame(reader: &mut Reader) -> Option<Frame>
     ensures { Takes frame.read reader.old reader.new (option_map plain result) }
 {
     match reader.u8() {
         DATA => read_data(reader),
+        WIDE_DATA => {
+            let (frame, rest) = read_wide_data(*reader);
+            *reader = rest;
+            frame
+        }
         ACK => read_ack(reader).map(Frame::Ack),
         _ => None,
     }

@@ -1,7 +1,10 @@
 //! Tag bytes. A value that may be one of several kinds begins with a byte that says which.
 
-/// Before a message.
+/// Before a message for which plain spaces have room.
 pub const DATA: u8 = 0x45;
+
+/// Before any other message.
+pub const WIDE_DATA: u8 = 0x46;
 
 /// Before an acknowledgement.
 pub const ACK: u8 = 0x42;

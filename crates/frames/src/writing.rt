@@ -13,11 +13,12 @@ ghost use Rattle.msg.specs.Frames.{plain, plain_data, plain_ack};
 
 use crate::tags::{
     ABSENT, ACK, BEGIN, BLACK, DATA, ENDED, GET, GIVE, MARK, PRESENT, PUT, SWEPT, TOKEN, WHITE,
+    WIDE_DATA,
 };
 use byteorder::{BigEndian, ByteOrder};
 use codec::{Piece, Writer};
 use ids::{Ref, Refusal};
-use msg::{Ack, Body, Colour, Data, Frame, Token};
+use msg::{Ack, Body, Colour, Data, Frame, Token, is_plain_body};
 use std::alloc::Global;
 
 // A reference after a tag.
@@ -224,12 +225,16 @@ fn add_head(piece: &mut Piece, from: u8, to: u8, number: u64)
     piece.u64(number);
 }
 
-#[tactic(auto, unfolding(crate::specs::Grammar::frame, crate::specs::Formats::sent), using(crate::proofs::Joins::gained))]
+#[tactic(auto, unfolding(crate::specs::Grammar::frame, crate::specs::Formats::framed), using(crate::proofs::Joins::gained))]
 fn add_data(piece: &mut Piece, message: &Data)
     requires { length piece.old + 48 ≤ GREATEST_PIECE }
     ensures { Adds frame 48 piece.old piece.new (plain_data message.now) }
 {
-    piece.u8(DATA);
+    piece.u8(if is_plain_body(&message.body) {
+        DATA
+    } else {
+        WIDE_DATA
+    });
     add_head(piece, message.from, message.to, message.number);
     piece.u64(message.stamp);
     add_body(piece, message.body);

@@ -6,7 +6,6 @@ use Rattle.std.proofs.lemmas.Bool.{lt-ltb, le-leb}
 use Rattle.std.proofs.lemmas.Bool.Decides.{nat_tests}
 use Rattle.std.proofs.lemmas.List.{map_push, map-set, length-map}
 use Rattle.std.proofs.Math.ListN.{get_or-map}
-use Rattle.ids.specs.declared.limits.TheConstants.{GREATEST_PLACES}
 use Rattle.ids.specs.declared.names.Ref.{Ref}
 use Rattle.arena.specs.Arena.{Arena, plain, next_key, inserted, is_full}
 use Rattle.arena_slot.specs.Slot.{generation_of}
@@ -84,16 +83,16 @@ inserts slots (k ∷ ks) limit o =
     }
 
 -- the insertion, if there is room, has the effect of Alloc
-pub heap_alloc-stored : (h : Inside) (own cycle register places : ℕ)
-    → register < length h.registers.items → places ≤ GREATEST_PLACES → is_full h.objects ≡ false
-    → heap_alloc h.objects.limit own cycle (view_of h).heap register places
+pub heap_alloc-stored : (h : Inside) (most own cycle register places : ℕ)
+    → register < length h.registers.items → places ≤ most → is_full h.objects ≡ false
+    → heap_alloc h.objects.limit most own cycle (view_of h).heap register places
     ≡ Ok
     (heap_with h (new_object cycle places) register (next_reference own h), next_reference own h)
 unfolding heap_alloc
-heap_alloc-stored h own cycle register places there few room =
+heap_alloc-stored h most own cycle register places there few room =
     let a : Arena Object = h.objects in
     let i = inserts a.slots a.free a.limit (new_object cycle places) in
-    let passed : AllPass (alloc_tests a.limit (view_of h).heap register places) =
+    let passed : AllPass (alloc_tests a.limit most (view_of h).heap register places) =
     (lt-ltb _ _ there, (le-leb _ _ few, (has_slot-stored h room, tt))) in
-    guarded-pass (alloc_tests a.limit (view_of h).heap register places) _ passed
+    guarded-pass (alloc_tests a.limit most (view_of h).heap register places) _ passed
     ∙ rw (i.slots, i.free, i.slot, i.generation)

@@ -1,5 +1,6 @@
 pub mod Heap
 pub mod Parts
-pub mod Places
+pub mod Objects
+pub mod Payload
 pub mod Stored
 pub mod Tests

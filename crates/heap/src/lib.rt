@@ -5,7 +5,7 @@
 
 mod heap;
 mod object;
-mod places;
+mod payload;
 
 pub use arena::{FreeSlots, Slot, Slots};
 pub use heap::{Heap, HeapParts};

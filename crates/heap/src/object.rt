@@ -1,61 +1,79 @@
-//! An object: the program's word, its places, and the cycle that marked it. The mark is a cycle's
-//! number, so a new cycle makes all objects white without touching any.
+//! An object: the program's word, its bytes, its places, and the cycle that marked it. The mark is a
+//! cycle's number, so a new cycle makes all objects white without touching any.
 ghost use Rattle.std.specs.Prelude.{◌≡◌, ℕ, ◌≤◌, ◌==◌, not, [], ◌∷◌, nat_lt, length};
 ghost use Rattle.std.specs.Prelude.{slice_index_or, slice_set};
-ghost use Rattle.std.specs.Prelude.{IfOk, IfErr, None, IsSome, IfSome, ◌↔◌};
-ghost use Rattle.ids.specs.declared.limits.TheConstants.{GREATEST_PLACES};
+ghost use Rattle.std.specs.Prelude.{OnOk, OnErr, IfOk, IfErr, None, IsSome, IfSome, ◌↔◌};
+ghost use Rattle.ids.specs.declared.limits.TheConstants.{GREATEST_BYTES, GREATEST_PLACES};
 ghost use Rattle.ids.specs.declared.refusal.Refusal.TheVariants.{Memory, NoField};
 ghost use Rattle.model.specs.Checks.{guarded};
-ghost use Rattle.model.specs.Heaps.{new_object};
+ghost use Rattle.model.specs.Heaps.{new_object, filling, patching};
 ghost use Rattle.model.specs.Shading.{with_mark};
+ghost use Rattle.heap.specs.Objects.{IsBounded};
 
-use crate::places::Places;
-use ids::{GREATEST_PLACES, Ref, Refusal};
+use crate::payload::Payload;
+use ids::{GREATEST_BYTES, GREATEST_PLACES, Ref, Refusal};
 use std::alloc::Global;
 use std::marker::Model;
 
-/// An object: the program's word, its places, at most [`GREATEST_PLACES`] of them, and the cycle
-/// that marked it.
+/// An object: the program's word, its bytes, at most [`GREATEST_BYTES`] of them, its places, at most
+/// [`GREATEST_PLACES`] of them, and the cycle that marked it.
 #[derive(Drop)]
 pub struct Object {
     word: u64,
-    places: Places,
+    payload: Payload,
     mark: u64,
 }
 
 impl Model for Object {
     ghost use Rattle.model.specs.State.{Object};
-    ghost use Rattle.heap.specs.Places.{held_in};
+    ghost use Rattle.heap.specs.Payload.{held_in, bytes_in};
 
     ghost Value = { Object };
 
-    ghost view = { λ o. record { word = o.word; places = held_in o.places; mark = o.mark } };
+    ghost view = { λ o. record {
+      word = o.word;
+      bytes = bytes_in o.payload;
+      places = held_in o.payload;
+      mark = o.mark;
+    } };
 
-    ghost use Rattle.std.specs.Prelude.{◌≤◌, length};
-    ghost use Rattle.ids.specs.declared.limits.TheConstants.{GREATEST_PLACES};
+    ghost use Rattle.heap.specs.Objects.{IsBounded};
 
-    ghost invariant = { λ o. length (held_in o.places) ≤ GREATEST_PLACES };
+    ghost invariant = { λ o. IsBounded (bytes_in o.payload) (held_in o.payload) };
 }
 
 impl Object {
-    /// Makes the object of these parts: its word, the cycle that marked it, and what its places
-    /// hold. `None` if there are more than [`GREATEST_PLACES`]; they are then dropped.
-    pub fn from_parts(word: u64, mark: u64, places: Vec<Option<Ref>>) -> Option<Object>
-        ensures few { IsSome result ↔ (length places.items ≤ GREATEST_PLACES) }
-        ensures made { IfSome result
-            (λ o. o ≡ record { word = word; places = places.items; mark = mark }) }
+    /// Makes the object of these parts: its word, its bytes, the cycle that marked it, and what its
+    /// places hold. `None` if there are more than [`GREATEST_BYTES`] bytes or [`GREATEST_PLACES`]
+    /// places; the parts are then dropped.
+    #[inline(always)]
+    pub fn from_parts(
+        word: u64,
+        bytes: Vec<u8>,
+        mark: u64,
+        places: Vec<Option<Ref>>,
+    ) -> Option<Object>
+        ensures few { IsSome result ↔ IsBounded bytes.items places.items }
+        ensures made { IfSome result (λ o. o ≡ record {
+          word = word;
+          bytes = bytes.items;
+          places = places.items;
+          mark = mark;
+        }) }
     {
-        if places.len() > usize::from(GREATEST_PLACES) {
-            return None;
+        let places_fit = places.len() <= usize::from(GREATEST_PLACES);
+        if places_fit && bytes.len() <= GREATEST_BYTES as usize {
+            Some(Object {
+                word,
+                payload: Payload::of(places, bytes),
+                mark,
+            })
+        } else {
+            None
         }
-        Some(Object {
-            word,
-            places: Places::of(places),
-            mark,
-        })
     }
 
-    /// Makes a new object with this many empty places, marked by this cycle.
+    /// Makes a new object with this many empty places and no bytes, marked by this cycle.
     pub(crate) fn new(alloc: Global, cycle: u64, places: u8) -> Result<Object, Refusal>
         requires { places ≤ GREATEST_PLACES }
         ensures made { IfOk result (λ o. o ≡ new_object cycle places) }
@@ -63,7 +81,7 @@ impl Object {
     {
         Ok(Object {
             word: 0,
-            places: Places::empty(alloc, places)?,
+            payload: Payload::empty(alloc, places)?,
             mark: cycle,
         })
     }
@@ -73,7 +91,7 @@ impl Object {
         ensures value { result.now ≡ self.now.places }
         ensures few { length self.now.places ≤ GREATEST_PLACES }
     {
-        self.places.as_slice()
+        self.payload.places()
     }
 
     /// The cycle that marked it.
@@ -95,6 +113,32 @@ impl Object {
         ensures { self.new ≡ record self.old { word = word } }
     {
         self.word = word;
+    }
+
+    /// The bytes.
+    pub fn bytes(&self) -> &[u8]
+        ensures value { result.now ≡ self.now.bytes }
+        ensures few { length self.now.bytes ≤ GREATEST_BYTES }
+    {
+        self.payload.bytes()
+    }
+
+    /// Replaces the bytes. It fails with [`Refusal::Memory`] if there is no memory for them. The
+    /// object is then as it was.
+    pub(crate) fn set_bytes(&mut self, alloc: Global, bytes: &[u8]) -> Result<(), Refusal>
+        requires { length bytes.now ≤ GREATEST_BYTES }
+        ensures done { OnOk result (self.new ≡ filling bytes.now self.old) }
+        ensures refused { IfErr result (λ e. e ≡ Memory) }
+        ensures unchanged { OnErr result (self.new ≡ self.old) }
+    {
+        self.payload.set_bytes(alloc, bytes)
+    }
+
+    /// Overwrites bytes from this offset on. If there are fewer, nothing changes.
+    pub(crate) fn patch(&mut self, offset: u32, bytes: &[u8])
+        ensures { self.new ≡ patching offset bytes.now self.old }
+    {
+        self.payload.patch(offset, bytes);
     }
 
     /// Whether this cycle has marked it.
@@ -121,7 +165,7 @@ impl Object {
         ensures { result ≡ guarded ((nat_lt place (length self.now.places), NoField) ∷ [])
             (slice_index_or self.now.places place None) }
     {
-        match self.places.as_slice().get(place as usize) {
+        match self.payload.places().get(place as usize) {
             Some(reference) => Ok(*reference),
             None => Err(Refusal::NoField),
         }
@@ -136,7 +180,7 @@ impl Object {
         ensures answer { result
             ≡ guarded ((nat_lt place (length self.old.places), NoField) ∷ []) tt }
     {
-        if self.places.set(place, value) {
+        if self.payload.set_place(place, value) {
             Ok(())
         } else {
             Err(Refusal::NoField)

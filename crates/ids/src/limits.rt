@@ -9,14 +9,26 @@ pub const GREATEST_NODES: u8 = 64;
 /// The greatest number of nodes in a space whose nodes were saved in the first version of images.
 pub const FIRST_VERSION_NODES: u8 = 16;
 
-/// The greatest number of registers of a node; the least is 1.
-pub const GREATEST_REGISTERS: u16 = 256;
+/// The greatest number of registers of a node in a plain space; the least is 1.
+pub const PLAIN_REGISTERS: u16 = 256;
 
-/// The greatest number of slots of a node; the least is 1.
-pub const GREATEST_SLOTS: u32 = 1_048_576;
+/// The greatest number of registers of a node in any space; the least is 1.
+pub const GREATEST_REGISTERS: u16 = 65_535;
 
-/// The greatest number of places of an object; they are numbered from 0.
-pub const GREATEST_PLACES: u8 = 8;
+/// The greatest number of slots of a node in a plain space; the least is 1.
+pub const PLAIN_SLOTS: u32 = 1_048_576;
+
+/// The greatest number of slots of a node in any space; the least is 1.
+pub const GREATEST_SLOTS: u32 = 16_777_216;
+
+/// The greatest number of places of an object in a plain space; they are numbered from 0.
+pub const PLAIN_PLACES: u8 = 8;
+
+/// The greatest number of places of an object in any space; they are numbered from 0.
+pub const GREATEST_PLACES: u8 = 255;
+
+/// The greatest number of bytes of an object in any space; in a plain space, objects have none.
+pub const GREATEST_BYTES: u32 = 16_777_216;
 
 /// Counts the objects of a slot: 1 for its first object.
 pub type Generation = u64;
@@ -44,7 +56,7 @@ pub const GREATEST_CYCLE: u64 = 281_474_976_710_656;
 /// acknowledged one.
 pub const WINDOW: u8 = 32;
 
-/// The greatest size of a saved node, in bytes.
+/// The greatest size of a saved node of a plain space, in bytes. Wide spaces have no such limit.
 pub const GREATEST_IMAGE: u64 = 67_108_864;
 
 /// How many events a trace keeps.

@@ -59,10 +59,14 @@ pub enum Refusal {
     Disk,
     /// The device failed, or a reopening was refused, and no reopening has succeeded since.
     Closed,
+    /// An object would have more bytes than the space allows. In a plain space, objects have none.
+    TooManyBytes,
+    /// The object doesn't have all of these bytes.
+    NoBytes,
 }
 
 impl Refusal {
-    /// The number of the refusal in printed texts, 1 to 24.
+    /// The number of the refusal in printed texts, 1 to 26.
     pub fn number(self) -> u8
         ensures { result ≡ number_of self }
     {
@@ -91,6 +95,8 @@ impl Refusal {
             Refusal::ImageTooLarge => 22,
             Refusal::Disk => 23,
             Refusal::Closed => 24,
+            Refusal::TooManyBytes => 25,
+            Refusal::NoBytes => 26,
         }
     }
 
@@ -123,6 +129,8 @@ impl Refusal {
             Refusal::ImageTooLarge => "ImageTooLarge",
             Refusal::Disk => "Disk",
             Refusal::Closed => "Closed",
+            Refusal::TooManyBytes => "TooManyBytes",
+            Refusal::NoBytes => "NoBytes",
         }
     }
 }

@@ -1,24 +1,18 @@
 -- A node that has a spelling is well-formed exactly if it meets all conditions of a saved node.
-use Rattle.std.proofs.Common.{◌≡◌, ℕ, ◌-◌, ◌<◌, ◌≤◌, ◌==◌, Bool, true, false, cond, List, ◌∷◌, length}
+use Rattle.std.proofs.Common.{◌≡◌, ℕ, ◌-◌, ◌<◌, ◌≤◌, ◌==◌, Bool, true, false, cond, List, [], ◌∷◌, length}
 use Rattle.std.proofs.Common.{get_or, map, replicate, refl, sym, ◌∙◌, subst, le_refl, arith}
-use Rattle.std.specs.Prelude.{IsTrue, ◌↔◌}
+use Rattle.std.specs.Prelude.{◌↔◌}
 use Rattle.std.specs.List.{insert}
-use Rattle.std.proofs.lemmas.Bool.{and_parts, eqb-true, ltb-true}
+use Rattle.std.proofs.lemmas.Bool.{eqb-true}
 use Rattle.std.proofs.lemmas.List.{length-map, length-replicate}
 use Rattle.std.proofs.lemmas.List.Edits.{length-insert, get_or-insert_at}
-use Rattle.std.proofs.lemmas.List.Elements.{All-from_recursion, All-weaker, All-map}
+use Rattle.std.proofs.lemmas.List.Elements.{All-from_get_or, All-map}
 use Rattle.model.proofs.Lookups.{get_or-replicate_any}
-use Rattle.msg.specs.declared.body.Body.{Body}
-use Rattle.msg.specs.declared.body.Body.TheVariants as body
-use Rattle.msg.specs.declared.body.Message.{Message}
-use Rattle.msg.specs.Limits.{body_fits}
-use Rattle.frames.specs.declared.version.Version.{Version}
-use Rattle.model.specs.References.{IsPlaced, no_message}
+use Rattle.image_parts.specs.declared.layout.Layout.{Layout}
 use Rattle.model.specs.View.{Link, NodeView, no_link, link_to, used}
 use Rattle.model.specs.WellFormed.{AreReports}
 use Rattle.node.specs.Invariant.{AreLinked, IsStanding, links_of}
-use Rattle.image_parts.specs.Grammar.{Stored, Fits, message_format, link_format}
-use Rattle.image_parts.specs.Grammar.{stored_format, lists_format, others_format}
+use Rattle.image_parts.specs.Grammar.{Stored, Fits}
 use Rattle.image_parts.specs.Links.{StoredLink}
 use Rattle.image.specs.Nodes.{link_of, received_of, node_of, Spells}
 use Rattle.image.specs.Conditions.{IsSaved}
@@ -41,6 +35,7 @@ standing_saved n stands =
       messages = λ i k. record {
         stamp = is.links.timely.stamps i k;
         references = (is.links.messages i k).references;
+        place = (is.links.messages i k).place;
       };
       sent = λ i. (is.links.links.links i).used;
       received = is.links.links.numbers;
@@ -62,40 +57,25 @@ reports_are own nodes told false is inside count =
     let none : (i : ℕ) → get_or (replicate nodes 0) i 0 ≡ 0 = λ i. get_or-replicate_any nodes i 0 in
     (length-replicate nodes 0, record { first = none 0; others = λ far. none })
 
-placed : (b : Body) → IsTrue (body_fits b) → IsPlaced b
-placed (body.Put target place r) fits = ltb-true _ _ (and_parts _ _ (and_parts _ _ fits).0).1
-placed (body.Get target place label) fits = ltb-true _ _ (and_parts _ _ fits).1
-placed b fits = tt
+no_stored : StoredLink
+no_stored = record { base = 0; unacknowledged = []; received = 0 }
 
--- all of its messages count as saved, and may be sent
+-- all of its messages count as saved
 abbrev IsOne : Link → Type 0
-IsOne l = (l.kept ≡ used l) × ((k : ℕ) → IsPlaced (get_or l.unacknowledged k no_message).body)
+IsOne l = l.kept ≡ used l
 
-one_link : (v : Version) (l : StoredLink) → (link_format v).IsWithin l → IsOne (link_of l)
-unfolding link_format message_format
-one_link v l is =
-    let P = (message_format v).IsWithin in
-    let Q = λ (x : Message). IsPlaced x.body in
-    let all = All-weaker P Q (λ x within. placed x.body within.1.1) l.unacknowledged
-    (All-from_recursion P l.unacknowledged is.1.0.1.1) in
-    (refl, at_any Q no_message tt l.unacknowledged all)
-
-each_link : (v : Version) (s : Stored) → Fits v s → (i : ℕ) → IsOne (link_to (node_of s) i)
-unfolding stored_format lists_format others_format
-each_link v s fits =
-    let P = (link_format v).IsWithin in
-    let all = All-weaker P (λ l. IsOne (link_of l)) (one_link v) s.links
-    (All-from_recursion P s.links fits.within.1.1.1.1.1.1) in
-    let none : IsOne no_link = (refl, λ k. tt) in
-    at_any IsOne no_link none (insert (map link_of s.links) s.head.own no_link)
-    (all_insert IsOne no_link none (map link_of s.links) s.head.own
-    (All-map IsOne link_of s.links all))
+each_link : (l : Layout) (s : Stored) (i : ℕ) → IsOne (link_to (node_of l s) i)
+each_link l s =
+    at_any IsOne no_link refl (insert (map link_of s.links) s.head.own no_link)
+    (all_insert IsOne no_link refl (map link_of s.links) s.head.own
+    (All-map IsOne link_of s.links (All-from_get_or (λ k. IsOne (link_of k)) s.links no_stored
+    (λ _ _. refl))))
 
 -- ---- the node that the image says
 
-module _ (v : Version) (s : Stored) (fits : Fits v s) (saved : IsSaved (node_of s)) where
+module _ (v : Layout) (s : Stored) (fits : Fits v s) (saved : IsSaved (node_of v s)) where
   abbrev n : NodeView
-  n = node_of s
+  n = node_of v s
 
   abbrev own : ℕ
   own = s.head.own
@@ -120,7 +100,7 @@ module _ (v : Version) (s : Stored) (fits : Fits v s) (saved : IsSaved (node_of 
           received = got ∙ sym sent;
           acked = got ∙ sym sent;
           links = λ i.
-              let kept = (each_link v s fits i).0 in
+              let kept = each_link v s i in
               record {
                 base = omega (arith, kept);
                 kept = omega (arith, kept);
@@ -132,7 +112,7 @@ module _ (v : Version) (s : Stored) (fits : Fits v s) (saved : IsSaved (node_of 
         messages = λ i k. record {
           stamp = omega (arith, (saved.messages i k).stamp, saved.phases.within);
           references = (saved.messages i k).references;
-          place = (each_link v s fits i).1 k;
+          place = (saved.messages i k).place;
         };
         timely = record {
           unused = get_or-insert_at (map link_of s.links) own no_link no_link (inside link_of);
@@ -141,7 +121,7 @@ module _ (v : Version) (s : Stored) (fits : Fits v s) (saved : IsSaved (node_of 
         };
       }
 
-  pub saved_standing : IsStanding (node_of s)
+  pub saved_standing : IsStanding (node_of v s)
   saved_standing =
       let reports = reports_are own s.head.nodes s.reports (own == 0) refl (own_below v s fits)
       (reports_count v s fits) in
@@ -165,7 +145,7 @@ module _ (v : Version) (s : Stored) (fits : Fits v s) (saved : IsSaved (node_of 
         slots = saved.slots;
       }
 
-pub saved_both : (v : Version) (bytes : List ℕ) (n : NodeView) → Spells v bytes n
+pub saved_both : (v : Layout) (bytes : List ℕ) (n : NodeView) → Spells v bytes n
     → (IsSaved n ↔ IsStanding n)
 saved_both v bytes n p = (
   λ saved.

@@ -1,5 +1,6 @@
 pub mod Conditions
 pub mod Elements
+pub mod Limits
 pub mod Made
 mod Rows
 pub mod Logged

@@ -2,11 +2,11 @@
 -- too long: that of the node as it is after a save.
 use Rattle.std.proofs.Common.{◌≡◌, ℕ, ◌-◌, ◌<◌, ◌≤◌, ◌==◌, Bool, true, false, cond, List, [], ◌∷◌, length}
 use Rattle.std.proofs.Common.{map, drop, replicate, get_or, Option, Some, None, refl, sym, ap, ◌∙◌}
-use Rattle.std.proofs.Common.{arith}
+use Rattle.std.proofs.Common.{arith, subst}
 use Rattle.std.specs.Prelude.{option_to_list, IsTrue, Result, Ok, Err, OnOk}
 use Rattle.std.specs.List.{AllByRecursion, zip, remove}
-use Rattle.std.proofs.lemmas.Bool.{and_from, eqb-false, lt-ltb, le-leb}
-use Rattle.std.proofs.lemmas.List.{length-drop, length-replicate, ext_get_or}
+use Rattle.std.proofs.lemmas.Bool.{and_from, cond_both, eqb-false, lt-ltb, le-leb}
+use Rattle.std.proofs.lemmas.List.{length-drop, length-replicate, ext_get_or, nil_from_length}
 use Rattle.std.proofs.lemmas.List.Edits.{length-remove}
 use Rattle.std.proofs.lemmas.List.Elements.{All-from_get_or, All-map, recursion_from_All}
 use Rattle.std.proofs.lemmas.Simd.{map-map}
@@ -14,7 +14,7 @@ use Rattle.std.proofs.lemmas.Slice.Zip.{length-zip, get_or-zip, firsts-zip, seco
 use Rattle.ids.specs.Limits.{Shaped, IsShape, reference_fits}
 use Rattle.ids.specs.declared.names.Ref.{Ref}
 use Rattle.ids.specs.declared.limits.TheConstants.{GREATEST_NODES, GREATEST_SLOTS, GREATEST_PLACES}
-use Rattle.ids.specs.declared.limits.TheConstants.{GREATEST_IMAGE}
+use Rattle.ids.specs.declared.limits.TheConstants.{GREATEST_BYTES, GREATEST_IMAGE, PLAIN_PLACES}
 use Rattle.ids.specs.declared.refusal.Refusal.{Refusal}
 use Rattle.heap.specs.Heap.{slot_of}
 use Rattle.model.proofs.Lookups.{get_or-replicate_any}
@@ -29,20 +29,27 @@ use Rattle.msg.specs.declared.body.Body.{Body}
 use Rattle.msg.specs.declared.body.Body.TheVariants as body
 use Rattle.msg.specs.declared.body.Message.{Message}
 use Rattle.msg.specs.declared.body.Token.{Token}
+use Rattle.frames.specs.declared.version.Version.{Version}
 use Rattle.frames.specs.declared.version.Version.TheVariants.{Second}
 use Rattle.msg.specs.Limits.{optional_fits, place_fits, body_fits}
 use Rattle.node.specs.Invariant.{AllSendable, IsNode, IsStanding}
 use Rattle.frames.proofs.Written.{any_colour, any_token, any_reference, any_optional, any_body}
 use Rattle.codec.proofs.Growing.{each}
-use Rattle.codec.specs.Formats.{number2, number4, number8, signed8}
+use Rattle.codec.specs.Formats.{number2, number4, number8, signed8, bytes4}
 use Rattle.image_parts.specs.Grammar.{Fits, near, near_optional, letter_format, slot_format}
-use Rattle.image_parts.specs.Grammar.{object_format, places_format, width_format, message_format}
+use Rattle.image_parts.specs.Grammar.{bytes_format, object_format, places_format, width_format}
+use Rattle.image_parts.specs.Grammar.{message_format}
 use Rattle.image_parts.specs.Grammar.{link_format, held_format, nodes_format, head_format}
 use Rattle.image_parts.specs.Grammar.{phases_format, ring_format, front_format, told_format, slots_format}
 use Rattle.image_parts.specs.Grammar.{others_format, lists_format, stored_format, front_of, told_of}
 use Rattle.image_parts.specs.Grammar.{slots_of, others_of}
+use Rattle.image_parts.specs.Grammar.{image_format, start_format, layout_format}
+use Rattle.image_parts.specs.Layouts.{layout_for, shape_of, widths, is_wide}
+use Rattle.image_parts.specs.declared.layout.Layout.{Layout}
+use Rattle.image_parts.specs.declared.layout.Layout.TheVariants as layout
 use Rattle.image_parts.specs.Stored.{stored_slot, stored_link, stored_links}
-use Rattle.image.specs.Images.{stored_by, image_of}
+use Rattle.image.specs.Images.{IsTooLarge, stored_by, image_of}
+use Rattle.image.proofs.Spelled.{wide_for, wide_within}
 use Rattle.image.specs.Nodes.{link_of, received_of, node_of, IsImageOf}
 use Rattle.image.proofs.Conditions.{standing_saved}
 use Rattle.image_parts.proofs.Kept.{count_stored, stored_there}
@@ -67,15 +74,38 @@ module _ (shape : Shaped) (sizes : IsShape shape) where
 
   -- ---- slots
 
-  one_slot : (cycle : ℕ) (s : Slot) → IsSlotOf cycle s
+  -- only in wide spaces objects have bytes
+  all_bytes : (wide : Bool) → shape.wide ≡ wide → (bytes : List ℕ) → length bytes ≤ shape.bytes
+      → (bytes_format wide).IsWithin bytes
+  unfolding bytes4 number4
+  all_bytes true is bytes few =
+      ((tt, refl), le-leb (length bytes) GREATEST_BYTES (omega (arith, few, sizes.most_bytes)))
+  all_bytes false is bytes few =
+      let none = (sizes.plain is).bytes in nil_from_length bytes (omega (arith, few, none))
+
+  one_slot : (cycle : ℕ) (s : Slot) → IsSlotOf shape cycle s
       → ((g : ℕ) (o : Object) (j : ℕ) → s ≡ Occupied g o
       → IfAny (IsWithin shape) (get_or o.places j None))
-      → (slot_format Second).IsWithin (stored_slot s)
+      → (slot_format shape.wide Second).IsWithin (stored_slot s)
   unfolding slot_format object_format places_format width_format number4 number8
   one_slot cycle (Free g) is places = tt
   one_slot cycle (Occupied g o) is places =
-      let each = optionals o.places (λ j. places g o j refl) in
-      (tt, (tt, (tt, ((tt, le-leb _ _ is.places), (refl, each)))))
+      let each = optionals o.places (λ j. places g o j refl) in (
+        tt,
+        (
+          tt,
+          (
+            tt,
+            (
+              all_bytes shape.wide refl o.bytes is.bytes,
+              (
+                (tt, le-leb _ _ (omega (arith, is.places, sizes.most_places))),
+                (refl, each),
+              ),
+            ),
+          ),
+        ),
+      )
   one_slot cycle Retired is places = tt
 
   -- ---- messages
@@ -85,11 +115,12 @@ module _ (shape : Shaped) (sizes : IsShape shape) where
   any_near None is = refl
   any_near (Some r) is = reference r is.0
 
-  one_place : (target : Ref) (place : ℕ) → IsWithin shape target → place < GREATEST_PLACES
+  one_place : (target : Ref) (place : ℕ) → IsWithin shape target → place < shape.places
       → IsTrue (place_fits target place)
-  one_place target place is placed = and_from _ _ (reference target is) (lt-ltb _ _ placed)
+  one_place target place is placed = and_from _ _ (reference target is)
+      (lt-ltb place GREATEST_PLACES (omega (arith, placed, sizes.most_places)))
 
-  one_body : (b : Body) → AllByRecursion (IsWithin shape) (mentioned b) → IsPlaced b
+  one_body : (b : Body) → AllByRecursion (IsWithin shape) (mentioned b) → IsPlaced shape b
       → IsTrue (body_fits b)
   one_body body.Begin is placed = refl
   one_body (body.Token token) is placed = refl
@@ -151,6 +182,44 @@ reports_again own nodes rs false e len some is =
     ext_get_or 0 (replicate nodes 0) rs (length-replicate nodes 0 ∙ sym len)
     (λ i _. get_or-replicate_any nodes i 0 ∙ sym (is.others (eqb-false own 0 e) i))
 
+-- ---- the layout
+
+-- the shape that the head of an image gives, in the layout of a node of the shape
+shape_again : (shape : Shaped) → IsShape shape → (own : ℕ)
+    → shape_of (layout_for shape) (record {
+      nodes = shape.nodes;
+      own = own;
+      registers = shape.registers;
+      slots = shape.slots;
+    }) ≡ shape
+shape_again shape sizes own = by shape.wide refl
+  where
+    by : (wide : Bool) → shape.wide ≡ wide
+        → shape_of (cond wide (layout.Wide shape.places shape.bytes) layout.Second) (record {
+          nodes = shape.nodes;
+          own = own;
+          registers = shape.registers;
+          slots = shape.slots;
+        }) ≡ shape
+    by true is = ap (λ (b : Bool). record shape { wide = b }) (sym is)
+    by false is =
+        let plain = sizes.plain is in
+        ap (λ (b : Bool). record shape { wide = b; places = PLAIN_PLACES; bytes = 0 }) (sym is)
+        ∙ ap (λ (p : ℕ). record shape { places = p; bytes = 0 }) (sym plain.places)
+        ∙ ap (λ (b : ℕ). record shape { bytes = b }) (sym plain.bytes)
+
+pub widths_for : (shape : Shaped) → widths (layout_for shape) ≡ Second
+widths_for shape =
+    cond_both shape.wide (layout.Wide shape.places shape.bytes) layout.Second
+    (λ (l : Layout). widths l ≡ Second)
+    (λ _. refl) (λ _. refl)
+
+started : (l : Layout) → start_format.IsWithin l
+unfolding start_format layout_format number4
+started layout.First = ((tt, (tt, tt)), refl)
+started layout.Second = ((tt, (tt, tt)), refl)
+started (layout.Wide places bytes) = ((tt, (tt, (tt, tt))), refl)
+
 -- ---- the node
 
 module _ (n : NodeView) (is : IsNode n) where
@@ -162,13 +231,18 @@ module _ (n : NodeView) (is : IsNode n) where
       let width = is.links.width in
       omega (arith, is.own, width)
 
-  node_again : node_of (stored_by n) ≡ kept_view n
+  -- the layout in which it is written
+  abbrev layout_of : Layout
+  layout_of = layout_for n.local.shape
+
+  node_again : node_of layout_of (stored_by n) ≡ kept_view n
   node_again =
       let p = n.local in
       let xs = stored_links n.links p.got in
       let inside : p.own < length xs =
       omega (arith, own_inside, count_stored n.links p.got same_width) in
-      let there = stored_there n.links p.got p.own (stored_link (no_link, 0)) own_inside same_width in
+      let there = stored_there n.links p.got p.own
+      (stored_link (no_link, 0)) own_inside same_width in
       let slots = slots_again p.heap.slots in
       let links =
       put_back link_of p.own xs (stored_link (no_link, 0)) no_link inside
@@ -184,7 +258,9 @@ module _ (n : NodeView) (is : IsNode n) where
       let reports =
       reports_again p.own p.shape.nodes p.phases.reports (p.own == 0) refl is.phases.reports
       (omega (arith, is.own)) is.phases.heard in
-      rw (slots, links, got, reports) refl
+      rw (slots, links, got, reports)
+      (ap (λ (z : Shaped). record (kept_view n) { local = record p { shape = z } })
+      (shape_again p.shape is.shape p.own))
 
   sized : (front_format Second).IsWithin (front_of (stored_by n))
   unfolding front_format head_format nodes_format phases_format ring_format number2 number4 number8 signed8
@@ -195,7 +271,7 @@ module _ (n : NodeView) (is : IsNode n) where
         ((tt, (tt, (tt, tt))), (any_colour ring.colour, (tt, (tt, any_held ring.token)))),
       )
 
-  listed : (lists_format Second (front_of (stored_by n))).IsWithin
+  listed : (lists_format n.local.shape.wide Second (front_of (stored_by n))).IsWithin
       (told_of (stored_by n), (slots_of (stored_by n), others_of (stored_by n)))
   unfolding lists_format told_format slots_format others_format letter_format number4 number8
   listed =
@@ -204,7 +280,7 @@ module _ (n : NodeView) (is : IsNode n) where
       let told = told_count (p.own == 0) p.shape.nodes p.phases.reports is.phases.reports in
       let reports = every number8.IsWithin (λ _. tt) (stored_by n).reports in
       let registers = optionals p.shape is.shape heap.registers is.references.registers in
-      let W = (slot_format Second).IsWithin in
+      let W = (slot_format p.shape.wide Second).IsWithin in
       let slots : AllByRecursion W (map stored_slot heap.slots) =
       recursion_from_All W _ (All-map W stored_slot heap.slots
       (All-from_get_or (λ s. W (stored_slot s)) heap.slots Retired (λ k _.
@@ -236,22 +312,32 @@ module _ (n : NodeView) (is : IsNode n) where
         ),
       )
 
-  fits : (stored_format Second).IsWide (stored_by n) → Fits Second (stored_by n)
-  unfolding stored_format
-  fits wide = record { wide = wide; within = (sized, listed) }
+  fits : image_format.IsWide (layout_of, stored_by n) → Fits layout_of (stored_by n)
+  unfolding image_format stored_format
+  fits wide = record {
+    wide = wide;
+    within = (
+      started layout_of,
+      subst (λ (v : Version). (stored_format (is_wide layout_of) v).IsWithin (stored_by n))
+          (sym (widths_for n.local.shape))
+          (subst (λ (w : Bool). (stored_format w Second).IsWithin (stored_by n))
+          (sym (wide_for n.local.shape)) (sized, listed)),
+    );
+  }
 
   -- what was written within the limit
   pub is_saved : {V is_open : Type 0} (r : Result V Refusal) → IsStanding (kept_view n)
-      → OnOk r is_open → (is_open → (stored_format Second).IsWide (stored_by n))
-      → OnOk r (length (image_of n) ≤ GREATEST_IMAGE) → OnOk r (IsImageOf (image_of n) (kept_view n))
+      → OnOk r is_open → (is_open → image_format.IsWide (layout_of, stored_by n))
+      → OnOk r (IsTooLarge n → ⊥)
+      → OnOk r (IsImageOf (image_of n) (kept_view n))
   is_saved (Ok v) stands opened wide short = record {
-    version = Second;
+    layout = layout_of;
     spelled = record {
       says = stored_by n;
       image = record {
         fits = fits (wide opened);
         spelled = refl;
-        within = short;
+        within = wide_within n short;
       };
       node = node_again;
     };

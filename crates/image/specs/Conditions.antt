@@ -9,15 +9,17 @@ use Rattle.cycles.specs.Phases.{IsPhases}
 use Rattle.heap.specs.Heap.{IsSlotted}
 use Rattle.model.specs.State.{got_from}
 use Rattle.model.specs.Steps.{mentioned}
-use Rattle.model.specs.References.{HoldsOnly, IsWithin, no_message}
+use Rattle.model.specs.References.{HoldsOnly, IsPlaced, IsWithin, no_message}
 use Rattle.model.specs.View.{NodeView, link_to, used}
 use Rattle.model.specs.WellFormed.{IsStocked, AreAsked, IsHeld}
 use Rattle.node.specs.Invariant.{IsBalanced}
 
--- a message that isn't of a later cycle, and whose references fit into the shape
+-- a message that isn't of a later cycle, whose references fit into the shape, and whose place an
+-- object of the space may have
 pub record IsTimely (shape : Shaped) (cycle : ℕ) (x : Message) : Type 0 where
   pub stamp : x.stamp ≤ cycle
   pub references : AllByRecursion (IsWithin shape) (mentioned x.body)
+  pub place : IsPlaced shape x.body
 
 pub record IsSaved (n : NodeView) : Type 0 where
   pub shape : IsShape n.local.shape

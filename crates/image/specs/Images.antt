@@ -1,8 +1,8 @@
 -- The bytes of a node's image.
-use Rattle.std.specs.Prelude.{ℕ, ◌==◌, if◌then◌else◌, List, [], map, drop}
+use Rattle.std.specs.Prelude.{ℕ, ◌==◌, if◌then◌else◌, List, [], map, drop, length}
 use Rattle.std.specs.List.{remove}
-use Rattle.frames.specs.declared.version.Version.TheVariants.{Second}
 use Rattle.model.specs.View.{NodeView}
+use Rattle.image_parts.specs.Layouts.{IsTooLong, layout_for}
 use Rattle.image_parts.specs.Stored.{stored_slot, stored_links, phases_by}
 use Rattle.image_parts.specs.Grammar.{Stored, spelling}
 
@@ -27,6 +27,11 @@ stored_by n = record {
   links = remove (stored_links n.links n.local.got) n.local.own;
 }
 
--- the bytes of the node's image, in the second version
+-- the bytes of the node's image: of version 2, or of version 4 in a wide space
 abbrev pub image_of : NodeView → List ℕ
-image_of n = spelling Second (stored_by n)
+image_of n = spelling (layout_for n.local.shape) (stored_by n)
+
+-- The node isn't saved: its image is too long, and its space is plain. Each node of a wide space is
+-- saved.
+abbrev pub IsTooLarge : NodeView → Type 0
+IsTooLarge n = IsTooLong n.local.shape.wide (length (image_of n))

@@ -1,20 +1,19 @@
 -- The images of nodes behind which a log of events follows.
-use Rattle.std.specs.Prelude.{◌≡◌, ℕ, List, ◌∷◌, Bool, true, false}
+use Rattle.std.specs.Prelude.{◌≡◌, ℕ, List, Bool, true, false}
 use Rattle.model.specs.View.{NodeView}
 use Rattle.node.specs.Keeping.{WholeNode, alone}
-use Rattle.image_parts.specs.Logs.{begins_logged, logged_spelling}
-use Rattle.image.specs.Images.{stored_by}
+use Rattle.image_parts.specs.Logs.{begins_logged, logged, unlogged}
+use Rattle.image.specs.Images.{image_of}
 use Rattle.image.specs.Nodes.{IsImageOf}
 
 -- the bytes of the node's image, if a log follows it
 abbrev pub logged_image : NodeView → List ℕ
-logged_image n = logged_spelling (stored_by n)
+logged_image n = logged (image_of n)
 
--- the bytes are of version 3, and with version 2 in its place they are an image of the node
+-- the bytes say that a log follows, and without that they are an image of the node
 pub record IsLoggedOf (bytes : List ℕ) (n : NodeView) : Type 0 where
-  pub rest : List ℕ
-  pub is : bytes ≡ 0x4D ∷ 0x52 ∷ 3 ∷ rest
-  pub plain : IsImageOf (0x4D ∷ 0x52 ∷ 2 ∷ rest) n
+  pub begins : begins_logged bytes ≡ true
+  pub plain : IsImageOf (unlogged bytes) n
 
 abbrev pub IsEither : Bool → List ℕ → NodeView → Type 0
 IsEither true bytes n = IsLoggedOf bytes n

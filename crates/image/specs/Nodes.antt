@@ -3,7 +3,8 @@ use Rattle.std.specs.Prelude.{◌≡◌, ℕ, ◌+◌, ◌==◌, if◌then◌els
 use Rattle.std.specs.List.{insert}
 use Rattle.heap.specs.Heap.{slot_of}
 use Rattle.model.specs.View.{Link, NodeView, no_link}
-use Rattle.frames.specs.declared.version.Version.{Version}
+use Rattle.image_parts.specs.Layouts.{shape_of}
+use Rattle.image_parts.specs.declared.layout.Layout.{Layout}
 use Rattle.image_parts.specs.declared.parts.Head.{Head}
 use Rattle.image_parts.specs.Links.{StoredLink}
 use Rattle.image_parts.specs.Grammar.{Stored, IsImage}
@@ -28,16 +29,12 @@ reports_of h told = if h.own == 0 then 0 ∷ told else replicate h.nodes 0
 abbrev pub got_of : Stored → List ℕ
 got_of s = insert (map received_of s.links) s.head.own 0
 
--- The node that the image says. All of its messages and numbers count as saved; it sends itself
--- nothing.
-abbrev pub node_of : Stored → NodeView
-node_of s = record {
+-- The node that an image of this layout says. All of its messages and numbers count as saved; it
+-- sends itself nothing.
+abbrev pub node_of : Layout → Stored → NodeView
+node_of l s = record {
   local = record {
-    shape = record {
-      nodes = s.head.nodes;
-      registers = s.head.registers;
-      slots = s.head.slots;
-    };
+    shape = shape_of l s.head;
     own = s.head.own;
     heap = record {
       slots = map slot_of s.slots;
@@ -61,16 +58,16 @@ node_of s = record {
   acks = got_of s;
 }
 
--- the bytes spell the node, in this version
-pub record Spells (v : Version) (bytes : List ℕ) (n : NodeView) : Type 0 where
+-- the bytes spell the node, in this layout
+pub record Spells (l : Layout) (bytes : List ℕ) (n : NodeView) : Type 0 where
   pub says : Stored
-  pub image : IsImage bytes v says
-  pub node : node_of says ≡ n
+  pub image : IsImage bytes l says
+  pub node : node_of l says ≡ n
 
 -- the bytes are an image of the node: they spell it, and it meets the conditions of a saved node
 pub record IsImageOf (bytes : List ℕ) (n : NodeView) : Type 0 where
-  pub version : Version
-  pub spelled : Spells version bytes n
+  pub layout : Layout
+  pub spelled : Spells layout bytes n
   pub saved : IsSaved n
 
 -- some bytes are an image of the node

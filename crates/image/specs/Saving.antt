@@ -1,11 +1,10 @@
 -- What a call that writes a node's image promises.
-use Rattle.std.specs.Prelude.{◌≡◌, ◌≢◌, ◌<◌, ◌≤◌, ◌++◌, List, ℕ, length, Result, IfErr, IfOk, OnOk}
+use Rattle.std.specs.Prelude.{◌≡◌, ◌≢◌, ◌++◌, List, ℕ, Result, IfErr, IfOk, OnOk}
 use Rattle.std.specs.Global.{Vec}
-use Rattle.ids.specs.declared.limits.TheConstants.{GREATEST_IMAGE}
 use Rattle.ids.specs.declared.refusal.Refusal.{Refusal}
 use Rattle.ids.specs.declared.refusal.Refusal.TheVariants.{ImageTooLarge, Memory}
 use Rattle.model.specs.View.{NodeView, kept_view}
-use Rattle.image.specs.Images.{image_of}
+use Rattle.image.specs.Images.{IsTooLarge, image_of}
 use Rattle.image.specs.Nodes.{IsImageOf}
 
 -- Behind the front are the bytes of the node's image, which say the node as it is once it is saved.
@@ -14,5 +13,5 @@ pub record WritesImage (front : List ℕ) (n : NodeView) (r : Result (Vec ℕ) R
   pub written : IfOk r (λ v. v.items ≡ front ++ image_of n)
   pub image : OnOk r (IsImageOf (image_of n) (kept_view n))
   pub refused : IfErr r (λ e. e ≢ Memory
-      → (e ≡ ImageTooLarge) × (GREATEST_IMAGE < length (image_of n)))
-  pub last : IfErr r (λ e. e ≡ Memory → length (image_of n) ≤ GREATEST_IMAGE)
+      → (e ≡ ImageTooLarge) × IsTooLarge n)
+  pub last : IfErr r (λ e. e ≡ Memory → IsTooLarge n → ⊥)

@@ -2,11 +2,15 @@
 use Rattle.std.specs.Prelude.{◌≡◌, ℕ, List}
 use Rattle.model.specs.View.{kept_view}
 use Rattle.node.specs.Keeping.{WholeNode, alone}
-use Rattle.image.specs.Images.{image_of}
+use Rattle.image.specs.Images.{IsTooLarge, image_of}
 use Rattle.image.specs.Nodes.{IsImageOf}
 
 abbrev pub whole_image : WholeNode → List ℕ
 whole_image n = image_of n.core
+
+-- the node isn't saved, since its image is too long for its kind of space
+abbrev pub IsWholeTooLarge : WholeNode → Type 0
+IsWholeTooLarge n = IsTooLarge n.core
 
 -- the bytes are read as the node
 abbrev pub IsWholeOf : List ℕ → WholeNode → Type 0

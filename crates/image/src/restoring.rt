@@ -1,9 +1,11 @@
 //! Makes a node of what its image says. Everything that it sent and received counts as saved, since
 //! images are written only of nodes that are being saved.
-ghost use Rattle.std.specs.Prelude.{◌≡◌, ◌≢◌, ◌≤◌, length, map, IfOk, IfErr, IsTrue, OnOk};
+ghost use Rattle.std.specs.Prelude.{◌≡◌, ◌≢◌, ◌≤◌, ◌↔◌, length, map, IfOk, IfErr, IfSome, IsSome};
+ghost use Rattle.std.specs.Prelude.{IsTrue, OnOk};
 ghost use Rattle.std.specs.List.{insert};
 ghost use Rattle.ids.specs.declared.refusal.Refusal.TheVariants.{BadImage, Memory};
-ghost use Rattle.frames.specs.declared.version.Version.{Version};
+ghost use Rattle.ids.specs.Limits.{IsShape};
+ghost use Rattle.image_parts.specs.Layouts.{IsTooLong, says_wide, shape_of};
 ghost use Rattle.model.specs.View.{NodeView, no_link};
 ghost use Rattle.link.specs.Parts.{link_given, taken_given};
 ghost use Rattle.node.specs.Invariant.{IsStanding};
@@ -16,27 +18,31 @@ ghost use Rattle.image_parts.specs.Parts.{stored_of};
 ghost use Rattle.image.specs.Logged.{IsAnyImageOf, IsLoggedOf};
 
 use cycles::Phases;
-use ids::{GREATEST_IMAGE, Refusal, Shape};
-use image_parts::{Head, StoredLink, StoredNode, begins_logged, whole, whole_logged};
+use ids::{Refusal, Shape};
+use image_parts::{
+    Head, Layout, StoredLink, StoredNode, begins_logged, is_too_long, whole, whole_logged,
+};
 use link::LinkParts;
 use node::{Core, Node, NodeParts};
 use std::alloc::Global;
 use std::collections::VecDeque;
 
-/// The node whose image the bytes are, all of them, in either version. All that it sent and
+/// The node whose image the bytes are, all of them, in any layout. All that it sent and
 /// received counts as held by a saved state, and it keeps no early messages. Memory and time are
 /// proportional to the number of bytes.
 ///
 /// # Errors
 ///
 /// [`Refusal::BadImage`] if the bytes are no image: they spell no node, or one that contradicts
-/// itself, or there are more than [`GREATEST_IMAGE`](ids::GREATEST_IMAGE) of them.
-/// [`Refusal::Memory`] if an allocation fails.
+/// itself, or there are more than [`GREATEST_IMAGE`](ids::GREATEST_IMAGE) of them and the node's
+/// space is plain. The number of bytes is tested first. [`Refusal::Memory`] if an allocation fails.
 pub fn from_bytes(alloc: Global, bytes: &[u8]) -> Result<Node, Refusal>
     ensures read { IfOk result (λ n. IsImageOf bytes.now n.core) }
     ensures alone { IfOk result (λ n. n ≡ alone n.core) }
     ensures refused { IfErr result (λ e. e ≢ Memory
         → (e ≡ BadImage) × ((n : NodeView) → IsImageOf bytes.now n → ⊥)) }
+    ensures last { IfErr result (λ e. e ≡ Memory
+        → IsTooLong (says_wide bytes.now) (length bytes.now) → ⊥) }
 {
     let core = core_from_bytes(alloc, bytes)?;
     Node::of(alloc, core)
@@ -48,21 +54,25 @@ pub fn core_from_bytes(alloc: Global, bytes: &[u8]) -> Result<Core, Refusal>
     ensures read { IfOk result (λ n. IsImageOf bytes.now n) }
     ensures refused { IfErr result (λ e. e ≢ Memory
         → (e ≡ BadImage) × ((n : NodeView) → IsImageOf bytes.now n → ⊥)) }
+    ensures last { IfErr result (λ e. e ≡ Memory
+        → IsTooLong (says_wide bytes.now) (length bytes.now) → ⊥) }
 {
-    if bytes.len() > GREATEST_IMAGE as usize {
+    if is_too_long(bytes) {
         return Err(Refusal::BadImage);
     }
-    let (_version, image) = whole(alloc, bytes)?;
-    restored(alloc, image)
+    let (layout, image) = whole(alloc, bytes)?;
+    restored(alloc, layout, image)
 }
 
-/// The node whose image the bytes are, if a log of events may follow the image. It reads version 3
-/// and, as [`from_bytes`] does, the others. It fails as that does.
+/// The node whose image the bytes are, if a log of events may follow the image. It reads versions 3
+/// and 5 and, as [`from_bytes`] does, the others. It fails as that does.
 pub fn from_any_bytes(alloc: Global, bytes: &[u8]) -> Result<Node, Refusal>
     ensures read { IfOk result (λ n. IsAnyImageOf bytes.now n.core) }
     ensures alone { IfOk result (λ n. n ≡ alone n.core) }
     ensures refused { IfErr result (λ e. e ≢ Memory
         → (e ≡ BadImage) × ((n : NodeView) → IsAnyImageOf bytes.now n → ⊥)) }
+    ensures last { IfErr result (λ e. e ≡ Memory
+        → IsTooLong (says_wide bytes.now) (length bytes.now) → ⊥) }
 {
     let core = core_from_any_bytes(alloc, bytes)?;
     Node::of(alloc, core)
@@ -72,6 +82,8 @@ fn core_from_any_bytes(alloc: Global, bytes: &[u8]) -> Result<Core, Refusal>
     ensures read { IfOk result (λ n. IsAnyImageOf bytes.now n) }
     ensures refused { IfErr result (λ e. e ≢ Memory
         → (e ≡ BadImage) × ((n : NodeView) → IsAnyImageOf bytes.now n → ⊥)) }
+    ensures last { IfErr result (λ e. e ≡ Memory
+        → IsTooLong (says_wide bytes.now) (length bytes.now) → ⊥) }
 {
     if begins_logged(bytes) {
         core_from_logged(alloc, bytes)
@@ -85,21 +97,40 @@ fn core_from_logged(alloc: Global, bytes: &[u8]) -> Result<Core, Refusal>
     ensures read { IfOk result (λ n. IsLoggedOf bytes.now n) }
     ensures refused { IfErr result (λ e. e ≢ Memory
         → (e ≡ BadImage) × ((n : NodeView) → IsLoggedOf bytes.now n → ⊥)) }
+    ensures last { IfErr result (λ e. e ≡ Memory
+        → IsTooLong (says_wide bytes.now) (length bytes.now) → ⊥) }
 {
-    if bytes.len() > GREATEST_IMAGE as usize {
+    if is_too_long(bytes) {
         return Err(Refusal::BadImage);
     }
-    let image = whole_logged(alloc, bytes)?;
-    restored(alloc, image)
+    let (layout, image) = whole_logged(alloc, bytes)?;
+    restored(alloc, layout, image)
+}
+
+// The sizes of the space that an image of this layout says, if they are within the limits.
+fn shape_in(layout: Layout, head: Head) -> Option<Shape>
+    ensures within { IsSome result ↔ IsShape (shape_of layout head) }
+    ensures value { IfSome result (λ s. s ≡ shape_of layout head) }
+{
+    let Head {
+        nodes,
+        registers,
+        slots,
+        ..
+    } = head;
+    match layout {
+        Layout::First | Layout::Second => Shape::new(nodes, registers, slots),
+        Layout::Wide { places, bytes } => Shape::wide(nodes, registers, slots, places, bytes),
+    }
 }
 
 // The node that the image says.
-fn restored(alloc: Global, image: StoredNode) -> Result<Core, Refusal>
-    requires { (v : Version) × Fits v (stored_of image) }
-    ensures made { IfOk result (λ n. n ≡ node_of (stored_of image)) }
-    ensures stands { OnOk result (IsStanding (node_of (stored_of image))) }
+fn restored(alloc: Global, layout: Layout, image: StoredNode) -> Result<Core, Refusal>
+    requires { Fits layout (stored_of image) }
+    ensures made { IfOk result (λ n. n ≡ node_of layout (stored_of image)) }
+    ensures stands { OnOk result (IsStanding (node_of layout (stored_of image))) }
     ensures refused { IfErr result (λ e. e ≢ Memory
-        → (e ≡ BadImage) × (IsStanding (node_of (stored_of image)) → ⊥)) }
+        → (e ≡ BadImage) × (IsStanding (node_of layout (stored_of image)) → ⊥)) }
 {
     let StoredNode {
         head,
@@ -110,7 +141,7 @@ fn restored(alloc: Global, image: StoredNode) -> Result<Core, Refusal>
         asked,
         links,
     } = image;
-    let Some(shape) = Shape::new(head.nodes, head.registers, head.slots) else {
+    let Some(shape) = shape_in(layout, head) else {
         return Err(Refusal::BadImage);
     };
     let reports = every_report(alloc, head, reports)?;

@@ -1,17 +1,19 @@
-//! Writes the bytes of a node's image. They go into one writer, whose limit is that of an image. A
-//! node that needs more is refused, and nothing of it is kept.
-ghost use Rattle.std.specs.Prelude.{◌≡◌, ◌≢◌, ◌<◌, ◌≤◌, ◌+◌, ◌++◌, [], length, slice_set};
+//! Writes the bytes of a node's image. They go into one writer. Its limit is that of an image, if
+//! the node's space is plain; a node that needs more is refused, and nothing of it is kept.
+ghost use Rattle.std.specs.Prelude.{◌≡◌, ◌≢◌, ◌≤◌, ◌+◌, ◌++◌, [], cond, length, slice_set};
+ghost use Rattle.std.specs.Prelude.{None, Some};
 ghost use Rattle.std.specs.Prelude.{IfOk, IfErr, OnOk};
 ghost use Rattle.ids.specs.declared.limits.TheConstants.{GREATEST_IMAGE};
 ghost use Rattle.ids.specs.declared.refusal.Refusal.TheVariants.{ImageTooLarge, Memory};
 ghost use Rattle.model.specs.View.{kept_view};
+ghost use Rattle.image.specs.Images.{IsTooLarge};
 ghost use Rattle.image.specs.Logged.{IsLoggedOf, logged_image};
 ghost use Rattle.image.specs.Saving.{WritesImage};
 
 use crate::writing::put_node;
 use codec::Writer;
-use ids::{GREATEST_IMAGE, Refusal};
-use image_parts::LOGGED;
+use ids::{GREATEST_IMAGE, Refusal, Shape};
+use image_parts::{LOGGED, WIDE_LOGGED};
 use node::Node;
 use std::alloc::Global;
 
@@ -26,8 +28,9 @@ const SLOT_BYTES: usize = 28;
 ///
 /// # Errors
 ///
-/// [`Refusal::ImageTooLarge`] if there are more than [`GREATEST_IMAGE`](ids::GREATEST_IMAGE) bytes.
-/// Otherwise [`Refusal::Memory`] if an allocation fails.
+/// [`Refusal::ImageTooLarge`] if there are more than [`GREATEST_IMAGE`](ids::GREATEST_IMAGE) bytes
+/// and the node's space is plain. Otherwise [`Refusal::Memory`] if an allocation fails, or, in a
+/// wide space, if a list has 2^32 elements or more.
 pub fn to_bytes(alloc: Global, node: &Node) -> Result<Vec<u8>, Refusal>
     ensures { WritesImage [] node.now.core result }
 {
@@ -43,6 +46,18 @@ pub fn to_bytes_over(bytes: Vec<u8>, node: &Node) -> Result<Vec<u8>, Refusal>
     to_bytes_behind(bytes, &[], node)
 }
 
+// How many bytes an image takes behind this many others, if there is a limit.
+fn limit_behind(shape: Shape, front: usize) -> Option<u32>
+    requires { front ≤ GREATEST_IMAGE }
+    ensures { result ≡ cond shape.wide None (Some (GREATEST_IMAGE + front)) }
+{
+    if shape.is_wide() {
+        None
+    } else {
+        Some(GREATEST_IMAGE as u32 + front as u32)
+    }
+}
+
 /// The bytes of the node's image behind these ones, in the memory of `bytes`, whose content is
 /// dropped. It fails as [`to_bytes`] does.
 pub fn to_bytes_behind(bytes: Vec<u8>, front: &[u8], node: &Node) -> Result<Vec<u8>, Refusal>
@@ -51,9 +66,8 @@ pub fn to_bytes_behind(bytes: Vec<u8>, front: &[u8], node: &Node) -> Result<Vec<
     ensures { WritesImage front.now node.now.core result }
 {
     let core = node.core();
-    // (called for its contract: brings the core's invariant into scope)
-    let _summary = core.state();
-    let limit = GREATEST_IMAGE as u32 + front.len() as u32;
+    // (its contract brings the core's invariant into scope)
+    let limit = limit_behind(core.state().shape, front.len());
     let first = FIRST_BYTES + core.heap().slots() as usize * SLOT_BYTES;
     let mut out = Writer::new(bytes, limit, first);
     out.append(front);
@@ -67,27 +81,33 @@ pub fn to_logged_behind(bytes: Vec<u8>, front: &[u8], node: &Node) -> Result<Vec
     requires { length front.now ≤ GREATEST_IMAGE }
 
     ensures written { IfOk result (λ v. v.items ≡ front.now ++ logged_image node.now.core) }
-    ensures within { OnOk result (length (logged_image node.now.core) ≤ GREATEST_IMAGE) }
+    ensures within { OnOk result (IsTooLarge node.now.core → ⊥) }
     ensures image { OnOk result
         (IsLoggedOf (logged_image node.now.core) (kept_view node.now.core)) }
     ensures refused { IfErr result (λ e. e ≢ Memory
-        → (e ≡ ImageTooLarge) × (GREATEST_IMAGE < length (logged_image node.now.core))) }
-    ensures last { IfErr result (λ e. e ≡ Memory
-        → length (logged_image node.now.core) ≤ GREATEST_IMAGE) }
+        → (e ≡ ImageTooLarge) × IsTooLarge node.now.core) }
+    ensures last { IfErr result (λ e. e ≡ Memory → IsTooLarge node.now.core → ⊥) }
 {
     let bytes = to_bytes_behind(bytes, front, node)?;
-    Ok(with_log(bytes, front.len()))
+    let number = logged_number(node.state().shape);
+    Ok(with_version(bytes, front.len(), number))
 }
 
-// Puts the number of an image that a log follows in the place of the version of the image that
-// begins at this offset.
-fn with_log(bytes: Vec<u8>, at: usize) -> Vec<u8>
+// The version of an image that a log follows.
+fn logged_number(shape: Shape) -> u8
+    ensures { result ≡ cond shape.wide 5 3 }
+{
+    if shape.is_wide() { WIDE_LOGGED } else { LOGGED }
+}
+
+// Puts a number in the place of the version of the image that begins at this offset.
+fn with_version(bytes: Vec<u8>, at: usize, number: u8) -> Vec<u8>
     requires { at ≤ GREATEST_IMAGE }
-    ensures { result.items ≡ slice_set bytes.items (at + 2) 3 }
+    ensures { result.items ≡ slice_set bytes.items (at + 2) number }
 {
     let mut bytes = bytes;
     if bytes.len() > at + 2 {
-        bytes[at + 2] = LOGGED;
+        bytes[at + 2] = number;
     }
     bytes
 }

@@ -4,10 +4,13 @@ ghost use Rattle.codec.specs.Formats.{number8};
 ghost use Rattle.codec.specs.Writing.{Puts, PutsAll};
 ghost use Rattle.frames.specs.declared.version.Version.TheVariants.{Second};
 ghost use Rattle.image_parts.specs.Grammar.{stored_format, image_format};
+ghost use Rattle.image_parts.specs.Layouts.{layout_for};
 ghost use Rattle.image.specs.Images.{stored_by};
 
 use codec::Writer;
-use image_parts::{Head, put_front, put_others, put_registers, put_reports, put_slots, put_start};
+use image_parts::{
+    Head, Layout, put_front, put_others, put_registers, put_reports, put_slots, put_start,
+};
 use node::Core;
 
 // Appends the reports of the other nodes at node 0, in ascending order; at other nodes nothing.
@@ -24,7 +27,8 @@ fn put_others_reports(out: &mut Writer, node: &Core)
 
 #[tactic(auto, unfolding(image_parts::specs::Grammar::stored_format, image_parts::specs::Grammar::lists_format, image_parts::specs::Grammar::told_format), using(image_parts::proofs::Joins::both))]
 fn put_stored(out: &mut Writer, node: &Core)
-    ensures { Puts (stored_format Second) out.old out.new (stored_by node.now) }
+    ensures { Puts (stored_format node.now.local.shape.wide Second) out.old out.new
+        (stored_by node.now) }
 {
     let heap = node.heap();
     let state = node.state();
@@ -39,15 +43,16 @@ fn put_stored(out: &mut Writer, node: &Core)
     put_front(out, &head, node.phases(), node.ring());
     put_others_reports(out, node);
     put_registers(out, heap.registers());
-    put_slots(out, heap);
+    put_slots(out, state.shape.is_wide(), heap);
     put_others(out, &head, node.asked(), heap, node.links());
 }
 
 /// Appends the image of the node.
 #[tactic(auto, unfolding(image_parts::specs::Grammar::image_format), using(image_parts::proofs::Joins::both))]
 pub(crate) fn put_node(out: &mut Writer, node: &Core)
-    ensures { Puts image_format out.old out.new (Second, stored_by node.now) }
+    ensures { Puts image_format out.old out.new
+        (layout_for node.now.local.shape, stored_by node.now) }
 {
-    put_start(out);
+    put_start(out, Layout::of(node.state().shape));
     put_stored(out, node);
 }

@@ -3,3 +3,4 @@ pub use Rattle.codec.proofs.Writing.{both, behind, first, unwritten, alone, writ
 pub use Rattle.codec.proofs.Pieces.{gained, piece_written}
 pub use Rattle.codec.proofs.Readers.{both_read, counted_read, made, made_of, passed}
 pub use Rattle.codec.proofs.Readers.{tests, tags, lists}
+pub use Rattle.image_parts.proofs.Readings.{none_read}

@@ -1,14 +1,12 @@
 -- What an image says, and its one spelling.
-use Rattle.std.specs.Prelude.{ℕ, ◌-◌, ◌≤◌, ◌≡◌, ◌==◌, ◌&&◌, if◌then◌else◌, List, [], ◌∷◌, length}
-use Rattle.std.specs.Prelude.{Bool, Option, nat_lt, nat_le}
+use Rattle.std.specs.Prelude.{ℕ, ◌-◌, ◌≤◌, ◌≡◌, ◌==◌, ◌&&◌, if◌then◌else◌, List, [], ◌∷◌, length, Bool, true, false, Option, Some, nat_lt, nat_le, ⊤}
 use Rattle.ids.specs.Limits.{reference_fits}
 use Rattle.ids.specs.declared.names.Ref.{Ref}
-use Rattle.ids.specs.declared.limits.TheConstants.{FIRST_VERSION_NODES, GREATEST_NODES}
-use Rattle.ids.specs.declared.limits.TheConstants.{GREATEST_IMAGE, GREATEST_PLACES}
+use Rattle.ids.specs.declared.limits.TheConstants.{FIRST_VERSION_NODES, GREATEST_NODES, GREATEST_BYTES, GREATEST_IMAGE, GREATEST_PLACES}
 use Rattle.codec.specs.Formats as codec
 use Rattle.codec.specs.Formats.{Format, Reader, Behind, byte, number2, number4, number8, signed8}
-use Rattle.codec.specs.Formats.{nothing, mapped, joined, ◌&◌, kept, tag, tagged, made_at, option}
-use Rattle.codec.specs.Formats.{many, counted}
+use Rattle.codec.specs.Formats.{nothing, mapped, joined, ◌&◌, kept, tag, tagged, behind, made_at}
+use Rattle.codec.specs.Formats.{option, many, counted, bytes4}
 use Rattle.msg.specs.declared.body.Body.{Body}
 use Rattle.msg.specs.declared.body.Message.{Message}
 use Rattle.msg.specs.declared.body.Token.{Token}
@@ -22,6 +20,9 @@ use Rattle.image_parts.specs.declared.parts.Head.{Head}
 use Rattle.image_parts.specs.declared.parts.PhasesParts.{PhasesParts}
 use Rattle.arena_slot.specs.declared.Slot.TheVariants as slot
 use Rattle.image_parts.specs.Links.{StoredLink, StoredSlot}
+use Rattle.image_parts.specs.Layouts.{widths, is_wide, IsTooLong}
+use Rattle.image_parts.specs.declared.layout.Layout.{Layout}
+use Rattle.image_parts.specs.declared.layout.Layout.TheVariants as layout
 
 -- what an image says about a node
 pub record Stored : Type 0 where
@@ -44,25 +45,32 @@ pub record Stored : Type 0 where
 
 -- ---- what comes before the lists
 
-abbrev pub version_tag : Version → Behind
-version_tag First = tag 1 nothing tt
-version_tag Second = tag 2 nothing tt
+-- the number of the version, and in a wide space how many places and bytes an object has at most
+abbrev pub layout_tag : Layout → Behind
+layout_tag layout.First = tag 1 nothing tt
+layout_tag layout.Second = tag 2 nothing tt
+layout_tag (layout.Wide places bytes) = tag 4 (byte & number4) (places, bytes)
 
-unfoldable pub version_format : Format Version
-version_format =
-    tagged version_tag
-    ((1, made_at nothing (λ _. First)) ∷ (2, made_at nothing (λ _. Second)) ∷ [])
+abbrev pub layouts : List (ℕ × Reader Layout)
+layouts =
+    (1, made_at nothing (λ _. layout.First))
+    ∷ (2, made_at nothing (λ _. layout.Second))
+    ∷ (4, made_at (byte & number4) (λ x. layout.Wide x.0 x.1))
+    ∷ []
 
--- the bytes `MR`, and the version
+unfoldable pub layout_format : Format Layout
+layout_format = tagged layout_tag layouts
+
+-- the bytes `MR`, and the layout
 abbrev pub Start : Type 0
-Start = ℕ × (ℕ × Version)
+Start = ℕ × (ℕ × Layout)
 
 abbrev pub is_start : Start → Bool
 is_start x = x.0 == 0x4D && x.1.0 == 0x52
 
-unfoldable pub start_format : Format Version
+unfoldable pub start_format : Format Layout
 start_format =
-    mapped (kept (byte & byte & version_format) is_start) (λ x. x.1.1) (λ v. (0x4D, (0x52, v)))
+    mapped (kept (byte & byte & layout_format) is_start) (λ x. x.1.1) (λ l. (0x4D, (0x52, l)))
 
 -- how many nodes a space has at most
 abbrev pub most_nodes : Version → ℕ
@@ -117,32 +125,47 @@ width_format = kept byte (λ n. nat_le n GREATEST_PLACES)
 unfoldable pub places_format : Version → Format (List (Option Ref))
 places_format v = counted width_format (near_optional v)
 
-unfoldable pub object_format : Version → Format Object
-object_format v =
-    mapped (number8 & number8 & places_format v)
-    (λ x. record { word = x.1.0; places = x.1.1; mark = x.0 }) (λ o. (o.mark, (o.word, o.places)))
+-- no bytes, which aren't spelled
+abbrev pub no_bytes : Format (List ℕ)
+no_bytes = record {
+  spell = λ _. [];
+  IsWide = λ _. ⊤;
+  IsWithin = λ bytes. bytes ≡ [];
+  read = λ rest. Some ([], rest);
+}
 
-abbrev pub occupied : Version → Format (ℕ × Object)
-occupied v = generation v & object_format v
+-- the bytes of an object, of a wide space or a plain one
+abbrev pub bytes_format : Bool → Format (List ℕ)
+bytes_format true = kept bytes4 (λ bytes. nat_le (length bytes) GREATEST_BYTES)
+bytes_format false = no_bytes
 
-unfoldable pub occupied_at : Version → Reader StoredSlot
-occupied_at v bytes = made_at (occupied v) (λ x. slot.Occupied x.0 x.1) bytes
+unfoldable pub object_format : Bool → Version → Format Object
+object_format wide v =
+    mapped (number8 & number8 & bytes_format wide & places_format v)
+    (λ x. record { word = x.1.0; bytes = x.1.1.0; places = x.1.1.1; mark = x.0 })
+    (λ o. (o.mark, (o.word, (o.bytes, o.places))))
+
+abbrev pub occupied : Bool → Version → Format (ℕ × Object)
+occupied wide v = generation v & object_format wide v
+
+unfoldable pub occupied_at : Bool → Version → Reader StoredSlot
+occupied_at wide v bytes = made_at (occupied wide v) (λ x. slot.Occupied x.0 x.1) bytes
 
 -- a tag and what the slot holds
-abbrev pub slot_tag : Version → StoredSlot → Behind
-slot_tag v (slot.Free next) = tag 0 (generation v) next
-slot_tag v (slot.Occupied own object) = tag 1 (occupied v) (own, object)
-slot_tag v slot.Retired = tag 2 nothing tt
+abbrev pub slot_tag : Bool → Version → StoredSlot → Behind
+slot_tag wide v (slot.Free next) = tag 0 (generation v) next
+slot_tag wide v (slot.Occupied own object) = tag 1 (occupied wide v) (own, object)
+slot_tag wide v slot.Retired = tag 2 nothing tt
 
-abbrev pub slots_at : Version → List (ℕ × Reader StoredSlot)
-slots_at v =
+abbrev pub slots_at : Bool → Version → List (ℕ × Reader StoredSlot)
+slots_at wide v =
     (0, made_at (generation v) slot.Free)
-    ∷ (1, occupied_at v)
+    ∷ (1, occupied_at wide v)
     ∷ (2, made_at nothing (λ _. slot.Retired))
     ∷ []
 
-unfoldable pub slot_format : Version → Format StoredSlot
-slot_format v = tagged (slot_tag v) (slots_at v)
+unfoldable pub slot_format : Bool → Version → Format StoredSlot
+slot_format wide v = tagged (slot_tag wide v) (slots_at wide v)
 
 unfoldable pub letter_format : Version → Format Letter
 letter_format v =
@@ -188,9 +211,9 @@ told_format v h = many number8 (reports_told h) & many (near_optional v) h.regis
 abbrev pub Slots : Type 0
 Slots = List StoredSlot × (List ℕ × List ℕ)
 
-unfoldable pub slots_format : Version → Format Slots
-slots_format v =
-    counted number4 (slot_format v) & counted number4 number4 & counted number4 number4
+unfoldable pub slots_format : Bool → Version → Format Slots
+slots_format wide v =
+    counted number4 (slot_format wide v) & counted number4 number4 & counted number4 number4
 
 -- the references that were asked for, the letters, and the links
 abbrev pub Others : Type 0
@@ -209,8 +232,8 @@ waiting_format v = counted number4 (near v) & counted number4 (letter_format v)
 abbrev pub Lists : Type 0
 Lists = Told × (Slots × Others)
 
-unfoldable pub lists_format : Version → Front → Format Lists
-lists_format v f = told_format v f.0 & slots_format v & others_format v f.0
+unfoldable pub lists_format : Bool → Version → Front → Format Lists
+lists_format wide v f = told_format v f.0 & slots_format wide v & others_format v f.0
 
 abbrev pub stored : Front × Lists → Stored
 stored x =
@@ -240,25 +263,40 @@ slots_of s = (s.slots, (s.free, s.grey))
 abbrev pub others_of : Stored → Others
 others_of s = (s.asked, (s.letters, s.links))
 
-unfoldable pub stored_format : Version → Format Stored
-stored_format v =
-    mapped (joined (front_format v) (lists_format v)) stored
+-- what an image of a wide space or a plain one says
+unfoldable pub stored_format : Bool → Version → Format Stored
+stored_format wide v =
+    mapped (joined (front_format v) (lists_format wide v)) stored
     (λ s. (front_of s, (told_of s, (slots_of s, others_of s))))
 
--- the version, and after it what belongs to that version
-unfoldable pub image_format : Format (Version × Stored)
-image_format = joined start_format stored_format
+-- what an image of this layout says
+abbrev pub rest_format : Layout → Format Stored
+rest_format l = stored_format (is_wide l) (widths l)
+
+-- the start, and after it what the image says
+unfoldable pub image_format : Format (Layout × Stored)
+image_format = joined start_format rest_format
 
 -- the whole image
-unfoldable pub spelling : Version → Stored → List ℕ
-spelling v s = image_format.spell (v, s)
+unfoldable pub spelling : Layout → Stored → List ℕ
+spelling l s = image_format.spell (l, s)
 
 -- what has a spelling
-abbrev pub Fits : Version → Stored → Type 0
-Fits v s = codec.Fits (stored_format v) s
+abbrev pub Fits : Layout → Stored → Type 0
+Fits l s = codec.Fits image_format (l, s)
 
--- the bytes are the image of this version that says this
-pub record IsImage (bytes : List ℕ) (v : Version) (s : Stored) : Type 0 where
-  pub fits : Fits v s
-  pub spelled : bytes ≡ spelling v s
-  pub within : length bytes ≤ GREATEST_IMAGE
+-- the bytes are the image of this layout that says this
+pub record IsImage (bytes : List ℕ) (l : Layout) (s : Stored) : Type 0 where
+  pub fits : Fits l s
+  pub spelled : bytes ≡ spelling l s
+  pub within : IsTooLong (is_wide l) (length bytes) → ⊥
+
+-- ---- behind a number of a version
+
+-- the layout that is read behind this number
+abbrev pub layout_behind : ℕ → Format Layout
+layout_behind number = record layout_format { read = behind layouts number }
+
+-- the layout, and what the image says
+unfoldable pub behind_format : ℕ → Format (Layout × Stored)
+behind_format number = joined (layout_behind number) rest_format

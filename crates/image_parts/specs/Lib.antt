@@ -1,4 +1,5 @@
 pub mod Links
+pub mod Layouts
 pub mod Grammar
 pub mod Numbers
 pub mod Parts

@@ -6,6 +6,7 @@
 #![tactic(auto)]
 
 mod law;
+mod layout;
 mod links;
 mod lists;
 mod parts;
@@ -15,8 +16,9 @@ mod tags;
 mod writing;
 
 pub use law::spellings;
+pub use layout::Layout;
 pub use lists::put_registers;
 pub use parts::{Head, PhasesParts, StoredLink, StoredNode};
-pub use reading::{begins_logged, whole, whole_logged};
-pub use tags::LOGGED;
+pub use reading::{begins_logged, is_too_long, whole, whole_logged};
+pub use tags::{LOGGED, WIDE_LOGGED};
 pub use writing::{put_front, put_others, put_reports, put_slots, put_start};

@@ -48,6 +48,7 @@ pub(crate) trait Readable: Sized + Drop {
 
 /// Appends the values one after another.
 #[tactic(auto, using(crate::proofs::Joins::unwritten, crate::proofs::Joins::written_more))]
+#[inline(always)]
 pub(crate) fn put_all<T: Writable>(out: &mut Writer, parts: &[T])
     ensures { PutsAll T.written out.old out.new parts.now }
 {
@@ -174,6 +175,7 @@ impl Writable for Ref {
 impl Writable for Option<Ref> {
     ghost written = { optional Second };
 
+    #[inline(always)]
     fn put(&self, out: &mut Writer) {
         put_optional(out, *self);
     }

@@ -1,24 +1,29 @@
 //! Parses bytes into the parts of a node. Each value is checked against the limits of its kind;
 //! whether the parts fit together is checked later.
-ghost use Rattle.std.specs.Prelude.{◌≡◌, ◌≤◌, ◌==◌, ◌&&◌, drop, length, Some, IfOk, IfErr};
+ghost use Rattle.std.specs.Prelude.{◌≡◌, ◌≤◌, ◌==◌, ◌&&◌, true, false, drop, length, Some, IfOk, IfErr, ◌↔◌, IsTrue};
 ghost use Rattle.ids.specs.declared.refusal.Refusal.TheVariants.{BadImage, Memory};
-ghost use Rattle.ids.specs.declared.limits.TheConstants.{GREATEST_PLACES};
-ghost use Rattle.codec.specs.Formats.{many, whole_at};
+ghost use Rattle.ids.specs.declared.limits.TheConstants.{GREATEST_BYTES, GREATEST_PLACES};
+ghost use Rattle.codec.specs.Formats.{byte, number4, ◌&◌, behind, many, whole_at};
 ghost use Rattle.codec.specs.Reading.{Gives};
 ghost use Rattle.codec.specs.Readers.{Reads, Takes};
-ghost use Rattle.image_parts.specs.Grammar.{reports_told, version_format, start_format, most_nodes};
+ghost use Rattle.image_parts.specs.Grammar.{reports_told, layouts, layout_format, start_format, most_nodes};
 ghost use Rattle.image_parts.specs.Grammar.{nodes_fit, nodes_format};
 ghost use Rattle.image_parts.specs.Grammar.{head_format, phases_format, held_format, ring_format, near};
-ghost use Rattle.image_parts.specs.Grammar.{near_optional, width_format, places_format, object_format};
+ghost use Rattle.image_parts.specs.Grammar.{near_optional, width_format, places_format, bytes_format};
+ghost use Rattle.image_parts.specs.Grammar.{object_format};
 ghost use Rattle.image_parts.specs.Grammar.{occupied_at, slot_format, letter_format, message_format};
 ghost use Rattle.image_parts.specs.Grammar.{link_format, front_format, told_format, slots_format};
 ghost use Rattle.image_parts.specs.Grammar.{others_format, stored_format, image_format};
-ghost use Rattle.image_parts.specs.Logs.{begins_logged, logged_at};
+ghost use Rattle.image_parts.specs.Logs.{begins_logged, logged_at, version_in};
+ghost use Rattle.image_parts.specs.Layouts.{IsTooLong, says_wide};
 ghost use Rattle.image_parts.specs.Parts.{stored_of};
 
+use crate::layout::Layout;
 use crate::lists::{Readable, counted, many};
 use crate::parts::{Head, PhasesParts, StoredLink, StoredNode};
-use crate::tags::{ABSENT, FIRST, FREE, LOGGED, OCCUPIED, PRESENT, RETIRED, SECOND, START};
+use crate::tags::{
+    ABSENT, FIRST, FREE, LOGGED, OCCUPIED, PRESENT, RETIRED, SECOND, START, WIDE, WIDE_LOGGED,
+};
 use codec::Reader;
 use cycles::Ring;
 use frames::Version;
@@ -26,7 +31,10 @@ use frames::reading::{
     read_body, read_colour, read_generation, read_optional, read_reference, read_token,
 };
 use heap::{HeapParts, Object, Slot, Slots};
-use ids::{FIRST_VERSION_NODES, GREATEST_NODES, GREATEST_PLACES, Ref, Refusal};
+use ids::{
+    FIRST_VERSION_NODES, GREATEST_BYTES, GREATEST_IMAGE, GREATEST_NODES, GREATEST_PLACES, Ref,
+    Refusal,
+};
 use model::Letter;
 use msg::{Message, Token, body_fits, optional_fits};
 use std::alloc::Global;
@@ -34,18 +42,41 @@ use std::collections::VecDeque;
 
 // ---- what comes before the lists
 
-#[tactic(auto, unfolding(crate::specs::Grammar::version_format), using(crate::proofs::Joins::tags))]
-fn read_version(reader: &mut Reader) -> Version
-    ensures { Reads version_format reader.old reader.new result }
+// How many places and bytes an object has at most.
+#[tactic(auto, using(crate::proofs::Joins::both_read))]
+fn read_most(reader: &mut Reader) -> (u8, u32)
+    ensures { Reads (byte & number4) reader.old reader.new result }
 {
-    match reader.u8() {
-        FIRST => Version::First,
-        SECOND => Version::Second,
+    let places = reader.u8();
+    let bytes = reader.u32();
+    (places, bytes)
+}
+
+// The layout of the version with this number.
+#[tactic(auto, using(crate::proofs::Joins::tags))]
+fn read_behind(number: u8, reader: &mut Reader) -> Layout
+    ensures { Takes (behind layouts number) reader.old reader.new (Some result) }
+{
+    match number {
+        FIRST => Layout::First,
+        SECOND => Layout::Second,
+        WIDE => {
+            let (places, bytes) = read_most(reader);
+            Layout::Wide { places, bytes }
+        }
         _ => {
             reader.fail();
-            Version::First
+            Layout::First
         }
     }
+}
+
+#[tactic(auto, unfolding(crate::specs::Grammar::layout_format), using(crate::proofs::Joins::tags))]
+fn read_layout(reader: &mut Reader) -> Layout
+    ensures { Reads layout_format reader.old reader.new result }
+{
+    let number = reader.u8();
+    read_behind(number, reader)
 }
 
 fn is_start(first: u8, second: u8) -> bool
@@ -55,14 +86,14 @@ fn is_start(first: u8, second: u8) -> bool
 }
 
 #[tactic(auto, unfolding(crate::specs::Grammar::start_format), using(crate::proofs::Joins::both_read, crate::proofs::Joins::passed, crate::proofs::Joins::made))]
-fn read_start(reader: &mut Reader) -> Version
+fn read_start(reader: &mut Reader) -> Layout
     ensures { Reads start_format reader.old reader.new result }
 {
     let first = reader.u8();
     let second = reader.u8();
-    let version = read_version(reader);
+    let layout = read_layout(reader);
     reader.check(is_start(first, second));
-    version
+    layout
 }
 
 // How many nodes a space has at most.
@@ -189,16 +220,50 @@ fn read_places(
     many(alloc, version, width as usize, reader)
 }
 
+// The bytes of an object of a wide space, which aren't copied yet.
+#[tactic(auto, using(crate::proofs::Joins::tests))]
+fn read_run<'a>(reader: &mut Reader<'a>) -> &'a [u8]
+    ensures value { Reads (bytes_format true) reader.old reader.new result.now }
+    ensures within { length result.now ≤ GREATEST_BYTES }
+{
+    let bytes = reader.bytes();
+    if bytes.len() <= GREATEST_BYTES as usize {
+        return bytes;
+    }
+    reader.fail();
+    &[]
+}
+
+// The bytes of an object. Only in wide spaces are objects spelled with bytes.
+#[tactic(auto, using(crate::proofs::Joins::none_read))]
+#[inline(always)]
+fn read_bytes(alloc: Global, wide: bool, reader: &mut Reader) -> Result<Vec<u8>, Refusal>
+    ensures value { IfOk result (λ v. Reads (bytes_format wide) reader.old reader.new v.items) }
+    ensures within { IfOk result (λ v. length v.items ≤ GREATEST_BYTES) }
+    ensures refused { IfErr result (λ e. e ≡ Memory) }
+{
+    if !wide {
+        return Ok(Vec::new(alloc));
+    }
+    Ok(Vec::from_slice(alloc, read_run(reader))?)
+}
+
 #[tactic(auto, unfolding(crate::specs::Grammar::object_format), using(crate::proofs::Joins::both_read, crate::proofs::Joins::made))]
 #[inline(always)]
-fn read_object(alloc: Global, version: Version, reader: &mut Reader) -> Result<Object, Refusal>
-    ensures value { IfOk result (Reads (object_format version) reader.old reader.new) }
+fn read_object(
+    alloc: Global,
+    wide: bool,
+    version: Version,
+    reader: &mut Reader,
+) -> Result<Object, Refusal>
+    ensures value { IfOk result (Reads (object_format wide version) reader.old reader.new) }
     ensures refused { IfErr result (λ e. e ≡ Memory) }
 {
     let mark = reader.u64();
     let word = reader.u64();
+    let bytes = read_bytes(alloc, wide, reader)?;
     let places = read_places(alloc, version, reader)?;
-    match Object::from_parts(word, mark, places) {
+    match Object::from_parts(word, bytes, mark, places) {
         Some(object) => Ok(object),
         None => unreachable!(),
     }
@@ -208,27 +273,33 @@ fn read_object(alloc: Global, version: Version, reader: &mut Reader) -> Result<O
 #[inline(always)]
 fn read_occupied(
     alloc: Global,
+    wide: bool,
     version: Version,
     reader: &mut Reader,
 ) -> Result<Slot<Object>, Refusal>
     ensures value { IfOk result
-        (λ s. Takes (occupied_at version) reader.old reader.new (Some s)) }
+        (λ s. Takes (occupied_at wide version) reader.old reader.new (Some s)) }
     ensures refused { IfErr result (λ e. e ≡ Memory) }
 {
     let generation = read_generation(reader, version);
-    let object = read_object(alloc, version, reader)?;
+    let object = read_object(alloc, wide, version, reader)?;
     Ok(Slot::Occupied(generation, object))
 }
 
 #[tactic(auto, unfolding(crate::specs::Grammar::slot_format), using(crate::proofs::Joins::tags))]
 #[inline(always)]
-fn read_slot(alloc: Global, version: Version, reader: &mut Reader) -> Result<Slot<Object>, Refusal>
-    ensures value { IfOk result (Reads (slot_format version) reader.old reader.new) }
+fn read_slot(
+    alloc: Global,
+    wide: bool,
+    version: Version,
+    reader: &mut Reader,
+) -> Result<Slot<Object>, Refusal>
+    ensures value { IfOk result (Reads (slot_format wide version) reader.old reader.new) }
     ensures refused { IfErr result (λ e. e ≡ Memory) }
 {
     match reader.u8() {
         FREE => Ok(Slot::Free(read_generation(reader, version))),
-        OCCUPIED => read_occupied(alloc, version, reader),
+        OCCUPIED => read_occupied(alloc, wide, version, reader),
         RETIRED => Ok(Slot::Retired),
         _ => {
             reader.fail();
@@ -341,14 +412,16 @@ fn read_told(
 // This many slots, up to the first one that isn't there. If there are fewer bytes than slots, the
 // reader fails and nothing is allocated.
 #[tactic(auto, using(crate::proofs::Joins::lists))]
+#[inline(always)]
 fn read_each_slot(
     alloc: Global,
+    wide: bool,
     version: Version,
     count: u32,
     reader: &mut Reader,
 ) -> Result<Slots<Object>, Refusal>
     ensures value { IfOk result
-        (λ s. Reads (many (slot_format version) count) reader.old reader.new s.items) }
+        (λ s. Reads (many (slot_format wide version) count) reader.old reader.new s.items) }
     ensures refused { IfErr result (λ e. e ≡ Memory) }
 {
     let mut slots = Slots::new(alloc, count);
@@ -359,24 +432,44 @@ fn read_each_slot(
         if !ahead.is_open() {
             break;
         }
-        slots.push(read_slot(alloc, version, &mut ahead)?)?;
+        slots.push(read_slot(alloc, wide, version, &mut ahead)?)?;
     }
     *reader = ahead;
     Ok(slots)
 }
 
+// The same slots. The loop is there for each kind of space, which spares a test for each object.
+fn read_slot_list(
+    alloc: Global,
+    wide: bool,
+    version: Version,
+    count: u32,
+    reader: &mut Reader,
+) -> Result<Slots<Object>, Refusal>
+    ensures value { IfOk result
+        (λ s. Reads (many (slot_format wide version) count) reader.old reader.new s.items) }
+    ensures refused { IfErr result (λ e. e ≡ Memory) }
+{
+    if wide {
+        read_each_slot(alloc, true, version, count, reader)
+    } else {
+        read_each_slot(alloc, false, version, count, reader)
+    }
+}
+
 // The slots, and which of them are free and which grey.
 fn read_slots(
     alloc: Global,
+    wide: bool,
     version: Version,
     reader: &mut Reader,
 ) -> Result<(Slots<Object>, (Vec<u32>, Vec<u32>)), Refusal>
-    ensures value { IfOk result (λ x. Reads (slots_format version) reader.old reader.new
+    ensures value { IfOk result (λ x. Reads (slots_format wide version) reader.old reader.new
         (x.0.items, (x.1.0.items, x.1.1.items))) }
     ensures refused { IfErr result (λ e. e ≡ Memory) }
 {
     let count = reader.u32();
-    let slots = read_each_slot(alloc, version, count, reader)?;
+    let slots = read_slot_list(alloc, wide, version, count, reader)?;
     let free = counted(alloc, version, reader)?;
     let grey = counted(alloc, version, reader)?;
     Ok((slots, (free, grey)))
@@ -401,14 +494,19 @@ fn read_others(
     Ok((asked, (letters, links)))
 }
 
-fn read_stored(alloc: Global, version: Version, reader: &mut Reader) -> Result<StoredNode, Refusal>
+fn read_stored(
+    alloc: Global,
+    wide: bool,
+    version: Version,
+    reader: &mut Reader,
+) -> Result<StoredNode, Refusal>
     ensures value { IfOk result
-        (λ x. Reads (stored_format version) reader.old reader.new (stored_of x)) }
+        (λ x. Reads (stored_format wide version) reader.old reader.new (stored_of x)) }
     ensures refused { IfErr result (λ e. e ≡ Memory) }
 {
     let (head, (phases, ring)) = read_front(version, reader);
     let (reports, registers) = read_told(alloc, version, head, reader)?;
-    let (slots, (free, grey)) = read_slots(alloc, version, reader)?;
+    let (slots, (free, grey)) = read_slots(alloc, wide, version, reader)?;
     let (asked, (letters, links)) = read_others(alloc, version, head, reader)?;
     let heap = HeapParts {
         slots,
@@ -428,21 +526,21 @@ fn read_stored(alloc: Global, version: Version, reader: &mut Reader) -> Result<S
     })
 }
 
-fn read_image(alloc: Global, reader: &mut Reader) -> Result<(Version, StoredNode), Refusal>
+fn read_image(alloc: Global, reader: &mut Reader) -> Result<(Layout, StoredNode), Refusal>
     ensures value { IfOk result
         (λ x. Reads image_format reader.old reader.new (x.0, stored_of x.1)) }
     ensures refused { IfErr result (λ e. e ≡ Memory) }
 {
-    let version = read_start(reader);
-    let parts = read_stored(alloc, version, reader)?;
-    Ok((version, parts))
+    let layout = read_start(reader);
+    let parts = read_stored(alloc, layout.is_wide(), layout.widths(), reader)?;
+    Ok((layout, parts))
 }
 
-/// The version of the bytes, and the parts that all of the bytes together say. The parts may
+/// The layout of the bytes, and the parts that all of the bytes together say. The parts may
 /// contradict each other, and then no node has them. Fails with `BadImage` if the bytes spell no
 /// parts, and with `Memory` if an allocation fails. Memory and time are proportional to the number
 /// of bytes.
-pub fn whole(alloc: Global, bytes: &[u8]) -> Result<(Version, StoredNode), Refusal>
+pub fn whole(alloc: Global, bytes: &[u8]) -> Result<(Layout, StoredNode), Refusal>
     ensures { Gives (λ x. (x.0, stored_of x.1)) result (whole_at image_format.read bytes.now) }
 {
     let mut reader = Reader::new(bytes);
@@ -460,26 +558,56 @@ pub fn begins_logged(bytes: &[u8]) -> bool
 {
     match bytes {
         [first, second, version, ..] => {
-            *first == START[0] && (*second == START[1] && *version == LOGGED)
+            *first == START[0]
+                && (*second == START[1] && (*version == LOGGED || *version == WIDE_LOGGED))
         }
         _ => false,
     }
 }
 
-/// The parts that all of the bytes together say, if they begin as [`begins_logged`] tests. It fails
-/// as [`whole`] does.
-pub fn whole_logged(alloc: Global, bytes: &[u8]) -> Result<StoredNode, Refusal>
-    ensures { Gives stored_of result (logged_at bytes.now) }
+// Whether bytes that are an image are that of a node of a wide space.
+fn says_wide(bytes: &[u8]) -> bool
+    ensures { result ≡ says_wide bytes.now }
+{
+    match bytes {
+        [_, _, version, ..] => *version == WIDE || *version == WIDE_LOGGED,
+        _ => false,
+    }
+}
+
+/// Whether these are more than [`GREATEST_IMAGE`] bytes, and not the image of a node of a wide
+/// space.
+pub fn is_too_long(bytes: &[u8]) -> bool
+    ensures { IsTrue result ↔ IsTooLong (says_wide bytes.now) (length bytes.now) }
+{
+    bytes.len() as u64 > GREATEST_IMAGE && !says_wide(bytes)
+}
+
+// The version that the bytes would have if no log followed.
+fn version_in(bytes: &[u8]) -> u8
+    ensures { result ≡ version_in bytes.now }
+{
+    match bytes {
+        [_, _, version, ..] => version.saturating_sub(1),
+        _ => 0,
+    }
+}
+
+/// The layout and the parts that all of the bytes together say, if they begin as [`begins_logged`]
+/// tests. It fails as [`whole`] does.
+pub fn whole_logged(alloc: Global, bytes: &[u8]) -> Result<(Layout, StoredNode), Refusal>
+    ensures { Gives (λ x. (x.0, stored_of x.1)) result (logged_at bytes.now) }
 {
     if !begins_logged(bytes) {
         return Err(Refusal::BadImage);
     }
     let mut reader = Reader::new(behind_start(bytes));
-    let parts = read_stored(alloc, Version::Second, &mut reader)?;
+    let layout = read_behind(version_in(bytes), &mut reader);
+    let parts = read_stored(alloc, layout.is_wide(), layout.widths(), &mut reader)?;
     if !reader.finish() {
         return Err(Refusal::BadImage);
     }
-    Ok(parts)
+    Ok((layout, parts))
 }
 
 // What follows the start of an image.

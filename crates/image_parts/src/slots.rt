@@ -1,6 +1,7 @@
 //! The slots and the letters of a heap as bytes. They are written in the order of their numbers, so
 //! a heap has one spelling.
-ghost use Rattle.std.specs.Prelude.{◌≡◌, ◌<◌, ◌≤◌, ◌+◌, [], ◌∷◌, ◌++◌, length, map, slice_index_or};
+ghost use Rattle.std.specs.Prelude.{◌≡◌, ◌<◌, ◌≤◌, ◌+◌, true, false, [], ◌∷◌, ◌++◌, length};
+ghost use Rattle.std.specs.Prelude.{map, slice_index_or};
 ghost use Rattle.arena_slot.specs.Slot.{slot_read};
 ghost use Rattle.arena_slot.specs.declared.Slot.TheVariants.{Free, Occupied};
 ghost use Rattle.codec.specs.Formats.{number4, number8, counted};
@@ -20,7 +21,7 @@ use model::Letter;
 
 // ---- slots
 
-// What comes before an object's places.
+// What comes before an object's places in a plain space.
 #[tactic(auto, unfolding(crate::specs::Numbers::number8))]
 fn occupied_head(generation: Generation, mark: u64, word: u64, places: u8) -> [u8; 26]
     ensures { result ≡ 1 ∷ (number8.spell generation
@@ -35,8 +36,35 @@ fn occupied_head(generation: Generation, mark: u64, word: u64, places: u8) -> [u
     part
 }
 
-fn put_occupied(out: &mut Writer, generation: Generation, object: &Object)
-    ensures { Puts (slot_format Second) out.old out.new (Occupied generation object.now) }
+// What comes before an object's bytes in a wide space.
+#[tactic(auto, unfolding(crate::specs::Numbers::number8))]
+fn wide_head(generation: Generation, mark: u64, word: u64) -> [u8; 25]
+    ensures { result ≡ 1 ∷ (number8.spell generation
+        ++ (number8.spell mark ++ number8.spell word)) }
+{
+    let mut part = [0; 25];
+    part[0] = OCCUPIED;
+    BigEndian::write_u64(&mut part[1..], generation);
+    BigEndian::write_u64(&mut part[9..], mark);
+    BigEndian::write_u64(&mut part[17..], word);
+    part
+}
+
+#[inline(never)]
+fn put_wide(out: &mut Writer, generation: Generation, object: &Object)
+    ensures { Puts (slot_format true Second) out.old out.new (Occupied generation object.now) }
+{
+    let (bytes, places) = (object.bytes(), object.contents());
+    let (mark, word) = (object.marked_by(), object.word());
+    out.array(wide_head(generation, mark, word));
+    out.bytes(bytes);
+    out.u8(places.len() as u8);
+    put_all(out, places);
+}
+
+#[inline(always)]
+fn put_plain(out: &mut Writer, generation: Generation, object: &Object)
+    ensures { Puts (slot_format false Second) out.old out.new (Occupied generation object.now) }
 {
     let places = object.contents();
     let (mark, word) = (object.marked_by(), object.word());
@@ -44,9 +72,20 @@ fn put_occupied(out: &mut Writer, generation: Generation, object: &Object)
     put_all(out, places);
 }
 
+#[inline(always)]
+fn put_occupied(out: &mut Writer, wide: bool, generation: Generation, object: &Object)
+    ensures { Puts (slot_format wide Second) out.old out.new (Occupied generation object.now) }
+{
+    if wide {
+        put_wide(out, generation, object);
+    } else {
+        put_plain(out, generation, object);
+    }
+}
+
 #[tactic(auto, unfolding(crate::specs::Grammar::slot_format), using(crate::proofs::Joins::gained, crate::proofs::Joins::piece_written))]
 fn put_free(out: &mut Writer, generation: Generation)
-    ensures { Puts (slot_format Second) out.old out.new (Free generation) }
+    ensures { Puts (slot_format false Second) out.old out.new (Free generation) }
 {
     let mut piece = Piece::new();
     piece.u8(FREE);
@@ -55,25 +94,39 @@ fn put_free(out: &mut Writer, generation: Generation)
 }
 
 #[tactic(auto, unfolding(crate::specs::Grammar::slot_format))]
-fn put_slot(out: &mut Writer, slot: Slot<&Object>)
-    ensures { Puts (slot_format Second) out.old out.new (slot_read slot.entry) }
+#[inline(always)]
+fn put_slot(out: &mut Writer, wide: bool, slot: Slot<&Object>)
+    ensures { Puts (slot_format wide Second) out.old out.new (slot_read slot.entry) }
 {
     match slot {
         Slot::Free(generation) => put_free(out, generation),
-        Slot::Occupied(generation, object) => put_occupied(out, generation, object),
+        Slot::Occupied(generation, object) => put_occupied(out, wide, generation, object),
         Slot::Retired => out.u8(RETIRED),
     }
 }
 
-/// Appends how many slots there are, in four bytes, and the slots.
+/// Appends how many slots there are, in four bytes, and the slots. The loop is there for each kind of
+/// space: so in that of plain spaces all calls are inlined.
+pub(crate) fn put_slot_list(out: &mut Writer, wide: bool, heap: &Heap)
+    ensures { Puts (counted number4 (slot_format wide Second)) out.old out.new
+        (map stored_slot heap.now.heap.slots) }
+{
+    if wide {
+        put_each_slot(out, true, heap);
+    } else {
+        put_each_slot(out, false, heap);
+    }
+}
+
 #[tactic(auto, using(crate::proofs::Joins::unwritten))]
-pub(crate) fn put_slot_list(out: &mut Writer, heap: &Heap)
-    ensures { Puts (counted number4 (slot_format Second)) out.old out.new
+#[inline(always)]
+fn put_each_slot(out: &mut Writer, wide: bool, heap: &Heap)
+    ensures { Puts (counted number4 (slot_format wide Second)) out.old out.new
         (map stored_slot heap.now.heap.slots) }
 {
     out.u32(heap.slots());
     for slot in 0..heap.slots() {
-        put_slot(out, heap.slot(slot));
+        put_slot(out, wide, heap.slot(slot));
     }
 }
 

@@ -9,8 +9,14 @@ pub const FIRST: u8 = 1;
 /// The second version of the format, after the start. It is read and written.
 pub const SECOND: u8 = 2;
 
-/// In the place of the version: the second version, and a log of events follows the image.
-pub const LOGGED: u8 = 3;
+/// The version of the format for wide spaces, after the start.
+pub const WIDE: u8 = 4;
+
+/// In the place of the second version: a log of events follows the image.
+pub const LOGGED: u8 = SECOND + 1;
+
+/// In the place of the version for wide spaces: a log of events follows the image.
+pub const WIDE_LOGGED: u8 = WIDE + 1;
 
 /// In place of a token, or of a register's reference, that is absent.
 pub const ABSENT: u8 = 0;

@@ -1,6 +1,6 @@
 //! Writes the parts of an image as bytes. They follow one another without gaps, each in its own
 //! format.
-ghost use Rattle.std.specs.Prelude.{◌≡◌, ◌≤◌, ◌+◌, [], length, map};
+ghost use Rattle.std.specs.Prelude.{◌≡◌, ◌≤◌, ◌+◌, false, [], length, map};
 ghost use Rattle.std.specs.List.{remove};
 ghost use Rattle.codec.specs.Formats.{many, number8};
 ghost use Rattle.codec.specs.Pieces.{Adds};
@@ -12,11 +12,12 @@ ghost use Rattle.image_parts.specs.Grammar.{start_format, front_format, slots_fo
 ghost use Rattle.image_parts.specs.Grammar.{others_format, waiting_format};
 ghost use Rattle.image_parts.specs.Stored.{phases_by, stored_slot, stored_links};
 
+use crate::layout::Layout;
 use crate::links::put_links;
 use crate::lists::{put_all, put_counted};
 use crate::parts::Head;
 use crate::slots::{put_free_list, put_letters, put_slot_list};
-use crate::tags::{ABSENT, PRESENT, SECOND, START};
+use crate::tags::{ABSENT, FIRST, PRESENT, SECOND, START, WIDE};
 use codec::{Piece, Writer};
 use cycles::{Phases, Ring};
 use frames::writing::{add_colour, add_token};
@@ -51,12 +52,19 @@ fn add_phases(piece: &mut Piece, p: &Phases)
     piece.u32(p.cursor());
 }
 
-/// Appends what an image begins with: two letters, and the second version.
-#[tactic(auto, unfolding(crate::specs::Grammar::start_format, crate::specs::Grammar::version_format))]
-pub fn put_start(out: &mut Writer)
-    ensures { Puts start_format out.old out.new Second }
+/// Appends what an image begins with: two letters, and the layout.
+#[tactic(auto, unfolding(crate::specs::Grammar::start_format, crate::specs::Grammar::layout_format))]
+pub fn put_start(out: &mut Writer, layout: Layout)
+    ensures { Puts start_format out.old out.new layout }
 {
-    out.array([START[0], START[1], SECOND]);
+    match layout {
+        Layout::First => out.array([START[0], START[1], FIRST]),
+        Layout::Second => out.array([START[0], START[1], SECOND]),
+        Layout::Wide { places, bytes } => {
+            out.array([START[0], START[1], WIDE, places]);
+            out.u32(bytes);
+        }
+    }
 }
 
 /// Appends what comes before the lists: the head, the cycles, and the node's colour, its balances
@@ -95,22 +103,23 @@ pub fn put_reports(out: &mut Writer, reports: &[u64])
 // The three counts of a heap without slots.
 #[tactic(auto, unfolding(crate::specs::Grammar::slots_format, crate::specs::Numbers::number4))]
 fn put_no_slots(out: &mut Writer)
-    ensures { Puts (slots_format Second) out.old out.new ([], ([], [])) }
+    ensures { Puts (slots_format false Second) out.old out.new ([], ([], [])) }
 {
     out.array([0; 12]);
 }
 
-/// Appends the slots of a heap, and which of them are free and which grey.
+/// Appends the slots of a heap of a wide space or a plain one, and which of them are free and which
+/// grey.
 #[tactic(auto, unfolding(crate::specs::Grammar::slots_format), using(crate::proofs::Joins::both))]
-pub fn put_slots(out: &mut Writer, heap: &Heap)
-    ensures { Puts (slots_format Second) out.old out.new
+pub fn put_slots(out: &mut Writer, wide: bool, heap: &Heap)
+    ensures { Puts (slots_format wide Second) out.old out.new
         (map stored_slot heap.now.heap.slots, (heap.now.heap.free, heap.now.heap.grey)) }
 {
     if heap.slots() == 0 && heap.vacant() == 0 && heap.grey_slots().is_empty() {
         put_no_slots(out);
         return;
     }
-    put_slot_list(out, heap);
+    put_slot_list(out, wide, heap);
     put_free_list(out, heap);
     put_counted(out, heap.grey_slots());
 }

@@ -6,7 +6,7 @@ use Rattle.std.proofs.lemmas.List.{get_or_past, length-replicate}
 use Rattle.std.proofs.lemmas.List.FromFn.{get_or-map-range_with_len, length-map-range_with_len}
 use Rattle.std.proofs.lemmas.Option.{slice_get_within}
 use Rattle.std.proofs.Math.Path.{fun_ext}
-use Rattle.ids.specs.Limits.{Shaped, IsShape}
+use Rattle.ids.specs.Limits.{Shaped, IsShape, plain_shape}
 use Rattle.msg.specs.declared.body.Message.{Message}
 use Rattle.model.specs.declared.event.Event.{Event}
 use Rattle.model.specs.declared.event.Event.TheVariants as event
@@ -52,6 +52,8 @@ no-node-refuses (event.Store object place register) own passed = nothing-below-z
 no-node-refuses (event.Clear object place) own passed = nothing-below-zero object passed.0
 no-node-refuses (event.Word object) own passed = nothing-below-zero object passed.0
 no-node-refuses (event.SetWord object word) own passed = nothing-below-zero object passed.0
+no-node-refuses (event.SetBytes object bytes) own passed = nothing-below-zero object passed.0
+no-node-refuses (event.Patch object offset bytes) own passed = nothing-below-zero object passed.0
 no-node-refuses (event.Give to label register) own passed = nothing-below-zero to passed.0
 no-node-refuses (event.Accept register) own passed = nothing-below-zero register passed.0
 no-node-refuses (event.Put object place register) own passed = nothing-below-zero object passed.0
@@ -112,7 +114,8 @@ own-heard {p = p} h from =
 
 -- one message is received
 pub taken-heard : {q : LocalState} (p : LocalState) (from number : ℕ)
-    → Stands (counted_in p from number) q → got_from p from ≤ number → (j : ℕ) → got_from p j ≤ got_from q j
+    → Stands (counted_in p from number) q → got_from p from ≤ number → (j : ℕ)
+    → got_from p j ≤ got_from q j
 taken-heard p from number h more j =
     subst (λ (z : List ℕ). got_from p j ≤ get_or z j 0) (sym h.got)
     (set-no_fewer p.got from number more j)
@@ -222,7 +225,7 @@ at-new shape choice i P holds = ⊎_elim {C = P (cut (new_world shape) choice i)
     (λ inside. subst P (sym (new-inside shape choice i inside)) (holds shape i))
     (λ past.
     subst P (sym (new-past shape choice i past))
-    (holds (record { nodes = 0; registers = 0; slots = 0 }) 1))
+    (holds (plain_shape 0 0 0) 1))
     (cases_lt i shape.nodes)
 
 pub new-base : (shape : Shaped) (choice : ℕ → Bool) → Base shape (cut (new_world shape) choice)

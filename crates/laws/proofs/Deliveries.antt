@@ -18,7 +18,7 @@ use Rattle.model.specs.State.{Phases, LocalState, NodeState, node_at, sent_to, g
 use Rattle.model.specs.Effects.{Work, at_rest}
 use Rattle.model.specs.Shading.{is_calm, join, joined}
 use Rattle.model.specs.Collecting.{token_sender}
-use Rattle.model.specs.References.{IfAny}
+use Rattle.model.specs.References.{IfAny, IsPlaced}
 use Rattle.model.specs.Steps.{mentioned, target_of, may_reach, may_follow, is_marking, may_settle, may_take, is_within, are_within, is_repeat, is_early}
 use Rattle.model.specs.World.{World, KeepsSent, new_world, run, numbered}
 use Rattle.model.specs.Cuts.{Cut, cut, taken, IsInFlight, IsLive}
@@ -35,7 +35,8 @@ use Rattle.laws.proofs.Inner.{resting-joined, marking-open, occupied-inside}
 use Rattle.laws.proofs.Acting.{latest}
 use Rattle.laws.proofs.RingSteps.{way-not-node}
 use Rattle.laws.proofs.Replies.{stamp-most}
-use Rattle.laws.proofs.Live.{all-inv}
+use Rattle.laws.proofs.Live.{Whole, all-inv, all-whole}
+use Rattle.laws.proofs.Placed.{Placed}
 
 -- ---- targets
 
@@ -138,6 +139,7 @@ all-within shape (r ∷ rs) all = and_from _ _ all.0 (all-within shape rs all.1)
 -- The first message in flight to a node fits it.
 pub record Arrival (shape : Shaped) (c : Cut) (from to place : ℕ) (x : Message) : Type 0 where
   pub inv : Inv shape c
+  pub placed : Placed shape c
   pub inside : to < shape.nodes
   pub flight : IsInFlight c from to place x
 
@@ -194,22 +196,29 @@ module _ {shape : Shaped} {c : Cut} {from to place : ℕ} {x : Message}
       (h.inv.closed.messages from to place x h.flight)))
 
   follows : may_follow here from x.body ≡ true
-  follows = by x.body fits
+  follows = by x.body fits (h.placed from to place x h.flight)
     where
-      by : (b : Body) → BodyFits shape.nodes (phases_of c) from to x.stamp b
+      places : here.shape.places ≡ shape.places
+      places = ap (λ (z : Shaped). z.places) (h.inv.base.shapes to h.inside)
+
+      by : (b : Body) → BodyFits shape.nodes (phases_of c) from to x.stamp b → IsPlaced shape b
           → may_follow here from b ≡ true
-      by body.Begin f = eq-eqb from 0 f.0
-      by (body.Token t) f =
+      by body.Begin f _ = eq-eqb from 0 f.0
+      by (body.Token t) f _ =
           eq-eqb from (token_sender here)
           (f.0 ∙ ap (λ (z : ℕ). (z + 1) % shape.nodes) (sym own)
           ∙ ap (λ (z : ℕ). (here.own + 1) % z)
           (sym (ap (λ (z : Shaped). z.nodes) (h.inv.base.shapes to h.inside))))
-      by (body.Mark r) f = eq-eqb r.node here.own (f.0 ∙ sym own)
-      by (body.Give label reference) f = refl
-      by (body.Put target slot reference) f = eq-eqb target.node here.own (f.0 ∙ sym own)
-      by (body.Get target slot label) f = eq-eqb target.node here.own (f.0 ∙ sym own)
-      by body.Ended f = eq-eqb from 0 f.0
-      by body.Swept f = eq-eqb here.own 0 (own ∙ f.0)
+      by (body.Mark r) f _ = eq-eqb r.node here.own (f.0 ∙ sym own)
+      by (body.Give label reference) f _ = refl
+      by (body.Put target slot reference) f fit =
+          and_from _ _ (eq-eqb target.node here.own (f.0 ∙ sym own))
+          (lt-ltb slot here.shape.places (omega (arith, fit, places)))
+      by (body.Get target slot label) f fit =
+          and_from _ _ (eq-eqb target.node here.own (f.0 ∙ sym own))
+          (lt-ltb slot here.shape.places (omega (arith, fit, places)))
+      by body.Ended f _ = eq-eqb from 0 f.0
+      by body.Swept f _ = eq-eqb here.own 0 (own ∙ f.0)
 
   -- the node once it has joined the message's cycle
   abbrev settled_node : LocalState
@@ -327,11 +336,11 @@ module _ {shape : Shaped} {c : Cut} {from to place : ℕ} {x : Message}
 
 -- the tests of a receipt
 turn-passes : (shape : Shaped) (w : World) (m : Delivery) → KeepsSent w
-    → Inv shape (cut w (λ _. false))
+    → Whole shape (cut w (λ _. false))
     → (m.from < shape.nodes) × (m.to < shape.nodes) × (m.from ≢ m.to) → IsReleased w m
     → m.number ≤ got_from (node_at w.current m.to).local m.from + WINDOW
     → AllPass (tests_of (node_at w.current m.to) m)
-turn-passes shape w m h inv between there turn =
+turn-passes shape w m h whole between there turn =
     let c : Cut = cut w (λ _. false) in
     let p : LocalState = (node_at w.current m.to).local in
     let x : Message = m.message in
@@ -346,14 +355,15 @@ turn-passes shape w m h inv between there turn =
     let later : got_from p m.from < m.number = leb-false m.number (got_from p m.from) first in
     let last : m.number ≤ got_from p m.from + 1 = ltb-false _ m.number next in
     let arrival : Arrival shape c m.from m.to (taken c m.from m.to) x = record {
-      inv = inv;
+      inv = whole.inv;
+      placed = whole.placed;
       inside = between.1;
       flight = cut-in_flight w (λ _. false) m h refl there (omega (arith, later, last));
     } in
     or_right _ _ (taken-whole arrival))
     (cases_Bool (is_early p m.from m.number))))
     (cases_Bool (is_repeat p m.from m.number)) in (
-      between-nodes inv.base m.from m.to between.0 between.1 between.2,
+      between-nodes whole.inv.base m.from m.to between.0 between.1 between.2,
       (le-leb m.number _ turn, (may, tt)),
     )
 
@@ -365,16 +375,16 @@ none-refused-in-turn shape within steps from to number stamp b e there refused =
     { from = from; to = to; number = number; message = record { stamp = stamp; body = b } } in
     let s : NodeState = node_at w.current to in
     let h : KeepsSent w = run-keeps-sent (new_world shape) steps (new-keeps-sent shape) in
-    let inv : Inv shape (cut w (λ _. false)) = all-inv shape within steps (λ _. false) in
+    let whole : Whole shape (cut w (λ _. false)) = all-whole shape within steps (λ _. false) in
     let between =
     released-between w m (all-inv shape within steps (λ _. true)).base there in
     ⊎_elim
     (λ turn.
-    inl (receive-passed s m e (turn-passes shape w m h inv between there (leb-true number _ turn))
+    inl (receive-passed s m e (turn-passes shape w m h whole between there (leb-true number _ turn))
     refused))
     (λ early. inr (
       receive-early s m e
-          (between-nodes inv.base from to between.0 between.1 between.2)
+          (between-nodes whole.inv.base from to between.0 between.1 between.2)
           early
           refused,
       leb-false number _ early,

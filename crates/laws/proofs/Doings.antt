@@ -11,13 +11,13 @@ use Rattle.model.specs.declared.event.Event.{Event}
 use Rattle.model.specs.declared.event.Event.TheVariants as event
 use Rattle.model.specs.Checks.{AllPass}
 use Rattle.model.specs.State.{Object, Occupied, Heap, LocalState, register_at, slot_at}
-use Rattle.model.specs.Heaps.{alloc_heap, with_object, new_reference, new_object, named, object_at, has_place, place_of, word_of, with_register, register_copied, letter_taken, with_letter, with_rewritten, place_loaded, next_slot, generation_for, oldest_letter}
+use Rattle.model.specs.Heaps.{alloc_heap, with_object, new_reference, new_object, named, object_at, has_place, place_of, word_of, overwritten, with_register, register_copied, letter_taken, with_letter, with_rewritten, place_loaded, next_slot, generation_for, oldest_letter}
 use Rattle.model.specs.Effects.{Work}
 use Rattle.model.specs.Counting.{is_reference, append}
 use Rattle.model.specs.Shading.{is_same, see_to}
 use Rattle.model.specs.declared.event.Answer.TheVariants as answer
 use Rattle.model.specs.Steps.{tests, made, take_body, target_of}
-use Rattle.laws.specs.Objects.{Thing, Space, object_in, has_that, content_of, word_in, with_desk, with_thing, rewriting, posted, is_program, new_thing, IsAnswer, does, follows, with_place, with_word}
+use Rattle.laws.specs.Objects.{Thing, Space, object_in, has_that, content_of, word_in, with_desk, with_thing, rewriting, posted, is_program, new_thing, IsAnswer, does, follows, with_place, with_word, with_bytes, with_patch}
 use Rattle.laws.specs.Sights.{thing_of, programs}
 use Rattle.model.proofs.Slots.{found-object}
 use Rattle.laws.proofs.Slots.{object-where, object-placed}
@@ -348,6 +348,19 @@ own-does {s = s} p counts (event.SetWord object word) is d =
     Effects s (with_word s (named z object) word) p.own
     (made p counts (event.SetWord object word)).local.heap []) (sym d.here.desk)
     (effects-rewritten (named p.heap object) _ (λ o. record o { word = word })
+    (eqb-true _ _ d.passed.1.1.0) (λ _. refl) d.here)
+own-does {s = s} p counts (event.SetBytes object bytes) is d =
+    subst (λ (z : Heap).
+    Effects s (with_bytes s (named z object) bytes.now) p.own
+    (made p counts (event.SetBytes object bytes)).local.heap []) (sym d.here.desk)
+    (effects-rewritten (named p.heap object) _ (λ o. record o { bytes = bytes.now })
+    (eqb-true _ _ d.passed.1.1.0) (λ _. refl) d.here)
+own-does {s = s} p counts (event.Patch object offset bytes) is d =
+    subst (λ (z : Heap).
+    Effects s (with_patch s (named z object) offset bytes.now) p.own
+    (made p counts (event.Patch object offset bytes)).local.heap []) (sym d.here.desk)
+    (effects-rewritten (named p.heap object) _
+    (λ o. record o { bytes = overwritten o.bytes offset bytes.now })
     (eqb-true _ _ d.passed.1.1.0) (λ _. refl) d.here)
 own-does {s = s} p counts (event.Give to label register) is d =
     subst (λ (z : Heap).

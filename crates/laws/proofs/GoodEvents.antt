@@ -11,7 +11,7 @@ use Rattle.model.specs.declared.event.Answer.TheVariants as answer
 use Rattle.model.specs.declared.event.Letter.{Letter}
 use Rattle.model.specs.Checks.{AllPass}
 use Rattle.model.specs.State.{Object, Occupied, LocalState, slot_at, register_at, Phases}
-use Rattle.model.specs.Heaps.{no_letter, no_reference, named, new_reference, oldest_letter, with_letter, letter_taken, object_at, place_of, place_loaded}
+use Rattle.model.specs.Heaps.{no_letter, no_reference, named, new_reference, oldest_letter, with_letter, letter_taken, object_at, place_of, place_loaded, overwritten}
 use Rattle.model.specs.References.{IfAny}
 use Rattle.model.specs.Effects.{Work, at_rest, Effect, answers}
 use Rattle.model.specs.Counting.{stamped}
@@ -30,7 +30,7 @@ use Rattle.laws.proofs.Invariant.{Tidy}
 use Rattle.laws.proofs.Dressing.{option-holds}
 use Rattle.laws.proofs.Sweeps.{SweptHeap, swept-some}
 use Rattle.laws.proofs.OwnEvents.{letters-dropped}
-use Rattle.laws.proofs.GoodHeaps.{read-good, last-among, fewer-among, grey-good, heap-rooted, heap-registered, heap-fewer_grey, heap-rewritten, place-good, word-good, heap-object, heap-swept}
+use Rattle.laws.proofs.GoodHeaps.{read-good, last-among, fewer-among, grey-good, heap-rooted, heap-registered, heap-fewer_grey, heap-rewritten, place-good, word-good, bytes-good, heap-object, heap-swept}
 use Rattle.laws.proofs.Good.{GoodPart, GoodMessage, GoodDone, done-quiet, done-through, part-with, part-ringed, idle-good, append-good, announce-good, join-good, see-good}
 
 -- what a node's own event also relies on
@@ -233,6 +233,13 @@ own-good p counts (event.Word object) own passes r good = done-quiet good
 own-good p counts (event.SetWord object word) own passes r good =
     done-quiet (part-with _ good
     (heap-rewritten (named p.heap object) _ (word-good word) good.heap))
+own-good p counts (event.SetBytes object bytes) own passes r good =
+    done-quiet (part-with _ good
+    (heap-rewritten (named p.heap object) _ (bytes-good (λ _. bytes.now)) good.heap))
+own-good p counts (event.Patch object offset bytes) own passes r good =
+    done-quiet (part-with _ good
+    (heap-rewritten (named p.heap object) _
+    (bytes-good (λ old. overwritten old offset bytes.now)) good.heap))
 own-good p counts (event.Give to label register) own passes r good =
     append-good to (body.Give label (register_at p.heap register)) p
     (give-good p.phases.cycle label (register_at p.heap register)

@@ -179,6 +179,10 @@ place-good {G = G} place v is = record {
 pub word-good : {G : Ref → Type 0} (word : ℕ) → GoodRewriting G (λ o. record o { word = word })
 word-good word = record { mark = λ o. refl; places = λ o all. all }
 
+pub bytes-good : {G : Ref → Type 0} (f : List ℕ → List ℕ)
+    → GoodRewriting G (λ o. record o { bytes = f o.bytes })
+bytes-good f = record { mark = λ o. refl; places = λ o all. all }
+
 -- a new object, whose reference is good
 pub heap-object : {G : Ref → Type 0} {since own cycle done : ℕ} {h : Heap} (places : ℕ)
     → FreeSlots h.slots h.free → done ≤ cycle → G (new_reference own h)

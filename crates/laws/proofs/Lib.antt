@@ -9,6 +9,7 @@ pub mod Sums
 pub mod Safra
 pub mod Invariant
 pub mod Base
+pub mod Placed
 pub mod Net
 pub mod Tallies
 pub mod Inner

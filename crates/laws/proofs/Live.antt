@@ -38,12 +38,14 @@ use Rattle.laws.proofs.Counts.{reference-counts}
 use Rattle.laws.proofs.Sweeps.{swept-some}
 use Rattle.laws.proofs.Plain.{plain-inv}
 use Rattle.laws.proofs.New.{new-inv}
+use Rattle.laws.proofs.Placed.{Placed, plain-placed, new-placed}
 use Rattle.laws.proofs.Unwrapping.{Numbered, plain-numbered, unwrapped}
 
--- the invariant, and that numbers are within the limit
+-- the invariant, that numbers are within the limit, and that places are
 pub record Whole (shape : Shaped) (c : Cut) : Type 0 where
   pub inv : Inv shape c
   pub numbered : Numbered c
+  pub placed : Placed shape c
 
 pub several : {shape : Shaped} → IsShape shape → 2 ≤ shape.nodes
 several limits = limits.least_nodes
@@ -57,6 +59,7 @@ run-whole limits (further before s) whole =
     record {
       inv = plain-inv (several limits) (unwrapped limits w.inv w.numbered) s w.inv;
       numbered = plain-numbered s w.numbered;
+      placed = plain-placed s w.inv.base w.placed;
     }
 
 pub new-whole : (shape : Shaped) → IsShape shape → (choice : ℕ → Bool)
@@ -68,6 +71,7 @@ new-whole shape limits choice = record {
       (λ z own.
       subst (λ (xs : List Message). length xs ≤ GREATEST_NUMBER)
       (sym (get_or-replicate_any {A = List Message} z.nodes k [])) (omega arith));
+  placed = new-placed shape choice;
 }
 
 -- every cut of a space has it

@@ -11,7 +11,7 @@ use Rattle.model.specs.declared.event.Event.TheVariants as event
 use Rattle.model.specs.declared.event.Letter.{Letter}
 use Rattle.model.specs.Checks.{AllPass}
 use Rattle.model.specs.State.{Object, Occupied, Heap, Phases, NodeState, register_at, slot_at}
-use Rattle.model.specs.Heaps.{no_letter, with_object, new_object, new_reference, no_reference, named, object_at, place_of, place_loaded, oldest_letter, with_place}
+use Rattle.model.specs.Heaps.{no_letter, with_object, new_object, new_reference, no_reference, named, object_at, place_of, place_loaded, oldest_letter, with_place, filling, patching}
 use Rattle.model.specs.References.{IfAny}
 use Rattle.model.specs.Effects.{Work}
 use Rattle.model.specs.Counting.{append}
@@ -266,6 +266,18 @@ program-moves i counts (event.Word object) plain step =
     moves-none step.becomes step.inv
 program-moves {c = c} i counts (event.SetWord object word) plain step =
     let writes : Rewriting c i (λ o. record o { word = word }) =
+    record { mark = λ o. refl; places = λ o j. inl refl } in
+    inner-moves
+    (rewrite-inner (named (c i).local.heap object) _ step.inside step.becomes writes step.inv)
+    refl
+program-moves {c = c} i counts (event.SetBytes object bytes) plain step =
+    let writes : Rewriting c i (filling bytes.now) =
+    record { mark = λ o. refl; places = λ o j. inl refl } in
+    inner-moves
+    (rewrite-inner (named (c i).local.heap object) _ step.inside step.becomes writes step.inv)
+    refl
+program-moves {c = c} i counts (event.Patch object offset bytes) plain step =
+    let writes : Rewriting c i (patching offset bytes.now) =
     record { mark = λ o. refl; places = λ o j. inl refl } in
     inner-moves
     (rewrite-inner (named (c i).local.heap object) _ step.inside step.becomes writes step.inv)

@@ -1,17 +1,17 @@
 -- What a program is told about its events, it may also be told in a space without a collector: the
 -- tests are the same, since the objects that registers name exist.
-use Rattle.std.proofs.Common.{◌≡◌, ℕ, Bool, true, false, ◌==◌, ◌⊎◌, List, [], ◌∷◌, ◌++◌, length, map, Option, Ok, Err, refl, sym, ap, ◌∙◌, subst, ⊎_elim, inl, inr}
-use Rattle.std.specs.Prelude.{is_some, not, nat_lt, nat_le}
-use Rattle.ids.specs.declared.limits.TheConstants.{GREATEST_PLACES}
+use Rattle.std.proofs.Common.{◌≡◌, ℕ, Bool, true, false, ◌==◌, ◌⊎◌, List, [], ◌∷◌, ◌++◌, length, map, take, drop, Option, None, Some, Ok, Err, refl, sym, ap, ◌∙◌, subst, ⊎_elim, inl, inr}
+use Rattle.std.specs.Prelude.{◌&&◌, is_some, not, nat_lt, nat_le, option_map}
 use Rattle.ids.specs.declared.refusal.Refusal.{Refusal}
-use Rattle.ids.specs.declared.refusal.Refusal.TheVariants.{ArenaFull, EmptyRegister, NoField, NoNode, NoRegister, Remote, SelfSend, TooManyFields, LinkSpent}
+use Rattle.ids.specs.declared.refusal.Refusal.TheVariants.{ArenaFull, EmptyRegister, NoField, NoNode, NoRegister, Remote, SelfSend, TooManyFields, LinkSpent, TooManyBytes, NoBytes}
 use Rattle.model.specs.declared.event.Event.{Event}
 use Rattle.model.specs.declared.event.Event.TheVariants as event
 use Rattle.model.specs.Checks.{guarded, AllPass}
-use Rattle.model.specs.State.{Heap, LocalState, NodeState}
-use Rattle.model.specs.Heaps.{is_register, is_filled, is_local, has_slot, has_place, named, object_at, own_tests, copy_tests, drop_tests, word_tests, register_tests, put_tests, get_tests, accept_tests}
+use Rattle.model.specs.State.{Object, Heap, LocalState, NodeState}
+use Rattle.model.specs.Heaps.{is_register, is_filled, is_local, has_slot, has_place, named, object_at, own_tests, copy_tests, drop_tests, word_tests, register_tests, put_tests, get_tests, accept_tests, bytes_of, has_range, heap_bytes}
 use Rattle.model.specs.Steps.{tests, made, fits, all_tests, checked, act}
-use Rattle.laws.specs.Objects.{Thing, Space, object_in, has_that, is_program, checks, IsLimit, MayBeTold}
+use Rattle.laws.specs.Objects.{Thing, Space, object_in, has_that, bytes_in, bytes_told, is_program, checks, IsLimit, MayBeTold}
+use Rattle.laws.specs.Sights.{thing_of}
 use Rattle.model.proofs.Checks.{guarded-pass, guarded-passes}
 use Rattle.laws.proofs.StepFacts.{after-err, last-refusal}
 use Rattle.laws.proofs.Doings.{Here, thing-has, thing-there, object-same, Doing, own-answers}
@@ -54,6 +54,13 @@ alike-last [] b c r h = ap (λ (z : Bool). guarded {A = Unit {0}} ((z, r) ∷ []
 alike-last ((true, e) ∷ ts) b c r h = alike-last ts b c r (λ passed. h (refl, passed))
 alike-last ((false, e) ∷ ts) b c r h = refl
 
+-- they are alike if what follows the same tests is, whenever these pass
+alike-rest : {A : Type 0} (ts us vs : List (Bool × Refusal)) (x y : A)
+    → (AllPass ts → guarded us x ≡ guarded vs y) → guarded (ts ++ us) x ≡ guarded (ts ++ vs) y
+alike-rest [] us vs x y h = h tt
+alike-rest ((true, e) ∷ ts) us vs x y h = alike-rest ts us vs x y (λ passed. h (refl, passed))
+alike-rest ((false, e) ∷ ts) us vs x y h = refl
+
 -- ---- the tests of events
 
 -- An object of the node's own that a register names exists.
@@ -91,11 +98,63 @@ word-alike {s = s} p object x =
     ∙ ap (λ (z : Heap). guarded {A = Unit {0}}
     (own_tests p.own z object b) tt) (sym x.here.desk)
 
+-- the tests on an object of the node's own, before those of the object
+abbrev named_tests : ℕ → Heap → ℕ → List (Bool × Refusal)
+named_tests own h object =
+    (is_register h object, NoRegister) ∷ (is_filled h object, EmptyRegister)
+    ∷ (is_local own h object, Remote) ∷ []
+
+-- what is tested of the object, and what is read of it, is the same
+held-alike : {A : Type 0} {s : Space} (p : LocalState) (object : ℕ) → Ready s p
+    → (us : Option Thing → List (Bool × Refusal)) (f : Option Thing → A)
+    → (let o = option_map thing_of (object_at p.heap (named p.heap object)) in
+    guarded (named_tests p.own p.heap object ++ us o) (f o))
+    ≡ guarded (named_tests p.own (s.desk p.own) object ++ us (object_in s p.own object))
+    (f (object_in s p.own object))
+held-alike {s = s} p object x us f =
+    let o : Option Thing = option_map thing_of (object_at p.heap (named p.heap object)) in
+    let t : Option Thing = object_in s p.own object in
+    alike-rest (named_tests p.own p.heap object) (us o) (us t) (f o) (f t)
+    (λ passed.
+    ap (λ (z : Option Thing). guarded (us z) (f z))
+    (sym (object-same object x.here passed.1.1.0 (x.there object passed.1.0 passed.1.1.0))))
+    ∙ ap (λ (z : Heap). guarded (named_tests p.own z object ++ us t) (f t)) (sym x.here.desk)
+
+-- the object is there, and has this many bytes from this offset on
+abbrev ranged : Option Thing → Bool → ℕ → ℕ → List (Bool × Refusal)
+ranged t wide offset count =
+    (is_some t, NoField) ∷ (wide && has_range (bytes_in t) offset count, NoBytes) ∷ []
+
+ranged-alike : (o : Option Object) (wide : Bool) (offset count : ℕ)
+    → ◌≡◌ {A = List (Bool × Refusal)}
+    ((is_some o, NoField) ∷ (wide && has_range (bytes_of o) offset count, NoBytes) ∷ [])
+    (ranged (option_map thing_of o) wide offset count)
+ranged-alike None wide offset count = refl
+ranged-alike (Some o) wide offset count = refl
+
+-- reading bytes is told the same
+pub bytes-alike : {s : Space} (p : LocalState) (object offset count : ℕ) → Ready s p
+    → heap_bytes p.own p.heap object offset count ≡ bytes_told s p.own object offset count
+unfolding heap_bytes
+bytes-alike {s = s} p object offset count x =
+    by (object_at p.heap (named p.heap object))
+    ∙ held-alike p object x (λ t. ranged t true offset count)
+    (λ t. take count (drop offset (bytes_in t)))
+  where
+    by : (o : Option Object)
+        → guarded (named_tests p.own p.heap object ++ (is_some o, NoField)
+        ∷ (has_range (bytes_of o) offset count, NoBytes) ∷ [])
+        (take count (drop offset (bytes_of o)))
+        ≡ guarded (named_tests p.own p.heap object ++ ranged (option_map thing_of o) true offset
+        count) (take count (drop offset (bytes_in (option_map thing_of o))))
+    by None = refl
+    by (Some o) = refl
+
 -- all tests except those of a limit: that a slot is available, and that messages get numbers
 abbrev tested : LocalState → Event → List (Bool × Refusal)
 tested p (event.Alloc register places) =
     (is_register p.heap register, NoRegister)
-    ∷ (nat_le places GREATEST_PLACES, TooManyFields) ∷ []
+    ∷ (nat_le places p.shape.places, TooManyFields) ∷ []
 tested p e = tests p e
 
 abbrev limits : LocalState → List ℕ → Event → List (Bool × Refusal)
@@ -114,10 +173,10 @@ tested-pass p (event.Alloc register places) passed = (passed.0, (passed.1.0, tt)
 tested-pass p e passed = passed
 
 tests-alike : {s : Space} (p : LocalState) (e : Event) → is_program e ≡ true → Ready s p
-    → Alike (tested p e) (checks s p.own p.shape.nodes e)
+    → Alike (tested p e) (checks s p.own p.shape e)
 tests-alike p (event.Alloc register places) is x =
     ap (λ (z : Heap). guarded {A = Unit {0}}
-    ((is_register z register, NoRegister) ∷ (nat_le places GREATEST_PLACES, TooManyFields) ∷ [])
+    ((is_register z register, NoRegister) ∷ (nat_le places p.shape.places, TooManyFields) ∷ [])
     tt) (sym x.here.desk)
 tests-alike p (event.Copy register source) is x =
     ap (λ (z : Heap). guarded {A = Unit {0}} (copy_tests z register source) tt) (sym x.here.desk)
@@ -141,7 +200,8 @@ tests-alike {s = s} p (event.Store object place register) is x =
     ∷ [] in
     alike-last (first p.heap ++ (is_local p.own p.heap object, Remote) ∷ []) _ b NoField
     (λ passed. has-same object place x passed.1.1.0 passed.1.1.1.1.0)
-    ∙ ap (λ (z : Heap). guarded {A = Unit {0}} (first z ++ (is_local p.own z object, Remote) ∷ (b, NoField) ∷ []) tt)
+    ∙ ap (λ (z : Heap). guarded {A = Unit {0}} (first z ++ (is_local p.own z object, Remote) ∷
+    (b, NoField) ∷ []) tt)
     (sym x.here.desk)
 tests-alike {s = s} p (event.Clear object place) is x =
     let b : Bool = has_that (object_in s p.own object) place in
@@ -152,6 +212,17 @@ tests-alike {s = s} p (event.Clear object place) is x =
     (own_tests p.own z object b) tt) (sym x.here.desk)
 tests-alike p (event.Word object) is x = word-alike p object x
 tests-alike p (event.SetWord object word) is x = word-alike p object x
+tests-alike p (event.SetBytes object bytes) is x =
+    let few : Bool = p.shape.wide && nat_le (length bytes.now) p.shape.bytes in
+    ap (λ (z : Bool). guarded {A = Unit {0}}
+    (named_tests p.own p.heap object ++ (z, NoField) ∷ (few, TooManyBytes) ∷ []) tt)
+    (sym (thing-there (object_at p.heap (named p.heap object))))
+    ∙ held-alike p object x (λ t. (is_some t, NoField) ∷ (few, TooManyBytes) ∷ []) (λ _. tt)
+tests-alike p (event.Patch object offset bytes) is x =
+    ap (λ (z : List (Bool × Refusal)). guarded {A = Unit {0}}
+    (named_tests p.own p.heap object ++ z) tt)
+    (ranged-alike (object_at p.heap (named p.heap object)) p.shape.wide offset (length bytes.now))
+    ∙ held-alike p object x (λ t. ranged t p.shape.wide offset (length bytes.now)) (λ _. tt)
 tests-alike p (event.Give to label register) is x =
     ap (λ (z : Heap). guarded {A = Unit {0}}
     ((nat_lt to p.shape.nodes, NoNode) ∷ (not (to == p.own), SelfSend) ∷ register_tests z register)
@@ -159,10 +230,12 @@ tests-alike p (event.Give to label register) is x =
 tests-alike p (event.Accept register) is x =
     ap (λ (z : Heap). guarded {A = Unit {0}} (accept_tests z register) tt) (sym x.here.desk)
 tests-alike p (event.Put object place register) is x =
-    ap (λ (z : Heap). guarded {A = Unit {0}} (put_tests p.own z object place register) tt)
+    ap (λ (z : Heap). guarded {A = Unit {0}} (put_tests p.shape.places p.own z object place
+    register) tt)
     (sym x.here.desk)
 tests-alike p (event.Get object place label) is x =
-    ap (λ (z : Heap). guarded {A = Unit {0}} (get_tests p.own z object place) tt) (sym x.here.desk)
+    ap (λ (z : Heap). guarded {A = Unit {0}} (get_tests p.shape.places p.own z object place) tt)
+    (sym x.here.desk)
 tests-alike p e never x = absurd cc
 
 -- ---- what a program is told
@@ -170,9 +243,9 @@ tests-alike p e never x = absurd cc
 -- an answer
 pub told-ok : {s : Space} (p : LocalState) (counts : List ℕ) (e : Event) → is_program e ≡ true
     → Ready s p → Doing s p e
-    → MayBeTold s p.own p.shape.nodes e (Ok (made p counts e).answer)
+    → MayBeTold s p.own p.shape e (Ok (made p counts e).answer)
 told-ok {s = s} p counts e is x d = (
-  alike-pass (tested p e) (checks s p.own p.shape.nodes e) (tests-alike p e is x)
+  alike-pass (tested p e) (checks s p.own p.shape e) (tests-alike p e is x)
       (tested-pass p e d.passed),
   own-answers p counts e is d,
 )
@@ -209,17 +282,17 @@ limit-refused p counts e r is h = never-refused _ r h
 -- a refusal
 pub told-err : {s : Space} (n : NodeState) (e : Event) (r : Refusal) → is_program e ≡ true
     → Ready s n.local → act n e ≡ Err r
-    → MayBeTold s n.local.own n.local.shape.nodes e (Err r)
+    → MayBeTold s n.local.own n.local.shape e (Err r)
 unfolding act
 told-err {s = s} n e r is x refused =
     let p : LocalState = n.local in
     let counts : List ℕ = map length n.sent in
     let all = after-err n (checked (tests p e) counts (made p counts e)) r refused in
     let alike = tests-alike p e is x in
-    ⊎_elim {C = MayBeTold s p.own p.shape.nodes e (Err r)}
-    (λ first. inl (alike-refuse (tested p e) (checks s p.own p.shape.nodes e) _ s r alike first))
+    ⊎_elim {C = MayBeTold s p.own p.shape e (Err r)}
+    (λ first. inl (alike-refuse (tested p e) (checks s p.own p.shape e) _ s r alike first))
     (λ last. inr (
-      alike-pass (tested p e) (checks s p.own p.shape.nodes e) alike last.0,
+      alike-pass (tested p e) (checks s p.own p.shape e) alike last.0,
       limit-refused p counts e r is last.1,
     ))
     (refused-by (tested p e) (limits p counts e) (made p counts e) r

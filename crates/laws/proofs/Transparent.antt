@@ -1,13 +1,13 @@
 -- The collector can't be seen. What programs are told and receive in a run, as far as a cut keeps
 -- it, is a run of a space without a collector.
-use Rattle.std.proofs.Common.{◌≡◌, ℕ, ◌+◌, ◌≤◌, Bool, true, false, cond, ◌==◌, ◌&&◌, List, [], ◌∷◌, ◌++◌, length, map, drop, set, Option, None, Some, Result, Ok, Err, refl, sym, ap, ◌∙◌, subst, ⊎_elim, arith, ltb-true, leb}
-use Rattle.std.specs.Prelude.{not}
-use Rattle.std.proofs.lemmas.Bool.{cases_Bool, cond_both, cond-true, cond-false, and_parts, and_from, eqb-false, ltb-false, not_from_false, not-true}
+use Rattle.std.proofs.Common.{◌≡◌, ℕ, ◌+◌, ◌≤◌, Bool, true, false, cond, ◌==◌, ◌&&◌, List, [], ◌∷◌, ◌++◌, length, map, take, drop, set, Option, None, Some, Result, Ok, Err, refl, sym, ap, ◌∙◌, subst, ⊎_elim, arith, ltb-true, leb}
+use Rattle.std.specs.Prelude.{not, is_some}
+use Rattle.std.proofs.lemmas.Bool.{cases_Bool, cases_lt, cond_both, cond-true, cond-false, and_parts, and_from, eqb-false, le-ltb, ltb-false, not_from_false, not-true}
 use Rattle.std.proofs.lemmas.List.{get_or_past, set-get_or, drop_all}
 use Rattle.std.proofs.lemmas.List.FromFn.{length-map-range_with_len}
 use Rattle.ids.specs.Limits.{Shaped, IsShape}
 use Rattle.ids.specs.declared.refusal.Refusal.{Refusal}
-use Rattle.ids.specs.declared.refusal.Refusal.TheVariants.{NoNode, WrongNode, AckBeyond}
+use Rattle.ids.specs.declared.refusal.Refusal.TheVariants.{NoNode, NoRegister, EmptyRegister, Remote, NoField, NoBytes, WrongNode, AckBeyond}
 use Rattle.msg.specs.declared.body.Message.{Message}
 use Rattle.model.specs.declared.event.Event.{Event}
 use Rattle.model.specs.declared.event.Event.TheVariants as event
@@ -18,14 +18,15 @@ use Rattle.model.specs.declared.step.Step.TheVariants as step
 use Rattle.model.specs.declared.step.Outcome.{Outcome}
 use Rattle.model.specs.declared.step.Outcome.TheVariants as outcome
 use Rattle.model.specs.Checks.{guarded}
-use Rattle.model.specs.State.{Occupied, Heap, LocalState, NodeState, new_node, no_node, node_at, slot_at, sent_to}
+use Rattle.model.specs.State.{Object, Occupied, Heap, LocalState, NodeState, new_node, no_node, node_at, slot_at, sent_to}
+use Rattle.model.specs.Heaps.{is_register, is_filled, is_local, object_at, named, bytes_of, has_range, heap_bytes}
 use Rattle.model.specs.Counting.{is_reference}
 use Rattle.model.specs.Steps.{made, act, receive, is_own, is_addressed, taken_in}
 use Rattle.model.specs.World.{World, KeepsSent, new_world, released, acknowledged, release_count, moved, delivery, is_node, take_step, world_after, happens, run, outcome_of, is_eventful, is_event}
 use Rattle.model.specs.Cuts.{Cut, cut, taken, Becomes}
 use Rattle.model.proofs.Lookups.{get_or-replicate_any}
 use Rattle.model.proofs.Walk.{work_in}
-use Rattle.laws.specs.Objects.{Space, new_space, is_program, MayBeTold, Sight, told, came, IsRun, after_sight, after}
+use Rattle.laws.specs.Objects.{Thing, Space, new_space, is_program, object_in, bytes_in, MayBeTold, bytes_told, Sight, told, came, IsRun, after_sight, after}
 use Rattle.laws.specs.Sights.{came_of, observed_in_step, choosing, choice_before, choice_at_start, observed_in_cut, programs, CollectorIsUnseen}
 use Rattle.laws.proofs.StepFacts.{Delivery, tests_of, IsTurnOf, IsReleased, Stepped, act-ok, Receipt, repeated, next, receipt-cases}
 use Rattle.laws.proofs.NoEvent.{only-events-change}
@@ -35,7 +36,8 @@ use Rattle.laws.proofs.Base.{new-at, at-new}
 use Rattle.laws.proofs.Moves.{worked}
 use Rattle.laws.proofs.Invariant.{Inv}
 use Rattle.laws.proofs.Live.{all-inv, reached-safe}
-use Rattle.laws.proofs.Telling.{told-ok, told-err}
+use Rattle.laws.proofs.Telling.{told-ok, told-err, bytes-alike}
+use Rattle.laws.proofs.Doings.{Here}
 use Rattle.laws.proofs.Seeing.{Same, same-becomes, At, ready, doing, program-same, cycle-same, Taking, came-is, came-same, quiet-same}
 
 -- ---- a new space
@@ -65,34 +67,34 @@ new-same shape choice = record {
 
 -- ---- sights, one list after another
 
-run-append : (nodes : ℕ) (s : Space) (xs ys : List Sight) → IsRun nodes s xs
-    → IsRun nodes (after s xs) ys → IsRun nodes s (xs ++ ys)
-run-append nodes s [] ys a b = b
-run-append nodes s (x ∷ xs) ys a b = (a.0, run-append nodes (after_sight s x) xs ys a.1 b)
+run-append : (shape : Shaped) (s : Space) (xs ys : List Sight) → IsRun shape s xs
+    → IsRun shape (after s xs) ys → IsRun shape s (xs ++ ys)
+run-append shape s [] ys a b = b
+run-append shape s (x ∷ xs) ys a b = (a.0, run-append shape (after_sight s x) xs ys a.1 b)
 
 after-append : (s : Space) (xs ys : List Sight) → after s (xs ++ ys) ≡ after (after s xs) ys
 after-append s [] ys = refl
 after-append s (x ∷ xs) ys = after-append (after_sight s x) xs ys
 
 -- these sights are allowed, and the space afterwards matches the cut
-pub record Seen (nodes : ℕ) (s : Space) (xs : List Sight) (d : Cut) : Type 0 where
-  pub runs : IsRun nodes s xs
+pub record Seen (shape : Shaped) (s : Space) (xs : List Sight) (d : Cut) : Type 0 where
+  pub runs : IsRun shape s xs
   pub same : Same (after s xs) d
 
-seen-nothing : {nodes : ℕ} {s : Space} {d : Cut} → Same s d → Seen nodes s [] d
+seen-nothing : {shape : Shaped} {s : Space} {d : Cut} → Same s d → Seen shape s [] d
 seen-nothing same = record { runs = tt; same = same }
 
 -- a test says that it isn't seen
-seen-unless : {nodes : ℕ} {s : Space} {d : Cut} (b : Bool) (xs : List Sight) → b ≡ false
-    → Same s d → Seen nodes s (cond b xs []) d
-seen-unless {nodes = nodes} {s = s} {d = d} b xs none same =
-    subst (λ (z : List Sight). Seen nodes s z d) (sym (cond-false b xs [] none))
+seen-unless : {shape : Shaped} {s : Space} {d : Cut} (b : Bool) (xs : List Sight) → b ≡ false
+    → Same s d → Seen shape s (cond b xs []) d
+seen-unless {shape = shape} {s = s} {d = d} b xs none same =
+    subst (λ (z : List Sight). Seen shape s z d) (sym (cond-false b xs [] none))
     (seen-nothing same)
 
-seen-where : {nodes : ℕ} {s : Space} {d : Cut} (b : Bool) (x : Sight) → b ≡ true
-    → Seen nodes s (x ∷ []) d → Seen nodes s (cond b (x ∷ []) []) d
-seen-where {nodes = nodes} {s = s} {d = d} b x is h =
-    subst (λ (z : List Sight). Seen nodes s z d) (sym (cond-true b (x ∷ []) [] is)) h
+seen-where : {shape : Shaped} {s : Space} {d : Cut} (b : Bool) (x : Sight) → b ≡ true
+    → Seen shape s (x ∷ []) d → Seen shape s (cond b (x ∷ []) []) d
+seen-where {shape = shape} {s = s} {d = d} b x is h =
+    subst (λ (z : List Sight). Seen shape s z d) (sym (cond-true b (x ∷ []) [] is)) h
 
 -- ---- a world of a run
 
@@ -141,16 +143,16 @@ at-node w choice i h same within = record {
 -- what is told at a node of the cut
 told-at : {shape : Shaped} {s : Space} {c : Cut} {i : ℕ} (e : Event)
     (r : Result Answer Refusal) → At shape s c i
-    → MayBeTold s (c i).local.own (c i).local.shape.nodes e r → MayBeTold s i shape.nodes e r
+    → MayBeTold s (c i).local.own (c i).local.shape e r → MayBeTold s i shape e r
 told-at {shape = shape} {s = s} {c = c} {i = i} e r at h =
-    subst (λ (z : ℕ). MayBeTold s z shape.nodes e r) (at.inv.base.own i at.inside)
-    (subst (λ (z : Shaped). MayBeTold s (c i).local.own z.nodes e r)
+    subst (λ (z : ℕ). MayBeTold s z shape e r) (at.inv.base.own i at.inside)
+    (subst (λ (z : Shaped). MayBeTold s (c i).local.own z e r)
     (at.inv.base.shapes i at.inside) h)
 
 answer-seen : {shape : Shaped} {s : Space} {w : World} {choice : ℕ → Bool} {i : ℕ} {e : Event}
     (t : NodeState) (a : Answer) → Acting shape s w choice i e
     → act (node_at w.current i) e ≡ Ok (t, a)
-    → Seen shape.nodes s (cond (shows_act w choice i e) (told i e (Ok a) ∷ []) [])
+    → Seen shape s (cond (shows_act w choice i e) (told i e (Ok a) ∷ []) [])
     (after_change w i t choice)
 answer-seen {shape = shape} {s = s} {w = w} {choice = choice} {i = i} {e = e} t a x answered =
     ⊎_elim {C = Goal}
@@ -178,7 +180,7 @@ answer-seen {shape = shape} {s = s} {w = w} {choice = choice} {i = i} {e = e} t 
         (
           at.inside,
           is,
-          subst (λ (z : Answer). MayBeTold s i shape.nodes e (Ok z)) (sym found.answer)
+          subst (λ (z : Answer). MayBeTold s i shape e (Ok z)) (sym found.answer)
               (told-at e (Ok (made p counts e).answer) at
               (told-ok p counts e is (ready at) (doing at found.passed))),
         ),
@@ -194,7 +196,7 @@ answer-seen {shape = shape} {s = s} {w = w} {choice = choice} {i = i} {e = e} t 
     (cases_Bool (choice i))
   where
     Goal : Type 0
-    Goal = Seen shape.nodes s (cond (shows_act w choice i e) (told i e (Ok a) ∷ []) [])
+    Goal = Seen shape s (cond (shows_act w choice i e) (told i e (Ok a) ∷ []) [])
         (after_change w i t choice)
 
     never : (b : Bool) → (b && false) ≡ false
@@ -208,9 +210,9 @@ answer-seen {shape = shape} {s = s} {w = w} {choice = choice} {i = i} {e = e} t 
 
 refusal-seen : {shape : Shaped} {s : Space} {w : World} {choice : ℕ → Bool} {i : ℕ} {e : Event}
     (r : Refusal) → Acting shape s w choice i e → act (node_at w.current i) e ≡ Err r
-    → Seen shape.nodes s (cond (shows_act w choice i e) (told i e (Err r) ∷ []) []) (cut w choice)
+    → Seen shape s (cond (shows_act w choice i e) (told i e (Err r) ∷ []) []) (cut w choice)
 refusal-seen {shape = shape} {s = s} {w = w} {choice = choice} {i = i} {e = e} r x refused =
-    ⊎_elim {C = Seen shape.nodes s (cond (shows_act w choice i e) (told i e (Err r) ∷ []) [])
+    ⊎_elim {C = Seen shape s (cond (shows_act w choice i e) (told i e (Err r) ∷ []) [])
     (cut w choice)}
     (λ (shows : shows_act w choice i e ≡ true).
     let parts = and_parts (is_program e) (not (choice i)) (and_parts (is_node w i) _ shows).1 in
@@ -237,7 +239,7 @@ refusal-seen {shape = shape} {s = s} {w = w} {choice = choice} {i = i} {e = e} r
 abbrev StepSeen : Shaped → Space → World → (ℕ → Bool) → Step → Result (World × Outcome) Refusal
     → Type 0
 StepSeen shape s w choice st r =
-    Seen shape.nodes s (observed_in_step w choice st (outcome_of r)) (cut (world_after w r) choice)
+    Seen shape s (observed_in_step w choice st (outcome_of r)) (cut (world_after w r) choice)
 
 act-seen : {shape : Shaped} {s : Space} (w : World) (choice : ℕ → Bool) (i : ℕ) (e : Event)
     → Standing shape w → Same s (cut w choice)
@@ -305,13 +307,13 @@ coming-taking {shape = shape} {w = w} {choice = choice} {m = m} {t = t} {a = a} 
 
 coming-seen : {shape : Shaped} {s : Space} {w : World} {choice : ℕ → Bool} {m : Delivery}
     {t : NodeState} {a : Answer} → choice m.to ≡ false → Coming shape s w choice m t a
-    → Seen shape.nodes s (cond (is_reference m.message.body) (came m.from m.to ∷ []) [])
+    → Seen shape s (cond (is_reference m.message.body) (came m.from m.to ∷ []) [])
     (after_change w m.to t choice)
 coming-seen {shape = shape} {s = s} {w = w} {choice = choice} {m = m} {t = t} chosen x =
     let taking = coming-taking chosen x in
     let d : Cut = after_change w m.to t choice in
     ⊎_elim
-    {C = Seen shape.nodes s (cond (is_reference m.message.body) (came m.from m.to ∷ []) []) d}
+    {C = Seen shape s (cond (is_reference m.message.body) (came m.from m.to ∷ []) []) d}
     (λ (is : is_reference m.message.body ≡ true).
     seen-where (is_reference m.message.body) (came m.from m.to) is
     (record {
@@ -332,10 +334,10 @@ coming-seen {shape = shape} {s = s} {w = w} {choice = choice} {m = m} {t = t} ch
     (cases_Bool (is_reference m.message.body))
 
 -- if the receiver's saved state is chosen, nothing is seen
-seen-shown : {nodes : ℕ} {s : Space} {d : Cut} (b : Bool) (xs : List Sight)
-    → (b ≡ true → Same s d) → (b ≡ false → Seen nodes s xs d) → Seen nodes s (cond b [] xs) d
-seen-shown {nodes = nodes} {s = s} {d = d} b xs saved current =
-    cond_both b [] xs (λ z. Seen nodes s z d) (λ e. seen-nothing (saved e)) current
+seen-shown : {shape : Shaped} {s : Space} {d : Cut} (b : Bool) (xs : List Sight)
+    → (b ≡ true → Same s d) → (b ≡ false → Seen shape s xs d) → Seen shape s (cond b [] xs) d
+seen-shown {shape = shape} {s = s} {d = d} b xs saved current =
+    cond_both b [] xs (λ z. Seen shape s z d) (λ e. seen-nothing (saved e)) current
 
 deliver-seen : {shape : Shaped} {s : Space} (w : World) (choice : ℕ → Bool) (from to number : ℕ)
     → Standing shape w → Same s (cut w choice)
@@ -355,7 +357,7 @@ deliver-seen {shape = shape} {s = s} w choice from to number h same =
         → (t : NodeState) (a : Answer)
         → (let m : Delivery = record { from = from; to = to; number = number; message = x } in
         Receipt (node_at w.current to) m t a)
-        → Seen shape.nodes s (cond (choice to) [] (came_of from to (Ok (outcome.Answer a)) was))
+        → Seen shape s (cond (choice to) [] (came_of from to (Ok (outcome.Answer a)) was))
         (after_change w to t choice)
     given both x there t a (repeated stays says) =
         let states : set w.current to t ≡ w.current =
@@ -367,10 +369,10 @@ deliver-seen {shape = shape} {s = s} w choice from to number h same =
         (λ _.
         ⊎_elim
         (λ again.
-        subst (λ (z : Answer). Seen shape.nodes s (came_of from to (Ok (outcome.Answer z)) was)
+        subst (λ (z : Answer). Seen shape s (came_of from to (Ok (outcome.Answer z)) was)
         (after_change w to t choice)) (sym again) (seen-nothing later))
         (λ ahead.
-        subst (λ (z : Answer). Seen shape.nodes s (came_of from to (Ok (outcome.Answer z)) was)
+        subst (λ (z : Answer). Seen shape s (came_of from to (Ok (outcome.Answer z)) was)
         (after_change w to t choice)) (sym ahead) (seen-nothing later))
         says)
     given both x there t a (next turn may found) =
@@ -378,9 +380,9 @@ deliver-seen {shape = shape} {s = s} w choice from to number h same =
         seen-shown (choice to) (came_of from to (Ok (outcome.Answer a)) was)
         (λ chosen. same-becomes (hidden w to t choice chosen) same)
         (λ chosen.
-        subst (λ (z : Answer). Seen shape.nodes s (came_of from to (Ok (outcome.Answer z)) was)
+        subst (λ (z : Answer). Seen shape s (came_of from to (Ok (outcome.Answer z)) was)
         (after_change w to t choice)) (sym found.answer)
-        (subst (λ (z : Option Message). Seen shape.nodes s
+        (subst (λ (z : Option Message). Seen shape s
         (came_of from to (Ok (outcome.Answer answer.Received)) z)
         (after_change w to t choice)) (sym there)
         (coming-seen {m = m} {a = a} chosen (record {
@@ -492,7 +494,7 @@ step-seen {s = s} w (step.Hand from to) choice h same =
 
 run-seen : {shape : Shaped} (w : World) (steps : List Step) (choice : ℕ → Bool) (s : Space)
     → Standing shape w → Same s (cut w (choice_at_start steps choice))
-    → Seen shape.nodes s (observed_in_cut w steps choice) (cut (run w steps) choice)
+    → Seen shape s (observed_in_cut w steps choice) (cut (run w steps) choice)
 run-seen w [] choice s h same = seen-nothing same
 run-seen {shape = shape} w (st ∷ ss) choice s h same =
     let xs : List Sight =
@@ -500,7 +502,7 @@ run-seen {shape = shape} w (st ∷ ss) choice s h same =
     let first = step-seen w st (choice_at_start ss choice) h same in
     let rest = run-seen (happens w st) ss choice (after s xs) (standing-next st h) first.same in
     record {
-      runs = run-append shape.nodes s xs (observed_in_cut (happens w st) ss choice) first.runs
+      runs = run-append shape s xs (observed_in_cut (happens w st) ss choice) first.runs
           rest.runs;
       same = subst (λ (z : Space). Same z (cut (run (happens w st) ss) choice))
           (sym (after-append s xs (observed_in_cut (happens w st) ss choice))) rest.same;
@@ -512,6 +514,50 @@ new-standing shape limits = record {
   keeps = new-keeps-sent shape;
   width = length-map-range_with_len (new_node shape) 0 shape.nodes;
 }
+
+bytes-told : {shape : Shaped} {s : Space} {c : Cut} {i : ℕ} → At shape s c i
+    → (object offset count : ℕ)
+    → heap_bytes (c i).local.own (c i).local.heap object offset count
+    ≡ bytes_told s i object offset count
+bytes-told {s = s} {c = c} {i = i} at object offset count =
+    subst (λ (z : ℕ). heap_bytes (c i).local.own (c i).local.heap object offset count
+    ≡ bytes_told s z object offset count)
+    (at.inv.base.own i at.inside)
+    (bytes-alike (c i).local object offset count (ready at))
+
+-- two lists of tests that fail at once, with the same refusal
+both-refuse : {A : Type 0} {b c : Bool} (r : Refusal) (ts us : List (Bool × Refusal)) (x y : A)
+    → b ≡ false → c ≡ false → guarded ((b, r) ∷ ts) x ≡ guarded ((c, r) ∷ us) y
+both-refuse {b = true} r ts us x y never other = absurd cc
+both-refuse {b = false} {c = true} r ts us x y one never = absurd cc
+both-refuse {b = false} {c = false} r ts us x y one other = refl
+
+-- past the last node there is no register
+no-bytes : {s : Space} {i : ℕ} {n : NodeState} (object offset count : ℕ)
+    → Here s i n.local.heap → n ≡ no_node
+    → heap_bytes n.local.own n.local.heap object offset count
+    ≡ bytes_told s i object offset count
+unfolding heap_bytes
+no-bytes {s = s} {i = i} {n = n} object offset count here is =
+    let none : is_register n.local.heap object ≡ false =
+    subst (λ (z : NodeState). is_register z.local.heap object ≡ false) (sym is)
+    (le-ltb object 0 (omega arith)) in
+    both-refuse NoRegister
+    (left n.local.own n.local.heap (is_some found) (has_range (bytes_of found) offset count))
+    (left i (s.desk i) (is_some thing) (has_range (bytes_in thing) offset count))
+    (take count (drop offset (bytes_of found))) (take count (drop offset (bytes_in thing))) none
+    (ap (λ (z : Heap). is_register z object) here.desk ∙ none)
+  where
+    found : Option Object
+    found = object_at n.local.heap (named n.local.heap object)
+
+    thing : Option Thing
+    thing = object_in s i object
+
+    left : ℕ → Heap → Bool → Bool → List (Bool × Refusal)
+    left own h there within =
+        (is_filled h object, EmptyRegister) ∷ (is_local own h object, Remote) ∷ (there, NoField)
+        ∷ (within, NoBytes) ∷ []
 
 pub collector-is-unseen : CollectorIsUnseen
 collector-is-unseen shape limits steps choice =
@@ -530,5 +576,17 @@ collector-is-unseen shape limits steps choice =
               safe.there,
               (all.same.here r.node).lives r.slot r.generation safe.object safe.there,
             ));
+        bytes = λ i object offset count.
+            ⊎_elim
+            (λ inside.
+            bytes-told (record {
+              inv = all-inv shape limits steps choice;
+              inside = inside;
+              same = all.same;
+            }) object offset count)
+            (λ past.
+            no-bytes object offset count (all.same.here i)
+            ((all-inv shape limits steps choice).base.none i past))
+            (cases_lt i shape.nodes);
       },
     )

@@ -1,12 +1,11 @@
 -- A space without a collector ("Without a collector" in docs/PROOF.md): the objects that were made,
 -- what each node's program holds, and the messages of programs in flight. No object is ever freed.
 -- There are no marks, cycles, tokens, slots, free lists or numbers of messages.
-use Rattle.std.specs.Prelude.{◌≡◌, ◌≢◌, ℕ, ◌<◌, ◌⊎◌, Bool, true, false, cond, ◌==◌, ◌&&◌, not, is_some, nat_lt, nat_le, List, [], ◌∷◌, ◌++◌, length, replicate, slice_set, slice_index_or, Option, None, Some, option_map, Result, Ok, Err, IsTrue}
+use Rattle.std.specs.Prelude.{◌≡◌, ◌≢◌, ℕ, ◌<◌, ◌⊎◌, Bool, true, false, cond, ◌==◌, ◌&&◌, not, is_some, nat_lt, nat_le, List, [], ◌∷◌, ◌++◌, length, take, drop, replicate, slice_set, slice_index_or, Option, None, Some, option_map, Result, Ok, Err, IsTrue}
 use Rattle.ids.specs.Limits.{Shaped}
 use Rattle.ids.specs.declared.names.Ref.{Ref}
-use Rattle.ids.specs.declared.limits.TheConstants.{GREATEST_PLACES}
 use Rattle.ids.specs.declared.refusal.Refusal.{Refusal}
-use Rattle.ids.specs.declared.refusal.Refusal.TheVariants.{ArenaFull, NoRegister, EmptyRegister, Remote, NoNode, NoField, TooManyFields, SelfSend, LinkSpent}
+use Rattle.ids.specs.declared.refusal.Refusal.TheVariants.{ArenaFull, NoRegister, EmptyRegister, Remote, NoNode, NoField, TooManyFields, SelfSend, LinkSpent, TooManyBytes, NoBytes}
 use Rattle.msg.specs.declared.body.Body.{Body}
 use Rattle.msg.specs.declared.body.Body.TheVariants as body
 use Rattle.model.specs.declared.event.Event.{Event}
@@ -15,13 +14,14 @@ use Rattle.model.specs.declared.event.Answer.{Answer}
 use Rattle.model.specs.declared.event.Answer.TheVariants as answer
 use Rattle.model.specs.Checks.{guarded, AllPass}
 use Rattle.model.specs.State.{Heap, register_at, node_at}
-use Rattle.model.specs.Heaps.{is_register, is_filled, is_local, with_register, register_copied, named, no_reference, oldest_letter, letter_taken, with_letter, own_tests, register_tests, copy_tests, drop_tests, put_tests, get_tests, accept_tests}
+use Rattle.model.specs.Heaps.{is_register, is_filled, is_local, with_register, register_copied, named, no_reference, oldest_letter, letter_taken, with_letter, own_tests, register_tests, copy_tests, drop_tests, put_tests, get_tests, accept_tests, has_range, overwritten}
 use Rattle.model.specs.Shading.{is_same}
 use Rattle.model.specs.World.{new_nodes}
 
--- an object: its word and its places
+-- an object: its word, its bytes and its places
 pub record Thing : Type 0 where
   pub word : ℕ
+  pub bytes : List ℕ
   pub places : List (Option Ref)
 
 pub record Space : Type 0 where
@@ -55,6 +55,10 @@ abbrev pub word_in : Option Thing → ℕ
 word_in None = 0
 word_in (Some o) = o.word
 
+abbrev pub bytes_in : Option Thing → List ℕ
+bytes_in None = []
+bytes_in (Some o) = o.bytes
+
 -- ---- writing
 
 abbrev pub with_desk : Space → ℕ → Heap → Space
@@ -63,7 +67,7 @@ with_desk s i h = record s { desk = λ k. cond (k == i) h (s.desk k) }
 abbrev pub with_thing : Space → Ref → Option Thing → Space
 with_thing s r o = record s { objects = λ q. cond (is_same q r) o (s.objects q) }
 
--- rewrites an object, if one was made: one of its places, or its word
+-- rewrites an object, if one was made: one of its places, its word, or its bytes
 abbrev pub rewriting : Space → Ref → (Thing → Thing) → Space
 rewriting s r f = with_thing s r (option_map f (s.objects r))
 
@@ -72,6 +76,13 @@ with_place s r place v = rewriting s r (λ o. record o { places = slice_set o.pl
 
 abbrev pub with_word : Space → Ref → ℕ → Space
 with_word s r word = rewriting s r (λ o. record o { word = word })
+
+abbrev pub with_bytes : Space → Ref → List ℕ → Space
+with_bytes s r bytes = rewriting s r (λ o. record o { bytes = bytes })
+
+abbrev pub with_patch : Space → Ref → ℕ → List ℕ → Space
+with_patch s r offset bytes =
+    rewriting s r (λ o. record o { bytes = overwritten o.bytes offset bytes })
 
 abbrev pub with_messages : Space → ℕ → ℕ → List Body → Space
 with_messages s from to bs =
@@ -110,7 +121,7 @@ new_in (answer.New r) = r
 new_in a = no_reference
 
 abbrev pub new_thing : ℕ → Thing
-new_thing places = record { word = 0; places = replicate places None }
+new_thing places = record { word = 0; bytes = []; places = replicate places None }
 
 -- the program of node i
 module _ (s : Space) (i : ℕ) where
@@ -126,33 +137,43 @@ module _ (s : Space) (i : ℕ) where
 
   -- The tests of an event, in order, each with its refusal. They are the tests of a node, except
   -- that no slot has to be available. None of them asks whether an object was freed.
-  abbrev pub checks : ℕ → Event → List (Bool × Refusal)
-  checks nodes (event.Alloc register places) =
+  abbrev pub checks : Shaped → Event → List (Bool × Refusal)
+  checks shape (event.Alloc register places) =
       (is_register (s.desk i) register, NoRegister)
-      ∷ (nat_le places GREATEST_PLACES, TooManyFields) ∷ []
-  checks nodes (event.Copy register source) = copy_tests (s.desk i) register source
-  checks nodes (event.Drop register) = drop_tests (s.desk i) register
-  checks nodes (event.Load register object place) =
+      ∷ (nat_le places shape.places, TooManyFields) ∷ []
+  checks shape (event.Copy register source) = copy_tests (s.desk i) register source
+  checks shape (event.Drop register) = drop_tests (s.desk i) register
+  checks shape (event.Load register object place) =
       (is_register (s.desk i) register, NoRegister)
       ∷ own_tests i (s.desk i) object (has_that (object_in object) place)
-  checks nodes (event.Store object place register) =
+  checks shape (event.Store object place register) =
       (is_register (s.desk i) object, NoRegister)
       ∷ (is_register (s.desk i) register, NoRegister)
       ∷ (is_filled (s.desk i) object, EmptyRegister)
       ∷ (is_filled (s.desk i) register, EmptyRegister)
       ∷ (is_local i (s.desk i) object, Remote)
       ∷ (has_that (object_in object) place, NoField) ∷ []
-  checks nodes (event.Clear object place) =
+  checks shape (event.Clear object place) =
       own_tests i (s.desk i) object (has_that (object_in object) place)
-  checks nodes (event.Word object) = own_tests i (s.desk i) object (is_some (object_in object))
-  checks nodes (event.SetWord object word) =
+  checks shape (event.Word object) = own_tests i (s.desk i) object (is_some (object_in object))
+  checks shape (event.SetWord object word) =
       own_tests i (s.desk i) object (is_some (object_in object))
-  checks nodes (event.Give to label register) =
-      (nat_lt to nodes, NoNode) ∷ (not (to == i), SelfSend) ∷ register_tests (s.desk i) register
-  checks nodes (event.Accept register) = accept_tests (s.desk i) register
-  checks nodes (event.Put object place register) = put_tests i (s.desk i) object place register
-  checks nodes (event.Get object place label) = get_tests i (s.desk i) object place
-  checks nodes e = []
+  checks shape (event.SetBytes object bytes) =
+      own_tests i (s.desk i) object (is_some (object_in object))
+      ++ (shape.wide && nat_le (length bytes.now) shape.bytes, TooManyBytes) ∷ []
+  checks shape (event.Patch object offset bytes) =
+      own_tests i (s.desk i) object (is_some (object_in object))
+      ++ (shape.wide && has_range (bytes_in (object_in object)) offset (length bytes.now), NoBytes)
+      ∷ []
+  checks shape (event.Give to label register) =
+      (nat_lt to shape.nodes, NoNode) ∷ (not (to == i), SelfSend) ∷ register_tests
+      (s.desk i) register
+  checks shape (event.Accept register) = accept_tests (s.desk i) register
+  checks shape (event.Put object place register) =
+      put_tests shape.places i (s.desk i) object place register
+  checks shape (event.Get object place label) =
+      get_tests shape.places i (s.desk i) object place
+  checks shape e = []
 
   -- The answers that an event may get if it passes these tests. A new object gets any reference of
   -- its node under which no object was made. The number of a message may be any.
@@ -170,10 +191,18 @@ module _ (s : Space) (i : ℕ) where
 
   -- what the program may be told about an event: an answer if every test passes, the refusal of the
   -- first test that fails, or, if none fails, the refusal of a limit
-  abbrev pub MayBeTold : ℕ → Event → Result Answer Refusal → Type 0
-  MayBeTold nodes e (Ok a) = AllPass (checks nodes e) × IsAnswer e a
-  MayBeTold nodes e (Err r) =
-      (guarded (checks nodes e) s ≡ Err r) ⊎ (AllPass (checks nodes e) × IsLimit e r)
+  abbrev pub MayBeTold : Shaped → Event → Result Answer Refusal → Type 0
+  MayBeTold shape e (Ok a) = AllPass (checks shape e) × IsAnswer e a
+  MayBeTold shape e (Err r) =
+      (guarded (checks shape e) s ≡ Err r) ⊎ (AllPass (checks shape e) × IsLimit e r)
+
+  -- What the program is told if it reads this many bytes of an object, from this offset on. That
+  -- is no event.
+  abbrev pub bytes_told : ℕ → ℕ → ℕ → Result (List ℕ) Refusal
+  bytes_told object offset count =
+      guarded (own_tests i (s.desk i) object (is_some (object_in object))
+      ++ (has_range (bytes_in (object_in object)) offset count, NoBytes) ∷ [])
+      (take count (drop offset (bytes_in (object_in object))))
 
   -- what an answered event does
   abbrev pub does : Event → Answer → Space
@@ -187,6 +216,8 @@ module _ (s : Space) (i : ℕ) where
   does (event.Store object place register) a = with_place s (named_by object) place (held register)
   does (event.Clear object place) a = with_place s (named_by object) place None
   does (event.SetWord object word) a = with_word s (named_by object) word
+  does (event.SetBytes object bytes) a = with_bytes s (named_by object) bytes.now
+  does (event.Patch object offset bytes) a = with_patch s (named_by object) offset bytes.now
   does (event.Give to label register) a = posted s i to (body.Give label (held register))
   does (event.Accept register) a = with_desk s i (letter_taken (s.desk i) register)
   does (event.Put object place register) a =
@@ -221,9 +252,11 @@ pub data Sight : Type 0 where
   came : ℕ → ℕ → Sight
 
 -- this space may show it
-abbrev pub IsSight : ℕ → Space → Sight → Type 0
-IsSight nodes s (told i e r) = (i < nodes) × IsTrue (is_program e) × MayBeTold s i nodes e r
-IsSight nodes s (came from to) = (from < nodes) × (to < nodes) × (s.under_way from to ≢ [])
+abbrev pub IsSight : Shaped → Space → Sight → Type 0
+IsSight shape s (told i e r) =
+    (i < shape.nodes) × IsTrue (is_program e) × MayBeTold s i shape e r
+IsSight shape s (came from to) =
+    (from < shape.nodes) × (to < shape.nodes) × (s.under_way from to ≢ [])
 
 -- the space afterwards
 abbrev pub after_sight : Space → Sight → Space
@@ -232,9 +265,9 @@ after_sight s (told i e (Err r)) = s
 after_sight s (came from to) = arrives s from to (s.under_way from to)
 
 -- one sight after another
-abbrev pub IsRun : ℕ → Space → List Sight → Type 0
-IsRun nodes s [] = Unit {0}
-IsRun nodes s (x ∷ xs) = IsSight nodes s x × IsRun nodes (after_sight s x) xs
+abbrev pub IsRun : Shaped → Space → List Sight → Type 0
+IsRun shape s [] = Unit {0}
+IsRun shape s (x ∷ xs) = IsSight shape s x × IsRun shape (after_sight s x) xs
 
 abbrev pub after : Space → List Sight → Space
 after s [] = s

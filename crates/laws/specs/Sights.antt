@@ -17,7 +17,8 @@ use Rattle.model.specs.Counting.{is_reference}
 use Rattle.model.specs.World.{World, new_world, take_step, happens, run, is_node, outcome_of, released}
 use Rattle.model.specs.Cuts.{Cut, cut, Reachable}
 use Rattle.model.specs.Agreement.{in_flight}
-use Rattle.laws.specs.Objects.{Thing, Space, new_space, is_program, Sight, told, came, IsRun, after}
+use Rattle.model.specs.Heaps.{heap_bytes}
+use Rattle.laws.specs.Objects.{Thing, Space, new_space, is_program, bytes_told, Sight, told, came, IsRun, after}
 
 -- ---- what is observed of a step
 
@@ -76,7 +77,7 @@ observed_in_cut w (s ∷ ss) choice =
 -- ---- the theorem
 
 abbrev pub thing_of : Object → Thing
-thing_of o = record { word = o.word; places = o.places }
+thing_of o = record { word = o.word; bytes = o.bytes; places = o.places }
 
 abbrev pub body_of : Message → Body
 body_of x = x.body
@@ -86,7 +87,8 @@ abbrev pub programs : List Message → List Body
 programs xs = filter is_reference (map body_of xs)
 
 -- The space without a collector has the cut's registers, letters and messages of programs, and the
--- same word and places in every object that is reachable in the cut.
+-- same word, bytes and places in every object that is reachable in the cut. Whoever reads bytes is
+-- told the same.
 pub record LooksLike (s : Space) (c : Cut) : Type 0 where
   pub registers : (i : ℕ) → (s.desk i).registers ≡ (c i).local.heap.registers
   pub letters : (i : ℕ) → (s.desk i).letters ≡ (c i).local.heap.letters
@@ -94,6 +96,9 @@ pub record LooksLike (s : Space) (c : Cut) : Type 0 where
   pub objects : (r : Ref) → Reachable c r
       → (o : Object) × (slot_at (c r.node).local.heap r.slot ≡ Occupied r.generation o)
       × (s.objects r ≡ Some (thing_of o))
+  pub bytes : (i object offset count : ℕ)
+      → heap_bytes (c i).local.own (c i).local.heap object offset count
+      ≡ bytes_told s i object offset count
 
 -- The collector can't be seen, in any cut of any run. Take all that programs were told and
 -- received, except what restarts have undone. That is a run of a space in which no object is ever
@@ -101,6 +106,6 @@ pub record LooksLike (s : Space) (c : Cut) : Type 0 where
 abbrev pub CollectorIsUnseen : Type 0
 CollectorIsUnseen =
     (shape : Shaped) → IsShape shape → (steps : List Step) (choice : ℕ → Bool)
-    → IsRun shape.nodes (new_space shape) (observed_in_cut (new_world shape) steps choice)
+    → IsRun shape (new_space shape) (observed_in_cut (new_world shape) steps choice)
     × LooksLike (after (new_space shape) (observed_in_cut (new_world shape) steps choice))
     (cut (run (new_world shape) steps) choice)

@@ -131,7 +131,7 @@ where
         Some(folder) => {
             // Files that take the numbers of closed standard streams, so that no disk gets one.
             let _low = low_files(rt, alloc);
-            match FileDisk::each_in(rt, alloc, folder.as_str(), nodes) {
+            match FileDisk::each_in(rt, alloc, folder.as_str(), nodes, config.seals) {
                 Ok(disks) => run_disks(rt, alloc, config, disks, script, out),
                 Err(_) => print_unopened(out),
             }

@@ -147,6 +147,47 @@ pub extern "C" fn markring_cell_set_word(
     answered(cell.act(alloc, Event::SetWord { object, word }), answer)
 }
 
+/// Replaces the bytes of the object.
+#[unsafe(no_mangle)]
+pub extern "C" fn markring_cell_set_bytes(
+    alloc: Global,
+    cell: &mut CellHandle,
+    object: u16,
+    bytes: &[u8],
+    answer: &mut CAnswer,
+) -> i32
+    ensures { CellCalled (event.SetBytes object bytes.entry) cell.old.held cell.new.held result answer.old
+        answer.new }
+{
+    answered(cell.act(alloc, Event::SetBytes { object, bytes }), answer)
+}
+
+/// Overwrites bytes of the object, from this offset on.
+#[unsafe(no_mangle)]
+pub extern "C" fn markring_cell_patch(
+    alloc: Global,
+    cell: &mut CellHandle,
+    object: u16,
+    offset: u32,
+    bytes: &[u8],
+    answer: &mut CAnswer,
+) -> i32
+    ensures { CellCalled (event.Patch object offset bytes.entry) cell.old.held cell.new.held result
+        answer.old answer.new }
+{
+    answered(
+        cell.act(
+            alloc,
+            Event::Patch {
+                object,
+                offset,
+                bytes,
+            },
+        ),
+        answer,
+    )
+}
+
 /// Sends a letter to another node.
 #[unsafe(no_mangle)]
 pub extern "C" fn markring_cell_give(

@@ -3,10 +3,11 @@ ghost use Rattle.std.specs.Prelude.{◌≡◌, Ok};
 ghost use Rattle.node.specs.Summaries.{summary_of};
 ghost use Rattle.c_values.specs.Faults.{Freed, Through, read, status, written};
 ghost use Rattle.c_values.specs.Fields.{bit, event_of, reference_fields, state_fields};
-ghost use Rattle.c_handles.specs.Reads.{link_of, register_of};
+ghost use Rattle.c_handles.specs.Reads.{link_of, object_bytes, object_len, register_of};
+ghost use Rattle.c_values.specs.Bytes.{WroteIf};
 ghost use Rattle.c_handles.specs.Cells.{HandleImaged, Raised, Received, Reopened, Saved, Sent};
 ghost use Rattle.c_handles.specs.Cells.{SizedSame};
-ghost use Rattle.markring_c.specs.Calls.{Answered, CellActed, Finished, Flagged, Numbered};
+ghost use Rattle.markring_c.specs.Calls.{Answered, CellActed, Finished, Finishes, Flagged, Numbered};
 
 use c_handles::CellHandle;
 use c_values::{
@@ -176,6 +177,42 @@ pub extern "C" fn markring_cell_register(
         }
         Err(fault) => fault.status(),
     }
+}
+
+/// Writes this many bytes of an object, from this offset on.
+#[unsafe(no_mangle)]
+pub extern "C" fn markring_cell_bytes(
+    alloc: Global,
+    cell: &mut CellHandle,
+    object: u16,
+    offset: u32,
+    count: u32,
+    buffer: &mut [u8],
+    needed: &mut usize,
+) -> i32
+    ensures same { cell.new.held ≡ cell.old.held }
+    ensures wrote { Finishes (λ r. WroteIf
+        (read (λ c. object_bytes c.cell.node.core.local object offset count) cell.old.held) r buffer.old
+        buffer.new needed.old needed.new) result }
+{
+    status(cell.bytes(alloc, object, offset, count, buffer, needed))
+}
+
+/// How many bytes an object has.
+#[unsafe(no_mangle)]
+pub extern "C" fn markring_cell_bytes_length(
+    alloc: Global,
+    cell: &mut CellHandle,
+    object: u16,
+    length: &mut u32,
+) -> i32
+    ensures same { cell.new.held ≡ cell.old.held }
+    ensures status { result
+        ≡ status (read (λ c. object_len c.cell.node.core.local object) cell.old.held) }
+    ensures value { length.new ≡ written (λ x. x)
+        (read (λ c. object_len c.cell.node.core.local object) cell.old.held) length.old }
+{
+    written(cell.bytes_len(alloc, object), length)
 }
 
 /// Whether an event has changed the node since the last save or reopening.

@@ -11,7 +11,7 @@ use std::alloc::Global;
 // answers of other calls need not go through memory.
 #[inline(always)]
 pub(crate) fn act(alloc: Global, node: &mut NodeHandle, event: Event, answer: &mut CAnswer) -> i32
-    ensures { NodeCalled event node.old.held node.new.held result answer.old answer.new }
+    ensures { NodeCalled event.entry node.old.held node.new.held result answer.old answer.new }
 {
     match node.noted_turn(alloc, &event) {
         Some(from) => next_noting(alloc, node, from, answer),
@@ -163,6 +163,46 @@ pub extern "C" fn markring_node_set_word(
         answer.new }
 {
     act(alloc, node, Event::SetWord { object, word }, answer)
+}
+
+/// Replaces the bytes of the object.
+#[unsafe(no_mangle)]
+pub extern "C" fn markring_node_set_bytes(
+    alloc: Global,
+    node: &mut NodeHandle,
+    object: u16,
+    bytes: &[u8],
+    answer: &mut CAnswer,
+) -> i32
+    ensures { NodeCalled (event.SetBytes object bytes.entry) node.old.held node.new.held result answer.old
+        answer.new }
+{
+    act(alloc, node, Event::SetBytes { object, bytes }, answer)
+}
+
+/// Overwrites bytes of the object, from this offset on.
+#[unsafe(no_mangle)]
+pub extern "C" fn markring_node_patch(
+    alloc: Global,
+    node: &mut NodeHandle,
+    object: u16,
+    offset: u32,
+    bytes: &[u8],
+    answer: &mut CAnswer,
+) -> i32
+    ensures { NodeCalled (event.Patch object offset bytes.entry) node.old.held node.new.held result
+        answer.old answer.new }
+{
+    act(
+        alloc,
+        node,
+        Event::Patch {
+            object,
+            offset,
+            bytes,
+        },
+        answer,
+    )
 }
 
 /// Sends a letter to another node.

@@ -1,25 +1,26 @@
 //! Nodes, except for their events one by one.
-ghost use Rattle.std.specs.Prelude.{◌≡◌, ◌==◌, not, Ok};
+ghost use Rattle.std.specs.Prelude.{◌≡◌, ◌==◌, not, Ok, Some};
+ghost use Rattle.ids.specs.Limits.{plain_shape};
 ghost use Rattle.node.specs.Summaries.{summary_of};
 ghost use Rattle.c_values.specs.Faults.{read, status, written};
-ghost use Rattle.c_values.specs.Fields.{bit, event_of, reference_fields, state_fields};
+ghost use Rattle.c_values.specs.Fields.{bit, described, event_of, reference_fields, state_fields};
 ghost use Rattle.c_handles.specs.Lone.{Made, Read, TookIn};
 ghost use Rattle.c_values.specs.Bytes.{WroteIf};
 ghost use Rattle.c_values.specs.Faults.{Filled, Freed, Through};
 ghost use Rattle.c_handles.specs.Frames.{HandlePacks, ack_bytes, frame_bytes};
 ghost use Rattle.c_handles.specs.Batches.{HandleBatched, Reopened, batch_of, size_of};
 ghost use Rattle.c_handles.specs.Images.{HandleImaged, Kept, Logs, Released, SizedSame};
-ghost use Rattle.c_handles.specs.Reads.{link_of, register_of, waiting_number};
+ghost use Rattle.c_handles.specs.Reads.{link_of, object_bytes, object_len, register_of, waiting_number};
 ghost use Rattle.markring_c.specs.Calls.{Answered, Finished, Finishes, NodeActed, Numbered};
 
 use crate::node_events::act;
 use c_handles::NodeHandle;
 use c_values::{
-    CAnswer, CEvent, CLink, CRef, CState, Fault, OK, answered, flagged, status, written,
+    CAnswer, CEvent, CLink, CRef, CShape, CState, Fault, OK, answered, flagged, status, written,
 };
 use std::alloc::Global;
 
-/// Makes a new node.
+/// Makes a new node of a plain space.
 #[unsafe(no_mangle)]
 pub extern "C" fn markring_node_new(
     alloc: Global,
@@ -30,11 +31,26 @@ pub extern "C" fn markring_node_new(
     own: u8,
     limit: u64,
 ) -> i32
-    ensures { Finished (Filled
-        (Made (record { nodes = nodes; registers = registers; slots = slots }) own limit))
+    ensures { Finished (Filled (Made (Some (plain_shape nodes registers slots)) own limit))
         node.old.held node.new.held result }
 {
-    status(node.fill_new(alloc, nodes, registers, slots, own, limit))
+    let shape = CShape::plain(nodes, registers, slots);
+    status(node.fill_new(alloc, &shape, own, limit))
+}
+
+/// Makes a new node of a space whose sizes and kind the fields describe.
+#[unsafe(no_mangle)]
+pub extern "C" fn markring_node_make(
+    alloc: Global,
+    node: &mut NodeHandle,
+    shape: &CShape,
+    own: u8,
+    limit: u64,
+) -> i32
+    ensures { Finished (Filled (Made (described shape.now) own limit)) node.old.held node.new.held
+        result }
+{
+    status(node.fill_new(alloc, shape, own, limit))
 }
 
 /// Frees the node.
@@ -163,6 +179,42 @@ pub extern "C" fn markring_node_register(
         }
         Err(fault) => fault.status(),
     }
+}
+
+/// Writes this many bytes of an object, from this offset on.
+#[unsafe(no_mangle)]
+pub extern "C" fn markring_node_bytes(
+    alloc: Global,
+    node: &mut NodeHandle,
+    object: u16,
+    offset: u32,
+    count: u32,
+    buffer: &mut [u8],
+    needed: &mut usize,
+) -> i32
+    ensures same { node.new.held ≡ node.old.held }
+    ensures wrote { Finishes (λ r. WroteIf
+        (read (λ n. object_bytes n.node.core.local object offset count) node.old.held) r buffer.old
+        buffer.new needed.old needed.new) result }
+{
+    status(node.bytes(alloc, object, offset, count, buffer, needed))
+}
+
+/// How many bytes an object has.
+#[unsafe(no_mangle)]
+pub extern "C" fn markring_node_bytes_length(
+    alloc: Global,
+    node: &mut NodeHandle,
+    object: u16,
+    length: &mut u32,
+) -> i32
+    ensures same { node.new.held ≡ node.old.held }
+    ensures status { result
+        ≡ status (read (λ n. object_len n.node.core.local object) node.old.held) }
+    ensures value { length.new ≡ written (λ x. x)
+        (read (λ n. object_len n.node.core.local object) node.old.held) length.old }
+{
+    written(node.bytes_len(alloc, object), length)
 }
 
 /// Whether an event has changed the node since the image that was kept last.

@@ -1,14 +1,17 @@
 //! Spaces and watches.
+ghost use Rattle.std.specs.Prelude.{Some};
 ghost use Rattle.c_values.specs.Faults.{Filled, Freed, Through};
+ghost use Rattle.c_values.specs.Fields.{described};
+ghost use Rattle.ids.specs.Limits.{plain_shape};
 ghost use Rattle.c_handles.specs.Spaces.{Given, Made, Moved, Opens, TakesCell, TakesWatch};
 ghost use Rattle.c_handles.specs.Watches.{Looks};
 ghost use Rattle.markring_c.specs.Calls.{Finished, Finishes, Numbered, OpenedOr};
 
 use c_handles::{CellHandle, SpaceHandle, WatchHandle};
-use c_values::{Fault, OK, status, written};
+use c_values::{CShape, Fault, OK, status, written};
 use std::alloc::Global;
 
-/// Makes a space that isn't open yet.
+/// Makes a plain space that isn't open yet.
 #[unsafe(no_mangle)]
 pub extern "C" fn markring_space_new(
     alloc: Global,
@@ -18,11 +21,25 @@ pub extern "C" fn markring_space_new(
     slots: u32,
     watches: u8,
 ) -> i32
-    ensures { Finished (Filled
-        (Made (record { nodes = nodes; registers = registers; slots = slots }) watches))
+    ensures { Finished (Filled (Made (Some (plain_shape nodes registers slots)) watches))
         space.old.held space.new.held result }
 {
-    status(space.fill_new(alloc, nodes, registers, slots, watches))
+    let shape = CShape::plain(nodes, registers, slots);
+    status(space.fill_new(alloc, &shape, watches))
+}
+
+/// Makes a space whose sizes and kind the fields describe, and that isn't open yet.
+#[unsafe(no_mangle)]
+pub extern "C" fn markring_space_make(
+    alloc: Global,
+    space: &mut SpaceHandle,
+    shape: &CShape,
+    watches: u8,
+) -> i32
+    ensures { Finished (Filled (Made (described shape.now) watches)) space.old.held space.new.held
+        result }
+{
+    status(space.fill_new(alloc, shape, watches))
 }
 
 /// Gives the space the image of a node.

@@ -82,7 +82,7 @@ rewritten_slot P f generation (Occupied k x) keeps h g o j e =
     (λ _. keeps x j (h k x j refl)) (λ _. h k x j refl))
 rewritten_slot P f generation Retired keeps h g o j e = absurd cc
 
-holds-with_rewritten : (P : Ref → Type 0) (h : Heap) (r : Ref) (f : Object → Object)
+pub holds-with_rewritten : (P : Ref → Type 0) (h : Heap) (r : Ref) (f : Object → Object)
     → ((o : Object) (j : ℕ) → IfAny P (get_or o.places j None)
     → IfAny P (get_or (f o).places j None)) → HoldsOnly P h → HoldsOnly P (with_rewritten h r f)
 holds-with_rewritten P h r f keeps all = record {

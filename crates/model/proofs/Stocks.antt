@@ -1,15 +1,15 @@
 -- Each change of a node's heap keeps what is true of the heap of every node.
 use Rattle.std.proofs.Common.{◌≡◌, ◌≢◌, ℕ, zero, suc, ◌+◌, ◌-◌, ◌<◌, ◌≤◌, ◌==◌, Bool, true, false, eqb, List, [], ◌∷◌, ◌++◌, length, take, drop, get_or, set, Option, Some, None, refl, sym, ap, ◌∙◌, subst, arith, get_or-set_same}
 use Rattle.std.specs.List.{AllByRecursion, IsDistinct}
-use Rattle.std.proofs.lemmas.Bool.{cond_both, cond-true, eqb-true, eqb-false, eq-eqb, ne_eqb, not-true}
-use Rattle.std.proofs.lemmas.List.{length-set, length-replicate, get_or_append_left}
+use Rattle.std.proofs.lemmas.Bool.{cond_both, cond-true, leb-true, eqb-true, eqb-false, eq-eqb, ne_eqb, not-true}
+use Rattle.std.proofs.lemmas.List.{length-append, length-drop, length-set, length-replicate, length-take-le, get_or_append_left}
 use Rattle.ids.specs.Limits.{Shaped}
-use Rattle.ids.specs.declared.limits.TheConstants.{GREATEST_GENERATION, GREATEST_PLACES}
+use Rattle.ids.specs.declared.limits.TheConstants.{GREATEST_GENERATION}
 use Rattle.ids.specs.declared.names.Ref.{Ref}
 use Rattle.msg.specs.declared.body.Token.{Token}
 use Rattle.model.specs.declared.event.Letter.{Letter}
 use Rattle.model.specs.State.{Object, Slot, Free, Occupied, Retired, Heap, LocalState, slot_at, new_heap}
-use Rattle.model.specs.Heaps.{with_register, with_object, new_object, next_generation, slots_with, object_at, rewritten, with_rewritten, with_place, with_word, with_letter}
+use Rattle.model.specs.Heaps.{with_register, with_object, new_object, next_generation, slots_with, object_at, rewritten, with_rewritten, with_place, with_word, with_letter, filling, patching, has_range, overwritten}
 use Rattle.model.specs.Shading.{is_open, is_unmarked, with_mark, make_grey, make_all_grey, is_calm, without_last_grey}
 use Rattle.model.specs.Collecting.{is_garbage, generation_in, vacated_slot, vacated, Sweeping, sweep_one, sweep_some}
 use Rattle.model.specs.WellFormed.{IsOther, IsObject, IsSlotOf, HasMarked, IsStocked, IsHeld}
@@ -74,6 +74,24 @@ pub held-before : (cycle ended : ℕ) (token : Option Token) → ended < cycle
 held-before cycle ended None before = tt
 held-before cycle ended (Some token) before = before
 
+-- overwriting a part of a list keeps its length
+pub length-overwritten : (xs : List ℕ) (offset : ℕ) (ys : List ℕ)
+    → length (overwritten xs offset ys) ≡ length xs
+length-overwritten xs offset ys =
+    cond_both (has_range xs offset (length ys))
+    (take offset xs ++ (ys ++ drop (offset + length ys) xs)) xs
+    (λ (zs : List ℕ). length zs ≡ length xs) within (λ _. refl)
+  where
+    within : has_range xs offset (length ys) ≡ true
+        → length (take offset xs ++ (ys ++ drop (offset + length ys) xs)) ≡ length xs
+    within there =
+        let fits : offset + length ys ≤ length xs = leb-true (offset + length ys) (length xs) there in
+        let outer = length-append (take offset xs) (ys ++ drop (offset + length ys) xs) in
+        let inner = length-append ys (drop (offset + length ys) xs) in
+        let front = length-take-le offset xs (omega (arith, fits)) in
+        let back = length-drop (offset + length ys) xs in
+        omega (arith, fits, outer, inner, front, back)
+
 -- ---- a new heap
 
 pub stocked-new : (shape : Shaped) (own : ℕ) → IsStocked shape own 0 0 (new_heap shape)
@@ -129,7 +147,7 @@ module _ {shape : Shaped} {own cycle ended : ℕ} {h : Heap} (old : IsStocked sh
 
     -- a list of slots in which every marked slot is still marked
     stocked-slots : (slots : List Slot) (free : List ℕ)
-        → ((k : ℕ) → IsSlotOf cycle (get_or slots k Retired))
+        → ((k : ℕ) → IsSlotOf shape cycle (get_or slots k Retired))
         → ((k : ℕ) → HasMarked cycle (slot_at h k) → HasMarked cycle (get_or slots k Retired))
         → IsStocked shape own cycle ended (record h { slots = slots; free = free })
     stocked-slots slots free all marked = record {
@@ -144,33 +162,36 @@ module _ {shape : Shaped} {own cycle ended : ℕ} {h : Heap} (old : IsStocked sh
 
     -- a new object
 
-    born-later : (s : Slot) → IsSlotOf cycle s → 1 ≤ next_generation s
+    born-later : (s : Slot) → IsSlotOf shape cycle s → 1 ≤ next_generation s
     born-later (Free g) is = omega (arith, is)
     born-later (Occupied g o) is = is.born
     born-later Retired is = omega arith
 
-    new-slot : (g places : ℕ) → 1 ≤ g → places ≤ GREATEST_PLACES
-        → IsSlotOf cycle (Occupied g (new_object cycle places))
+    new-slot : (g places : ℕ) → 1 ≤ g → places ≤ shape.places
+        → IsSlotOf shape cycle (Occupied g (new_object cycle places))
     new-slot g places born few = record {
       born = born;
       places = (let wide = length-replicate {A = Option Ref} places None in
           omega (arith, wide, few));
+      bytes = omega arith;
       mark = omega arith;
     }
 
-    pub stocked-object : (places : ℕ) → places ≤ GREATEST_PLACES
+    pub stocked-object : (places : ℕ) → places ≤ shape.places
         → IsStocked shape own cycle ended (with_object h (new_object cycle places))
     stocked-object places few =
         stocked-slots (slots_with h.free h.slots (new_object cycle places)) (drop 1 h.free)
         (λ k. all h.free k) (λ k. marked h.free k)
       where
         all : (free : List ℕ) (k : ℕ)
-            → IsSlotOf cycle (get_or (slots_with free h.slots (new_object cycle places)) k Retired)
+            → IsSlotOf shape cycle (get_or (slots_with free h.slots
+            (new_object cycle places)) k Retired)
         all [] k =
-            at_push (IsSlotOf cycle) h.slots k (Occupied 1 (new_object cycle places)) Retired
+            at_push (IsSlotOf shape cycle) h.slots k
+            (Occupied 1 (new_object cycle places)) Retired
             (new-slot 1 places (omega arith) few) tt (old.slots k)
         all (j ∷ free) k =
-            at_set (IsSlotOf cycle) h.slots j k
+            at_set (IsSlotOf shape cycle) h.slots j k
             (Occupied (next_generation (slot_at h j)) (new_object cycle places)) Retired
             (new-slot (next_generation (slot_at h j)) places
             (born-later (slot_at h j) (old.slots j)) few)
@@ -190,11 +211,13 @@ module _ {shape : Shaped} {own cycle ended : ℕ} {h : Heap} (old : IsStocked sh
     -- an object is rewritten, which keeps its number of places, and a mark of this cycle
 
     rewritten-slot : (f : Object → Object) (generation : ℕ) (s : Slot)
-        → ((g : ℕ) (o : Object) → IsObject cycle g o → IsObject cycle g (f o)) → IsSlotOf cycle s
-        → IsSlotOf cycle (rewritten f generation s)
+        → ((g : ℕ) (o : Object) → IsObject shape cycle g o
+        → IsObject shape cycle g (f o)) → IsSlotOf shape cycle s
+        → IsSlotOf shape cycle (rewritten f generation s)
     rewritten-slot f generation (Free g) keeps is = is
     rewritten-slot f generation (Occupied g o) keeps is =
-        cond_both (g == generation) (f o) o (IsObject cycle g) (λ _. keeps g o is) (λ _. is)
+        cond_both (g == generation) (f o) o (IsObject shape cycle g) (λ _. keeps g o is)
+        (λ _. is)
     rewritten-slot f generation Retired keeps is = is
 
     rewritten-marked : (f : Object → Object) (generation : ℕ) (s : Slot)
@@ -207,7 +230,8 @@ module _ {shape : Shaped} {own cycle ended : ℕ} {h : Heap} (old : IsStocked sh
     rewritten-marked f generation Retired keeps is = is
 
     module _ (r : Ref) (f : Object → Object)
-        (sound : (g : ℕ) (o : Object) → IsObject cycle g o → IsObject cycle g (f o))
+        (sound : (g : ℕ) (o : Object) → IsObject shape cycle g o
+        → IsObject shape cycle g (f o))
         (marks : (o : Object) → o.mark ≡ cycle → (f o).mark ≡ cycle)
       where
         pub still-marked : (k : ℕ) → HasMarked cycle (slot_at h k)
@@ -224,7 +248,7 @@ module _ {shape : Shaped} {own cycle ended : ℕ} {h : Heap} (old : IsStocked sh
         stocked-rewritten =
             stocked-slots (with_rewritten h r f).slots h.free
             (λ k.
-            at_set (IsSlotOf cycle) h.slots r.slot k
+            at_set (IsSlotOf shape cycle) h.slots r.slot k
             (rewritten f r.generation (slot_at h r.slot)) Retired
             (rewritten-slot f r.generation (slot_at h r.slot) sound (old.slots r.slot))
             (old.slots k))
@@ -239,6 +263,7 @@ module _ {shape : Shaped} {own cycle ended : ℕ} {h : Heap} (old : IsStocked sh
           places = (let wide = length-set o.places place v in
               let few = is.places in
               omega (arith, wide, few));
+          bytes = is.bytes;
           mark = is.mark;
         })
         (λ o there. there)
@@ -246,7 +271,33 @@ module _ {shape : Shaped} {own cycle ended : ℕ} {h : Heap} (old : IsStocked sh
     pub stocked-word : (r : Ref) (word : ℕ) → IsStocked shape own cycle ended (with_word h r word)
     stocked-word r word =
         stocked-rewritten r (λ o. record o { word = word })
-        (λ g o is. record { born = is.born; places = is.places; mark = is.mark })
+        (λ g o is. record {
+          born = is.born;
+          places = is.places;
+          bytes = is.bytes;
+          mark = is.mark;
+        })
+        (λ o there. there)
+
+    pub stocked-bytes : (r : Ref) (bytes : List ℕ) → length bytes ≤ shape.bytes
+        → IsStocked shape own cycle ended (with_rewritten h r (filling bytes))
+    stocked-bytes r bytes few =
+        stocked-rewritten r (filling bytes)
+        (λ g o is. record { born = is.born; places = is.places; bytes = few; mark = is.mark })
+        (λ o there. there)
+
+    pub stocked-patch : (r : Ref) (offset : ℕ) (bytes : List ℕ)
+        → IsStocked shape own cycle ended (with_rewritten h r (patching offset bytes))
+    stocked-patch r offset bytes =
+        stocked-rewritten r (patching offset bytes)
+        (λ g o is. record {
+          born = is.born;
+          places = is.places;
+          bytes = (let same = length-overwritten o.bytes offset bytes in
+              let few = is.bytes in
+              omega (arith, same, few));
+          mark = is.mark;
+        })
         (λ o there. there)
 
     -- ---- grey objects
@@ -259,8 +310,10 @@ module _ {shape : Shaped} {own cycle ended : ℕ} {h : Heap} (old : IsStocked sh
         (record (with_rewritten h r (with_mark cycle)) { grey = h.grey ++ r.slot ∷ [] }) h
         (IsStocked shape own cycle ended) turned (λ _. old)
       where
-        sound : (g : ℕ) (o : Object) → IsObject cycle g o → IsObject cycle g (with_mark cycle o)
-        sound g o is = record { born = is.born; places = is.places; mark = omega arith }
+        sound : (g : ℕ) (o : Object) → IsObject shape cycle g o
+            → IsObject shape cycle g (with_mark cycle o)
+        sound g o is =
+            record { born = is.born; places = is.places; bytes = is.bytes; mark = omega arith }
 
         marks : (o : Object) → o.mark ≡ cycle → (with_mark cycle o).mark ≡ cycle
         marks o e = refl
@@ -318,11 +371,17 @@ module _ {shape : Shaped} {own cycle ended : ℕ} {h : Heap} (old : IsStocked sh
           ap (λ (ks : List ℕ). take (length ks - 1) ks) (old.calm done);
     }
 
-    slot-later : (later : ℕ) (s : Slot) → cycle ≤ later → IsSlotOf cycle s → IsSlotOf later s
+    slot-later : (later : ℕ) (s : Slot) → cycle ≤ later → IsSlotOf shape cycle s
+        → IsSlotOf shape later s
     slot-later later (Free g) more is = is
     slot-later later (Occupied g o) more is =
         let mark = is.mark in
-        record { born = is.born; places = is.places; mark = omega (arith, mark, more) }
+        record {
+          born = is.born;
+          places = is.places;
+          bytes = is.bytes;
+          mark = omega (arith, mark, more);
+        }
     slot-later later Retired more is = is
 
     pub stocked-later : (later last : ℕ) → cycle ≤ later → h.grey ≡ []
@@ -350,14 +409,14 @@ stocked-greyed {shape} {own} {cycle} {ended} (r ∷ rs) {h} opened old =
 
 -- ---- slots are swept while no object is grey
 
-vacated-sound : (cycle of : ℕ) (s : Slot) → is_garbage of s ≡ true → IsSlotOf cycle s
-    → IsSlotOf cycle (vacated_slot (generation_in s))
-vacated-sound cycle of (Free g) garbage is = absurd cc
-vacated-sound cycle of (Occupied g o) garbage is =
-    cond_both (g == GREATEST_GENERATION) Retired (Free (g + 1)) (IsSlotOf cycle)
+vacated-sound : (shape : Shaped) (cycle of : ℕ) (s : Slot) → is_garbage of s ≡ true
+    → IsSlotOf shape cycle s → IsSlotOf shape cycle (vacated_slot (generation_in s))
+vacated-sound shape cycle of (Free g) garbage is = absurd cc
+vacated-sound shape cycle of (Occupied g o) garbage is =
+    cond_both (g == GREATEST_GENERATION) Retired (Free (g + 1)) (IsSlotOf shape cycle)
     (λ _. tt)
     (λ _. let born = is.born in omega (arith, born))
-vacated-sound cycle of Retired garbage is = absurd cc
+vacated-sound shape cycle of Retired garbage is = absurd cc
 
 module _ {shape : Shaped} {own cycle ended : ℕ} (of : ℕ) where
   swept-one : (k : ℕ) (s : Sweeping) → s.heap.grey ≡ [] → IsStocked shape own cycle ended s.heap
@@ -374,8 +433,9 @@ module _ {shape : Shaped} {own cycle ended : ℕ} (of : ℕ) where
           registers = old.registers;
           letters = old.letters;
           slots = λ j.
-              at_set (IsSlotOf cycle) s.heap.slots k j (vacated_slot g) Retired
-              (vacated-sound cycle of (slot_at s.heap k) garbage (old.slots k)) (old.slots j);
+              at_set (IsSlotOf shape cycle) s.heap.slots k j (vacated_slot g) Retired
+              (vacated-sound shape cycle of (slot_at s.heap k) garbage (old.slots k))
+              (old.slots j);
           grey = subst
               (AllByRecursion (λ (j : ℕ). HasMarked cycle (slot_at (vacated s.heap k g) j)))
               (sym none) tt;

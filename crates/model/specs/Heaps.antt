@@ -1,10 +1,10 @@
 -- What the events do to a node's heap, and the tests that come before each of them.
-use Rattle.std.specs.Prelude.{ℕ, Bool, false, cond, ◌||◌, ◌==◌, not, nat_lt, nat_le, List, [], ◌∷◌, ◌++◌, length, drop, replicate, Option, Some, None, is_some, Result, slice_index_or, slice_set}
+use Rattle.std.specs.Prelude.{ℕ, ◌+◌, Bool, false, cond, ◌||◌, ◌&&◌, ◌==◌, not, nat_lt, nat_le, List, [], ◌∷◌, ◌++◌, length, take, drop, replicate, Option, Some, None, is_some, Result, slice_index_or, slice_set}
 use Rattle.std.specs.Option.{unwrap_or}
+use Rattle.ids.specs.Limits.{Shaped}
 use Rattle.ids.specs.declared.names.Ref.{Ref}
-use Rattle.ids.specs.declared.limits.TheConstants.{GREATEST_PLACES}
 use Rattle.ids.specs.declared.refusal.Refusal.{Refusal}
-use Rattle.ids.specs.declared.refusal.Refusal.TheVariants.{ArenaFull, NoRegister, EmptyRegister, Remote, Local, NoLetter, NoField, TooManyFields}
+use Rattle.ids.specs.declared.refusal.Refusal.TheVariants.{ArenaFull, NoRegister, EmptyRegister, Remote, Local, NoLetter, NoField, TooManyFields, TooManyBytes, NoBytes}
 use Rattle.model.specs.declared.event.Letter.{Letter}
 use Rattle.model.specs.Checks.{guarded}
 use Rattle.model.specs.State.{Object, Slot, Free, Occupied, Retired, Heap, register_at, slot_at}
@@ -58,11 +58,13 @@ with_object h o = record h { slots = slots_with h.free h.slots o; free = drop 1 
 
 -- a new object's mark is the node's cycle
 abbrev pub new_object : ℕ → ℕ → Object
-new_object cycle places = record { word = 0; places = replicate places None; mark = cycle }
+new_object cycle places =
+    record { word = 0; bytes = []; places = replicate places None; mark = cycle }
 
-abbrev pub alloc_tests : ℕ → Heap → ℕ → ℕ → List (Bool × Refusal)
-alloc_tests limit h register places =
-    (is_register h register, NoRegister) ∷ (nat_le places GREATEST_PLACES, TooManyFields)
+-- In a space whose nodes have this many slots, and whose objects have at most this many places.
+abbrev pub alloc_tests : ℕ → ℕ → Heap → ℕ → ℕ → List (Bool × Refusal)
+alloc_tests limit most h register places =
+    (is_register h register, NoRegister) ∷ (nat_le places most, TooManyFields)
     ∷ (has_slot limit h, ArenaFull) ∷ []
 
 abbrev pub alloc_heap : ℕ → ℕ → Heap → ℕ → ℕ → Heap
@@ -117,6 +119,11 @@ abbrev pub word_of : Option Object → ℕ
 word_of None = 0
 word_of (Some o) = o.word
 
+-- no bytes if there is no object
+abbrev pub bytes_of : Option Object → List ℕ
+bytes_of None = []
+bytes_of (Some o) = o.bytes
+
 -- Rewrites a live object. If the object isn't live, nothing changes.
 abbrev pub rewritten : (Object → Object) → ℕ → Slot → Slot
 rewritten f generation (Free g) = Free g
@@ -139,6 +146,22 @@ wording word o = record o { word = word }
 
 abbrev pub with_word : Heap → Ref → ℕ → Heap
 with_word h r word = with_rewritten h r (wording word)
+
+abbrev pub filling : List ℕ → Object → Object
+filling bytes o = record o { bytes = bytes }
+
+-- The list has elements from this offset on, this many.
+abbrev pub has_range : List ℕ → ℕ → ℕ → Bool
+has_range xs offset count = nat_le (offset + count) (length xs)
+
+-- Overwrites a part of a list. If it isn't a part of it, nothing changes.
+abbrev pub overwritten : List ℕ → ℕ → List ℕ → List ℕ
+overwritten xs offset ys =
+    cond (has_range xs offset (length ys))
+    (take offset xs ++ (ys ++ drop (offset + length ys) xs)) xs
+
+abbrev pub patching : ℕ → List ℕ → Object → Object
+patching offset bytes o = record o { bytes = overwritten o.bytes offset bytes }
 
 -- the register names an object of this node, and the last test passes
 abbrev pub own_tests : ℕ → Heap → ℕ → Bool → List (Bool × Refusal)
@@ -178,22 +201,42 @@ clear_tests own h object place =
 abbrev pub word_tests : ℕ → Heap → ℕ → List (Bool × Refusal)
 word_tests own h object = own_tests own h object (is_some (object_at h (named h object)))
 
--- asking the owner of another node's object to write or to read a place of it
-abbrev pub put_tests : ℕ → Heap → ℕ → ℕ → ℕ → List (Bool × Refusal)
-put_tests own h object place register =
+-- Replacing the bytes by this many, in a space of this shape. Only in wide spaces objects have
+-- bytes.
+abbrev pub set_bytes_tests : Shaped → ℕ → Heap → ℕ → ℕ → List (Bool × Refusal)
+set_bytes_tests shape own h object count =
+    word_tests own h object ++ (shape.wide && nat_le count shape.bytes, TooManyBytes) ∷ []
+
+-- overwriting this many bytes from this offset on
+abbrev pub patch_tests : Shaped → ℕ → Heap → ℕ → ℕ → ℕ → List (Bool × Refusal)
+patch_tests shape own h object offset count =
+    word_tests own h object
+    ++ (shape.wide && has_range (bytes_of (object_at h (named h object))) offset count, NoBytes)
+    ∷ []
+
+-- reading this many bytes from this offset on
+abbrev pub bytes_tests : ℕ → Heap → ℕ → ℕ → ℕ → List (Bool × Refusal)
+bytes_tests own h object offset count =
+    word_tests own h object
+    ++ (has_range (bytes_of (object_at h (named h object))) offset count, NoBytes) ∷ []
+
+-- asking the owner of another node's object to write or to read a place of it, in a space whose
+-- objects have at most this many places
+abbrev pub put_tests : ℕ → ℕ → Heap → ℕ → ℕ → ℕ → List (Bool × Refusal)
+put_tests most own h object place register =
     (is_register h object, NoRegister)
     ∷ (is_register h register, NoRegister)
     ∷ (is_filled h object, EmptyRegister)
     ∷ (not (is_local own h object), Local)
-    ∷ (nat_lt place GREATEST_PLACES, NoField)
+    ∷ (nat_lt place most, NoField)
     ∷ []
 
-abbrev pub get_tests : ℕ → Heap → ℕ → ℕ → List (Bool × Refusal)
-get_tests own h object place =
+abbrev pub get_tests : ℕ → ℕ → Heap → ℕ → ℕ → List (Bool × Refusal)
+get_tests most own h object place =
     (is_register h object, NoRegister)
     ∷ (is_filled h object, EmptyRegister)
     ∷ (not (is_local own h object), Local)
-    ∷ (nat_lt place GREATEST_PLACES, NoField)
+    ∷ (nat_lt place most, NoField)
     ∷ []
 
 abbrev pub no_letter : Letter
@@ -216,9 +259,9 @@ abbrev pub with_letter : Heap → Letter → Heap
 with_letter h l = record h { letters = h.letters ++ l ∷ [] }
 
 -- the events of a heap as a whole: the heap and the answer, or the first refusal that applies
-unfoldable pub heap_alloc : ℕ → ℕ → ℕ → Heap → ℕ → ℕ → Result (Heap × Ref) Refusal
-heap_alloc limit own cycle h register places =
-    guarded (alloc_tests limit h register places)
+unfoldable pub heap_alloc : ℕ → ℕ → ℕ → ℕ → Heap → ℕ → ℕ → Result (Heap × Ref) Refusal
+heap_alloc limit most own cycle h register places =
+    guarded (alloc_tests limit most h register places)
     (alloc_heap own cycle h register places, new_reference own h)
 
 unfoldable pub heap_drop : Heap → ℕ → Result Heap Refusal
@@ -250,3 +293,23 @@ heap_word own h object = guarded (word_tests own h object) (word_of (object_at h
 unfoldable pub heap_set_word : ℕ → Heap → ℕ → ℕ → Result Heap Refusal
 heap_set_word own h object word =
     guarded (word_tests own h object) (with_word h (named h object) word)
+
+unfoldable pub heap_bytes : ℕ → Heap → ℕ → ℕ → ℕ → Result (List ℕ) Refusal
+heap_bytes own h object offset count =
+    guarded (bytes_tests own h object offset count)
+    (take count (drop offset (bytes_of (object_at h (named h object)))))
+
+-- how many bytes there are
+unfoldable pub heap_bytes_len : ℕ → Heap → ℕ → Result ℕ Refusal
+heap_bytes_len own h object =
+    guarded (word_tests own h object) (length (bytes_of (object_at h (named h object))))
+
+unfoldable pub heap_set_bytes : Shaped → ℕ → Heap → ℕ → List ℕ → Result Heap Refusal
+heap_set_bytes shape own h object bytes =
+    guarded (set_bytes_tests shape own h object (length bytes))
+    (with_rewritten h (named h object) (filling bytes))
+
+unfoldable pub heap_patch : Shaped → ℕ → Heap → ℕ → ℕ → List ℕ → Result Heap Refusal
+heap_patch shape own h object offset bytes =
+    guarded (patch_tests shape own h object offset (length bytes))
+    (with_rewritten h (named h object) (patching offset bytes))

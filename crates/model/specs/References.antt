@@ -4,7 +4,7 @@ use Rattle.std.specs.Prelude.{◌≡◌, ℕ, ◌<◌, ◌≤◌, Option, Some, 
 use Rattle.std.specs.List.{AllByRecursion}
 use Rattle.ids.specs.Limits.{Shaped}
 use Rattle.ids.specs.declared.names.Ref.{Ref}
-use Rattle.ids.specs.declared.limits.TheConstants.{GREATEST_CYCLE, GREATEST_PLACES}
+use Rattle.ids.specs.declared.limits.TheConstants.{GREATEST_CYCLE}
 use Rattle.msg.specs.declared.body.Body.{Body}
 use Rattle.msg.specs.declared.body.Body.TheVariants as body
 use Rattle.msg.specs.declared.body.Message.{Message}
@@ -34,15 +34,15 @@ pub record IsWithin (shape : Shaped) (r : Ref) : Type 0 where
 abbrev pub no_message : Message
 no_message = record { stamp = 0; body = body.Give 0 None }
 
--- if the message names a place, an object can have such a place
-abbrev pub IsPlaced : Body → Type 0
-IsPlaced (body.Put target place reference) = place < GREATEST_PLACES
-IsPlaced (body.Get target place label) = place < GREATEST_PLACES
-IsPlaced b = Unit {0}
+-- if the message names a place, an object of the space can have such a place
+abbrev pub IsPlaced : Shaped → Body → Type 0
+IsPlaced shape (body.Put target place reference) = place < shape.places
+IsPlaced shape (body.Get target place label) = place < shape.places
+IsPlaced shape b = Unit {0}
 
 -- a message whose stamp is a valid cycle, whose references the shape has room for, and whose place
 -- an object can have
 pub record IsSendable (shape : Shaped) (x : Message) : Type 0 where
   pub stamp : x.stamp ≤ GREATEST_CYCLE
   pub references : AllByRecursion (IsWithin shape) (mentioned x.body)
-  pub place : IsPlaced x.body
+  pub place : IsPlaced shape x.body

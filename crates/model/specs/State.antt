@@ -1,7 +1,7 @@
 -- The state of a node, as plain data ("A node" in docs/RULES.md). Look-ups are total: past the end
 -- of a list they give a default, and the default node refuses every event.
 use Rattle.std.specs.Prelude.{ℕ, ℤ, pos, List, [], replicate, Option, None, slice_index_or}
-use Rattle.ids.specs.Limits.{Shaped}
+use Rattle.ids.specs.Limits.{Shaped, plain_shape}
 use Rattle.ids.specs.declared.names.Ref.{Ref}
 use Rattle.msg.specs.declared.body.Colour.{Colour}
 use Rattle.msg.specs.declared.body.Colour.TheVariants.{White}
@@ -9,9 +9,10 @@ use Rattle.msg.specs.declared.body.Token.{Token}
 use Rattle.msg.specs.declared.body.Message.{Message}
 use Rattle.model.specs.declared.event.Letter.{Letter}
 
--- an object: its word, its places, and the cycle that marked it
+-- an object: its word, its bytes, its places, and the cycle that marked it
 pub record Object : Type 0 where
   pub word : ℕ
+  pub bytes : List ℕ
   pub places : List (Option Ref)
   pub mark : ℕ
 
@@ -120,7 +121,7 @@ new_node shape own = record { local = new_local shape own; sent = replicate shap
 
 -- what a look-up past the end of a list of nodes gives
 abbrev pub no_node : NodeState
-no_node = new_node (record { nodes = 0; registers = 0; slots = 0 }) 1
+no_node = new_node (plain_shape 0 0 0) 1
 
 abbrev pub node_at : List NodeState → ℕ → NodeState
 node_at nodes i = slice_index_or nodes i no_node

@@ -1,6 +1,7 @@
 -- What an event does to a node ("Events" in docs/RULES.md). An event is a list of tests, in the
 -- order of its refusals, and a total effect. One last test is that all its messages get numbers.
 use Rattle.std.specs.Prelude.{ℕ, ◌+◌, Bool, true, false, ◌&&◌, ◌||◌, not, cond, nat_lt, nat_le, ◌==◌, List, [], ◌∷◌, ◌++◌, length, map, Option, Some, None, is_none, option_to_list, Result, Ok, Err, slice_index_or, slice_set}
+use Rattle.std.specs.Borrow.{Bor}
 use Rattle.ids.specs.Limits.{Shaped}
 use Rattle.ids.specs.declared.names.Ref.{Ref}
 use Rattle.ids.specs.declared.limits.TheConstants.{GREATEST_NUMBER, WINDOW}
@@ -16,7 +17,7 @@ use Rattle.model.specs.declared.event.Answer.{Answer}
 use Rattle.model.specs.declared.event.Answer.TheVariants as answer
 use Rattle.model.specs.Checks.{guarded}
 use Rattle.model.specs.State.{LocalState, NodeState, register_at, got_from, Object, Heap}
-use Rattle.model.specs.Heaps.{with_register, with_place, new_reference, named, object_at, word_of, oldest_letter, with_letter, alloc_heap, place_of, place_loaded, letter_taken, alloc_tests, copy_tests, drop_tests, load_tests, store_tests, clear_tests, word_tests, put_tests, get_tests, accept_tests, register_tests, placing, wording, with_rewritten}
+use Rattle.model.specs.Heaps.{with_register, with_place, new_reference, named, object_at, word_of, oldest_letter, with_letter, alloc_heap, place_of, place_loaded, letter_taken, alloc_tests, copy_tests, drop_tests, load_tests, store_tests, clear_tests, word_tests, put_tests, get_tests, accept_tests, register_tests, set_bytes_tests, patch_tests, placing, wording, filling, patching, with_rewritten}
 use Rattle.model.specs.Effects.{Work, at_rest, then, Effect, answers, becomes, unchanged}
 use Rattle.model.specs.Counting.{balance_of, counted_down, append}
 use Rattle.model.specs.Shading.{is_open, is_calm, see_to, joined}
@@ -84,15 +85,17 @@ may_reach p stamp =
     && (nat_le stamp (p.phases.cycle + 1) && nat_le p.phases.cycle p.phases.swept))
 
 -- A body that the node may follow if it comes from this sender. The object that it is about is the
--- node's own. Only node 0 says that a cycle begins and that marking has ended, and only node 0 is
--- told that a node has swept.
+-- node's own, and the place one that an object of the space may have. Only node 0 says that a cycle
+-- begins and that marking has ended, and only node 0 is told that a node has swept.
 abbrev pub may_follow : LocalState → ℕ → Body → Bool
 may_follow p from body.Begin = from == 0
 may_follow p from (body.Token token) = from == token_sender p
 may_follow p from (body.Mark target) = target.node == p.own
 may_follow p from (body.Give label reference) = true
-may_follow p from (body.Put target place reference) = target.node == p.own
-may_follow p from (body.Get target place label) = target.node == p.own
+may_follow p from (body.Put target place reference) =
+    (target.node == p.own) && nat_lt place p.shape.places
+may_follow p from (body.Get target place label) =
+    (target.node == p.own) && nat_lt place p.shape.places
 may_follow p from body.Ended = from == 0
 may_follow p from body.Swept = p.own == 0
 
@@ -192,8 +195,8 @@ pub data Write : Type 0 where
   Rewrites : Ref → (Object → Object) → Write
   Makes : ℕ → ℕ → Write
 
--- What an event does if its tests pass, with its answer. It reads; or it writes; or it shades what a
--- place holds, and then the register gets it; or it sends one message. The last is for the
+-- What an event does if its tests pass, with its answer. It reads; or it writes; or it shades what
+-- a place holds, and then the register gets it; or it sends one message. The last is for the
 -- collector's events and for messages.
 pub data Deed : Type 0 where
   Reads : Answer → Deed
@@ -211,7 +214,7 @@ pub record Rule : Type 0 where
 -- that keeps them, Next acts as the Data event of the waiting message.
 abbrev pub rule : LocalState → Event → Rule
 rule p (event.Alloc register places) = record {
-  tests = alloc_tests p.shape.slots p.heap register places;
+  tests = alloc_tests p.shape.slots p.shape.places p.heap register places;
   deed = Writes (Makes register places) (answer.New (new_reference p.own p.heap));
 }
 rule p (event.Copy register source) = record {
@@ -244,6 +247,14 @@ rule p (event.SetWord object word) = record {
   tests = word_tests p.own p.heap object;
   deed = Writes (Rewrites (named p.heap object) (wording word)) answer.Done;
 }
+rule p (event.SetBytes object bytes) = record {
+  tests = set_bytes_tests p.shape p.own p.heap object (length bytes.now);
+  deed = Writes (Rewrites (named p.heap object) (filling bytes.now)) answer.Done;
+}
+rule p (event.Patch object offset bytes) = record {
+  tests = patch_tests p.shape p.own p.heap object offset (length bytes.now);
+  deed = Writes (Rewrites (named p.heap object) (patching offset bytes.now)) answer.Done;
+}
 rule p (event.Give to label register) = record {
   tests =
       (nat_lt to p.shape.nodes, NoNode) ∷ (not (to == p.own), SelfSend)
@@ -255,12 +266,12 @@ rule p (event.Accept register) = record {
   deed = Writes (Accepts register) (answer.Letter (oldest_letter p.heap));
 }
 rule p (event.Put object place register) = record {
-  tests = put_tests p.own p.heap object place register;
+  tests = put_tests p.shape.places p.own p.heap object place register;
   deed = Sends (named p.heap object).node
       (body.Put (named p.heap object) place (register_at p.heap register));
 }
 rule p (event.Get object place label) = record {
-  tests = get_tests p.own p.heap object place;
+  tests = get_tests p.shape.places p.own p.heap object place;
   deed = Sends (named p.heap object).node (body.Get (named p.heap object) place label);
 }
 rule p event.Begin = record { tests = begin_tests p; deed = Takes (begun p) }
@@ -306,6 +317,10 @@ carry p counts (Takes x) = x
 
 abbrev pub tests : LocalState → Event → List (Bool × Refusal)
 tests p e = (rule p e).tests
+
+-- bytes as an event borrows them
+abbrev pub lent : List ℕ → Bor (List ℕ)
+lent bytes = record { ref_ptr = (0, 0); now = bytes }
 
 -- the effect of an event
 abbrev pub made : LocalState → List ℕ → Event → Effect
@@ -380,6 +395,7 @@ is_memory_free p (event.Store object place register) = true
 is_memory_free p (event.Clear object place) = true
 is_memory_free p (event.Word object) = true
 is_memory_free p (event.SetWord object word) = true
+is_memory_free p (event.Patch object offset bytes) = true
 is_memory_free p (event.Accept register) = true
 is_memory_free p (event.Sweep count) = not (reports_sweep p count)
 is_memory_free p (event.Next from) = true

@@ -5,7 +5,6 @@ use Rattle.std.specs.Prelude.{◌≡◌, ◌≢◌, ℕ, eqb, ◌<◌, ◌≤◌
 use Rattle.std.specs.List.{AllByRecursion, IsDistinct}
 use Rattle.ids.specs.Limits.{Shaped}
 use Rattle.ids.specs.declared.names.Ref.{Ref}
-use Rattle.ids.specs.declared.limits.TheConstants.{GREATEST_PLACES}
 use Rattle.msg.specs.declared.body.Token.{Token}
 use Rattle.model.specs.declared.event.Letter.{Letter}
 use Rattle.model.specs.State.{Object, Slot, Free, Occupied, Retired, Heap, slot_at}
@@ -17,17 +16,19 @@ use Rattle.model.specs.View.{Link, no_link}
 abbrev pub IsOther : Shaped → ℕ → ℕ → Type 0
 IsOther shape own i = (i < shape.nodes) × (i ≢ own)
 
--- an object of this generation, at a node in this cycle
-pub record IsObject (cycle generation : ℕ) (o : Object) : Type 0 where
+-- an object of this generation, with no more places and bytes than the space allows, at a node in
+-- this cycle
+pub record IsObject (shape : Shaped) (cycle generation : ℕ) (o : Object) : Type 0 where
   pub born : 1 ≤ generation
-  pub places : length o.places ≤ GREATEST_PLACES
+  pub places : length o.places ≤ shape.places
+  pub bytes : length o.bytes ≤ shape.bytes
   pub mark : o.mark ≤ cycle
 
 -- A slot becomes free when its first object is freed, so its next object has at least generation 2.
-abbrev pub IsSlotOf : ℕ → Slot → Type 0
-IsSlotOf cycle (Free g) = 2 ≤ g
-IsSlotOf cycle (Occupied g o) = IsObject cycle g o
-IsSlotOf cycle Retired = Unit {0}
+abbrev pub IsSlotOf : Shaped → ℕ → Slot → Type 0
+IsSlotOf shape cycle (Free g) = 2 ≤ g
+IsSlotOf shape cycle (Occupied g o) = IsObject shape cycle g o
+IsSlotOf shape cycle Retired = Unit {0}
 
 -- the slot has an object that this cycle marked
 abbrev pub HasMarked : ℕ → Slot → Type 0
@@ -40,7 +41,7 @@ HasMarked cycle Retired = ⊥
 pub record IsStocked (shape : Shaped) (own cycle ended : ℕ) (h : Heap) : Type 0 where
   pub registers : length h.registers ≡ shape.registers
   pub letters : AllByRecursion (λ (l : Letter). IsOther shape own l.from) h.letters
-  pub slots : (k : ℕ) → IsSlotOf cycle (slot_at h k)
+  pub slots : (k : ℕ) → IsSlotOf shape cycle (slot_at h k)
   pub grey : AllByRecursion (λ (k : ℕ). HasMarked cycle (slot_at h k)) h.grey
   pub once : IsDistinct eqb h.grey
   pub calm : ended ≡ cycle → h.grey ≡ []

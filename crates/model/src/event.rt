@@ -15,9 +15,9 @@ pub struct Letter {
 }
 
 /// An event of one node. A program names objects only by its registers: `object` is the register
-/// that names the object.
+/// that names the object. An event borrows the bytes that it writes.
 #[derive(Clone, Copy)]
-pub enum Event {
+pub enum Event<'a> {
     /// Makes a new object with this many empty places, and puts its reference into the register.
     Alloc {
         register: u16,
@@ -58,6 +58,17 @@ pub enum Event {
     SetWord {
         object: u16,
         word: u64,
+    },
+    /// Replaces the bytes of the object.
+    SetBytes {
+        object: u16,
+        bytes: &'a [u8],
+    },
+    /// Overwrites bytes of the object, from this offset on. It never makes them longer.
+    Patch {
+        object: u16,
+        offset: u32,
+        bytes: &'a [u8],
     },
     /// Sends a letter to another node, with the register's reference, or without one if the
     /// register is empty.

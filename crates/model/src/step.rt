@@ -3,9 +3,9 @@ use crate::event::{Answer, Event};
 
 /// One step of a space of nodes in one thread.
 #[derive(Clone, Copy)]
-pub enum Step {
+pub enum Step<'a> {
     /// An event of the node, which comes from no other node.
-    Act(u8, Event),
+    Act(u8, Event<'a>),
     /// The node's current state becomes its saved one.
     Save(u8),
     /// The node's saved state becomes its current one.

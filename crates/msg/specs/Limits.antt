@@ -4,6 +4,7 @@ use Rattle.ids.specs.Limits.{reference_fits}
 use Rattle.ids.specs.declared.names.Ref.{Ref}
 use Rattle.ids.specs.declared.limits.TheConstants.{GREATEST_NODES, GREATEST_PLACES}
 use Rattle.ids.specs.declared.limits.TheConstants.{GREATEST_NUMBER, GREATEST_CYCLE}
+use Rattle.ids.specs.declared.limits.TheConstants.{PLAIN_PLACES, PLAIN_SLOTS}
 use Rattle.msg.specs.declared.body.Body.{Body}
 use Rattle.msg.specs.declared.body.Body.TheVariants as body
 
@@ -25,6 +26,30 @@ body_fits (body.Put target place reference) = place_fits target place && optiona
 body_fits (body.Get target place label) = place_fits target place
 body_fits body.Ended = true
 body_fits body.Swept = true
+
+-- a reference that a plain space has room for
+abbrev pub is_plain_reference : Ref → Bool
+is_plain_reference r = nat_lt r.slot PLAIN_SLOTS
+
+abbrev pub is_plain_optional : Option Ref → Bool
+is_plain_optional None = true
+is_plain_optional (Some r) = is_plain_reference r
+
+-- a place that an object of a plain space may have
+abbrev pub is_plain_place : Ref → ℕ → Bool
+is_plain_place target place = is_plain_reference target && nat_lt place PLAIN_PLACES
+
+-- a body whose references and places are within the limits of plain spaces
+abbrev pub is_plain_body : Body → Bool
+is_plain_body body.Begin = true
+is_plain_body (body.Token token) = true
+is_plain_body (body.Mark target) = is_plain_reference target
+is_plain_body (body.Give label reference) = is_plain_optional reference
+is_plain_body (body.Put target place reference) =
+    is_plain_place target place && is_plain_optional reference
+is_plain_body (body.Get target place label) = is_plain_place target place
+is_plain_body body.Ended = true
+is_plain_body body.Swept = true
 
 -- two different nodes
 abbrev pub nodes_fit : ℕ → ℕ → Bool

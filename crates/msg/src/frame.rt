@@ -1,11 +1,16 @@
 //! Frames, the units that links carry: a message with its addresses and number, or an
 //! acknowledgement. Every frame is within the limits by construction, so it has a spelling.
-ghost use Rattle.std.specs.Prelude.{◌≡◌, IsTrue, IsSome, IfSome, ◌↔◌};
+ghost use Rattle.std.specs.Prelude.{◌≡◌, ◌&&◌, IsTrue, IsSome, IfSome, ◌↔◌};
+ghost use Rattle.ids.specs.Limits.{reference_fits};
 ghost use Rattle.msg.specs.Limits.{nodes_fit, optional_fits, place_fits, body_fits};
 ghost use Rattle.msg.specs.Limits.{data_fits, ack_fits};
+ghost use Rattle.msg.specs.Limits.{is_plain_reference, is_plain_optional, is_plain_place, is_plain_body};
 
 use crate::body::Body;
-use ids::{GREATEST_CYCLE, GREATEST_NODES, GREATEST_NUMBER, GREATEST_PLACES, Ref};
+use ids::{
+    GREATEST_CYCLE, GREATEST_NODES, GREATEST_NUMBER, GREATEST_PLACES, PLAIN_PLACES, PLAIN_SLOTS,
+    Ref,
+};
 
 /// A message with its addresses, as a link carries it: its number on the link, the sender's cycle
 /// when it was appended, and what it says. The two nodes differ, the number is 1 to
@@ -75,6 +80,91 @@ pub fn body_fits(body: Body) -> bool
         } => place_fits(target, place) && optional_fits(reference),
         Body::Get { target, place, .. } => place_fits(target, place),
     }
+}
+
+fn is_plain_reference(reference: Ref) -> bool
+    ensures { result ≡ is_plain_reference reference }
+{
+    reference.slot < PLAIN_SLOTS
+}
+
+fn is_plain_optional(reference: Option<Ref>) -> bool
+    ensures { result ≡ is_plain_optional reference }
+{
+    reference.is_none_or(is_plain_reference)
+}
+
+fn is_plain_place(target: Ref, place: u8) -> bool
+    ensures { result ≡ is_plain_place target place }
+{
+    is_plain_reference(target) && place < PLAIN_PLACES
+}
+
+/// Whether a plain space has room for every reference of the body, and for its place: slots are
+/// below [`PLAIN_SLOTS`], and places below [`PLAIN_PLACES`].
+#[inline(always)]
+pub fn is_plain_body(body: &Body) -> bool
+    ensures { result ≡ is_plain_body body.now }
+{
+    match *body {
+        Body::Begin | Body::Token(_) | Body::Ended | Body::Swept => true,
+        Body::Mark { target } => is_plain_reference(target),
+        Body::Give { reference, .. } => is_plain_optional(reference),
+        Body::Put {
+            target,
+            place,
+            reference,
+        } => is_plain_place(target, place) && is_plain_optional(reference),
+        Body::Get { target, place, .. } => is_plain_place(target, place),
+    }
+}
+
+fn fits_plain_reference(reference: Ref) -> bool
+    ensures { result ≡ (reference_fits reference && is_plain_reference reference) }
+{
+    reference.node < GREATEST_NODES && (reference.slot < PLAIN_SLOTS && reference.generation >= 1)
+}
+
+fn fits_plain_optional(reference: Option<Ref>) -> bool
+    ensures { result ≡ (optional_fits reference && is_plain_optional reference) }
+{
+    match reference {
+        Some(reference) => fits_plain_reference(reference),
+        None => true,
+    }
+}
+
+fn fits_plain_place(target: Ref, place: u8) -> bool
+    ensures { result ≡ (place_fits target place && is_plain_place target place) }
+{
+    fits_plain_reference(target) && place < PLAIN_PLACES
+}
+
+// Whether the body is within the limits, and a plain space has room for it.
+fn fits_plain_body(body: Body) -> bool
+    ensures { result ≡ (body_fits body && is_plain_body body) }
+{
+    match body {
+        Body::Begin | Body::Token(_) | Body::Ended | Body::Swept => true,
+        Body::Mark { target } => fits_plain_reference(target),
+        Body::Give { reference, .. } => fits_plain_optional(reference),
+        Body::Put {
+            target,
+            place,
+            reference,
+        } => fits_plain_place(target, place) && fits_plain_optional(reference),
+        Body::Get { target, place, .. } => fits_plain_place(target, place),
+    }
+}
+
+/// Whether a message of these parts is within the limits, and a plain space has room for it; see
+/// [`is_plain_body`].
+#[inline(never)]
+pub fn plain_data_fits(from: u8, to: u8, number: u64, stamp: u64, body: &Body) -> bool
+    ensures { result ≡ (data_fits from to number stamp body.now && is_plain_body body.now) }
+{
+    let number_fits = 1 <= number && number <= GREATEST_NUMBER;
+    nodes_fit(from, to) && number_fits && stamp <= GREATEST_CYCLE && fits_plain_body(*body)
 }
 
 /// Whether a message of these parts is within the limits.

@@ -23,4 +23,6 @@ mod body;
 mod frame;
 
 pub use body::{Body, Colour, Message, Token};
-pub use frame::{Ack, Data, Frame, body_fits, data_fits, optional_fits};
+pub use frame::{
+    Ack, Data, Frame, body_fits, data_fits, is_plain_body, optional_fits, plain_data_fits,
+};

@@ -1,6 +1,7 @@
 -- The effect of an event on a node by the definitions, from its tests and its messages.
 use Rattle.std.proofs.Common.{◌≡◌, ◌≢◌, ℕ, ◌&&◌, not, Bool, true, false, List, [], ◌∷◌, ◌++◌, map, Result, Ok, Err, ap, refl, sym, ◌∙◌, subst}
-use Rattle.std.proofs.lemmas.Bool.{and_parts}
+use Rattle.std.specs.Prelude.{IsOk}
+use Rattle.std.proofs.lemmas.Bool.{and_parts, false≢true}
 use Rattle.ids.specs.declared.names.Ref.{Ref}
 use Rattle.ids.specs.declared.refusal.Refusal.{Refusal}
 use Rattle.ids.specs.declared.refusal.Refusal.TheVariants.{LinkSpent, Memory}
@@ -87,6 +88,13 @@ test_refused n ts x y e safe h =
     by_test (spared ts y e safe h)
     (ap (view_after n n.links)
     (guarded-err ts ((fits (map used n.links) x.sends, LinkSpent) ∷ []) y x e h))
+
+-- all of its own tests pass, and its messages get numbers
+pub tests_passed : {A : Type 0} (n : NodeView) (ts : List (Bool × Refusal)) (x : Effect) (y : A)
+    → fits (map used n.links) x.sends ≡ true → IsOk (guarded ts y) → IsOk (judged_view n ts x)
+tests_passed n [] x y numbers is = rw numbers refl
+tests_passed n ((true, r) ∷ ts) x y numbers is = tests_passed n ts x y numbers is
+tests_passed n ((false, r) ∷ ts) x y numbers is = absurd (false≢true is)
 
 -- ---- an event that shades: the effect of its errand, and its answer
 

@@ -6,7 +6,7 @@ use Rattle.std.proofs.lemmas.Bool.{cases_eq, cases_lt, eq-eqb, eqb-true}
 use Rattle.std.proofs.lemmas.Bool.Decides.{nat_tests}
 use Rattle.std.proofs.lemmas.List.{get_or_past, nil_from_length}
 use Rattle.ids.specs.Limits.{Shaped}
-use Rattle.ids.specs.declared.limits.TheConstants.{GREATEST_CYCLE, GREATEST_PLACES}
+use Rattle.ids.specs.declared.limits.TheConstants.{GREATEST_CYCLE}
 use Rattle.ids.specs.declared.names.Ref.{Ref}
 use Rattle.msg.specs.declared.body.Body.{Body}
 use Rattle.msg.specs.declared.body.Body.TheVariants as body
@@ -53,7 +53,9 @@ module _ (shape : Shaped) where
     abbrev IsGiven : Slot → Type 0
     IsGiven (Free g) = 2 ≤ g
     IsGiven (Occupied g o) =
-        (o.mark ≤ cycle) × ((length o.places ≤ GREATEST_PLACES) × HoldsWithin o.places)
+        (o.mark ≤ cycle)
+        × ((length o.places ≤ shape.places)
+        × ((length o.bytes ≤ shape.bytes) × HoldsWithin o.places))
     IsGiven Retired = Unit {0}
 
     slot-is : (s : Slot) → is_slot shape cycle s ≡ true ↔ IsGiven s
@@ -66,21 +68,26 @@ module _ (shape : Shaped) where
         ↔ ((k : ℕ) → IsGiven (get_or slots k Retired))
     slots-are slots = each-is IsGiven (is_slot shape cycle) slot-is slots Retired tt
 
-    given-slot : (s : Slot) → IsGiven s → IsBorn s → IsSlotOf cycle s
+    given-slot : (s : Slot) → IsGiven s → IsBorn s → IsSlotOf shape cycle s
     given-slot (Free g) is born = is
-    given-slot (Occupied g o) is born = record { born = born; places = is.1.0; mark = is.0 }
+    given-slot (Occupied g o) is born = record {
+      born = born;
+      places = is.1.0;
+      bytes = is.1.1.0;
+      mark = is.0;
+    }
     given-slot Retired is born = tt
 
     given-holds : (s : Slot) (g : ℕ) (o : Object) → IsGiven s → s ≡ Occupied g o
         → HoldsWithin o.places
     given-holds (Occupied f x) g o is e =
-        let same : x ≡ o = cc in subst (λ (z : Object). HoldsWithin z.places) same is.1.1
+        let same : x ≡ o = cc in subst (λ (z : Object). HoldsWithin z.places) same is.1.1.1
     given-holds s g o is e = absurd cc
 
-    slot-given : (s : Slot) → IsSlotOf cycle s
+    slot-given : (s : Slot) → IsSlotOf shape cycle s
         → ((g : ℕ) (o : Object) → s ≡ Occupied g o → HoldsWithin o.places) → IsGiven s
     slot-given (Free g) is holds = is
-    slot-given (Occupied g o) is holds = (is.mark, (is.places, holds g o refl))
+    slot-given (Occupied g o) is holds = (is.mark, (is.places, (is.bytes, holds g o refl)))
     slot-given Retired is holds = tt
 
   -- ---- letters, and what was asked for
@@ -106,7 +113,7 @@ module _ (shape : Shaped) where
 
   -- ---- messages
 
-  placed-is : (b : Body) → is_placed b ≡ true ↔ IsPlaced b
+  placed-is : (b : Body) → is_placed shape b ≡ true ↔ IsPlaced shape b
   placed-is (body.Put target place reference) = grind (arith, nat_tests)
   placed-is (body.Get target place label) = grind (arith, nat_tests)
   placed-is b = (λ _. tt, λ _. refl)

@@ -61,10 +61,6 @@ begun-errand p =
 
 -- ---- Scan
 
--- what the places of the last grey object hold
-abbrev pub held : NodeView → List Ref
-held n = filled (places_in (slot_at n.local.heap (last_grey n.local.heap)))
-
 pub scanned-errand : (p : LocalState)
     → scanned p
     ≡ answers
@@ -82,9 +78,14 @@ scanned-errand p =
     (filled (places_in (slot_at p.heap (last_grey p.heap)))) extra.Scanned p
     (le_refl p.phases.cycle)))
 
-pub held-within : (n : NodeView) → IsNode n → AllByRecursion (IsWithin n.local.shape) (held n)
-held-within n old =
-    holds-places (IsWithin n.local.shape) n.local.heap (last_grey n.local.heap) old.references
+-- what the places of the object in a slot hold
+abbrev pub held_at : NodeView → ℕ → List Ref
+held_at n slot = filled (places_in (slot_at n.local.heap slot))
+
+pub held-within : (n : NodeView) → IsNode n → (slot : ℕ)
+    → AllByRecursion (IsWithin n.local.shape) (held_at n slot)
+held-within n old slot =
+    holds-places (IsWithin n.local.shape) n.local.heap slot old.references
 
 -- ---- Load
 

@@ -1,21 +1,21 @@
 -- Each event on the heap alone preserves what holds of every node.
-use Rattle.std.proofs.Common.{◌≡◌, ℕ, ◌<◌, ◌≤◌, Bool, List, [], ◌∷◌, drop, length, get_or, Option, Some, None, Ok, ap, sym, ◌∙◌, subst, arith, rules, length-append, le_refl}
-use Rattle.std.proofs.lemmas.Bool.{leb-true}
+use Rattle.std.proofs.Common.{◌≡◌, ℕ, ◌<◌, ◌≤◌, Bool, List, [], ◌∷◌, drop, length, get_or, Option, Some, None, Ok, nat_le, refl, ap, sym, ◌∙◌, subst, arith, rules, length-append, le_refl}
+use Rattle.std.proofs.lemmas.Bool.{leb-true, and_parts}
 use Rattle.std.proofs.lemmas.List.{length-set}
-use Rattle.ids.specs.declared.limits.TheConstants.{GREATEST_PLACES}
 use Rattle.ids.specs.declared.names.Ref.{Ref}
 use Rattle.ids.specs.declared.refusal.Refusal.{Refusal}
 use Rattle.model.specs.declared.event.Letter.{Letter}
 use Rattle.model.specs.Checks.{AllPass, guarded}
 use Rattle.model.specs.State.{Object, Slot, Occupied, Retired, Heap, register_at}
-use Rattle.model.specs.Heaps.{with_register, next_generation, slots_with, heap_alloc, alloc_tests, alloc_heap, with_object, new_object, new_reference, named, heap_copy, copy_tests, heap_drop, drop_tests, heap_accept, accept_tests, letter_taken, oldest_letter, heap_store, store_tests, with_place, heap_clear, clear_tests, heap_set_word, word_tests, with_word}
+use Rattle.model.specs.Heaps.{with_register, next_generation, slots_with, heap_alloc, alloc_tests, alloc_heap, with_object, new_object, new_reference, named, heap_copy, copy_tests, heap_drop, drop_tests, heap_accept, accept_tests, letter_taken, oldest_letter, heap_store, store_tests, with_place, heap_clear, clear_tests, heap_set_word, word_tests, with_word, with_rewritten, filling, patching, heap_set_bytes, set_bytes_tests, heap_patch, patch_tests}
 use Rattle.model.specs.References.{IfAny, IsWithin}
 use Rattle.model.specs.declared.event.Answer.TheVariants as answer
 use Rattle.model.specs.declared.event.Event.TheVariants as event
 use Rattle.model.specs.View.{NodeView, view_act}
+use Rattle.model.specs.WellFormed.{IsStocked}
 use Rattle.model.proofs.Checks.{guarded-ok, guarded-passes}
-use Rattle.model.proofs.References.{holds-letter_gone, holds-with_register, holds-with_object, holds-with_place, holds-with_word}
-use Rattle.model.proofs.Stocks.{stocked-letter_gone, stocked-object, stocked-place, stocked-register, stocked-word}
+use Rattle.model.proofs.References.{holds-letter_gone, holds-with_register, holds-with_object, holds-with_place, holds-with_word, holds-with_rewritten}
+use Rattle.model.proofs.Stocks.{stocked-letter_gone, stocked-object, stocked-place, stocked-register, stocked-word, stocked-bytes, stocked-patch}
 use Rattle.heap.specs.Heap.{HeapView}
 use Rattle.link.specs.Links.{LinksView}
 use Rattle.node.specs.Inside.{view_of, IsSound}
@@ -36,31 +36,34 @@ slots_with-more (k ∷ ks) slots o =
     omega (arith, length-set slots k (Occupied (next_generation (get_or slots k Retired)) o))
 
 -- an object was allocated, with this reference and in this heap
-pub record Allocates (n : NodeView) (limit cycle register places : ℕ) (g : Heap) (r : Ref) : Type 0
+pub record Allocates (n : NodeView) (limit most cycle register places : ℕ) (g : Heap) (r : Ref)
+    : Type 0
   where
     pub now : cycle ≡ n.local.phases.cycle
-    pub done : heap_alloc limit n.local.own cycle n.local.heap register places ≡ Ok (g, r)
+    pub most_is : most ≡ n.local.shape.places
+    pub done : heap_alloc limit most n.local.own cycle n.local.heap register places ≡ Ok (g, r)
     pub slot : r.slot < n.local.shape.slots
     pub generation : 1 ≤ r.generation
 
 -- and its reference is the answer
 pub alloc-answered : (n : NodeView) (register places : ℕ) {g : Heap} {r : Ref}
-    → heap_alloc n.local.shape.slots n.local.own n.local.phases.cycle n.local.heap register places
+    → heap_alloc n.local.shape.slots n.local.shape.places n.local.own n.local.phases.cycle
+    n.local.heap register places
     ≡ Ok (g, r)
     → view_act n (event.Alloc register places) ≡ okay (with_heap n g) (answer.New r)
 unfolding heap_alloc view_act
 alloc-answered n register places h = search rules
 
 module _ (n : NodeView) (old : IsNode n) where
-  pub node-allocated : {limit cycle register places : ℕ} {g : Heap} {r : Ref}
-      → Allocates n limit cycle register places g r → IsNode (with_heap n g)
+  pub node-allocated : {limit most cycle register places : ℕ} {g : Heap} {r : Ref}
+      → Allocates n limit most cycle register places g r → IsNode (with_heap n g)
   unfolding heap_alloc
-  node-allocated {limit = limit} {cycle = cycle} {register = register} {places = places} {g = g}
-      {r = r} a =
+  node-allocated {limit = limit} {most = most} {cycle = cycle} {register = register}
+      {places = places} {g = g} {r = r} a =
       let p = n.local in
       let h : Heap = p.heap in
       let at : ℕ = p.phases.cycle in
-      let tests = alloc_tests limit h register places in
+      let tests = alloc_tests limit most h register places in
       let both : ◌≡◌ {A = Heap × Ref}
       (alloc_heap p.own cycle h register places, new_reference p.own h) (g, r) =
       guarded-ok tests _ _ a.done in
@@ -82,7 +85,7 @@ module _ (n : NodeView) (old : IsNode n) where
       (holds-with_object (IsWithin p.shape) h at places old.references)
       (subst (IsWithin p.shape) (sym name) within))
       (stocked-register (stocked-object old.stocked places
-      (leb-true places GREATEST_PLACES passed.1.0))
+      (subst (λ (k : ℕ). places ≤ k) a.most_is (leb-true places most passed.1.0)))
       register (Some (new_reference p.own h)))
       (slots_with-more h.free h.slots o))
 
@@ -169,6 +172,50 @@ module _ (n : NodeView) (old : IsNode n) where
       (holds-with_word (IsWithin p.shape) p.heap r word old.references)
       (stocked-word old.stocked r word)
       (omega (arith, slots)))
+
+  -- an object is rewritten, and its places stay
+  node-rewritten : (r : Ref) (f : Object → Object) → ((o : Object) → (f o).places ≡ o.places)
+      → IsStocked n.local.shape n.local.own n.local.phases.cycle n.local.phases.ended
+      (with_rewritten n.local.heap r f)
+      → IsNode (with_heap n (with_rewritten n.local.heap r f))
+  node-rewritten r f same stocked =
+      let p = n.local in
+      let slots : length (with_rewritten p.heap r f).slots ≡ length p.heap.slots =
+      length-set p.heap.slots r.slot _ in
+      node-heap n (with_rewritten p.heap r f) old
+      (holds-with_rewritten (IsWithin p.shape) p.heap r f
+      (λ o j there.
+      subst (λ (vs : List (Option Ref)). IfAny (IsWithin p.shape) (get_or vs j None)) (sym (same o))
+      there)
+      old.references)
+      stocked
+      (omega (arith, slots))
+
+  pub node-bytes_set : (object : ℕ) (bytes : List ℕ) (g : Heap)
+      → heap_set_bytes n.local.shape n.local.own n.local.heap object bytes ≡ Ok g
+      → IsNode (with_heap n g)
+  unfolding heap_set_bytes
+  node-bytes_set object bytes g e =
+      let p = n.local in
+      let r : Ref = named p.heap object in
+      let tests = set_bytes_tests p.shape p.own p.heap object (length bytes) in
+      let passed : AllPass tests = guarded-passes tests _ _ e in
+      let fits = (and_parts p.shape.wide (nat_le (length bytes) p.shape.bytes)
+      passed.1.1.1.1.0).1 in
+      tested tests _ g e
+      (node-rewritten r (filling bytes) (λ o. refl)
+      (stocked-bytes old.stocked r bytes (leb-true (length bytes) p.shape.bytes fits)))
+
+  pub node-patched : (object offset : ℕ) (bytes : List ℕ) (g : Heap)
+      → heap_patch n.local.shape n.local.own n.local.heap object offset bytes ≡ Ok g
+      → IsNode (with_heap n g)
+  unfolding heap_patch
+  node-patched object offset bytes g e =
+      let p = n.local in
+      let r : Ref = named p.heap object in
+      tested (patch_tests p.shape p.own p.heap object offset (length bytes)) _ g e
+      (node-rewritten r (patching offset bytes) (λ o. refl)
+      (stocked-patch old.stocked r offset bytes))
 
 -- the struct, once its heap has changed
 pub sound-heap : {m : Inside} {h : HeapView} → IsSound m → IsNode (with_heap (view_of m) h.heap)

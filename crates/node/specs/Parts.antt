@@ -5,7 +5,6 @@ use Rattle.std.specs.Prelude.{nat_lt, nat_le, List, length, take, Option, Some, 
 use Rattle.std.specs.Prelude.{slice_index_or}
 use Rattle.std.specs.List.{list_all}
 use Rattle.ids.specs.Limits.{Shaped, IsShape}
-use Rattle.ids.specs.declared.limits.TheConstants.{GREATEST_PLACES}
 use Rattle.ids.specs.declared.names.Ref.{Ref}
 use Rattle.msg.specs.declared.body.Body.{Body}
 use Rattle.msg.specs.declared.body.Body.TheVariants.{Begin, Token, Mark, Give, Put, Get, Ended, Swept}
@@ -64,11 +63,12 @@ is_foreign shape own r = is_named shape r && not (r.node == own)
 abbrev pub is_letter : Shaped → ℕ → Letter → Bool
 is_letter shape own l = is_neighbour shape own l.from && is_any_named shape l.reference
 
--- an object of a node in this cycle
+-- an object of a node in this cycle; in a plain space it has no bytes
 abbrev pub is_object : Shaped → ℕ → Object → Bool
 is_object shape cycle o =
     nat_le o.mark cycle
-    && (nat_le (length o.places) GREATEST_PLACES && list_all (is_any_named shape) o.places)
+    && (nat_le (length o.places) shape.places
+    && (nat_le (length o.bytes) shape.bytes && list_all (is_any_named shape) o.places))
 
 -- A slot of a node in this cycle. A free slot has held an object, so its next generation is at
 -- least 2.
@@ -77,21 +77,21 @@ is_slot shape cycle (Free g) = nat_le 2 g
 is_slot shape cycle (Occupied g o) = is_object shape cycle o
 is_slot shape cycle Retired = true
 
--- an object may have the place that the body names, if it names one
-abbrev pub is_placed : Body → Bool
-is_placed Begin = true
-is_placed (Token token) = true
-is_placed (Mark target) = true
-is_placed (Give label reference) = true
-is_placed (Put target place reference) = nat_lt place GREATEST_PLACES
-is_placed (Get target place label) = nat_lt place GREATEST_PLACES
-is_placed Ended = true
-is_placed Swept = true
+-- an object of the space may have the place that the body names, if it names one
+abbrev pub is_placed : Shaped → Body → Bool
+is_placed shape Begin = true
+is_placed shape (Token token) = true
+is_placed shape (Mark target) = true
+is_placed shape (Give label reference) = true
+is_placed shape (Put target place reference) = nat_lt place shape.places
+is_placed shape (Get target place label) = nat_lt place shape.places
+is_placed shape Ended = true
+is_placed shape Swept = true
 
 -- a message of a node in this cycle
 abbrev pub is_message : Shaped → ℕ → Message → Bool
 is_message shape cycle x =
-    nat_le x.stamp cycle && (list_all (is_named shape) (mentioned x.body) && is_placed x.body)
+    nat_le x.stamp cycle && (list_all (is_named shape) (mentioned x.body) && is_placed shape x.body)
 
 abbrev pub is_marked : ℕ → Slot → Bool
 is_marked cycle (Free g) = false

@@ -1,10 +1,11 @@
 //! A node together with its early messages. These are kept apart from what is saved, and are in no
 //! state. So each clause about the core is about the event that reaches the core.
-ghost use Rattle.std.specs.Prelude.{◌≡◌, ◌≢◌, ℕ, ◌<◌, ◌≤◌, IsTrue, Ok, Some, IfOk, IfErr, OnErr};
+ghost use Rattle.std.specs.Prelude.{◌≡◌, ◌≢◌, ℕ, ◌<◌, ◌≤◌, IsTrue, Ok, Err, Some, IfOk, IfErr, OnErr};
 ghost use Rattle.std.specs.Option.{option_map};
 ghost use Rattle.ids.specs.declared.refusal.Refusal.TheVariants.{Memory, NoNode};
 ghost use Rattle.msg.specs.Frames.{plain};
 ghost use Rattle.msg.specs.declared.frame.Data.{Data};
+ghost use Rattle.model.specs.Heaps.{heap_bytes, heap_bytes_len};
 ghost use Rattle.model.specs.State.{NodeState};
 ghost use Rattle.model.specs.Steps.{act, is_memory_free, is_shading};
 ghost use Rattle.model.specs.View.{Shows, Follows, Performs, Leaves, view_act};
@@ -96,9 +97,9 @@ impl Node {
     /// the core as it was.
     ///
     /// These never fail with `Memory`: `Copy`, `Drop`, `Store`, `Clear`, `Word`, `SetWord`,
-    /// `Accept`, `Ack`, a `Sweep` that leaves slots or is node 0's, a `Next` for which no message
-    /// waits, and a message that isn't the next one. `Word`, a repeated message and an early one
-    /// also leave the core as it was.
+    /// `Patch`, `Accept`, `Ack`, a `Sweep` that leaves slots or is node 0's, a `Next` for which no
+    /// message waits, and a message that isn't the next one. `Word`, a repeated message and an
+    /// early one also leave the core as it was.
     ///
     /// An early message is kept, unless its place is taken already. `Next` receives the message
     /// that waits, as if it arrived now, and fails with `NothingToDo` if none does. If that message
@@ -106,18 +107,18 @@ impl Node {
     #[inline(always)]
     #[tactic(auto, using(crate::proofs::Held::handled))]
     pub fn act(&mut self, event: Event) -> Result<Answer, Refusal>
-        ensures performs { Performs (is_shading (met self.old.early event)) result self.new.core
-            (view_act self.old.core (met self.old.early event)) }
+        ensures performs { Performs (is_shading (met self.old.early event.entry)) result
+            self.new.core (view_act self.old.core (met self.old.early event.entry)) }
         ensures states { (s : NodeState) → Shows self.old.core s
-            → Follows (met self.old.early event) result self.new.core
-            (act s (met self.old.early event)) }
+            → Follows (met self.old.early event.entry) result self.new.core
+            (act s (met self.old.early event.entry)) }
         ensures unchanged { OnErr result (self.new.core ≡ self.old.core) }
-        ensures leaves { Leaves self.old.core self.new.core (met self.old.early event) }
-        ensures memory_free { IsTrue (is_memory_free self.old.core.local (met self.old.early event))
+        ensures leaves { Leaves self.old.core self.new.core (met self.old.early event.entry) }
+        ensures memory_free { IsTrue (is_memory_free self.old.core.local (met self.old.early event.entry))
             → IfErr result (λ e. e ≢ Memory) }
         ensures early { self.new.early
-            ≡ early_after self.old.core.local self.old.early event result }
-        ensures turn { met self.old.early event ≢ event
+            ≡ early_after self.old.core.local self.old.early event.entry result }
+        ensures turn { met self.old.early event.entry ≢ event.entry
             → IfOk result (λ a. a ≡ answer.Received) }
         ensures kept { AreKeptIn self.new }
     {
@@ -141,7 +142,7 @@ impl Node {
     fn handle(&mut self, other: Event) -> Result<Answer, Refusal>
         requires waits { (from : ℕ) → other ≢ event.Next from }
         requires comes { (frame : Data) → other ≢ event.Data frame }
-        ensures { Handled self.old self.new other result }
+        ensures { Handled self.old self.new other.entry result }
     {
         self.core.perform(other)
     }
@@ -205,6 +206,23 @@ impl Node {
         ensures kept { AreKeptIn self.now }
     {
         &self.core
+    }
+
+    /// The bytes of the object that the register `object` names; see [`Core::bytes`].
+    pub fn bytes(&self, object: u16, offset: u32, count: u32) -> Result<&[u8], Refusal>
+        ensures value { let p = self.now.core.local in
+            IfOk result (λ b. heap_bytes p.own p.heap object offset count ≡ Ok b.now) }
+        ensures refused { let p = self.now.core.local in
+            IfErr result (λ e. heap_bytes p.own p.heap object offset count ≡ Err e) }
+    {
+        self.core.bytes(object, offset, count)
+    }
+
+    /// How many bytes the object has that the register `object` names; see [`Core::bytes_len`].
+    pub fn bytes_len(&self, object: u16) -> Result<u32, Refusal>
+        ensures { let p = self.now.core.local in result ≡ heap_bytes_len p.own p.heap object }
+    {
+        self.core.bytes_len(object)
     }
 
     /// The node in numbers.

@@ -99,9 +99,9 @@ impl Core {
     /// Performs one event, which may shade (`is_shading`). A refused event changes nothing.
     #[inline(always)]
     pub(crate) fn perform(&mut self, event: Event) -> Result<Answer, Refusal>
-        ensures performed { Performed (is_shading event) result self.old self.new
-            (view_act self.old event) }
-        ensures memory_free { IsTrue (is_memory_free self.old.local event)
+        ensures performed { Performed (is_shading event.entry) result self.old self.new
+            (view_act self.old event.entry) }
+        ensures memory_free { IsTrue (is_memory_free self.old.local event.entry)
             → IfErr result (λ e. e ≢ Memory) }
     {
         match event {
@@ -121,6 +121,12 @@ impl Core {
             Event::Clear { object, place } => self.clear(object, place),
             Event::Word { object } => self.word(object),
             Event::SetWord { object, word } => self.set_word(object, word),
+            Event::SetBytes { object, bytes } => self.set_bytes(object, bytes),
+            Event::Patch {
+                object,
+                offset,
+                bytes,
+            } => self.patch(object, offset, bytes),
             Event::Give {
                 to,
                 label,

@@ -9,7 +9,7 @@ ghost use Rattle.event_bytes.specs.Events.{entry_of};
 ghost use Rattle.node_log.specs.Noted.{Noted};
 
 use codec::Piece;
-use event_bytes::add_event;
+use event_bytes::{add_event, tail};
 use ids::Refusal;
 use model::Event;
 use std::alloc::Global;
@@ -38,6 +38,20 @@ impl Model for Log {
     ghost Value = { Option (List ℕ) };
 
     ghost view = { λ l. option_map (λ v. v.items) l.bytes };
+}
+
+// Appends the start of an event's spelling, and its tail, which is empty for most events.
+fn extend(bytes: &mut Vec<u8>, start: &[u8], tail: &[u8]) -> Result<(), Refusal>
+    ensures extended { OnOk result
+        (bytes.new.items ≡ bytes.old.items ++ (start.now ++ tail.now)) }
+{
+    if bytes.extend_from_slice(start).is_err() {
+        return Err(Refusal::Memory);
+    }
+    if !tail.is_empty() && bytes.extend_from_slice(tail).is_err() {
+        return Err(Refusal::Memory);
+    }
+    Ok(())
 }
 
 impl Log {
@@ -69,8 +83,10 @@ impl Log {
         }
     }
 
-    /// Adds an event. The log is lost if it would become longer than [`GREATEST_LOG`]. Fails with
-    /// `Memory` if an allocation fails; the log is lost then, and nothing else happens.
+    /// Adds an event. The log is lost if it would become longer than [`GREATEST_LOG`]. An event
+    /// that writes more than 1 MiB into an object always has that effect, so that the next save
+    /// writes the image. Fails with `Memory` if an allocation fails; the log is lost then, and
+    /// nothing else happens.
     // (It isn't inlined, so that without a log the event need not be in memory.)
     #[inline(never)]
     pub fn note(&mut self, event: &Event) -> Result<(), Refusal>
@@ -85,11 +101,13 @@ impl Log {
         };
         let mut piece = Piece::new();
         add_event(&mut piece, event);
-        if piece.as_slice().len() > GREATEST_LOG - bytes.len().min(GREATEST_LOG) {
+        let start = piece.as_slice();
+        let tail = tail(event);
+        if start.len() + tail.len() > GREATEST_LOG - bytes.len().min(GREATEST_LOG) {
             self.bytes = None;
             return Ok(());
         }
-        if bytes.extend_from_slice(piece.as_slice()).is_err() {
+        if extend(bytes, start, tail).is_err() {
             self.bytes = None;
             return Err(Refusal::Memory);
         }

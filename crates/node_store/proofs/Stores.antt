@@ -3,24 +3,25 @@ use Rattle.std.proofs.Common.{◌≡◌, ◌≢◌, inl, inr, ⊎_elim, ℕ, Boo
 use Rattle.std.proofs.Common.{refl, sym, ap, ◌∙◌, subst, map, arith, drop, length, ◌+◌}
 use Rattle.std.proofs.Common.{Result, Ok, Err}
 use Rattle.std.specs.Option.{option_map}
-use Rattle.std.specs.Prelude.{IfSome}
+use Rattle.std.specs.Prelude.{IfSome, IsErrOf}
+use Rattle.std.proofs.lemmas.Bool.{false≢true}
 use Rattle.std.proofs.Math.ListN.{drop_of_length-le}
 use Rattle.ids.specs.declared.refusal.Refusal.{Refusal}
-use Rattle.ids.specs.declared.refusal.Refusal.TheVariants.{Closed, Disk as DiskFailed}
+use Rattle.ids.specs.declared.refusal.Refusal.TheVariants.{Closed, Disk as DiskFailed, ImageTooLarge}
 use Rattle.ids.specs.declared.saves.Saves.TheVariants.{Events, Images}
 use Rattle.std.proofs.lemmas.Simd.{map-map}
-use Rattle.frames.specs.declared.version.Version.{Version}
-use Rattle.frames.specs.declared.version.Version.TheVariants.{First, Second}
+use Rattle.image_parts.specs.declared.layout.Layout.{Layout}
+use Rattle.image_parts.specs.declared.layout.Layout.TheVariants as layout
 use Rattle.model.specs.View.{Link, NodeView, all_kept, kept_view}
-use Rattle.image_parts.specs.Grammar.{Stored, spelling, image_format, start_format, version_format}
-use Rattle.image_parts.specs.Logs.{begins_logged}
+use Rattle.image_parts.specs.Grammar.{Stored, spelling, image_format, start_format, layout_format}
+use Rattle.image_parts.specs.Logs.{begins_logged, unlogged}
 use Rattle.image.specs.Logged.{IsAnyWholeOf, IsEither}
 use Rattle.image.specs.Nodes.{IsImageOf}
-use Rattle.image.specs.Wholes.{IsWholeOf}
+use Rattle.image.specs.Wholes.{IsWholeOf, IsWholeTooLarge}
 use Rattle.image.proofs.Spelled.{kept_is}
 use Rattle.disk.specs.Areas.{Areas, part, IsBlank}
 use Rattle.disk.specs.Crashes.{LeavesOnly, Only, StaysBlank}
-use Rattle.disk_shelf.specs.Logs.{HasLog, LeadAll, OpensIf}
+use Rattle.disk_shelf.specs.Logs.{HasLog, IsKept, LeadAll, OpensIf}
 use Rattle.disk_shelf.specs.Refusals.{IsHandedBack}
 use Rattle.disk_shelf.specs.Shelf.{half, image_at, opened, NoneOrNew, OldOrNew, OpensAs, record_of, recorded, side}
 use Rattle.disk_shelf.proofs.Logs.{selected_if}
@@ -31,21 +32,25 @@ use Rattle.disk_journal.proofs.Values.{restores_image, restores_one}
 use Rattle.node.specs.Keeping.{WholeNode, alone}
 use Rattle.node_store.specs.Laws.{led_alone, one_led, one_whole, read_alone}
 use Rattle.node_store.specs.Plain.{IsPlain, Keeps, KeepsEither, KeepsNone, StaysPlain}
+use Rattle.node_store.specs.Stores.{IsSamePlace, LiesAt, is_logged_at}
 use Rattle.node_store.specs.Values.{IsAlone, LeadsWhole}
+use Rattle.node_store.specs.declared.place.Place.{Place}
+use Rattle.node_store.specs.declared.place.Place.TheVariants as place
 
 -- ---- images that no log follows
 
-plain_spelling : (v : Version) (s : Stored) → begins_logged (spelling v s) ≡ false
-unfolding spelling image_format start_format version_format
-plain_spelling First s = refl
-plain_spelling Second s = refl
+plain_spelling : (l : Layout) (s : Stored) → begins_logged (spelling l s) ≡ false
+unfolding spelling image_format start_format layout_format
+plain_spelling layout.First s = refl
+plain_spelling layout.Second s = refl
+plain_spelling (layout.Wide places bytes) s = refl
 
--- an image of the first or of the second version
+-- an image that no log follows
 pub image_plain : (bytes : List ℕ) (n : NodeView) → IsImageOf bytes n
     → begins_logged bytes ≡ false
 image_plain bytes n is =
     subst (λ l. begins_logged l ≡ false) (sym is.spelled.image.spelled)
-    (plain_spelling is.version is.spelled.says)
+    (plain_spelling is.layout is.spelled.says)
 
 any_of : (bytes : List ℕ) (n : WholeNode) → IsWholeOf bytes n → IsAnyWholeOf bytes n
 any_of bytes n is = (
@@ -146,7 +151,7 @@ led_kept batch v w led =
 
 read_kept_by : (logged : Bool) (bytes : List ℕ) (n : NodeView) → IsEither logged bytes n
     → kept_view n ≡ n
-read_kept_by true bytes n is = kept_is (0x4D ∷ 0x52 ∷ 2 ∷ is.rest) n is.plain
+read_kept_by true bytes n is = kept_is (unlogged bytes) n is.plain
 read_kept_by false bytes n is = kept_is bytes n is
 
 pub keeps_kept : (n : WholeNode) (c : Areas) → Keeps n c → kept_view n.core ≡ n.core
@@ -199,9 +204,9 @@ none_written n image c read =
 
 -- a first save that failed, and handed its disk back
 pub none_back : {D : Type 0} {moment faults : D → ℕ} {left_since : D → ℕ → Areas → Type 0}
-    {disk : D} {back : D × Refusal} (may_leave : D → Areas → Type 0) (n : WholeNode)
-    (image : List ℕ) → ((d : D) (c : Areas) → left_since d (moment d) c → may_leave d c)
-    → StaysBlank (may_leave disk) → IsHandedBack faults image disk back
+    {disk : D} {back : D × Refusal} {large : Type 0} (may_leave : D → Areas → Type 0)
+    (n : WholeNode) (image : List ℕ) → ((d : D) (c : Areas) → left_since d (moment d) c → may_leave d c)
+    → StaysBlank (may_leave disk) → IsHandedBack faults large disk back
     → LeavesOnly moment left_since disk back.0 (NoneOrNew image)
     → (back.1 ≡ DiskFailed → IsWholeOf image n)
     → LeavesOnly moment left_since disk back.0 (KeepsNone n)
@@ -277,20 +282,13 @@ failed_before true failed shut = refl
 failed_before false failed shut =
     let never : DiskFailed ≡ Closed = sym failed ∙ same_refusal (shut refl) in absurd cc
 
--- ---- images of the same length
+-- ---- wide spaces
 
-pub handed_same : {D : Type 0} {faults : D → ℕ} {image other : List ℕ} {disk : D}
-    {back : D × Refusal} → length image ≡ length other → IsHandedBack faults image disk back
-    → IsHandedBack faults other disk back
-handed_same same handed = record {
-  failed = handed.failed;
-  too_large = (
-    λ is. omega (arith, same, handed.too_large.0 is),
-    λ large. handed.too_large.1 (omega (arith, same, large)),
-  );
-  unchanged = handed.unchanged;
-  others = handed.others;
-}
+-- a node of a wide space isn't too large
+pub wide_saved : {T : Type 0} {e : Refusal} (n : WholeNode)
+    → (IsErrOf {T = T} (Err e) ImageTooLarge → IsWholeTooLarge n)
+    → n.core.local.shape.wide ≡ true → e ≢ ImageTooLarge
+wide_saved n large wide is = false≢true (sym (large (ap Err is)).0 ∙ wide)
 
 -- ---- how a node is saved
 
@@ -308,3 +306,22 @@ pub mapped_some : {B : Type 0} (o : Option B) (f : B → List ℕ) (Q : List ℕ
     → IfSome o (λ b. Q (f b)) → IfSome (option_map f o) Q
 mapped_some None f Q h = tt
 mapped_some (Some b) f Q h = h
+
+-- ---- places
+
+-- the same place, except for what seals are written there
+pub same_logged : (place other : Place) → IsSamePlace place other → {b : Bool} →
+    is_logged_at place ≡ b → is_logged_at other ≡ b
+same_logged (place.Whole selected) other same is = ap is_logged_at same ∙ is
+same_logged (place.Logged tail) (place.Whole selected) same is = absurd same
+same_logged (place.Logged tail) (place.Logged other) same is = is
+
+pub same_lies : {D : Type 0} (seen : D → Areas) (may_leave : D → Areas → Type 0) (disk : D)
+    (place other : Place) → IsSamePlace place other → LiesAt seen may_leave disk place →
+    LiesAt seen may_leave disk other
+same_lies seen may_leave disk (place.Whole selected) other same lies =
+    subst (LiesAt seen may_leave disk) (sym same) lies
+same_lies seen may_leave disk (place.Logged tail) (place.Whole selected) same lies = absurd same
+same_lies seen may_leave disk (place.Logged tail) (place.Logged other) same lies =
+    subst (λ end. IsKept seen may_leave begins_logged disk other.in_b end) (sym same.1)
+    (subst (λ b. IsKept seen may_leave begins_logged disk b tail.end) (sym same.0) lies)

@@ -10,18 +10,18 @@ use Rattle.model.specs.declared.event.Event.TheVariants as event
 use Rattle.model.specs.declared.event.Answer.{Answer}
 use Rattle.model.specs.declared.event.Answer.TheVariants as answer
 use Rattle.model.specs.Effects.{unchanged}
-use Rattle.model.specs.Steps.{checked, is_addressed, receipt, receipt_tests}
+use Rattle.model.specs.Steps.{checked, is_addressed, lent, receipt, receipt_tests}
 use Rattle.model.specs.View.{NodeView, link_to, no_link, trimmed, used, view_act, view_after, kept_view}
 use Rattle.event_bytes.specs.Entries.{Entry, alloc, copy, dropped, load, store, clear, word, set_word}
-use Rattle.event_bytes.specs.Entries.{give, accept, put, get, begin, scan, pass, sweep, next, received}
-use Rattle.event_bytes.specs.Entries.{acknowledged, entry}
+use Rattle.event_bytes.specs.Entries.{set_bytes, patch, give, accept, put, get, begin, scan, pass}
+use Rattle.event_bytes.specs.Entries.{sweep, next, received, acknowledged, entry}
 use Rattle.event_bytes.specs.Events.{entry_of}
 use Rattle.event_bytes.proofs.Sound.{entry_sound}
 use Rattle.node_store.specs.Logs.{AreDone, IsDone, Leads, Logged, spelled}
 use Rattle.node.specs.Keeping.{WholeNode, alone}
-use Rattle.image_parts.specs.Logs.{begins_logged, logged_spelling}
+use Rattle.image_parts.specs.Logs.{begins_logged}
 use Rattle.image.specs.Logged.{IsAnyWholeOf, IsEither}
-use Rattle.image.proofs.Logged.{logged_of_one}
+use Rattle.image.proofs.Logged.{logged_begins, logged_of_one}
 use Rattle.image.proofs.Spelled.{image_of_one}
 use Rattle.node_store.specs.Values.{IsAlone, LeadsWhole, logged_whole}
 
@@ -37,6 +37,8 @@ acts n (store object place register) = view_act n (event.Store object place regi
 acts n (clear object place) = view_act n (event.Clear object place)
 acts n (word object) = view_act n (event.Word object)
 acts n (set_word object value) = view_act n (event.SetWord object value)
+acts n (set_bytes object bytes) = view_act n (event.SetBytes object (lent bytes))
+acts n (patch object offset bytes) = view_act n (event.Patch object offset (lent bytes))
 acts n (give to label register) = view_act n (event.Give to label register)
 acts n (accept register) = view_act n (event.Accept register)
 acts n (put object place register) = view_act n (event.Put object place register)
@@ -64,7 +66,8 @@ acts-is n (event.Ack a) = refl
 acts-is n e = refl
 
 -- events that say the same lead to the same
-pub one-done : (n m k : NodeView) (e f : Event) → entry_of e ≡ entry_of f → IsDone n e m → IsDone n f k
+pub one-done : (n m k : NodeView) (e f : Event) → entry_of e ≡ entry_of f → IsDone n e m
+    → IsDone n f k
     → m ≡ k
 one-done n m k e f same a b =
     let both : ◌≡◌ {A = Result (NodeView × Answer) Refusal} (Ok (m, a.answer)) (Ok (k, b.answer)) =
@@ -72,7 +75,8 @@ one-done n m k e f same a b =
     let parts : ◌≡◌ {A = NodeView × Answer} (m, a.answer) (k, b.answer) = cc both in
     ap (λ (x : NodeView × Answer). x.0) parts
 
-pub again-done : (n m : NodeView) (e f : Event) → entry_of e ≡ entry_of f → IsDone n e m → IsDone n f m
+pub again-done : (n m : NodeView) (e f : Event) → entry_of e ≡ entry_of f → IsDone n e m
+    → IsDone n f m
 again-done n m e f same is = record {
   answer = is.answer;
   acts = sym (acts-is n f) ∙ ap (acts n) (sym same) ∙ acts-is n e ∙ is.acts;
@@ -129,8 +133,7 @@ pub led_alone : (batch : List ℕ) (n m : WholeNode) → LeadsWhole batch n m �
 led_alone batch n m led = led.1
 
 pub followed : (n : WholeNode) → begins_logged (logged_whole n) ≡ true
-unfolding logged_spelling
-followed n = refl
+followed n = logged_begins n.core
 
 either_one : (logged : Bool) (bytes : List ℕ) (m n : NodeView) → IsEither logged bytes m
     → IsEither logged bytes n → m ≡ n

@@ -18,6 +18,13 @@ abbrev pub is_logged_at : Place → Bool
 is_logged_at (place.Whole selected) = false
 is_logged_at (place.Logged tail) = true
 
+-- the same place, except for what seals are written there
+abbrev pub IsSamePlace : Place → Place → Type 0
+IsSamePlace (place.Whole selected) other = other ≡ place.Whole selected
+IsSamePlace (place.Logged tail) (place.Whole selected) = ⊥
+IsSamePlace (place.Logged tail) (place.Logged other) =
+    (other.in_b ≡ tail.in_b) × (other.end ≡ tail.end)
+
 abbrev pub LiesAt : {D : Type 0} (seen : D → Areas) (may_leave : D → Areas → Type 0) → D → Place
     → Type 0
 LiesAt seen may_leave disk (place.Whole selected) =

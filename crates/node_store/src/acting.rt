@@ -1,5 +1,6 @@
 //! Gives a node an event and notes it in the node's log.
-ghost use Rattle.std.specs.Prelude.{◌≡◌, nat_le, true};
+ghost use Rattle.std.specs.Prelude.{◌≡◌, nat_le, false, true, IfOk};
+ghost use Rattle.model.specs.Effects.{is_change};
 ghost use Rattle.model.specs.View.{link_to};
 ghost use Rattle.node.specs.Keeping.{AreKeptIn, met};
 ghost use Rattle.node_store.specs.Acting.{Acts, Notes, is_old_ack};
@@ -19,8 +20,8 @@ pub fn is_turn(event: &Event) -> bool
 }
 
 /// What an event is to the node's core: `Next` of a message that waits is that message.
-pub fn meant(node: &Node, event: Event) -> Event
-    ensures { result ≡ met node.now.early event }
+pub fn meant<'a>(node: &Node, event: Event<'a>) -> Event<'a>
+    ensures { result ≡ met node.now.early event.entry }
 {
     let Event::Next { from } = event else {
         return event;
@@ -59,10 +60,12 @@ fn is_acknowledged(node: &Node, by: u8, number: u64) -> bool
 /// and changes what is saved. The log may be lost (see [`Log::note`]); no event is refused for
 /// that. If it is lost already, nothing is noted.
 pub fn act(node: &mut Node, log: &mut Log, event: Event) -> Result<Answer, Refusal>
-    ensures acts { Acts node.old node.new event result }
+    ensures acts { Acts node.old node.new event.entry result }
     ensures kept { AreKeptIn node.new }
     ensures notes { Notes node.old node.new log.old log.new result }
-    ensures old { is_old_ack node.old.core (met node.old.early event) ≡ true → log.new ≡ log.old }
+    ensures old { is_old_ack node.old.core (met node.old.early event.entry) ≡ true
+        → log.new ≡ log.old }
+    ensures quiet { IfOk result (λ a. is_change a ≡ false → log.new ≡ log.old) }
 {
     if log.is_kept() {
         act_noting(node, log, event)
@@ -75,10 +78,12 @@ pub fn act(node: &mut Node, log: &mut Log, event: Event) -> Result<Answer, Refus
 // doesn't pay for it.
 #[inline(never)]
 fn act_noting(node: &mut Node, log: &mut Log, event: Event) -> Result<Answer, Refusal>
-    ensures acts { Acts node.old node.new event result }
+    ensures acts { Acts node.old node.new event.entry result }
     ensures kept { AreKeptIn node.new }
     ensures notes { Notes node.old node.new log.old log.new result }
-    ensures old { is_old_ack node.old.core (met node.old.early event) ≡ true → log.new ≡ log.old }
+    ensures old { is_old_ack node.old.core (met node.old.early event.entry) ≡ true
+        → log.new ≡ log.old }
+    ensures quiet { IfOk result (λ a. is_change a ≡ false → log.new ≡ log.old) }
 {
     let meant = meant(node, event);
     let is_old = is_old_ack(node, &meant);

@@ -10,7 +10,7 @@ use std::alloc::Global;
 pub struct Images;
 
 impl Persist for Images {
-    ghost use Rattle.image.specs.Wholes.{whole_image, IsWholeOf, saved_whole};
+    ghost use Rattle.image.specs.Wholes.{whole_image, IsWholeOf, IsWholeTooLarge, saved_whole};
 
     type Value = Node;
 
@@ -19,6 +19,8 @@ impl Persist for Images {
     ghost reads = { IsWholeOf };
 
     ghost saved = { saved_whole };
+
+    ghost too_large = { IsWholeTooLarge };
 
     fn to_bytes(alloc: Global, value: &Node) -> Result<Vec<u8>, Refusal> {
         to_bytes_behind(Vec::new(alloc), &[0; HEAD], value)

@@ -1,14 +1,14 @@
 //! A shelf for a node, on a disk on which no log follows the image. Each save writes the whole
 //! image.
-ghost use Rattle.std.specs.Prelude.{◌≡◌, ◌↔◌, ◌<◌, ◌≤◌, length, true, false};
+ghost use Rattle.std.specs.Prelude.{◌≡◌, ◌↔◌, ◌≤◌, true, false};
 ghost use Rattle.std.specs.Prelude.{IfErr, IfOk, IsErr, IsErrOf, IsTrue, MatchResult, OnOk};
-ghost use Rattle.ids.specs.declared.limits.TheConstants.{GREATEST_IMAGE};
 ghost use Rattle.ids.specs.declared.refusal.Refusal.TheVariants as refusal;
 ghost use Rattle.disk.specs.Crashes.{HasCause, LeavesOnly, Only, OnlyRead, StaysBlank, Unmoved};
 ghost use Rattle.disk_shelf.specs.Refusals.{AfterSave, IsHandedBack, IsUnread};
+ghost use Rattle.disk_shelf.specs.Seals.{IsIntact};
 ghost use Rattle.disk_shelf.specs.Shelf.{IsSettled};
 ghost use Rattle.node.specs.Keeping.{WholeNode};
-ghost use Rattle.image.specs.Wholes.{saved_whole, whole_image};
+ghost use Rattle.image.specs.Wholes.{IsWholeTooLarge, saved_whole};
 ghost use Rattle.node_store.specs.Plain.{Keeps, KeepsEither, KeepsNone, KeepsPlain, StaysPlain};
 
 use crate::images::Images;
@@ -71,8 +71,9 @@ impl<D: Disk> PlainShelf<D> {
         requires { StaysBlank (D.may_leave disk) }
         ensures created { IfOk result (λ s. Keeps (saved_whole node.now) (D.seen s.shelf.disk)) }
         ensures ready { IfOk result (λ s. s.shelf.ready ≡ true) }
-        ensures within { OnOk result (length (whole_image node.now) ≤ GREATEST_IMAGE) }
-        ensures refused { IfErr result (IsHandedBack D.faults (whole_image node.now) disk) }
+        ensures intact { IfOk result (λ s. IsIntact (D.seen s.shelf.disk)) }
+        ensures within { OnOk result (IsWholeTooLarge node.now → ⊥) }
+        ensures refused { IfErr result (IsHandedBack D.faults (IsWholeTooLarge node.now) disk) }
         ensures later { IfErr result (λ e. D.moment disk ≤ D.moment e.0) }
         ensures any_moment { MatchResult result
             (λ s. LeavesOnly D.moment D.left_since disk s.shelf.disk
@@ -117,6 +118,7 @@ impl<D: Disk> PlainShelf<D> {
     // saved; after `Ok` it leaves this one.
     pub(crate) fn save(&mut self, node: &Node) -> Result<(), Refusal>
         ensures saved { OnOk result (Keeps (saved_whole node.now) (D.seen self.new.shelf.disk)) }
+        ensures intact { OnOk result (IsIntact (D.seen self.new.shelf.disk)) }
         ensures any_moment { MatchResult result
             (λ _. (old : WholeNode) → Keeps old (D.seen self.old.shelf.disk)
             → LeavesOnly D.moment D.left_since self.old.shelf.disk self.new.shelf.disk
@@ -127,7 +129,7 @@ impl<D: Disk> PlainShelf<D> {
         ensures after { AfterSave D.faults self.old.shelf.disk self.new.shelf.disk
             self.old.shelf.ready self.new.shelf.ready result }
         ensures too_large { IsErrOf result refusal.ImageTooLarge ↔ IsTrue self.old.shelf.ready
-            × (GREATEST_IMAGE < length (whole_image node.now)) }
+            × IsWholeTooLarge node.now }
     {
         match self.shelf.save::<Images>(node) {
             Ok(()) => Ok(()),

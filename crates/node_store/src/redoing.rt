@@ -21,7 +21,7 @@ pub struct LoggedImages;
 
 impl Persist for LoggedImages {
     ghost use Rattle.image.specs.Logged.{IsAnyWholeOf};
-    ghost use Rattle.image.specs.Wholes.{saved_whole};
+    ghost use Rattle.image.specs.Wholes.{IsWholeTooLarge, saved_whole};
     ghost use Rattle.node_store.specs.Values.{logged_whole};
 
     type Value = Node;
@@ -31,6 +31,8 @@ impl Persist for LoggedImages {
     ghost reads = { IsAnyWholeOf };
 
     ghost saved = { saved_whole };
+
+    ghost too_large = { IsWholeTooLarge };
 
     fn to_bytes(alloc: Global, value: &Node) -> Result<Vec<u8>, Refusal> {
         to_logged_behind(Vec::new(alloc), &[0; HEAD], value)
@@ -74,10 +76,10 @@ impl Replay for LoggedImages {
 // Performs an event of a log. Fails with `BadImage` if the event isn't answered.
 fn perform(node: &mut Node, event: Event) -> Result<(), Refusal>
     requires { IsAlone node.old }
-    ensures done { OnOk result (IsDone node.old.core event node.new.core) }
+    ensures done { OnOk result (IsDone node.old.core event.entry node.new.core) }
     ensures alone { OnOk result (IsAlone node.new) }
     ensures refused { IfErr result (λ e. e ≢ Memory → (e ≡ BadImage)
-        × ((m : NodeView) → IsDone node.old.core event m → ⊥)) }
+        × ((m : NodeView) → IsDone node.old.core event.entry m → ⊥)) }
 {
     let answer = match node.act(event) {
         Ok(answer) => answer,

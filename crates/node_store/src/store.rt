@@ -1,14 +1,14 @@
 //! A store keeps a node on a shelf, each time as its image, or in a journal, as its events since
 //! the last save. Which of the two it is was chosen when the node was found or created.
-ghost use Rattle.std.specs.Prelude.{◌≡◌, ◌↔◌, ◌<◌, ◌≤◌, length, true, false};
+ghost use Rattle.std.specs.Prelude.{◌≡◌, ◌≢◌, ◌↔◌, ◌≤◌, true, false};
 ghost use Rattle.std.specs.Prelude.{IfErr, IfOk, IsErr, IsErrOf, IsTrue, MatchResult, OnOk};
-ghost use Rattle.ids.specs.declared.limits.TheConstants.{GREATEST_IMAGE};
 ghost use Rattle.ids.specs.declared.refusal.Refusal.TheVariants as refusal;
 ghost use Rattle.ids.specs.declared.saves.Saves.TheVariants as way;
 ghost use Rattle.disk.specs.Crashes.{HasCause, LeavesOnly, Only, OnlyRead, StaysBlank, Unmoved};
 ghost use Rattle.disk_shelf.specs.Refusals.{AfterSave, IsHandedBack, IsUnread};
+ghost use Rattle.disk_shelf.specs.Seals.{IsIntact};
 ghost use Rattle.node.specs.Keeping.{WholeNode};
-ghost use Rattle.image.specs.Wholes.{saved_whole, whole_image};
+ghost use Rattle.image.specs.Wholes.{IsWholeTooLarge, saved_whole};
 ghost use Rattle.node_store.specs.Noted.{IsLogged};
 ghost use Rattle.node_store.specs.Plain.{IsPlain, Keeps, KeepsEither, KeepsNone, StaysPlain};
 ghost use Rattle.node_store.specs.Stores.{disk_of, is_logged_at, is_ready_in, LiesAt, logs_in};
@@ -134,9 +134,9 @@ impl<D: Disk> Store<D> {
     /// [`is_blank`](disk_shelf::is_blank). A crash at any moment since the call began leaves an
     /// empty selector or the node.
     ///
-    /// Fails with `ImageTooLarge` exactly if the node's image is longer than an image may be, with
-    /// `Memory`, and with `Disk` if the device failed; and returns the disk, which is unchanged
-    /// except after `Disk`.
+    /// Fails with `ImageTooLarge` exactly if the node's space is plain and its image is longer than
+    /// an image may be then, with `Memory`, and with `Disk` if the device failed; and returns the
+    /// disk, which is unchanged except after `Disk`.
     pub fn create(
         alloc: Global,
         disk: D,
@@ -148,8 +148,9 @@ impl<D: Disk> Store<D> {
         ensures ready { IfOk result (λ s. is_ready_in s ≡ true) }
         ensures events { saves ≡ way.Events → IfOk result (λ s. logs_in s ≡ true) }
         ensures images { saves ≡ way.Images → IfOk result (λ s. logs_in s ≡ false) }
-        ensures within { OnOk result (length (whole_image node.now) ≤ GREATEST_IMAGE) }
-        ensures refused { IfErr result (IsHandedBack D.faults (whole_image node.now) disk) }
+        ensures intact { saves ≡ way.Images → IfOk result (λ s. IsIntact (D.seen (disk_of s))) }
+        ensures within { OnOk result (IsWholeTooLarge node.now → ⊥) }
+        ensures refused { IfErr result (IsHandedBack D.faults (IsWholeTooLarge node.now) disk) }
         ensures later { IfErr result (λ e. D.moment disk ≤ D.moment e.0) }
         ensures any_moment { MatchResult result
             (λ s. LeavesOnly D.moment D.left_since disk (disk_of s)
@@ -216,14 +217,16 @@ impl<D: Disk> Store<D> {
     /// one as it is once saved; after `Ok` it leaves this one.
     ///
     /// Fails with `Closed` exactly if the store is closed, with `ImageTooLarge` if the image is to
-    /// be written and is longer than an image may be, with `Memory`, and with `Disk` if the device
-    /// failed. `Disk` closes the store; the others change nothing.
+    /// be written and is too large, with `Memory`, and with `Disk` if the device failed. `Disk`
+    /// closes the store; the others change nothing. A node of a wide space is never too large.
     pub fn save(&mut self, node: &Node, log: &Log) -> Result<(), Refusal>
         ensures saved { OnOk result ((old : WholeNode) → Keeps old (D.seen (disk_of self.old))
             → IsLogged log.now old.core node.now.core
             → Keeps (saved_whole node.now) (D.seen (disk_of self.new))) }
         ensures only { OnOk result
             (Only (D.seen (disk_of self.new)) (D.may_leave (disk_of self.new))) }
+        ensures intact { logs_in self.old ≡ false → OnOk result
+            (IsIntact (D.seen (disk_of self.new))) }
         ensures any_moment { MatchResult result
             (λ _. (old : WholeNode) → Keeps old (D.seen (disk_of self.old))
             → IsLogged log.now old.core node.now.core
@@ -237,7 +240,9 @@ impl<D: Disk> Store<D> {
         ensures after { AfterSave D.faults (disk_of self.old) (disk_of self.new)
             (is_ready_in self.old) (is_ready_in self.new) result }
         ensures too_large { IsErrOf result refusal.ImageTooLarge ↔ IsTrue (is_ready_in self.old)
-            × WritesAll self.old log.now × (GREATEST_IMAGE < length (whole_image node.now)) }
+            × WritesAll self.old log.now × IsWholeTooLarge node.now }
+        ensures wide { node.now.core.local.shape.wide ≡ true →
+            IfErr result (λ e. e ≢ refusal.ImageTooLarge) }
     {
         match self {
             Store::Whole(plain) => match plain.save(node) {

@@ -10,7 +10,7 @@ use Rattle.model.specs.World.{is_own_step}
 use Rattle.script.specs.declared.line.Line.{Line}
 use Rattle.script.specs.declared.line.Line.TheVariants as line
 use Rattle.script.specs.Operands.{read}
-use Rattle.script.specs.Grammar.{Number, acted, alone, command_of, delivery_of, hand_of, is_own_line, line_of, node_line_of, of_three, of_two, report_of, space_of, stepped, u16_of, u32_of, u64_of, u8_of, with_none, with_one, with_three, with_two}
+use Rattle.script.specs.Grammar.{Number, acted, alone, by_operands, command_of, delivery_of, hand_of, is_own_line, line_of, node_line_of, numbered_of, about_bytes, set_bytes_of, patch_of, bytes_of, either_of, of_three, of_two, report_of, space_of, stepped, u16_of, u32_of, u64_of, u8_of, wide_of, with_none, with_one, with_three, with_two}
 
 -- the value, if there is one, passes the test
 record Passes {X : Type 0} (test : X → Bool) (o : Option X) : Type 0 where
@@ -94,15 +94,58 @@ own-alone node verb =
     (either _ (some {x = line.State node} refl)
     (own-acted node (with_none verb) (own-none verb))))
 
+own-numbered : (node : ℕ) (words : List (List ℕ)) → Passes is_own_line (numbered_of node words)
+unfolding numbered_of
+own-numbered node [] = none
+own-numbered node (verb ∷ []) = own-alone node verb
+own-numbered node (verb ∷ a ∷ []) = own-acted node (with_one verb a) (own-one verb a)
+own-numbered node (verb ∷ a ∷ b ∷ []) = own-acted node (with_two verb a b) (own-two verb a b)
+own-numbered node (verb ∷ a ∷ b ∷ c ∷ []) =
+    own-acted node (with_three verb a b c) (own-three verb a b c)
+own-numbered node (verb ∷ a ∷ b ∷ c ∷ d ∷ words) = none
+
+own-set_bytes : (node : ℕ) (words : List (List ℕ)) → Passes is_own_line (set_bytes_of node words)
+unfolding set_bytes_of
+own-set_bytes node [] = none
+own-set_bytes node (a ∷ []) = none
+own-set_bytes node (a ∷ b ∷ []) = one (λ x. line.SetBytes node x) (λ x. refl) (u16_of a)
+own-set_bytes node (a ∷ b ∷ c ∷ words) = none
+
+own-patch : (node : ℕ) (words : List (List ℕ)) → Passes is_own_line (patch_of node words)
+unfolding patch_of
+own-patch node [] = none
+own-patch node (a ∷ []) = none
+own-patch node (a ∷ b ∷ []) = none
+own-patch node (a ∷ b ∷ c ∷ []) =
+    two u16_of u32_of (λ x y. line.Patch node x y) (λ x y. refl) a b
+own-patch node (a ∷ b ∷ c ∷ d ∷ words) = none
+
+own-bytes : (node : ℕ) (words : List (List ℕ)) → Passes is_own_line (bytes_of node words)
+unfolding bytes_of
+own-bytes node [] = none
+own-bytes node (a ∷ []) = none
+own-bytes node (a ∷ b ∷ []) = none
+own-bytes node (a ∷ b ∷ c ∷ []) =
+    three u16_of u32_of u32_of (λ x y z. line.Bytes node x y z) (λ x y z. refl) a b c
+own-bytes node (a ∷ b ∷ c ∷ d ∷ words) = none
+
+own-about : (node : ℕ) (words : List (List ℕ)) → Passes is_own_line (about_bytes node words)
+unfolding about_bytes
+own-about node [] = none
+own-about node (verb ∷ words) =
+    either _ (own-set_bytes node words)
+    (either _ (own-patch node words) (either _ (own-bytes node words) none))
+
+own-either : (o p : Option Line) → Passes is_own_line o → Passes is_own_line p
+    → Passes is_own_line (either_of o p)
+own-either None p first second = second
+own-either (Some l) p first second = first
+
 own-node : (node : ℕ) (words : List (List ℕ)) → Passes is_own_line (node_line_of node words)
 unfolding node_line_of
-own-node node [] = none
-own-node node (verb ∷ []) = own-alone node verb
-own-node node (verb ∷ a ∷ []) = own-acted node (with_one verb a) (own-one verb a)
-own-node node (verb ∷ a ∷ b ∷ []) = own-acted node (with_two verb a b) (own-two verb a b)
-own-node node (verb ∷ a ∷ b ∷ c ∷ []) =
-    own-acted node (with_three verb a b c) (own-three verb a b c)
-own-node node (verb ∷ a ∷ b ∷ c ∷ d ∷ words) = none
+own-node node words =
+    own-either (numbered_of node words) (about_bytes node words) (own-numbered node words)
+    (own-about node words)
 
 own-space : (words : List (List ℕ)) → Passes is_own_line (space_of words)
 unfolding space_of
@@ -138,10 +181,34 @@ unfolding report_of
 own-report [] = some refl
 own-report (a ∷ words) = none
 
-own-command : (first : List ℕ) (words : List (List ℕ))
-    → Passes is_own_line (command_of first words)
-unfolding command_of
-own-command first words =
+-- after the first two numbers, the other three
+own-wide : (words : List (List ℕ)) → Passes is_own_line (wide_of words)
+unfolding wide_of
+own-wide [] = none
+own-wide (a ∷ []) = none
+own-wide (a ∷ b ∷ []) = none
+own-wide (a ∷ b ∷ c ∷ []) = none
+own-wide (a ∷ b ∷ c ∷ d ∷ []) = none
+own-wide (a ∷ b ∷ c ∷ d ∷ e ∷ []) =
+    elim (u8_of a)
+    as (λ o. Passes is_own_line (option_and_then (λ nodes. option_and_then (λ registers.
+    of_three u32_of u8_of u32_of (λ x y z. line.Wide nodes registers x y z) c d e) (u16_of b))
+    o)) [
+      | None ↦ none
+      | Some nodes ↦ elim (u16_of b)
+          as (λ o. Passes is_own_line (option_and_then (λ registers.
+          of_three u32_of u8_of u32_of (λ x y z. line.Wide nodes registers x y z) c d e) o)) [
+            | None ↦ none
+            | Some registers ↦ three u32_of u8_of u32_of
+                (λ x y z. line.Wide nodes registers x y z) (λ x y z. refl) c d e
+          ]
+    ]
+own-wide (a ∷ b ∷ c ∷ d ∷ e ∷ f ∷ words) = none
+
+own-operands : (first : List ℕ) (words : List (List ℕ))
+    → Passes is_own_line (by_operands first words)
+unfolding by_operands
+own-operands first words =
     either _ (own-space words)
     (either _ (own-stepped (delivery_of words) (own-delivery words))
     (either _ (own-stepped (hand_of words) (own-hand words))
@@ -151,6 +218,11 @@ own-command first words =
       | None ↦ none
       | Some node ↦ own-node node words
     ]))))
+
+own-command : (first : List ℕ) (words : List (List ℕ))
+    → Passes is_own_line (command_of first words)
+unfolding command_of
+own-command first words = either _ (own-wide words) (own-operands first words)
 
 own-line : (words : List (List ℕ)) → Passes is_own_line (line_of words)
 unfolding line_of

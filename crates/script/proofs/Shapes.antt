@@ -12,7 +12,7 @@ use Rattle.model.specs.declared.step.Step.TheVariants as step
 use Rattle.script.specs.declared.line.Line.TheVariants as line
 use Rattle.script.specs.declared.operands.Operands.{Operands}
 use Rattle.script.specs.declared.operands.Operands.TheVariants as operands
-use Rattle.script.specs.Grammar.{acted, alone, command_of, delivery_of, hand_of, line_of, node_line_of, report_of, space_of, stepped, u16_of, u32_of, u64_of, u8_of, with_none, with_one, with_three, with_two, words_of}
+use Rattle.script.specs.Grammar.{acted, alone, by_operands, command_of, delivery_of, hand_of, line_of, node_line_of, numbered_of, report_of, space_of, stepped, u16_of, u32_of, u64_of, u8_of, wide_of, with_none, with_one, with_three, with_two, words_of}
 use Rattle.script.specs.Operands.{operands_of, spelled}
 use Rattle.script.specs.Words.{IsTrimmed, behind, digit_count, is_space, starts_number, word_end, word_of}
 use Rattle.script.proofs.Fronts.{different as different_number, no_digit, word_number}
@@ -60,8 +60,8 @@ three-verb verb =
     (three_either _ (three_of (λ x y z. event.Put x y z) one16 one8 one16)
     (three_either _ (three_of (λ x y z. event.Get x y z) one16 one8 one32) three_none))))
 
-node-all : (node : ℕ) (verb : List ℕ) → All (λ ws. node_line_of node (verb ∷ ws))
-unfolding node_line_of
+node-all : (node : ℕ) (verb : List ℕ) → All (λ ws. numbered_of node (verb ∷ ws))
+unfolding numbered_of
 node-all node verb = record {
   one = one_map (λ e. line.Step (step.Act node e)) (one-verb verb);
   two = two_map (λ e. line.Step (step.Act node e)) (two-verb verb);
@@ -70,12 +70,12 @@ node-all node verb = record {
 }
 
 -- no verb is empty
-no_verb : (node : ℕ) → None ≡ node_line_of node ([] ∷ [])
-unfolding node_line_of alone with_none
+no_verb : (node : ℕ) → None ≡ numbered_of node ([] ∷ [])
+unfolding numbered_of alone with_none
 no_verb node = refl
 
-no_words : (node : ℕ) → node_line_of node [] ≡ None
-unfolding node_line_of
+no_words : (node : ℕ) → numbered_of node [] ≡ None
+unfolding numbered_of
 no_words node = refl
 
 -- ---- the words after a first word that isn't a number
@@ -124,8 +124,8 @@ none-all = record {
   more = λ a b c d ws. refl;
 }
 
-command-all : (first : List ℕ) → u8_of first ≡ None → All (λ ws. command_of first ws)
-unfolding command_of
+command-all : (first : List ℕ) → u8_of first ≡ None → All (λ ws. by_operands first ws)
+unfolding by_operands
 command-all first none =
     all_either _ space-all (all_either _ delivery-all (all_either _ hand-all
     (all_either _ report-all
@@ -134,17 +134,17 @@ command-all first none =
 
 -- ---- once the operands are read
 
-asked : (node : ℕ) (text : List ℕ) → IsTrimmed text → node_line_of node (words_of text)
-    ≡ option_and_then (λ o. node_line_of node (word_of text ∷ spelled o))
+asked : (node : ℕ) (text : List ℕ) → IsTrimmed text → numbered_of node (words_of text)
+    ≡ option_and_then (λ o. numbered_of node (word_of text ∷ spelled o))
     (operands_of (words_of (behind text)))
 unfolding operands_of
 asked node [] trimmed =
     let none = words_none [] refl in
-    ap (node_line_of node) none ∙ no_words node ∙ no_verb node
-    ∙ sym (ap (λ ws. option_and_then (λ o. node_line_of node ([] ∷ spelled o)) (operands_of ws))
+    ap (numbered_of node) none ∙ no_words node ∙ no_verb node
+    ∙ sym (ap (λ ws. option_and_then (λ o. numbered_of node ([] ∷ spelled o)) (operands_of ws))
     none)
 asked node (b ∷ bytes) trimmed =
-    ap (node_line_of node) (words_split (b ∷ bytes) trimmed (search (rules, tests)))
+    ap (numbered_of node) (words_split (b ∷ bytes) trimmed (search (rules, tests)))
     ∙ operands_are (node-all node (word_of (b ∷ bytes))) (words_of (behind (b ∷ bytes)))
 
 -- how the text after a node's number is cut
@@ -154,47 +154,47 @@ pub record IsCut (text verb rest : List ℕ) : Type 0 where
   pub others : rest ≡ behind text
 
 module _ (node : ℕ) {text verb rest : List ℕ} (cut : IsCut text verb rest) where
-  cut_asked : node_line_of node (words_of text)
-      ≡ option_and_then (λ o. node_line_of node (verb ∷ spelled o)) (operands_of (words_of rest))
+  cut_asked : numbered_of node (words_of text)
+      ≡ option_and_then (λ o. numbered_of node (verb ∷ spelled o)) (operands_of (words_of rest))
   cut_asked =
       asked node text cut.trimmed
-      ∙ ap (λ v. option_and_then (λ o. node_line_of node (v ∷ spelled o))
+      ∙ ap (λ v. option_and_then (λ o. numbered_of node (v ∷ spelled o))
       (operands_of (words_of (behind text)))) (sym cut.word)
-      ∙ ap (λ t. option_and_then (λ o. node_line_of node (verb ∷ spelled o))
+      ∙ ap (λ t. option_and_then (λ o. numbered_of node (verb ∷ spelled o))
       (operands_of (words_of t))) (sym cut.others)
 
   pub node_read : {o : Option Operands} → o ≡ operands_of (words_of rest)
-      → option_and_then (λ o. node_line_of node (verb ∷ spelled o)) o
-      ≡ node_line_of node (words_of text)
+      → option_and_then (λ o. numbered_of node (verb ∷ spelled o)) o
+      ≡ numbered_of node (words_of text)
   node_read e =
-      sym (cut_asked ∙ ap (λ o. option_and_then (λ o. node_line_of node (verb ∷ spelled o)) o)
+      sym (cut_asked ∙ ap (λ o. option_and_then (λ o. numbered_of node (verb ∷ spelled o)) o)
       (sym e))
 
   pub read_zero : Some operands.Zero ≡ operands_of (words_of rest)
-      → alone node verb ≡ node_line_of node (words_of text)
-  unfolding node_line_of
+      → alone node verb ≡ numbered_of node (words_of text)
+  unfolding numbered_of
   read_zero e = node_read e
 
   pub read_one : (a : ℕ) → Some (operands.One a) ≡ operands_of (words_of rest)
-      → acted node (with_one verb (decimal a)) ≡ node_line_of node (words_of text)
-  unfolding node_line_of
+      → acted node (with_one verb (decimal a)) ≡ numbered_of node (words_of text)
+  unfolding numbered_of
   read_one a e = node_read e
 
   pub read_two : (a b : ℕ) → Some (operands.Two a b) ≡ operands_of (words_of rest)
-      → acted node (with_two verb (decimal a) (decimal b)) ≡ node_line_of node (words_of text)
-  unfolding node_line_of
+      → acted node (with_two verb (decimal a) (decimal b)) ≡ numbered_of node (words_of text)
+  unfolding numbered_of
   read_two a b e = node_read e
 
   pub read_three : (a b c : ℕ) → Some (operands.Three a b c) ≡ operands_of (words_of rest)
       → acted node (with_three verb (decimal a) (decimal b) (decimal c))
-      ≡ node_line_of node (words_of text)
-  unfolding node_line_of
+      ≡ numbered_of node (words_of text)
+  unfolding numbered_of
   read_three a b c e = node_read e
 
 -- a line that asks for a save
 pub read_save : (node : ℕ) (text : List ℕ) → true ≡ bytes_eq text (codes "save")
     → Some (line.Step (step.Save node)) ≡ node_line_of node (words_of text)
-unfolding node_line_of alone words_of
+unfolding node_line_of numbered_of alone words_of
 read_save node text is =
     sym (ap (λ t. node_line_of node (words_of t))
     ((bytes_eq-Decides text (codes "save")).0 (sym is)))
@@ -223,50 +223,66 @@ different a b apart = by (bytes_eq a b) refl
 -- how a text whose first word isn't a number is cut
 pub record IsCommand (text first rest : List ℕ) : Type 0 where
   pub none : starts_number text ≡ false
+  pub narrow : bytes_eq first (codes "wide") ≡ false
   pub word : first ≡ word_of text
   pub others : rest ≡ behind text
 
 module _ {text first rest : List ℕ} (cut : IsCommand text first rest) where
-  command_told : command_of (word_of text) (words_of (behind text))
-      ≡ option_and_then (λ o. command_of first (spelled o)) (operands_of (words_of rest))
+  command_told : by_operands (word_of text) (words_of (behind text))
+      ≡ option_and_then (λ o. by_operands first (spelled o)) (operands_of (words_of rest))
   command_told =
       operands_are (command-all (word_of text) (no_number text cut.none)) (words_of (behind text))
-      ∙ ap (λ w. option_and_then (λ o. command_of w (spelled o))
+      ∙ ap (λ w. option_and_then (λ o. by_operands w (spelled o))
       (operands_of (words_of (behind text)))) (sym cut.word)
-      ∙ ap (λ t. option_and_then (λ o. command_of first (spelled o)) (operands_of (words_of t)))
+      ∙ ap (λ t. option_and_then (λ o. by_operands first (spelled o)) (operands_of (words_of t)))
       (sym cut.others)
 
+  -- no other word has that many operands
+  unless_wide : by_operands (word_of text) (words_of (behind text))
+      ≡ command_of (word_of text) (words_of (behind text))
+  unfolding command_of
+  unless_wide = sym (cond-false _ _ _ (ap (λ w. bytes_eq w (codes "wide")) (sym cut.word) ∙ cut.narrow))
+
   pub command_read : {o : Option Operands} → o ≡ operands_of (words_of rest)
-      → option_and_then (λ o. command_of first (spelled o)) o
+      → option_and_then (λ o. by_operands first (spelled o)) o
       ≡ command_of (word_of text) (words_of (behind text))
   command_read e =
-      sym (command_told ∙ ap (option_and_then (λ o. command_of first (spelled o))) (sym e))
+      sym (command_told ∙ ap (option_and_then (λ o. by_operands first (spelled o))) (sym e))
+      ∙ unless_wide
 
 -- by that word
-pub of_space : (vs : List (List ℕ)) (first : List ℕ) → first ≡ codes "space"
-    → space_of vs ≡ command_of first vs
+pub of_wide : (text : List ℕ) {first rest : List ℕ} → bytes_eq first (codes "wide") ≡ true
+    → first ≡ word_of text → rest ≡ behind text
+    → wide_of (words_of rest) ≡ command_of (word_of text) (words_of (behind text))
 unfolding command_of
-of_space vs first is = sym (ap (λ f. command_of f vs) is)
+of_wide text is word others =
+    ap (λ t. wide_of (words_of t)) others
+    ∙ sym (cond-true _ _ _ (ap (λ w. bytes_eq w (codes "wide")) (sym word) ∙ is))
+
+pub of_space : (vs : List (List ℕ)) (first : List ℕ) → first ≡ codes "space"
+    → space_of vs ≡ by_operands first vs
+unfolding by_operands
+of_space vs first is = sym (ap (λ f. by_operands f vs) is)
 
 pub of_delivery : (vs : List (List ℕ)) (first : List ℕ) → first ≡ codes "deliver"
-    → stepped (delivery_of vs) ≡ command_of first vs
-unfolding command_of
-of_delivery vs first is = sym (ap (λ f. command_of f vs) is)
+    → stepped (delivery_of vs) ≡ by_operands first vs
+unfolding by_operands
+of_delivery vs first is = sym (ap (λ f. by_operands f vs) is)
 
 pub of_hand : (vs : List (List ℕ)) (first : List ℕ) → first ≡ codes "ack"
-    → stepped (hand_of vs) ≡ command_of first vs
-unfolding command_of
-of_hand vs first is = sym (ap (λ f. command_of f vs) is)
+    → stepped (hand_of vs) ≡ by_operands first vs
+unfolding by_operands
+of_hand vs first is = sym (ap (λ f. by_operands f vs) is)
 
 pub of_report : (vs : List (List ℕ)) (first : List ℕ) → first ≡ codes "report"
-    → report_of vs ≡ command_of first vs
-unfolding command_of
-of_report vs first is = sym (ap (λ f. command_of f vs) is)
+    → report_of vs ≡ by_operands first vs
+unfolding by_operands
+of_report vs first is = sym (ap (λ f. by_operands f vs) is)
 
 pub of_none : (vs : List (List ℕ)) (first : List ℕ) → u8_of first ≡ None
     → (first ≡ codes "space" → ⊥) → (first ≡ codes "deliver" → ⊥) → (first ≡ codes "ack" → ⊥)
-    → (first ≡ codes "report" → ⊥) → None ≡ command_of first vs
-unfolding command_of
+    → (first ≡ codes "report" → ⊥) → None ≡ by_operands first vs
+unfolding by_operands
 of_none vs first no_number no_space no_deliver no_ack no_report =
     sym (cond-false _ _ _ (different first (codes "space") no_space)
     ∙ cond-false _ _ _ (different first (codes "deliver") no_deliver)
@@ -277,9 +293,10 @@ of_none vs first no_number no_space no_deliver no_ack no_report =
 -- a digit begins a node's number
 command-digit : (c : ℕ) (w : List ℕ) (ws : List (List ℕ)) → is_ascii_digit c ≡ true
     → command_of (c ∷ w) ws ≡ option_and_then (λ node. node_line_of node ws) (u8_of (c ∷ w))
-unfolding command_of
+unfolding command_of by_operands
 command-digit c w ws is =
-    cond-false _ _ _ (different (c ∷ w) (codes "space") (λ e. other 115 (head e) refl))
+    cond-false _ _ _ (different (c ∷ w) (codes "wide") (λ e. other 119 (head e) refl))
+    ∙ cond-false _ _ _ (different (c ∷ w) (codes "space") (λ e. other 115 (head e) refl))
     ∙ cond-false _ _ _ (different (c ∷ w) (codes "deliver") (λ e. other 100 (head e) refl))
     ∙ cond-false _ _ _ (different (c ∷ w) (codes "ack") (λ e. other 97 (head e) refl))
     ∙ cond-false _ _ _ (different (c ∷ w) (codes "report") (λ e. other 114 (head e) refl))

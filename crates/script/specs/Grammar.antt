@@ -118,19 +118,61 @@ alone node verb =
     (cond (bytes_eq verb (codes "state")) (Some (line.State node))
     (acted node (with_none verb))))
 
+-- the words after a node's number, if all that follow the verb are numbers of an event or a step
+unfoldable pub numbered_of : ℕ → List (List ℕ) → Option Line
+numbered_of node (verb ∷ []) = alone node verb
+numbered_of node (verb ∷ a ∷ []) = acted node (with_one verb a)
+numbered_of node (verb ∷ a ∷ b ∷ []) = acted node (with_two verb a b)
+numbered_of node (verb ∷ a ∷ b ∷ c ∷ []) = acted node (with_three verb a b c)
+numbered_of node words = None
+
+-- The words after `setbytes`, `patch` and `bytes`. Of the first two, the last word spells bytes; it
+-- may be any here.
+unfoldable pub set_bytes_of : ℕ → List (List ℕ) → Option Line
+set_bytes_of node (a ∷ hex ∷ []) = option_map (λ object. line.SetBytes node object) (u16_of a)
+set_bytes_of node words = None
+
+unfoldable pub patch_of : ℕ → List (List ℕ) → Option Line
+patch_of node (a ∷ b ∷ hex ∷ []) =
+    of_two u16_of u32_of (λ object offset. line.Patch node object offset) a b
+patch_of node words = None
+
+unfoldable pub bytes_of : ℕ → List (List ℕ) → Option Line
+bytes_of node (a ∷ b ∷ c ∷ []) =
+    of_three u16_of u32_of u32_of (λ object offset count. line.Bytes node object offset count) a b c
+bytes_of node words = None
+
+-- the words after a node's number, if they are about an object's bytes
+unfoldable pub about_bytes : ℕ → List (List ℕ) → Option Line
+about_bytes node [] = None
+about_bytes node (verb ∷ words) =
+    cond (bytes_eq verb (codes "setbytes")) (set_bytes_of node words)
+    (cond (bytes_eq verb (codes "patch")) (patch_of node words)
+    (cond (bytes_eq verb (codes "bytes")) (bytes_of node words) None))
+
+abbrev pub either_of : Option Line → Option Line → Option Line
+either_of (Some l) other = Some l
+either_of None other = other
+
 -- the words after a node's number
 unfoldable pub node_line_of : ℕ → List (List ℕ) → Option Line
-node_line_of node (verb ∷ []) = alone node verb
-node_line_of node (verb ∷ a ∷ []) = acted node (with_one verb a)
-node_line_of node (verb ∷ a ∷ b ∷ []) = acted node (with_two verb a b)
-node_line_of node (verb ∷ a ∷ b ∷ c ∷ []) = acted node (with_three verb a b c)
-node_line_of node words = None
+node_line_of node words = either_of (numbered_of node words) (about_bytes node words)
 
 -- the words after `space`
 unfoldable pub space_of : List (List ℕ) → Option Line
 space_of (a ∷ b ∷ c ∷ []) =
     of_three u8_of u16_of u32_of (λ nodes registers slots. line.Space nodes registers slots) a b c
 space_of words = None
+
+-- the words after `wide`
+unfoldable pub wide_of : List (List ℕ) → Option Line
+wide_of (a ∷ b ∷ c ∷ d ∷ e ∷ []) =
+    option_and_then (λ nodes.
+    option_and_then (λ registers.
+    of_three u32_of u8_of u32_of
+    (λ slots places bytes. line.Wide nodes registers slots places bytes) c d e) (u16_of b))
+    (u8_of a)
+wide_of words = None
 
 -- the words after `deliver`
 unfoldable pub delivery_of : List (List ℕ) → Option Step
@@ -151,13 +193,18 @@ report_of words = None
 abbrev pub stepped : Option Step → Option Line
 stepped step = option_map (λ s. line.Step s) step
 
-unfoldable pub command_of : List ℕ → List (List ℕ) → Option Line
-command_of first words =
+-- the words after a first word, if there are at most three
+unfoldable pub by_operands : List ℕ → List (List ℕ) → Option Line
+by_operands first words =
     cond (bytes_eq first (codes "space")) (space_of words)
     (cond (bytes_eq first (codes "deliver")) (stepped (delivery_of words))
     (cond (bytes_eq first (codes "ack")) (stepped (hand_of words))
     (cond (bytes_eq first (codes "report")) (report_of words)
     (option_and_then (λ node. node_line_of node words) (u8_of first)))))
+
+unfoldable pub command_of : List ℕ → List (List ℕ) → Option Line
+command_of first words =
+    cond (bytes_eq first (codes "wide")) (wide_of words) (by_operands first words)
 
 -- what a line of these words says, or None if they are outside the grammar
 unfoldable pub line_of : List (List ℕ) → Option Line
@@ -170,5 +217,9 @@ abbrev pub is_own_line : Line → Bool
 is_own_line (line.Step s) = is_own_step s
 is_own_line line.Blank = true
 is_own_line (line.Space nodes registers slots) = true
+is_own_line (line.Wide nodes registers slots places bytes) = true
+is_own_line (line.SetBytes node object) = true
+is_own_line (line.Patch node object offset) = true
+is_own_line (line.Bytes node object offset count) = true
 is_own_line (line.State node) = true
 is_own_line line.Report = true

@@ -34,8 +34,8 @@ pub(crate) fn say(line: &mut Line, said: Line) -> Option<()>
 
 /// The line that asks a node for an event.
 #[inline(always)]
-fn act(line: &mut Line, node: u8, event: Event) -> Option<()>
-    ensures { read result line.new ≡ acted node (Some event) }
+fn act(line: &mut Line, node: u8, event: Event<'static>) -> Option<()>
+    ensures { read result line.new ≡ acted node (Some event.entry) }
 {
     *line = Line::Step(Step::Act(node, event));
     Some(())

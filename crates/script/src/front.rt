@@ -1,11 +1,11 @@
 //! The front of a line: its first word, and the number that the word spells. All of it is small and
 //! always inlined, because a result of several words would otherwise go through memory.
-ghost use Rattle.std.specs.Prelude.{◌≡◌, ◌<◌, ◌-◌, IfSome, length, option_map, slice_index, take, true};
+ghost use Rattle.std.specs.Prelude.{◌≡◌, ◌<◌, ◌-◌, ◌∷◌, [], IfNone, IfSome, length, option_map, slice_index, take, true};
 ghost use Rattle.std.specs.Char.{is_ascii_digit};
 ghost use Rattle.std.specs.Str.{bytes_eq};
 ghost use Rattle.std.specs.List.{prefix_len, position_or_len};
-ghost use Rattle.script.specs.Grammar.{u64_of, value_after};
-ghost use Rattle.script.specs.Words.{IsTrimmed, behind, word_end, digit_count, ends_word, fits_word, is_one_digit, is_space, past, starts_number, word_of};
+ghost use Rattle.script.specs.Grammar.{u64_of, value_after, words_of};
+ghost use Rattle.script.specs.Words.{IsTrimmed, behind, last_of, word_end, digit_count, ends_word, fits_word, is_one_digit, is_space, past, starts_number, word_of};
 
 use crate::line::MOST_DIGITS;
 
@@ -64,6 +64,33 @@ pub(crate) fn first_word(text: &str) -> (&str, &str)
 {
     let (word, rest) = text.split_at(word_len(text.as_bytes()));
     (word, past_spaces(rest))
+}
+
+/// The word at the front, if there is one, and the text from the next word on.
+#[tactic(auto, using(crate::proofs::Words::words_split, crate::proofs::Words::words_none))]
+pub(crate) fn next_word(text: &str) -> Option<(&str, &str)>
+    requires { IsTrimmed text.now }
+    ensures none { IfNone result (words_of text.now ≡ []) }
+    ensures word { IfSome result (λ r. words_of text.now ≡ r.0.now ∷ words_of r.1.now) }
+    ensures trimmed { IfSome result (λ r. IsTrimmed r.1.now) }
+{
+    if text.is_empty() {
+        return None;
+    }
+    Some(first_word(text))
+}
+
+/// The last word of a line, or nothing if it has none.
+pub fn last_word(text: &str) -> &str
+    ensures { result.now ≡ last_of (words_of text.now) [] }
+{
+    let mut last = "";
+    let mut rest = past_spaces(text);
+    while let Some((word, others)) = next_word(rest) {
+        last = word;
+        rest = others;
+    }
+    last
 }
 
 /// Whether the word is this one. (Inlined, so that each of the few bytes of `name` is compared with

@@ -1,12 +1,14 @@
 //! One line of a script. Its words are read one after another; anything outside the grammar is
 //! rejected.
 ghost use Rattle.std.specs.Prelude.{◌≡◌, false, IfSome, IsTrue, option_and_then};
-ghost use Rattle.script.specs.Grammar.{command_of, delivery_of, hand_of, is_own_line, line_of, node_line_of, report_of, space_of, stepped, u8_of, u16_of, words_of};
+ghost use Rattle.script.specs.Grammar.{command_of, delivery_of, hand_of, is_own_line, line_of, node_line_of, numbered_of, about_bytes, set_bytes_of, patch_of, bytes_of, report_of, space_of, stepped, u8_of, u16_of, u32_of, wide_of, words_of};
 ghost use Rattle.script.specs.Operands.{read, spelled};
 ghost use Rattle.script.specs.Words.{IsTrimmed, behind, starts_number, word_of};
 
 use crate::asking::{alone, say, with_one, with_three, with_two};
-use crate::front::{behind_word, first_number, first_word, is_word, past_spaces, read_u64};
+use crate::front::{
+    behind_word, first_number, first_word, is_word, next_word, past_spaces, read_u64,
+};
 use crate::operands::{Operands, to_u8, to_u16, to_u32};
 use model::Step;
 
@@ -24,8 +26,35 @@ pub enum Line {
         registers: u16,
         slots: u32,
     },
-    /// A step of the space.
-    Step(Step),
+    /// The sizes of a wide space, which need not be within the limits.
+    Wide {
+        nodes: u8,
+        registers: u16,
+        slots: u32,
+        places: u8,
+        bytes: u32,
+    },
+    /// A step of the space that writes no bytes.
+    Step(Step<'static>),
+    /// Replaces the bytes of the object that a node's register names by those that the last word of
+    /// the line spells; see [`last_word`](crate::last_word).
+    SetBytes {
+        node: u8,
+        object: u16,
+    },
+    /// Overwrites bytes of the object, from this offset on, by those that the last word spells.
+    Patch {
+        node: u8,
+        object: u16,
+        offset: u32,
+    },
+    /// Asks for this many bytes of the object, from this offset on.
+    Bytes {
+        node: u8,
+        object: u16,
+        offset: u32,
+        count: u32,
+    },
     /// Asks for the node in numbers.
     State(u8),
     /// Asks what the sweeps of each cycle freed.
@@ -103,6 +132,18 @@ fn any_asked_of(line: &mut Line, node: u8, text: &str) -> Option<()>
     requires { IsTrimmed text.now }
     ensures { read result line.new ≡ node_line_of node (words_of text.now) }
 {
+    match numbered(line, node, text) {
+        Some(()) => Some(()),
+        None => about_bytes(line, node, text),
+    }
+}
+
+/// The meaning of the words after a node's number, if all but the verb are numbers.
+#[inline(always)]
+fn numbered(line: &mut Line, node: u8, text: &str) -> Option<()>
+    requires { IsTrimmed text.now }
+    ensures { read result line.new ≡ numbered_of node (words_of text.now) }
+{
     let (verb, text) = first_word(text);
     match Operands::read(text) {
         Some(Operands::Zero) => alone(line, node, verb),
@@ -111,6 +152,82 @@ fn any_asked_of(line: &mut Line, node: u8, text: &str) -> Option<()>
         Some(Operands::Three(a, b, c)) => with_three(line, node, verb, a, b, c),
         None => None,
     }
+}
+
+/// The meaning of the words after a node's number, if they are about an object's bytes.
+#[inline(never)]
+#[tactic(auto, unfolding(crate::specs::Grammar::about_bytes))]
+fn about_bytes(line: &mut Line, node: u8, text: &str) -> Option<()>
+    requires { IsTrimmed text.now }
+    ensures { read result line.new ≡ about_bytes node (words_of text.now) }
+{
+    let (verb, text) = next_word(text)?;
+    match verb {
+        "setbytes" => set_bytes(line, node, text),
+        "patch" => patch(line, node, text),
+        "bytes" => bytes(line, node, text),
+        _ => None,
+    }
+}
+
+#[tactic(auto, unfolding(crate::specs::Grammar::set_bytes_of))]
+fn set_bytes(line: &mut Line, node: u8, text: &str) -> Option<()>
+    requires { IsTrimmed text.now }
+    ensures { read result line.new ≡ set_bytes_of node (words_of text.now) }
+{
+    let (object, text) = next_word(text)?;
+    let (_hex, text) = next_word(text)?;
+    if next_word(text).is_some() {
+        return None;
+    }
+    let object = read_u16(object)?;
+    say(line, Line::SetBytes { node, object })
+}
+
+#[tactic(auto, unfolding(crate::specs::Grammar::patch_of))]
+fn patch(line: &mut Line, node: u8, text: &str) -> Option<()>
+    requires { IsTrimmed text.now }
+    ensures { read result line.new ≡ patch_of node (words_of text.now) }
+{
+    let (object, text) = next_word(text)?;
+    let (offset, text) = next_word(text)?;
+    let (_hex, text) = next_word(text)?;
+    if next_word(text).is_some() {
+        return None;
+    }
+    let (object, offset) = (read_u16(object)?, read_u32(offset)?);
+    say(
+        line,
+        Line::Patch {
+            node,
+            object,
+            offset,
+        },
+    )
+}
+
+#[tactic(auto, unfolding(crate::specs::Grammar::bytes_of))]
+fn bytes(line: &mut Line, node: u8, text: &str) -> Option<()>
+    requires { IsTrimmed text.now }
+    ensures { read result line.new ≡ bytes_of node (words_of text.now) }
+{
+    let (object, text) = next_word(text)?;
+    let (offset, text) = next_word(text)?;
+    let (count, text) = next_word(text)?;
+    if next_word(text).is_some() {
+        return None;
+    }
+    let (object, offset) = (read_u16(object)?, read_u32(offset)?);
+    let count = read_u32(count)?;
+    say(
+        line,
+        Line::Bytes {
+            node,
+            object,
+            offset,
+            count,
+        },
+    )
 }
 
 /// The meaning of a line whose first word isn't a number. (The most frequent words are looked for
@@ -138,6 +255,9 @@ fn any_command(line: &mut Line, text: &str) -> Option<()>
     ensures { read result line.new ≡ command_of (word_of text.now) (words_of (behind text.now)) }
 {
     let (first, text) = first_word(text);
+    if first == "wide" {
+        return wide(line, text);
+    }
     let operands = Operands::read(text)?;
     match first {
         "space" => space(line, operands),
@@ -162,6 +282,33 @@ fn space(line: &mut Line, operands: Operands) -> Option<()>
             nodes,
             registers,
             slots,
+        },
+    )
+}
+
+#[tactic(auto, unfolding(crate::specs::Grammar::wide_of))]
+fn wide(line: &mut Line, text: &str) -> Option<()>
+    requires { IsTrimmed text.now }
+    ensures { read result line.new ≡ wide_of (words_of text.now) }
+{
+    let (nodes, text) = next_word(text)?;
+    let (registers, text) = next_word(text)?;
+    let (slots, text) = next_word(text)?;
+    let (places, text) = next_word(text)?;
+    let (bytes, text) = next_word(text)?;
+    if next_word(text).is_some() {
+        return None;
+    }
+    let (nodes, registers) = (read_u8(nodes)?, read_u16(registers)?);
+    let (slots, places, bytes) = (read_u32(slots)?, read_u8(places)?, read_u32(bytes)?);
+    say(
+        line,
+        Line::Wide {
+            nodes,
+            registers,
+            slots,
+            places,
+            bytes,
         },
     )
 }
@@ -212,4 +359,11 @@ pub fn read_u16(word: &str) -> Option<u16>
     ensures { result ≡ u16_of word.now }
 {
     u16::try_from(read_u64(word)?).ok()
+}
+
+#[tactic(auto, unfolding(crate::specs::Grammar::u32_of, crate::specs::Grammar::u64_of))]
+fn read_u32(word: &str) -> Option<u32>
+    ensures { result ≡ u32_of word.now }
+{
+    u32::try_from(read_u64(word)?).ok()
 }

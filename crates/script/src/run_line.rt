@@ -1,12 +1,12 @@
 //! One line of a script that runs on node threads. The grammar is that of scripts on one thread,
 //! without what the workers do by themselves, and with three more lines.
-ghost use Rattle.std.specs.Prelude.{◌≡◌, ◌∷◌, [], IfNone, IfSome, IsTrue};
+ghost use Rattle.std.specs.Prelude.{◌≡◌, IfSome, IsTrue};
 ghost use Rattle.script.specs.Grammar.{is_own_line, line_of, words_of};
 ghost use Rattle.script.specs.RunLines.{is_for_workers, is_own_said, of_runs, run_line_of, shared_of};
 ghost use Rattle.script.specs.RunLines.{with_all, with_word, with_words};
 ghost use Rattle.script.specs.Words.{IsTrimmed};
 
-use crate::front::{first_word, past_spaces};
+use crate::front::{next_word, past_spaces};
 use crate::line::{Line, read_u8, read_u16};
 use model::{Event, Step};
 
@@ -16,7 +16,7 @@ pub enum RunLine {
     /// Nothing: the line has no word, or is a comment.
     Blank,
     /// An event of a node's own program.
-    Act(u8, Event),
+    Act(u8, Event<'static>),
     /// A restart of a node.
     Restart(u8),
     /// A collection cycle, until its end.
@@ -57,7 +57,9 @@ fn shared(line: Line) -> Option<RunLine>
                 Some(RunLine::Act(node, event))
             }
         }
-        Line::Step(_) | Line::Space { .. } | Line::State(_) | Line::Report => None,
+        Line::SetBytes { .. } | Line::Patch { .. } | Line::Bytes { .. } => None,
+        Line::Step(_) | Line::Space { .. } | Line::Wide { .. } | Line::State(_) | Line::Report =>
+            None,
     }
 }
 
@@ -69,20 +71,6 @@ fn is_for_workers(event: &Event) -> bool
         Event::Begin | Event::Scan | Event::Pass | Event::Sweep { .. } | Event::Next { .. } => true,
         _ => false,
     }
-}
-
-// The word at the front, if there is one, and the text from the next word on.
-#[tactic(auto, using(crate::proofs::Words::words_split, crate::proofs::Words::words_none))]
-fn next_word(text: &str) -> Option<(&str, &str)>
-    requires { IsTrimmed text.now }
-    ensures none { IfNone result (words_of text.now ≡ []) }
-    ensures word { IfSome result (λ r. words_of text.now ≡ r.0.now ∷ words_of r.1.now) }
-    ensures trimmed { IfSome result (λ r. IsTrimmed r.1.now) }
-{
-    if text.is_empty() {
-        return None;
-    }
-    Some(first_word(text))
 }
 
 // The meaning of words that aren't a line of other scripts.

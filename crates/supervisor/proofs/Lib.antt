@@ -1,4 +1,5 @@
 pub mod Seats
+pub mod Openings
 pub mod Watches
 pub mod Backs
 pub mod Teams

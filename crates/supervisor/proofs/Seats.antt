@@ -1,5 +1,6 @@
 -- The seats of cells that are passed on one after another.
-use Rattle.std.proofs.Common.{◌≡◌, ◌<◌, ◌∙◌, ℕ, suc, List, [], ◌∷◌, Some, ap, drop, get_or, length, map, refl, slice_get, subst, sym, arith}
+use Rattle.std.proofs.Common.{◌≡◌, ◌<◌, ◌∙◌, ◌++◌, ℕ, suc, List, [], ◌∷◌, Some, ap, drop, get_or, length, map, refl, slice_get, subst, sym, arith}
+use Rattle.std.proofs.lemmas.List.{append_assoc, map-append}
 use Rattle.std.proofs.lemmas.Option.{slice_get_read}
 use Rattle.wire.proofs.Places.{mapped-there}
 use Rattle.wire.specs.Readers.{IsSeatOf}
@@ -44,3 +45,15 @@ found-in {xs = xs} {place = place} {k = k} {x = x} {y = y} f same here inside is
     subst (λ l. slice_get (map f l) place ≡ Some y) same
     (subst (λ i. slice_get (map f xs) i ≡ Some y) here
     (mapped-there f xs k x (slice_get_read xs (length xs) k x refl inside is) ∙ ap Some (sym last)))
+
+-- The first of some things was passed on, as something that shows the same.
+pub moved-one : {A C V : Type 0} (f : A → V) (g : C → V) (made new : List A) (x : A) (c : C)
+    (cells rest : List C) → 0 < length cells → c ≡ get_or cells 0 c → rest ≡ drop 1 cells
+    → f x ≡ g c → new ≡ made ++ x ∷ [] → map f new ++ map g rest ≡ map f made ++ map g cells
+moved-one f g made new x c [] rest some is later same grown = absurd (omega arith)
+moved-one f g made new x c (y ∷ ys) rest some is later same grown =
+    ap (λ l. map f l ++ map g rest) grown
+    ∙ ap (λ l. l ++ map g rest) (map-append f made (x ∷ []))
+    ∙ append_assoc (map f made) (f x ∷ []) (map g rest)
+    ∙ ap (λ z. map f made ++ z ∷ map g rest) (same ∙ ap g is)
+    ∙ ap (λ l. map f made ++ g y ∷ map g l) later

@@ -1,5 +1,6 @@
 -- Workers that are started and joined, by their nodes.
-use Rattle.std.proofs.Common.{◌≡◌, ◌≢◌, ◌<◌, ◌≤◌, ◌+◌, ◌++◌, ℕ, zero, suc, List, [], ◌∷◌, Option, Some, Result, Ok, Err, OnErr, OnOk, append_assoc, get_or, length, map, swap_remove, slice_get, vec_capacity, refl, sym, ap, ◌∙◌, subst, arith}
+use Rattle.std.proofs.Common.{All, ◌≡◌, ◌≢◌, ◌<◌, ◌≤◌, ◌+◌, ◌++◌, ℕ, zero, suc, List, [], ◌∷◌, Option, Some, Result, Ok, Err, OnErr, OnOk, append_assoc, get_or, length, map, swap_remove, slice_get, vec_capacity, refl, sym, ap, ◌∙◌, subst, arith}
+use Rattle.std.specs.Global.{Vec}
 use Rattle.std.specs.List.{range_with_len}
 use Rattle.std.specs.List.Sorted.{IsPermutation}
 use Rattle.std.proofs.lemmas.List.{length-map, map_push}
@@ -116,3 +117,23 @@ pub others-still : (node : ℕ) (t u : Team) → u.workers ≡ t.workers → Are
     → AreOthers node (working u)
 others-still node t u same h =
     subst (λ ws. AreOthers node (map (λ w. w.of.node) ws.items)) (sym same) h
+
+-- ---- reports of runs in a plan
+
+abbrev pub AreReports : TeamPlan → List Report → Type 0
+AreReports plan rs = All (λ r. ∥ IsReport r.node plan.nodes plan.turns r ∥₁) rs
+
+pub reported-as : {p q : TeamPlan} (rs : List Report) → p ≡ q → AreReports p rs → AreReports q rs
+reported-as rs same all = subst (λ (p : TeamPlan). AreReports p rs) same all
+
+pub reported-in : (p : TeamPlan) {v w : Vec Report} → v ≡ w → AreReports p w.items
+    → AreReports p v.items
+reported-in p same all = subst (λ (v : Vec Report). AreReports p v.items) (sym same) all
+
+pub none-reported : (p : TeamPlan) (rs : List Report) → rs ≡ [] → AreReports p rs
+none-reported p rs none =
+    subst (AreReports p) (sym none) (λ k d less. absurd (omega (arith, less)))
+
+-- the first of four parts that stay
+pub first-stays : {A B C E : Type 0} {x y : A × B × C × E} → y ≡ x → y.0 ≡ x.0
+first-stays {A} {B} {C} {E} same = ap (λ (z : A × B × C × E). z.0) same

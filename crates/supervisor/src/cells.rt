@@ -1,6 +1,6 @@
 //! The cells of a space, shared by its threads. Each is under a lock of its own, and all share one
 //! wire.
-ghost use Rattle.std.specs.Prelude.{◌≡◌, ◌≢◌, All, IfErr, IfOk, IsErrOf, IsTrue, MatchResult};
+ghost use Rattle.std.specs.Prelude.{◌≡◌, ◌≢◌, All, IfErr, IfOk, IsErrOf, IsTrue, MatchResult, OnOk};
 ghost use Rattle.std.specs.Prelude.{length, map, vec_len};
 ghost use Rattle.std.specs.Arc.{arc_value};
 ghost use Rattle.ids.specs.declared.refusal.Refusal.TheVariants.{Memory};
@@ -10,11 +10,13 @@ ghost use Rattle.wire.specs.Readers.{IsMade, IsSeatOf, opened_with};
 ghost use Rattle.wire.specs.Rule.{nodes_of};
 ghost use Rattle.wire.specs.OneAge.{AreOfOneAge};
 ghost use Rattle.cell.specs.Ages.{AreRead, IfAges, IsWhy as IsWhyUnopened};
-ghost use Rattle.cell.specs.Cells.{IsNew};
+ghost use Rattle.cell.specs.Cells.{desk_of, IsNew};
 ghost use Rattle.cell.specs.Closing.{AreOfOneKill, AreOfOneMoment, HasBegun, HaveBegun};
+ghost use Rattle.cell.specs.Looking.{AreIntact};
 ghost use Rattle.cell.specs.Names.{name_of, IsNamed};
 ghost use Rattle.cell.specs.Opened.{cores, world_of, AreBeside, IsChosen, IsReadFrom, StaysOrNew};
 ghost use Rattle.cell.specs.Reached.{IsReached};
+ghost use Rattle.cell.specs.Shares.{first_of};
 ghost use Rattle.cell.specs.Theorems.{AreFresh, AreHeldOn, AreLeftOn};
 ghost use Rattle.supervisor.specs.declared.fault.OpenFault.TheVariants as fault;
 ghost use Rattle.supervisor.specs.Opened.{AreInPlace, AreSeats, AreWatches, IfUnopened};
@@ -40,7 +42,8 @@ fn share<D: Disk + Drop, W: Naming>(
     requires seat { IsSeatOf (arc_value wire.now) cell.seat }
     requires name { IsNamed W.wire (name_of (arc_value wire.now)) }
     requires begun { IsTrue W.begun → HasBegun cell }
-    ensures { IfErr result (λ e. e ≡ Memory) }
+    ensures first { IfOk result (λ s. first_of (arc_value s) ≡ desk_of cell) }
+    ensures refused { IfErr result (λ e. e ≡ Memory) }
 {
     let shared = SharedOn::new(cell, same_wire(wire)?);
     Ok(Arc::new(alloc, shared)?)
@@ -67,6 +70,8 @@ fn share_all<D: Disk + Drop, W: Naming>(
     requires seats { AreSeats (arc_value wire.now) (map (λ c. c.seat) cells.items) }
     requires begun { HaveBegun cells.items }
     ensures count { IfOk result (λ v. vec_len v ≡ vec_len cells) }
+    ensures first { IfOk result (λ v.
+        map (λ s. first_of (arc_value s)) v.items ≡ map desk_of cells.items) }
     ensures refused { IfErr result (λ e. e ≡ Memory) }
 {
     let mut shared = Vec::new(alloc);
@@ -86,7 +91,7 @@ pub(crate) fn open_alone<D: Disk + Drop>(
 ) -> Result<(Wire, Vec<Cell<D>>, Vec<Watch>), OpenFault>
     ensures disks { vec_len disks ≢ shape.nodes → IsErrOf result fault.Disks }
     ensures why { IfErr result
-        (IfUnopened (IsWhyUnopened D.seen D.moment D.faults shape disks.items)) }
+        (IfUnopened (IsWhyUnopened D.seen D.seals D.moment D.faults shape disks.items)) }
     ensures one_age { IfOk result (λ _. AreRead D.seen shape disks.items AreOfOneAge) }
     ensures count { IfOk result (λ r. vec_len r.1 ≡ shape.nodes) }
     ensures places { IfOk result (λ r.
@@ -118,6 +123,7 @@ pub(crate) fn open_alone<D: Disk + Drop>(
         LeavesOnly D.moment D.left_since d c.disk
         (StaysOrNew D.seen D.may_leave shape k d)) disks.items r.1.items) }
     ensures all { IfOk result (λ r. length r.1.items ≡ length disks.items) }
+    ensures intact { OnOk result (AreIntact D.seen D.seals disks.items) }
     ensures new { IfOk result (λ r. All IsNew r.1.items) }
     ensures made { IfOk result (λ r. IsMade
         (world_of (cores (map (λ c. c.node) r.1.items))) WATCHES r.0
@@ -146,6 +152,8 @@ pub(crate) fn share_on<D: Disk + Drop, W: Naming>(
     requires begun { HaveBegun cells.items }
     ensures wire { IfOk result (λ r. arc_value r.0 ≡ wire) }
     ensures count { IfOk result (λ r. vec_len r.1 ≡ vec_len cells) }
+    ensures first { IfOk result (λ r.
+        map (λ s. first_of (arc_value s)) r.1.items ≡ map desk_of cells.items) }
     ensures refused { IfErr result (λ e. e ≡ Memory) }
 {
     let wire = Arc::new(alloc, wire)?;

@@ -2,22 +2,28 @@
 //! missing key, or a number outside its limits is an error.
 ghost use Rattle.std.specs.Prelude.{◌≡◌, ◌≤◌, ◌<◌, ◌+◌, ◌⊎◌, None, Some, IfErr, IfOk, IfSome, cond};
 ghost use Rattle.std.specs.Prelude.{◌==◌, option_and_then, option_map};
+ghost use Rattle.ids.specs.declared.limits.TheConstants.{GREATEST_BYTES};
 ghost use Rattle.toml.specs.Data.{as_integer, get_member};
 ghost use Rattle.toml.specs.View.{table_view, view};
 ghost use Rattle.supervisor.specs.Settings.{count_keys, found_settings, settings_of, folder_in};
 ghost use Rattle.supervisor.specs.Settings.{number_at, shape_at, table_settings, text_settings};
-ghost use Rattle.supervisor.specs.Settings.{chosen, saves_in, saves_named, within};
+ghost use Rattle.supervisor.specs.Settings.{chosen, saves_in, saves_named, seals_in, size_in};
+ghost use Rattle.supervisor.specs.Settings.{most_registers, most_slots, within};
 ghost use Rattle.supervisor.specs.declared.fault.OpenFault.TheVariants as fault;
 
 use crate::fault::OpenFault;
-use ids::{GREATEST_NODES, GREATEST_REGISTERS, GREATEST_SLOTS, LEAST_NODES, Saves, Shape};
+use ids::{
+    GREATEST_BYTES, GREATEST_NODES, GREATEST_PLACES, GREATEST_REGISTERS, GREATEST_SLOTS,
+    LEAST_NODES, PLAIN_REGISTERS, PLAIN_SLOTS, Saves, Shape,
+};
 use std::alloc::Global;
 use toml::{Table, Value};
 
 /// The greatest number of turns that a worker may be given.
 pub const GREATEST_TURNS: u32 = 1_000_000;
 
-/// How many keys each configuration has. `saves` and `folder` are optional.
+/// How many keys each configuration has. `places` with `bytes`, `saves`, `folder` and `seals` are
+/// optional.
 const KEYS: usize = 4;
 
 /// How a space is to be opened and run.
@@ -31,6 +37,8 @@ pub struct Config {
     pub saves: Saves,
     /// The folder in which each node has a folder for its disk; `None` for disks in memory.
     pub folder: Option<String>,
+    /// Whether saves in a folder get seals, with which an opening compares what was saved.
+    pub seals: bool,
 }
 
 // The contents of a table.
@@ -40,13 +48,23 @@ struct Found<'a> {
     turns: u32,
     saves: Saves,
     folder: Option<&'a str>,
+    seals: bool,
+}
+
+// How many places and bytes an object has at most in a wide space.
+#[derive(Clone, Copy)]
+struct ObjectSize {
+    places: u8,
+    bytes: u32,
 }
 
 impl Config {
     /// Reads a TOML document that has these keys at its top level and no others: `nodes`, 2 to 64;
-    /// `registers`, 1 to 256; `slots`, 1 to 1,048,576; `turns`, 1 to 1,000,000; and optionally
-    /// `saves` and `folder`. `saves` is `"images"` or `"events"`; without it, a save writes the
-    /// image. `folder` is a string.
+    /// `registers`, 1 to 256; `slots`, 1 to 1,048,576; `turns`, 1 to 1,000,000. Others are
+    /// optional. `places`, 0 to 255, and `bytes`, 0 to 16,777,216, are there together or not at
+    /// all; with them the space is wide, with up to 65,535 registers and 16,777,216 slots. `saves`
+    /// is `"images"` or `"events"`; without it, a save writes the image. `folder` is a string.
+    /// `seals` is `true` or `false`; without it, saves get seals.
     ///
     /// `Config` exactly if the text isn't such a document. `Memory` may come instead of either
     /// result.
@@ -90,6 +108,7 @@ fn config_in(alloc: Global, table: &Table) -> Result<Config, OpenFault>
         turns: found.turns,
         saves: found.saves,
         folder,
+        seals: found.seals,
     })
 }
 
@@ -97,11 +116,17 @@ fn config_in(alloc: Global, table: &Table) -> Result<Config, OpenFault>
 fn found_in(table: &Table) -> Option<Found<'_>>
     ensures { option_map found_settings result ≡ table_settings (table_view table.now) }
 {
-    let shape = shape_in(table)?;
+    let size = size_in(value_at(table, "places"), value_at(table, "bytes"))?;
+    let shape = shape_in(table, size)?;
     let turns = number_at(table, "turns", 1, GREATEST_TURNS)?;
     let saves = saves_in(value_at(table, "saves"))?;
     let folder = folder_in(value_at(table, "folder"))?;
-    if !has_keys(table, saves.is_some(), folder.is_some()) {
+    let seals = seals_in(value_at(table, "seals"))?;
+    let optional = 2 * one_if(size.is_some())
+        + one_if(saves.is_some())
+        + one_if(folder.is_some())
+        + one_if(seals.is_some());
+    if count_in(table) != KEYS + optional {
         return None;
     }
     Some(Found {
@@ -109,15 +134,8 @@ fn found_in(table: &Table) -> Option<Found<'_>>
         turns,
         saves: chosen(saves),
         folder,
+        seals: seals.unwrap_or(true),
     })
-}
-
-// Whether a table has as many keys as a configuration with these optional ones.
-fn has_keys(table: &Table, with_saves: bool, with_folder: bool) -> bool
-    ensures { result ≡ (count_keys (table_view table.now)
-        == 4 + cond with_saves 1 0 + cond with_folder 1 0) }
-{
-    count_in(table) == KEYS + one_if(with_saves) + one_if(with_folder)
 }
 
 fn one_if(is_there: bool) -> usize
@@ -132,22 +150,44 @@ fn count_in(table: &Table) -> usize
     table.len()
 }
 
-// The sizes that a table gives, if all three are there and within their limits.
-fn shape_in(table: &Table) -> Option<Shape>
-    ensures { result ≡ shape_at (table_view table.now) }
+// The sizes that a table gives, if all three are there and within their limits: those of a wide
+// space if it gives the size of an object too.
+fn shape_in(table: &Table, size: Option<ObjectSize>) -> Option<Shape>
+    requires { IfSome size (λ s. s.bytes ≤ GREATEST_BYTES) }
+    ensures { result ≡ shape_at size (table_view table.now) }
 {
-    let nodes = number_at(
-        table,
-        "nodes",
-        u32::from(LEAST_NODES),
-        u32::from(GREATEST_NODES),
-    )?;
-    let most_registers = u32::from(GREATEST_REGISTERS);
-    let registers = number_at(table, "registers", 1, most_registers)?;
-    let slots = number_at(table, "slots", 1, GREATEST_SLOTS)?;
-    match Shape::new(nodes as u8, registers as u16, slots) {
+    let least_nodes = u32::from(LEAST_NODES);
+    let nodes = number_at(table, "nodes", least_nodes, u32::from(GREATEST_NODES))? as u8;
+    let most_registers = u32::from(most_registers(size));
+    let registers = number_at(table, "registers", 1, most_registers)? as u16;
+    let slots = number_at(table, "slots", 1, most_slots(size))?;
+    let shape = match size {
+        Some(size) => Shape::wide(nodes, registers, slots, size.places, size.bytes),
+        None => Shape::new(nodes, registers, slots),
+    };
+    match shape {
         Some(shape) => Some(shape),
         None => unreachable!(),
+    }
+}
+
+// The greatest number of registers in a wide space, whose objects have this size, or in a plain
+// one.
+fn most_registers(size: Option<ObjectSize>) -> u16
+    ensures { result ≡ most_registers size }
+{
+    match size {
+        Some(_) => GREATEST_REGISTERS,
+        None => PLAIN_REGISTERS,
+    }
+}
+
+fn most_slots(size: Option<ObjectSize>) -> u32
+    ensures { result ≡ most_slots size }
+{
+    match size {
+        Some(_) => GREATEST_SLOTS,
+        None => PLAIN_SLOTS,
     }
 }
 
@@ -181,6 +221,25 @@ fn integer_in(value: Option<&Value>) -> Option<i64>
     }
 }
 
+// The size of an object, if there are both values. The outer `None` is for one of them alone, or a
+// value that is no such number.
+fn size_in(places: Option<&Value>, bytes: Option<&Value>) -> Option<Option<ObjectSize>>
+    ensures value { result ≡ size_in (option_map (λ v. view v.now) places.entry)
+        (option_map (λ v. view v.now) bytes.entry) }
+    ensures within { IfSome result (λ o. IfSome o (λ s. s.bytes ≤ GREATEST_BYTES)) }
+{
+    match (places, bytes) {
+        (Some(places), Some(bytes)) => {
+            let most_places = u32::from(GREATEST_PLACES);
+            let places = number_within(places.as_integer(), 0, most_places)? as u8;
+            let bytes = number_within(bytes.as_integer(), 0, GREATEST_BYTES)?;
+            Some(Some(ObjectSize { places, bytes }))
+        }
+        (None, None) => Some(None),
+        _ => None,
+    }
+}
+
 // The string, if there is a value. The outer `None` is for a value that isn't a string.
 fn folder_in(value: Option<&Value>) -> Option<Option<&str>>
     ensures { option_map (λ o. option_map (λ s. s.now) o) result
@@ -199,6 +258,16 @@ fn saves_in(value: Option<&Value>) -> Option<Option<Saves>>
 {
     match value {
         Some(value) => saves_named(value.as_str()?).map(Some),
+        None => Some(None),
+    }
+}
+
+// The truth value, if there is a value. The outer `None` is for a value of another kind.
+fn seals_in(value: Option<&Value>) -> Option<Option<bool>>
+    ensures { result ≡ seals_in (option_map (λ v. view v.now) value.entry) }
+{
+    match value {
+        Some(value) => value.as_bool().map(Some),
         None => Some(None),
     }
 }

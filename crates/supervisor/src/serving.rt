@@ -1,12 +1,15 @@
 //! A space from its opening to its closing, with workers and a program that acts in it meanwhile.
 //! The program's source names no wire, and what the space leaves is nevertheless known to be of one
 //! moment.
-ghost use Rattle.std.specs.Prelude.{◌≡◌, IfErr, IfOk, IsTrue, Some};
+ghost use Rattle.std.specs.Prelude.{◌≡◌, All, IfErr, IfOk, IsTrue, Some, map};
+ghost use Rattle.std.specs.List.{range_with_len};
+ghost use Rattle.std.specs.List.Sorted.{IsNonDecreasingBy, IsPermutation};
 ghost use Rattle.ids.specs.declared.refusal.Refusal.TheVariants.{Memory};
 ghost use Rattle.wire.specs.Readers.{opened_with};
 ghost use Rattle.cell.specs.Closing.{AreOfOneMoment};
 ghost use Rattle.cell.specs.Names.{name_of};
 ghost use Rattle.supervisor.specs.Closing.{IsWhy};
+ghost use Rattle.workers.specs.Runs.{IsReport};
 
 use crate::closing::{Closed, Unclosed};
 use crate::space::{Opened, SpaceOn};
@@ -27,7 +30,7 @@ pub trait Program<R, D: Disk> {
 /// What a space leaves once its program is over.
 #[derive(Drop)]
 pub struct Served<D: Disk> {
-    /// The reports of its workers, sorted by node.
+    /// The reports of its workers, one for each node, sorted by node.
     pub reports: Vec<Report>,
     /// Its disks, as [`SpaceOn::close_at_once`] gives them out.
     pub closed: Result<Closed<D>, Unclosed<D>>,
@@ -48,6 +51,11 @@ where
     P: Program<R, D>,
     requires named { W.wire ≡ Some (name_of opened.wire) }
     requires begun { IsTrue W.begun }
+    ensures own { IfOk result (λ s. IsPermutation (range_with_len 0 opened.plan.nodes)
+        (map (λ r. r.node) s.reports.items)) }
+    ensures reports { IfOk result (λ s.
+        All (λ r. ∥ IsReport r.node opened.plan.nodes opened.plan.turns r ∥₁) s.reports.items) }
+    ensures sorted { IfOk result (λ s. IsNonDecreasingBy (λ r. r.node) s.reports.items) }
     ensures once { IfOk result (λ s. IfOk s.closed (λ c.
         AreOfOneMoment D.may_leave (opened_with opened.wire) c.disks.items)) }
     ensures why { IfOk result (λ s. IfErr s.closed (λ u.
@@ -75,6 +83,11 @@ impl<D: Disk + Send + Drop + 'static> Opened<D> {
         R: Threads + Wait + Clone + Send + Drop + 'static,
         G: Gate + Send + Sync + Drop + 'static,
         P: Program<R, D>,
+        ensures own { IfOk result (λ s. IsPermutation (range_with_len 0 self.plan.nodes)
+            (map (λ r. r.node) s.reports.items)) }
+        ensures reports { IfOk result (λ s.
+            All (λ r. ∥ IsReport r.node self.plan.nodes self.plan.turns r ∥₁) s.reports.items) }
+        ensures sorted { IfOk result (λ s. IsNonDecreasingBy (λ r. r.node) s.reports.items) }
         ensures once { IfOk result (λ s. IfOk s.closed (λ c.
             AreOfOneMoment D.may_leave (opened_with self.wire) c.disks.items)) }
         ensures why { IfOk result (λ s. IfErr s.closed (λ u.

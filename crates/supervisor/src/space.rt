@@ -5,6 +5,7 @@ ghost use Rattle.std.specs.Prelude.{IfOk, IfSome, IsErrOf, IsSome, IsTrue, Match
 ghost use Rattle.std.specs.Prelude.{[], All, max, option_to_list, slice_get, vec_len};
 ghost use Rattle.std.specs.Arc.{arc_value};
 ghost use Rattle.std.specs.List.{range_with_len};
+ghost use Rattle.std.specs.Option.{ForSome};
 ghost use Rattle.std.specs.List.Sorted.{IsNonDecreasingBy, IsPermutation};
 ghost use Rattle.ids.specs.declared.refusal.Refusal.TheVariants as refusal;
 ghost use Rattle.wire.specs.Plays.{HasEnded, WasEnded};
@@ -16,22 +17,25 @@ ghost use Rattle.disk.specs.Crashes.{LeavesOnly};
 ghost use Rattle.wire.specs.Rule.{nodes_of};
 ghost use Rattle.wire.specs.OneAge.{AreOfOneAge};
 ghost use Rattle.cell.specs.Ages.{AreRead, IfAges, IsWhy as IsWhyUnopened};
-ghost use Rattle.cell.specs.Cells.{IsNew};
+ghost use Rattle.cell.specs.Cells.{desk_of, IsNew};
 ghost use Rattle.cell.specs.Closing.{AreOfOneKill, AreOfOneMoment, HaveBegun};
 ghost use Rattle.cell.specs.Locked.{WasAnswered};
+ghost use Rattle.cell.specs.Looking.{AreIntact};
 ghost use Rattle.cell.specs.Names.{name_of, IsNamed};
 ghost use Rattle.cell.specs.Opened.{cores, world_of, AreBeside, IsChosen, IsReadFrom, StaysOrNew};
 ghost use Rattle.cell.specs.Reached.{IsReached};
+ghost use Rattle.cell.specs.Shares.{first_of};
 ghost use Rattle.cell.specs.Theorems.{AreFresh, AreHeldOn, AreLeftOn};
 ghost use Rattle.supervisor.specs.declared.fault.OpenFault.TheVariants as fault;
 ghost use Rattle.cell.specs.Moments.{EachCell};
 ghost use Rattle.supervisor.specs.Closing.{IsBack, IsWhy};
-ghost use Rattle.supervisor.specs.Opened.{AreInPlace, AreSeats, AreWatches, IfUnopened};
+ghost use Rattle.supervisor.specs.Opened.{AreInPlace, AreSeats, AreWatches, HaveOpened, IfUnopened};
 ghost use Rattle.supervisor.specs.Spaces.{Stay};
 ghost use Rattle.supervisor.specs.Reviving.{IsLeftBy, refusal_of};
 ghost use Rattle.supervisor.specs.Teams.{AreOver, IsAlone};
 ghost use Rattle.supervisor.specs.Teams.{started_in, working_in};
 ghost use Rattle.supervisor.specs.declared.cells.TheConstants.{WATCHES};
+ghost use Rattle.workers.specs.Runs.{IsReport};
 ghost use Rattle.supervisor.specs.declared.reviving.Unrevived.TheVariants as unrevived;
 
 use crate::cells::{open_alone, share_on};
@@ -75,8 +79,8 @@ impl<D: Disk + Drop> Opened<D> {
     /// world of these nodes.
     pub fn open(alloc: Global, config: &Config, disks: Vec<D>) -> Result<Opened<D>, OpenFault>
         ensures disks { vec_len disks ≢ config.now.shape.nodes → IsErrOf result fault.Disks }
-        ensures why { IfErr result
-            (IfUnopened (IsWhyUnopened D.seen D.moment D.faults config.now.shape disks.items)) }
+        ensures why { IfErr result (IfUnopened
+            (IsWhyUnopened D.seen D.seals D.moment D.faults config.now.shape disks.items)) }
         ensures one_age { IfOk result (λ _.
             AreRead D.seen config.now.shape disks.items AreOfOneAge) }
         ensures nodes { IfOk result (λ s. s.plan.nodes ≡ config.now.shape.nodes) }
@@ -106,6 +110,7 @@ impl<D: Disk + Drop> Opened<D> {
             (λ k d n. IsReadFrom config.now.shape k (D.seen d) n) disks.items
             (map (λ c. c.node) s.cells.items)) }
         ensures all { IfOk result (λ s. length s.cells.items ≡ length disks.items) }
+        ensures intact { OnOk result (AreIntact D.seen D.seals disks.items) }
         ensures new { IfOk result (λ s. All IsNew s.cells.items) }
         ensures made { IfOk result (λ s. IsMade
             (world_of (cores (map (λ c. c.node) s.cells.items))) WATCHES s.wire
@@ -137,6 +142,8 @@ impl<D: Disk + Drop> Opened<D> {
         ensures plan { IfOk result (λ s. s.plan ≡ self.plan) }
         ensures fresh { IfOk result (λ s. is_some s.team ≡ false) }
         ensures watches { IfOk result (λ s. s.watches ≡ self.watches) }
+        ensures cells { IfOk result (λ s.
+            map (λ c. first_of (arc_value c)) s.cells.items ≡ map desk_of self.cells.items) }
         ensures refused { IfErr result (λ e. e ≡ refusal.Memory) }
     {
         let Opened {
@@ -171,6 +178,7 @@ pub struct SpaceOn<D: Disk, W: Naming> {
     ghost some: { 0 < plan.nodes },
     ghost wide: { nodes_of (opened_with (arc_value wire)) ≡ plan.nodes },
     ghost of: { AreWatches (arc_value wire) watches.items },
+    ghost planned: { ForSome team (λ t. t.plan ≡ plan) },
 }
 
 // Written out, so that the crates above need not prove again how each field is dropped.
@@ -215,6 +223,7 @@ pub type Space<D> = SpaceOn<D, Unnamed>;
 impl<D: Disk + Drop> SpaceOn<D, Unnamed> {
     /// Opens a space of this configuration on these disks, the first for node 0. If nothing was
     /// ever created on a disk, its node is new; otherwise it continues from its last saved state.
+    /// No node was given an event since.
     /// Disks that hold nodes have to be those of one space that was closed or stopped earlier. If
     /// they are of one moment ([`Closed`]), a run reaches the world in which the space begins.
     ///
@@ -225,8 +234,8 @@ impl<D: Disk + Drop> SpaceOn<D, Unnamed> {
     /// failed. Never `Config`. After an error all disks are dropped.
     pub fn open(alloc: Global, config: &Config, disks: Vec<D>) -> Result<Space<D>, OpenFault>
         ensures disks { vec_len disks ≢ config.now.shape.nodes → IsErrOf result fault.Disks }
-        ensures why { IfErr result
-            (IfUnopened (IsWhyUnopened D.seen D.moment D.faults config.now.shape disks.items)) }
+        ensures why { IfErr result (IfUnopened
+            (IsWhyUnopened D.seen D.seals D.moment D.faults config.now.shape disks.items)) }
         ensures one_age { IfOk result (λ _.
             AreRead D.seen config.now.shape disks.items AreOfOneAge) }
         ensures nodes { IfOk result (λ s. s.plan.nodes ≡ config.now.shape.nodes) }
@@ -251,8 +260,12 @@ impl<D: Disk + Drop> SpaceOn<D, Unnamed> {
         ensures kept { (w : World) → AreLeftOn D.seen config.now.shape w disks.items
             → AreHeldOn D.seen config.now.shape w disks.items
             → IfErr result (IfUnopened (IfAges (λ _ _. ⊥))) }
+        ensures intact { OnOk result (AreIntact D.seen D.seals disks.items) }
         ensures begins { IfOk result (λ s. AreRead D.seen config.now.shape disks.items (λ ns.
             opened_with (arc_value s.wire) ≡ world_of (cores ns))) }
+        ensures opened { IfOk result (λ s. HaveOpened D.seen config.now.shape disks.items
+            (map (λ c. first_of (arc_value c)) s.cells.items) (arc_value s.wire)
+            s.watches.items) }
     {
         let opened = Opened::open(alloc, config, disks)?;
         match opened.share::<Unnamed>() {
@@ -349,6 +362,10 @@ impl<D: Disk + Drop, W: Naming> SpaceOn<D, W> {
         ensures same { IsSameWatch watch.old watch.new }
         ensures number { result.cycle.number ≡ max (loaded watch.new) (heard watch.old) }
         ensures found { loads_of watch.new ≡ loads_of watch.old ++ loaded watch.new ∷ [] }
+        ensures heard { heard watch.new ≡ heard watch.old }
+        ensures later { loaded watch.old ≤ loaded watch.new }
+        ensures ended { HasEnded (watch_opening watch.old) (loaded watch.new) }
+        ensures was_ended { WasEnded (watch_opening watch.old) result.cycle.number }
     {
         LastLook {
             cycle: self.look(watch),
@@ -359,6 +376,8 @@ impl<D: Disk + Drop, W: Naming> SpaceOn<D, W> {
     /// node. The result is empty if no worker was started.
     pub fn close<R: Threads>(self, rt: &R) -> Vec<Report>
         ensures own { IsPermutation (started_in self.team) (map (λ r. r.node) result.items) }
+        ensures reports { All (λ r. ∥ IsReport r.node self.plan.nodes self.plan.turns r ∥₁)
+            result.items }
         ensures sorted { IsNonDecreasingBy (λ r. r.node) result.items }
     {
         let SpaceOn {
@@ -389,6 +408,8 @@ impl<D: Disk + Drop, W: Naming> SpaceOn<D, W> {
         requires named { W.wire ≡ Some (name_of (arc_value self.wire)) }
         requires begun { IsTrue W.begun }
         ensures own { IsPermutation (started_in self.team) (map (λ r. r.node) result.0.items) }
+        ensures reports { All (λ r. ∥ IsReport r.node self.plan.nodes self.plan.turns r ∥₁)
+            result.0.items }
         ensures sorted { IsNonDecreasingBy (λ r. r.node) result.0.items }
         ensures wire { IfOk result.1 (λ c. arc_value c.of.value ≡ arc_value self.wire) }
         ensures once { IfOk result.1 (λ c. AreOfOneMoment D.may_leave

@@ -284,7 +284,7 @@ pub(crate) fn play<R: Wait + Print, B: BufRead, S: Subject>(
 }
 
 /// The event that a line of a script gives to a node; it doesn't come from another node.
-pub(crate) fn event_in(line: &str) -> Option<Event>
+pub(crate) fn event_in(line: &str) -> Option<Event<'static>>
     ensures { IfSome result (λ e. is_own e ≡ true) }
 {
     match Line::parse(line) {

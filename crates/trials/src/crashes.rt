@@ -1,7 +1,7 @@
 //! What a disk opens to, and what crashes may leave of a disk in memory.
 use crate::case::Case;
 use disk::{Disk, MemoryDisk};
-use disk_shelf::is_blank;
+use disk_shelf::{check_seals, is_blank};
 use ids::{Refusal, Saves};
 use node_store::read_node;
 use std::alloc::{AllocError, Global};
@@ -58,6 +58,7 @@ fn found_on<D: Disk>(alloc: Global, disk: &mut D) -> Result<Option<Vec<u8>>, Ref
     if is_blank(disk) == Ok(true) {
         return Ok(None);
     }
+    let _digest = check_seals(alloc, disk)?;
     let (_place, node) = read_node(alloc, disk, Saves::Images)?;
     let image = image::to_bytes(alloc, &node);
     drop(node);

@@ -19,7 +19,7 @@ impl<R: Files<File = File>> Subject for InFiles<'_, R> {
     fn take(&mut self, case: &mut Case) {
         match case.verb() {
             "at" => {
-                let disk = FileDisk::at(self.rt, self.alloc, case.word(1));
+                let disk = FileDisk::at(self.rt, self.alloc, case.word(1), true);
                 self.hold(disk, case);
             }
             "over" => {

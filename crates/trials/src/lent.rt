@@ -18,6 +18,8 @@ impl<'a, D: Disk> Disk for Lent<'a, D> {
 
     ghost faults = { λ l. D.faults l.disk.now };
 
+    ghost seals = { λ l. D.seals l.disk.now };
+
     fn read(&mut self, area: Area, at: usize, into: &mut [u8]) -> Result<usize, DiskFault> {
         self.disk.read(area, at, into)
     }
@@ -32,6 +34,10 @@ impl<'a, D: Disk> Disk for Lent<'a, D> {
 
     fn failures(&self) -> u64 {
         self.disk.failures()
+    }
+
+    fn seals(&self) -> bool {
+        self.disk.seals()
     }
 
     ghost reads_left = { λ l. D.reads_left l.disk.now };

@@ -13,6 +13,8 @@ mod making;
 mod once;
 mod openings;
 mod play;
+mod reading;
+mod served;
 mod single;
 mod sizes;
 mod space;

@@ -4,6 +4,7 @@ ghost use Rattle.std.specs.Prelude.{◌≡◌, false, is_some, IfOk};
 use crate::case::Case;
 use crate::killed::outlived;
 use crate::once::once;
+use crate::served::show_served;
 use crate::sizes::{PAIR, Size, blank_disks, config_of};
 use crate::space::meet;
 use disk::{Disk, FileDisk, MemoryDisk};
@@ -54,7 +55,7 @@ impl Made for FileDisk {
         folder: &str,
         _failing: &[(usize, u64)],
     ) -> Result<Vec<FileDisk>, Refusal> {
-        FileDisk::each_in(rt, alloc, folder, nodes)
+        FileDisk::each_in(rt, alloc, folder, nodes, true)
     }
 }
 
@@ -91,6 +92,10 @@ where
     };
     if case.verb() == "once" {
         case.debug(&once(rt, alloc, text.as_str(), disks));
+        return;
+    }
+    if case.verb() == "served" {
+        show_served(rt, alloc, text.as_str(), disks, case);
         return;
     }
     match meet(rt, alloc, text.as_str(), disks) {

@@ -7,6 +7,7 @@ ghost use Rattle.model.specs.Steps.{is_own};
 use crate::case::{Case, Subject, event_in};
 use crate::crashes::put_crashes;
 use crate::lent::Lent;
+use crate::reading::put_read;
 use crate::sizes::{PAIR, Size, blank_disks, config_of};
 use disk::{Disk, MemoryDisk};
 use ids::{Refusal, Saves};
@@ -47,7 +48,9 @@ impl<R: Wait> Subject for Openings<'_, R> {
                 self.saves = case.saves();
                 case.text("ok");
             }
-            "fail" | "fail-once" | "crash" | "crashes" => change(self.alloc, &mut self.disks, case),
+            "fail" | "fail-once" | "crash" | "crashes" | "shelf" | "journal" => {
+                change(self.alloc, &mut self.disks, case);
+            }
             "keep" => self.keep(case),
             "restore" => self.restore(case),
             _ => match opened(self.alloc, &mut self.disks, self.saves) {
@@ -104,6 +107,7 @@ fn change(alloc: Global, disks: &mut [MemoryDisk], case: &mut Case) {
     };
     match case.verb() {
         "crashes" => put_crashes(alloc, disk, case),
+        "shelf" | "journal" => put_read(alloc, disk, case),
         "crash" => {
             let left = disk.after_crash(case.number(2));
             replace(disk, left, case);

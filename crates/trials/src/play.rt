@@ -126,7 +126,7 @@ where
                 case.needs(self.failing.push(call).is_ok());
                 case.text("ok");
             }
-            "meet" | "once" => show(self.rt, self.alloc, case),
+            "meet" | "once" | "served" => show(self.rt, self.alloc, case),
             "killed" => show_killed(self.rt, self.alloc, case),
             _ => match &mut self.opened {
                 Some(opened) => on_space(self.rt, opened, case),

@@ -33,9 +33,9 @@ impl Wire {
             → Happens (known seat.old) step (pair_by event.now (known seat.old).pair) }
         ensures same { IsSame seat.old seat.new }
         ensures known { known seat.new
-            ≡ known_after event.now step (Ok answer.now) (known seat.old) }
+            ≡ known_after event.now step.entry (Ok answer.now) (known seat.old) }
         ensures entered { is_change answer.now ≡ true
-            → Entered step (known seat.old) (known seat.new) }
+            → Entered step.entry (known seat.old) (known seat.new) }
         ensures changed { result ≡ is_change answer.now }
     {
         if answer.is_change() {

@@ -111,7 +111,7 @@ answers-are-unseen shape limits old calls choice shown are =
     let w : World = new_world shape in
     let all = answered old calls choice are w shown in
     let unseen = collector-is-unseen shape limits (steps_of old calls) choice in (
-      subst (IsRun shape.nodes (new_space shape)) (sym all.seen) unseen.0,
+      subst (IsRun shape (new_space shape)) (sym all.seen) unseen.0,
       all.shown,
       subst (λ (z : List Sight).
           LooksLike (after (new_space shape) z) (cut (run w (steps_of old calls)) choice))

@@ -1,14 +1,13 @@
 -- The messages that the nodes of a space keep were released; this is so after each step.
 use Rattle.std.proofs.Common.{◌≡◌, ◌≢◌, ℕ, ◌-◌, ◌<◌, ◌≤◌, ◌==◌, ltb, ap₂, true, List, [], ◌∷◌, length, get_or, set, Option, Some, None, Result, Ok, Err, refl, ap, sym, ◌∙◌, subst, ⊎_elim, arith}
 use Rattle.std.specs.Prelude.{◌↔◌, IfErr, IfOk, OnErr, OnOk, slice_get}
-use Rattle.std.proofs.lemmas.Bool.{cases_lt, cond_both}
+use Rattle.std.proofs.lemmas.Bool.{cases_lt, cond_both, false≢true}
 use Rattle.std.proofs.lemmas.List.{length-set, length-map, get_or_read, get_or_past, set-get_or, set_past, map-set}
 use Rattle.std.proofs.Math.ListN.{get_or-map}
 use Rattle.ids.specs.Limits.{Shaped}
 use Rattle.ids.specs.declared.refusal.Refusal.{Refusal}
 use Rattle.ids.specs.declared.refusal.Refusal.TheVariants.{ImageTooLarge, Memory, NoNode}
-use Rattle.ids.specs.declared.limits.TheConstants.{GREATEST_IMAGE}
-use Rattle.image.specs.Images.{image_of}
+use Rattle.image.specs.Images.{IsTooLarge}
 use Rattle.msg.specs.Frames.{Plain, data_frame, plain_data}
 use Rattle.frames.specs.Grammar.{Fits, spelling}
 use Rattle.msg.specs.declared.body.Message.{Message}
@@ -34,7 +33,7 @@ use Rattle.laws.proofs.Net.{released-grows}
 use Rattle.node.specs.Invariant.{IsNode}
 use Rattle.node.specs.Keeping.{OfAll, Rings, early_after, no_rings, next_event, next_step, met, waiting}
 use Rattle.world.specs.Sites.{SiteView, KeepingSite, Acted, ActedKeeping, Saves, restarted}
-use Rattle.world.specs.Shows.{ShowsWorld, Stepped, Given, IsAckOf, IsSim, IsPlaced, frame_at, no_site, site_at}
+use Rattle.world.specs.Shows.{ShowsWorld, Stepped, Given, IsAckOf, IsSim, IsPlaced, SavesTooLarge, frame_at, no_site, site_at}
 use Rattle.world.specs.Spaces.{SpaceView, FollowsSpace, GivenSpace, IsOfNet, KeepsAfter, ShowsSpace, SteppedSpace, early_of, given_early, kept_at, keeping_at, outcome_by, site_of, space_of, step_met}
 use Rattle.node.proofs.Kept.{of-none, after-all}
 use Rattle.world.proofs.Runs.{extends_space}
@@ -161,7 +160,7 @@ pub record SavesSite (r : Result Unit Refusal) (q p : KeepingSite) : Type 0 wher
   pub node : OnOk r (IsNode q.site.current)
   pub unchanged : OnErr r (p ≡ q)
   pub refused : IfErr r (λ e. e ≢ Memory → e ≡ ImageTooLarge)
-  pub too_large : r ≡ Err ImageTooLarge ↔ GREATEST_IMAGE < length (image_of q.site.current)
+  pub too_large : r ≡ Err ImageTooLarge ↔ IsTooLarge q.site.current
 
 module _ {n m : SpaceView} {i : ℕ} {q p : KeepingSite} (c : SpaceChanges n m i q p) where
   pub keeps-changed : ((w : World) → ShowsSpace n w → OfAll (IsOfNet w i) p.early) → KeepsNet n m
@@ -286,6 +285,14 @@ module _ {n m : SpaceView} {i : ℕ} {q p : KeepingSite} (c : SpaceChanges n m i
   saved-space (Err e) h s =
       lifted refl (keeps-early s.early) (λ w shown. early-same s.early)
       (save-refused c.sites _ (ap site_of s.unchanged) s.refused s.too_large)
+
+-- in a wide space no image is too large
+pub wide-saved : (n : List SiteView) (i : ℕ) (r : Result Unit Refusal)
+    → (outcome_by (λ _. outcome.Done) r ≡ Err ImageTooLarge → SavesTooLarge n (step.Save i))
+    → (site_at n i).current.local.shape.wide ≡ true → IfErr r (λ e. e ≢ ImageTooLarge)
+wide-saved n i (Ok x) large wide = tt
+wide-saved n i (Err e) large wide = λ is.
+    false≢true (sym (large (ap (λ (z : Refusal). Err z) is)).1.0 ∙ wide)
 
 -- ---- a node is given an event
 

@@ -5,7 +5,7 @@ use Rattle.std.proofs.lemmas.List.{length-map}
 use Rattle.std.proofs.lemmas.List.FromFn.{length-range_with_len, get_or-map-range_with_len, length-map-range_with_len}
 use Rattle.std.proofs.lemmas.Simd.{map-map, splat_is_map}
 use Rattle.msg.specs.declared.frame.Data.{Data}
-use Rattle.ids.specs.Limits.{Shaped, IsShape}
+use Rattle.ids.specs.Limits.{Shaped, IsShape, plain_shape}
 use Rattle.model.specs.State.{NodeState, new_node, no_node, sent_to}
 use Rattle.model.specs.View.{Link, new_view}
 use Rattle.model.specs.World.{acknowledged, new_world}
@@ -51,7 +51,7 @@ new-site-shown B i shape own = record {
 each-shown : (B : ℕ → ℕ) (i : ℕ) (shape : Shaped) (xs : List ℕ) (k : ℕ)
     → ShowsNew B i (get_or (map (new_site shape) xs) k no_site)
     (get_or (map (new_node shape) xs) k no_node)
-each-shown B i shape [] k = new-site-shown B i (record { nodes = 0; registers = 0; slots = 0 }) 1
+each-shown B i shape [] k = new-site-shown B i (plain_shape 0 0 0) 1
 each-shown B i shape (x ∷ xs) zero = new-site-shown B i shape x
 each-shown B i shape (x ∷ xs) (suc k) = each-shown B i shape xs k
 

@@ -159,6 +159,13 @@ broken {w} {old} {steps} {place} {s} new e h follows =
       rest = drop place steps;
       parts = sym (take-append-drop place steps);
       shown = f.1;
+      stop = record {
+        step = s;
+        later = drop (place + 1) steps;
+        first = drop_more steps place s h.less
+            ∙ ap (λ (z : Step). z ∷ drop (place + 1) steps) (sym h.item);
+        refused = f.0;
+      };
       cause = λ oks.
           let front : AllByRecursion IsOk (outcomes w (take place steps ++ drop place steps)) =
           subst (λ (z : List Step). AllByRecursion IsOk (outcomes w z))
@@ -213,19 +220,21 @@ played-more {n = n} {moves = moves} {w = w} new p here shown = record {
 }
 
 pub stops-short : {n cycle moves : ℕ} {w : World} {old : SpaceView} (e : Refusal)
-    (new : SpaceView) → moves ≤ GREATEST_NUMBER → Played n cycle moves w old
+    (new : SpaceView) → moves < GREATEST_NUMBER → Played n cycle moves w old
     → (IsSwept n cycle (now (play n moves w)) → ⊥)
     → BreaksOff e (play n moves w) new (next_steps n (play n moves w))
     → StopsShort n cycle e w new
-stops-short {moves = moves} e new few p here b = record {
+stops-short {moves = moves} e new less p here b = record {
   moves = moves;
-  few = few;
-  before = λ k le less. not-yet p here k (omega (arith, le));
+  few = omega (arith, less);
+  before = λ k le below. not-yet p here k (omega (arith, le));
   done = b.done;
   rest = b.rest;
   parts = b.parts;
   shown = b.shown;
-  cause = λ less. b.cause;
+  stop = λ below. b.stop;
+  spent = λ same. absurd (omega (arith, less, same));
+  cause = λ below. b.cause;
 }
 
 -- ---- what the code knows at the end of a move
@@ -282,14 +291,14 @@ moves-on {cycle = cycle} {moves = moves} {w = w} {old = old} {here = here} {new 
     (same-width (played n moves w) shown p.shown) (plays v p.shown)))
 
 pub breaks-off : {cycle moves : ℕ} {w : World} {old here new : SpaceView} (e : Refusal)
-    → ShowsSpace old w → moves ≤ GREATEST_NUMBER → Played (length old.sites) cycle moves w here
+    → ShowsSpace old w → moves < GREATEST_NUMBER → Played (length old.sites) cycle moves w here
     → Finds false here cycle → Plays (Err e) here new
     → StopsShort (length old.sites) cycle e w new
 breaks-off {cycle = cycle} {moves = moves} {w = w} {old = old} {here = here} {new = new} e shown
-    few p finds plays =
+    less p finds plays =
     let n : ℕ = length old.sites in
     let v : World = play n moves w in
-    stops-short e new few p (not-here shown p finds)
+    stops-short e new less p (not-here shown p finds)
     (subst (λ (z : ℕ). BreaksOff e v new (next_steps z v))
     (same-width (played n moves w) shown p.shown) (plays v p.shown))
 

@@ -1,5 +1,5 @@
 -- Each step of the code's space is the step of the definitions.
-use Rattle.std.proofs.Common.{◌≡◌, ◌≢◌, ℕ, ◌<◌, ◌≤◌, subst, true, false, ◌&&◌, List, length, set, slice_get, ⊎_elim, Option, Some, None, Result, Ok, Err, ◌⊎◌, inl, inr, refl, ap, sym, ◌∙◌, arith}
+use Rattle.std.proofs.Common.{◌≡◌, ◌≢◌, ℕ, ◌<◌, ◌≤◌, subst, true, false, ◌&&◌, List, length, set, slice_get, ⊎_elim, Option, Some, None, Result, Ok, Err, ◌⊎◌, inl, inr, refl, ap, sym, ◌∙◌, arith, cond, Bool}
 use Rattle.std.specs.Prelude.{IsOk, IfOk, IfErr, OnErr, ◌↔◌}
 use Rattle.std.specs.Option.{option_map}
 use Rattle.std.proofs.Math.ListN.{get_or-map}
@@ -9,8 +9,7 @@ use Rattle.std.proofs.lemmas.List.{set-get_or, map-set}
 use Rattle.std.proofs.lemmas.Simd.{map-map}
 use Rattle.ids.specs.declared.refusal.Refusal.{Refusal}
 use Rattle.ids.specs.declared.refusal.Refusal.TheVariants.{Memory, NoNode, ImageTooLarge}
-use Rattle.ids.specs.declared.limits.TheConstants.{GREATEST_IMAGE}
-use Rattle.image.specs.Images.{image_of}
+use Rattle.image.specs.Images.{IsTooLarge}
 use Rattle.model.specs.Checks.{IsFirstRefusal, by_test, by_memory}
 use Rattle.model.specs.declared.event.Event.{Event}
 use Rattle.model.specs.declared.event.Event.TheVariants as event
@@ -19,7 +18,7 @@ use Rattle.model.specs.declared.step.Step.{Step}
 use Rattle.model.specs.declared.step.Step.TheVariants as step
 use Rattle.model.specs.declared.step.Outcome.{Outcome}
 use Rattle.model.specs.declared.step.Outcome.TheVariants as outcome
-use Rattle.model.specs.State.{NodeState, node_at}
+use Rattle.model.specs.State.{LocalState, NodeState, node_at}
 use Rattle.model.specs.Steps.{act, ack_of, is_own, is_memory_free, is_shading}
 use Rattle.model.specs.View.{NodeView, IsTold, view_act, all_kept, kept_view, base_of}
 use Rattle.model.specs.World.{World, FollowsStep, IsStepRefusal, take_step, is_node, moved, acknowledged, is_step_memory_free, is_shading_step}
@@ -27,9 +26,10 @@ use Rattle.model.proofs.Shown.{act-shown}
 use Rattle.model.proofs.Refusals.{event-never, memory-or}
 use Rattle.node.specs.Invariant.{IsNode}
 use Rattle.node.specs.Summaries.{summary_of}
+use Rattle.model.specs.Heaps.{heap_bytes}
 use Rattle.model.specs.declared.summary.Summary.{Summary}
 use Rattle.world.specs.Sites.{SiteView, Saves, bases, bases_acked}
-use Rattle.world.specs.Shows.{SiteBases, ShowsWorld, SavesTooLarge, Stepped, Given, IsSim, no_site, site_at, site_bases, bases_of, bases_at, bases_after, summary_at}
+use Rattle.world.specs.Shows.{SiteBases, ShowsWorld, SavesTooLarge, Stepped, Given, IsSim, no_site, site_at, site_bases, bases_of, bases_at, bases_after, summary_at, bytes_read}
 use Rattle.world.specs.Spaces.{outcome_by}
 use Rattle.world.proofs.Refusals.{first-by, step-refused}
 use Rattle.world.proofs.SiteLemmas.{IsAckWithin}
@@ -311,15 +311,15 @@ module _ {n m : List SiteView} {i : ℕ} {q p : SiteView} (c : Changes n m i q p
 
   -- the image of the site's node is too large
   abbrev IsOver : Type 0
-  IsOver = GREATEST_IMAGE < length (image_of q.current)
+  IsOver = IsTooLarge q.current
 
   over-saves : IsOver → SavesTooLarge n (step.Save i)
   over-saves over =
-      (c.within, subst (λ (z : SiteView). GREATEST_IMAGE < length (image_of z.current)) c.old over)
+      (c.within, subst (λ (z : SiteView). IsTooLarge z.current) c.old over)
 
   saves-over : SavesTooLarge n (step.Save i) → IsOver
   saves-over saves =
-      subst (λ (z : SiteView). GREATEST_IMAGE < length (image_of z.current)) (sym c.old) saves.1
+      subst (λ (z : SiteView). IsTooLarge z.current) (sym c.old) saves.1
 
   -- a save fails because allocation fails, or because the image is too large
   pub save-refused : (e : Refusal) → p ≡ q → (e ≢ Memory → e ≡ ImageTooLarge)
@@ -382,23 +382,63 @@ module _ {n m : List SiteView} {i : ℕ} {q p : SiteView} (c : Changes n m i q p
       (λ large. large)
       (bases-changed (λ b. record b { current = b.saved }) c (ap site_bases is))
 
--- ---- a node in numbers
+-- ---- nodes
+
+-- what is said of the current node of this number, if there is one
+
+pub local_here : {X : Type 0} (f : LocalState → X) {r : Option NodeView} (o : Option SiteView)
+    → r ≡ option_map (λ q. q.current) o
+    → option_map (λ v. f v.local) r ≡ option_map (λ q. f q.current.local) o
+local_here f None is = ap (option_map (λ v. f v.local)) is
+local_here f (Some q) is = ap (option_map (λ v. f v.local)) is
+
+pub local_shown : {X : Type 0} (f : LocalState → X) {n : List SiteView} {w : World} (i : ℕ)
+    → ShowsWorld n w
+    → option_map (λ q. f q.current.local) (slice_get n i)
+    ≡ cond (is_node w i) (Some (f (node_at w.current i).local)) None
+local_shown {X = X} f {n = n} {w = w} i h =
+    let told : SiteView → X = λ q. f q.current.local in
+    ⊎_elim
+    (λ (less : i < length n).
+    ap (option_map told) (slice_get-get_or n i no_site less)
+    ∙ ap (λ p. Some (f p)) (h.each i).current.shows.local
+    ∙ sym (cond-true _ _ _ (is-node h i less)))
+    (λ (past : length n ≤ i).
+    ap (option_map told) (slice_get_past n i past)
+    ∙ sym (cond-false _ _ _ (le-ltb i (length w.current) (omega (arith, past, h.width)))))
+    (cases_lt i (length n))
+
+-- a node in numbers
 
 pub state_here : {r : Option NodeView} (o : Option SiteView) → r ≡ option_map (λ q. q.current) o
     → option_map (λ v. summary_of v.local) r ≡ option_map (λ q. summary_of q.current.local) o
-state_here None is = ap (option_map (λ v. summary_of v.local)) is
-state_here (Some q) is = ap (option_map (λ v. summary_of v.local)) is
+state_here o is = local_here summary_of o is
 
 pub state_shown : {n : List SiteView} {w : World} (i : ℕ) → ShowsWorld n w
     → option_map (λ q. summary_of q.current.local) (slice_get n i) ≡ summary_at w i
-state_shown {n = n} {w = w} i h =
-    let summary : SiteView → Summary = λ q. summary_of q.current.local in
-    ⊎_elim
-    (λ (less : i < length n).
-    ap (option_map summary) (slice_get-get_or n i no_site less)
-    ∙ ap (λ p. Some (summary_of p)) (h.each i).current.shows.local
-    ∙ sym (cond-true _ _ _ (is-node h i less)))
-    (λ (past : length n ≤ i).
-    ap (option_map summary) (slice_get_past n i past)
-    ∙ sym (cond-false _ _ _ (le-ltb i (length w.current) (omega (arith, past, h.width)))))
-    (cases_lt i (length n))
+state_shown i h = local_shown summary_of i h
+
+-- bytes that are read
+
+abbrev pub reads_bytes : ℕ → ℕ → ℕ → LocalState → Result (List ℕ) Refusal
+reads_bytes object offset count p = heap_bytes p.own p.heap object offset count
+
+abbrev pub or_no_node : Option (Result (List ℕ) Refusal) → Result (List ℕ) Refusal
+or_no_node (Some r) = r
+or_no_node None = Err NoNode
+
+pub bytes_shown : {n : List SiteView} {w : World} (i object offset count : ℕ) → ShowsWorld n w
+    → {r : Option NodeView} → r ≡ option_map (λ q. q.current) (slice_get n i)
+    → or_no_node (option_map (λ v. reads_bytes object offset count v.local) r)
+    ≡ bytes_read w i object offset count
+bytes_shown {n = n} {w = w} i object offset count h is =
+    ap or_no_node (local_here (reads_bytes object offset count) (slice_get n i) is
+    ∙ local_shown (reads_bytes object offset count) i h)
+    ∙ by (is_node w i)
+  where
+    by : (b : Bool)
+        → or_no_node (cond b (Some (reads_bytes object offset count (node_at w.current i).local))
+        None)
+        ≡ cond b (reads_bytes object offset count (node_at w.current i).local) (Err NoNode)
+    by true = refl
+    by false = refl

@@ -61,7 +61,7 @@ AnswersAreUnseen =
     (shape : Shaped) → IsShape shape
     → (old : SpaceView) (calls : List Call) (choice : ℕ → Bool)
     → ShowsSpace old (new_world shape) → AreCalls old calls
-    → IsRun shape.nodes (new_space shape) (sights (new_world shape) old calls choice)
+    → IsRun shape (new_space shape) (sights (new_world shape) old calls choice)
     × ShowsSpace (space_after old calls) (run (new_world shape) (steps_of old calls))
     × LooksLike (after (new_space shape) (sights (new_world shape) old calls choice))
     (cut (run (new_world shape) (steps_of old calls)) choice)

@@ -1,12 +1,12 @@
 -- What playing the collector's strategy gives ("Progress" in docs/PROOF.md).
-use Rattle.std.specs.Prelude.{◌≡◌, ℕ, ◌<◌, ◌≤◌, ◌⊎◌, List, ◌++◌, Result, Ok, Err, IsOk}
+use Rattle.std.specs.Prelude.{◌≡◌, ℕ, ◌<◌, ◌≤◌, ◌⊎◌, List, ◌∷◌, ◌++◌, Result, Ok, Err, IsOk}
 use Rattle.std.specs.List.{AllByRecursion}
 use Rattle.ids.specs.declared.refusal.Refusal.{Refusal}
-use Rattle.ids.specs.declared.refusal.Refusal.TheVariants.{Memory, ImageTooLarge}
+use Rattle.ids.specs.declared.refusal.Refusal.TheVariants.{LinkSpent, Memory, ImageTooLarge}
 use Rattle.ids.specs.declared.names.Ref.{Ref}
 use Rattle.ids.specs.declared.limits.TheConstants.{GREATEST_NUMBER, GREATEST_CYCLE}
 use Rattle.model.specs.declared.step.Step.{Step}
-use Rattle.model.specs.World.{World, run, outcomes}
+use Rattle.model.specs.World.{World, IsStepRefusal, run, outcomes}
 use Rattle.laws.specs.Strategy.{now, next_steps, play}
 use Rattle.laws.specs.Progress.{current_cycle, IsSwept, IsGone, saves}
 use Rattle.laws.specs.Bounds.{both_moves, cycle_room, both_room, HasRoom}
@@ -17,13 +17,22 @@ use Rattle.world.specs.Spaces.{SpaceView, ShowsSpace}
 abbrev pub IsOfCode : Refusal → Type 0
 IsOfCode e = (e ≡ Memory) ⊎ (e ≡ ImageTooLarge)
 
--- A list of steps was broken off: the code shows the space after those that were taken. If the
--- definitions answer all of them, the code ran out of memory, or an image is too large.
+-- The first of these steps was refused in this space; the others weren't tried.
+pub record StopsAt (e : Refusal) (w : World) (rest : List Step) : Type 0 where
+  pub step : Step
+  pub later : List Step
+  pub first : rest ≡ step ∷ later
+  pub refused : IsStepRefusal w step e
+
+-- A list of steps was broken off at one that was refused: the code shows the space after those
+-- before it. If the definitions answer all of them, the code ran out of memory, or an image is too
+-- large.
 pub record BreaksOff (e : Refusal) (w : World) (new : SpaceView) (steps : List Step) : Type 0 where
   pub done : List Step
   pub rest : List Step
   pub parts : steps ≡ done ++ rest
   pub shown : ShowsSpace new (run w done)
+  pub stop : StopsAt e (run w done) rest
   pub cause : AllByRecursion IsOk (outcomes w steps) → IsOfCode e
 
 -- these steps one after another, from a space of the definitions that was shown before
@@ -38,8 +47,8 @@ pub record Collects (n cycle moves : ℕ) (w : World) (new : SpaceView) : Type 0
   pub swept : IsSwept n cycle (now (play n moves w))
   pub first : (k : ℕ) → k < moves → IsSwept n cycle (now (play n k w)) → ⊥
 
--- It was broken off in some move, and there was no such space before. `LinkSpent` also ends it after
--- `GREATEST_NUMBER` moves.
+-- It was broken off in some move, at a step that was refused, and there was no such space before.
+-- `LinkSpent` also ends it after `GREATEST_NUMBER` moves.
 pub record StopsShort (n cycle : ℕ) (e : Refusal) (w : World) (new : SpaceView) : Type 0 where
   pub moves : ℕ
   pub few : moves ≤ GREATEST_NUMBER
@@ -48,6 +57,8 @@ pub record StopsShort (n cycle : ℕ) (e : Refusal) (w : World) (new : SpaceView
   pub rest : List Step
   pub parts : next_steps n (play n moves w) ≡ done ++ rest
   pub shown : ShowsSpace new (run (play n moves w) done)
+  pub stop : moves < GREATEST_NUMBER → StopsAt e (run (play n moves w) done) rest
+  pub spent : moves ≡ GREATEST_NUMBER → e ≡ LinkSpent
   pub cause : moves < GREATEST_NUMBER
       → AllByRecursion IsOk (outcomes (play n moves w) (next_steps n (play n moves w))) → IsOfCode e
 

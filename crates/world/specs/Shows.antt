@@ -1,7 +1,8 @@
 -- How the code's space shows a space of the definitions.
 use Rattle.std.specs.Prelude.{◌≡◌, ◌≢◌, ℕ, ◌<◌, ◌≤◌, List, length, map, cond, IsTrue, IfOk, IfErr, OnErr, ◌↔◌, slice_get, slice_set, slice_index_or, Option, Some, None, Result, Err}
+use Rattle.ids.specs.Limits.{plain_shape}
 use Rattle.ids.specs.declared.refusal.Refusal.{Refusal}
-use Rattle.ids.specs.declared.refusal.Refusal.TheVariants.{Memory, ImageTooLarge}
+use Rattle.ids.specs.declared.refusal.Refusal.TheVariants.{Memory, NoNode, ImageTooLarge}
 use Rattle.ids.specs.declared.limits.TheConstants.{GREATEST_NODES, GREATEST_IMAGE}
 use Rattle.msg.specs.declared.frame.Ack.{Ack}
 use Rattle.model.specs.declared.event.Event.{Event}
@@ -11,10 +12,11 @@ use Rattle.model.specs.declared.step.Step.TheVariants as step
 use Rattle.model.specs.declared.step.Outcome.{Outcome}
 use Rattle.model.specs.declared.step.Outcome.TheVariants as outcome
 use Rattle.model.specs.State.{NodeState, node_at, sent_to}
+use Rattle.model.specs.Heaps.{heap_bytes}
 use Rattle.model.specs.Steps.{is_addressed}
 use Rattle.model.specs.View.{NodeView, Shows, link_to}
 use Rattle.model.specs.World.{World, KeepsSent, FollowsStep, acknowledged, is_node, is_step_memory_free}
-use Rattle.image.specs.Images.{image_of}
+use Rattle.image.specs.Images.{IsTooLarge}
 use Rattle.node.specs.Summaries.{summary_of}
 use Rattle.model.specs.declared.summary.Summary.{Summary}
 use Rattle.world.specs.Outboxes.{IsFrameOf, numbered_bytes}
@@ -22,7 +24,7 @@ use Rattle.world.specs.Sites.{SiteView, Acted, frames_to, new_site, bases, bases
 
 -- the site of a node; past the last one, a site that no space has
 abbrev pub no_site : SiteView
-no_site = new_site (record { nodes = 0; registers = 0; slots = 0 }) 1
+no_site = new_site (plain_shape 0 0 0) 1
 
 abbrev pub site_at : List SiteView → ℕ → SiteView
 site_at sites i = slice_index_or sites i no_site
@@ -106,17 +108,17 @@ bases_after all (step.Hand from to) (outcome.Handed number) =
     (record (bases_at all from) { current = bases_to (bases_at all from).current to number })
 bases_after all s o = all
 
--- the step saves a node that exists, and the node's image is longer than an image may be
+-- the step saves a node that exists, and the node's image is too large
 abbrev pub SavesTooLarge : List SiteView → Step → Type 0
 SavesTooLarge sites (step.Save i) =
-    (i < length sites) × (GREATEST_IMAGE < length (image_of (site_at sites i).current))
+    (i < length sites) × IsTooLarge (site_at sites i).current
 SavesTooLarge sites s = ⊥
 
--- some node's image is longer than an image may be, so it can't be saved
+-- some node's image is too large, so it can't be saved
 pub record HasTooLarge (sites : List SiteView) : Type 0 where
   pub node : ℕ
   pub inside : node < length sites
-  pub too_large : GREATEST_IMAGE < length (image_of (site_at sites node).current)
+  pub too_large : IsTooLarge (site_at sites node).current
 
 -- A step compared with that of the definitions, on each of their spaces that was shown before.
 abbrev pub FollowsShown : Result Outcome Refusal → List SiteView → List SiteView → Step → Type 0
@@ -134,6 +136,13 @@ pub record Stepped (result : Result Outcome Refusal) (old new : List SiteView)
   pub lets_go : IfOk result (λ o. bases_of new ≡ bases_after (bases_of old) s o)
   pub memory_free : (w : World) → ShowsWorld old w → IsTrue (is_step_memory_free w s)
       → IfErr result (λ e. e ≢ Memory)
+
+-- what is read of an object that a register of the current node of this number refers to: this
+-- many bytes, from this offset on
+abbrev pub bytes_read : World → ℕ → ℕ → ℕ → ℕ → Result (List ℕ) Refusal
+bytes_read w i object offset count =
+    let p = (node_at w.current i).local in
+    cond (is_node w i) (heap_bytes p.own p.heap object offset count) (Err NoNode)
 
 -- the current node of this number, in numbers
 abbrev pub summary_at : World → ℕ → Option Summary

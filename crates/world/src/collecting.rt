@@ -38,7 +38,7 @@ pub(crate) enum Next {
     /// The node `to` receives the next message from the node `from`, which has this number.
     Bring { from: u8, to: u8, number: u64 },
     /// The node does one of its own events.
-    Do { node: u8, event: Event },
+    Do { node: u8, event: Event<'static> },
 }
 
 fn has_sign(core: &Core, sign: Sign) -> bool
@@ -121,7 +121,7 @@ impl Sim {
     // The next move that isn't the receipt of a message: while marking goes on, a node scans a grey
     // object, or passes the token. After that each node sweeps all its slots, and last a cycle
     // begins.
-    fn own_move(&self) -> (u8, Event)
+    fn own_move(&self) -> (u8, Event<'static>)
         ensures is { (w : World) → ShowsSpace self.now w
             → Do result.0 result.1 ≡ own_move (length self.now.sites) (now w) }
         ensures collects { is_collectors (step.Act result.0 result.1) ≡ true }

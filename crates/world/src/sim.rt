@@ -1,6 +1,6 @@
 //! A space in one thread. It looks up the nodes that a step names, and leaves the work on one node
 //! to its `Site`.
-ghost use Rattle.std.specs.Prelude.{◌≡◌, ◌<◌, length, slice_get, IsTrue, IfOk, IfErr, ◌≢◌, replicate};
+ghost use Rattle.std.specs.Prelude.{◌≡◌, ◌<◌, length, slice_get, IsTrue, IfOk, IfErr, Ok, Err, ◌≢◌, replicate, true};
 ghost use Rattle.std.specs.Option.{option_copied, option_map};
 ghost use Rattle.ids.specs.declared.refusal.Refusal.TheVariants.{Memory, ImageTooLarge};
 ghost use Rattle.model.specs.Steps.{is_own};
@@ -12,6 +12,7 @@ ghost use Rattle.model.specs.declared.step.Step.TheVariants as step;
 ghost use Rattle.world.specs.Shows.{
   ShowsWorld,
   IsAckOf,
+  bytes_read,
   frame_at,
   site_at,
   summary_at,
@@ -82,9 +83,9 @@ impl Sim {
     ///
     /// It fails with `NoNode`, before anything else, if the step names a node that the space
     /// doesn't have. Otherwise it fails with whatever the node refuses. A save fails with
-    /// `ImageTooLarge` if the node's image would be too large, and a step fails with `Memory` if
-    /// allocation fails. A refused step changes nothing, except that an early message may have left
-    /// its place.
+    /// `ImageTooLarge` if the node's image would be too large, which it never is in a wide space,
+    /// and a step fails with `Memory` if allocation fails. A refused step changes nothing, except
+    /// that an early message may have left its place.
     ///
     /// Some steps never fail with `Memory`: an event for which a node never does, the delivery of
     /// nothing or of a message that isn't the next one, an acknowledgement, and a save whose image
@@ -94,7 +95,7 @@ impl Sim {
     /// or `ImageTooLarge`. In that run, a `Next` of a message that waits is its delivery.
     pub fn step(&mut self, step: Step) -> Result<Outcome, Refusal>
         requires own { IsTrue (is_own_step step) }
-        ensures { SteppedSpace result self.old self.new step }
+        ensures { SteppedSpace result self.old self.new step.entry }
     {
         match step {
             Step::Act(node, event) => self.act_step(node, event),
@@ -111,7 +112,7 @@ impl Sim {
     pub fn act(&mut self, node: u8, event: Event) -> Result<Answer, Refusal>
         requires own { IsTrue (is_own event) }
         ensures stepped { SteppedSpace (outcome_by (λ a. outcome.Answer a) result) self.old self.new
-            (step.Act node event) }
+            (step.Act node event.entry) }
         ensures small { IfErr result (λ e. e ≢ ImageTooLarge) }
     {
         if node >= self.count() {
@@ -125,8 +126,10 @@ impl Sim {
     /// outcome is no value.
     #[inline(always)]
     pub fn save(&mut self, node: u8) -> Result<(), Refusal>
-        ensures { SteppedSpace (outcome_by (λ _. outcome.Done) result) self.old self.new
+        ensures stepped { SteppedSpace (outcome_by (λ _. outcome.Done) result) self.old self.new
             (step.Save node) }
+        ensures wide { (site_at self.old.sites node).current.local.shape.wide ≡ true
+            → IfErr result (λ e. e ≢ ImageTooLarge) }
     {
         if node >= self.count() {
             return Err(Refusal::NoNode);
@@ -205,6 +208,21 @@ impl Sim {
         }
     }
 
+    /// These bytes of an object that a register of the node refers to: `count` of them, from
+    /// `offset` on. It fails with `NoNode` if the space has no such node, with `NoBytes` if the
+    /// object doesn't have all of them, and before that as the reading of its word does.
+    pub fn bytes(&self, number: u8, object: u16, offset: u32, count: u32) -> Result<&[u8], Refusal>
+        ensures value { IfOk result (λ b. (w : World) → ShowsSpace self.now w
+            → bytes_read w number object offset count ≡ Ok b.now) }
+        ensures refused { IfErr result (λ e. (w : World) → ShowsSpace self.now w
+            → bytes_read w number object offset count ≡ Err e) }
+    {
+        match self.node(number) {
+            Some(node) => node.bytes(object, offset, count),
+            None => Err(Refusal::NoNode),
+        }
+    }
+
     /// The phases of node 0.
     pub(crate) fn phases(&self) -> &Phases
         ensures some { 0 < length self.now.sites }
@@ -233,7 +251,7 @@ impl Sim {
     #[inline(never)]
     fn act_step(&mut self, node: u8, event: Event) -> Result<Outcome, Refusal>
         requires own { IsTrue (is_own event) }
-        ensures { SteppedSpace result self.old self.new (step.Act node event) }
+        ensures { SteppedSpace result self.old self.new (step.Act node event.entry) }
     {
         match self.act(node, event) {
             Ok(answer) => Ok(Outcome::Answer(answer)),

@@ -1,11 +1,10 @@
 //! One node of a space, the image of the one saved last, and the frames that were released. A
 //! restart reads the image and a delivery reads the frame, so what is proved of them holds of
 //! bytes.
-ghost use Rattle.std.specs.Prelude.{◌≡◌, ◌≢◌, ◌<◌, length, Err, IsTrue, IfOk, IfErr, OnOk, OnErr, slice_index_or, ◌↔◌};
+ghost use Rattle.std.specs.Prelude.{◌≡◌, ◌≢◌, ◌<◌, length, true, Err, IsTrue, IfOk, IfErr, OnOk, OnErr, slice_index_or, ◌↔◌};
 ghost use Rattle.std.specs.Option.{option_map};
 ghost use Rattle.ids.specs.declared.refusal.Refusal.TheVariants.{Memory, ImageTooLarge};
-ghost use Rattle.ids.specs.declared.limits.TheConstants.{GREATEST_IMAGE};
-ghost use Rattle.image.specs.Images.{image_of};
+ghost use Rattle.image.specs.Images.{IsTooLarge};
 ghost use Rattle.model.specs.View.{is_other};
 ghost use Rattle.node.specs.Invariant.{IsNode};
 ghost use Rattle.world.specs.Outboxes.{numbered_bytes};
@@ -96,22 +95,23 @@ impl Site {
     /// site is as before, except that an early message may have left its place.
     #[inline(always)]
     pub fn act(&mut self, event: Event) -> Result<Answer, Refusal>
-        ensures { ActedKeeping result self.old self.new event }
+        ensures { ActedKeeping result self.old self.new event.entry }
     {
         self.current.act(event)
     }
 
     /// Saves the current node as its image, and releases the frames of all its messages. Fails with
-    /// `ImageTooLarge` if the image is too large, and otherwise with `Memory` if allocation fails.
-    /// If it fails, nothing changes.
+    /// `ImageTooLarge` if the image is too large, which it never is in a wide space, and otherwise
+    /// with `Memory` if allocation fails. If it fails, nothing changes.
     pub fn save(&mut self, alloc: Global) -> Result<(), Refusal>
         ensures done { OnOk result (Saves self.old.site self.new.site) }
         ensures early { self.new.early ≡ self.old.early }
         ensures node { OnOk result (IsNode self.old.site.current) }
         ensures unchanged { OnErr result (self.new ≡ self.old) }
         ensures refused { IfErr result (λ e. e ≢ Memory → e ≡ ImageTooLarge) }
-        ensures too_large { result ≡ Err ImageTooLarge
-            ↔ GREATEST_IMAGE < length (image_of self.old.site.current) }
+        ensures too_large { result ≡ Err ImageTooLarge ↔ IsTooLarge self.old.site.current }
+        ensures wide { self.old.site.current.local.shape.wide ≡ true
+            → IfErr result (λ e. e ≢ ImageTooLarge) }
     {
         let spare = self.saved.take_spare(alloc);
         let image = to_bytes_over(spare, &self.current)?;

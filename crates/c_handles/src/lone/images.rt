@@ -1,8 +1,8 @@
 //! Images of a node, and what counts as saved once an image or a batch is stored.
-ghost use Rattle.std.specs.Prelude.{◌≡◌, ◌≢◌, ◌<◌, ◌≤◌, ◌++◌, length, replicate, IfErr, IfOk, OnOk};
-ghost use Rattle.ids.specs.declared.limits.TheConstants.{GREATEST_IMAGE};
+ghost use Rattle.std.specs.Prelude.{◌≡◌, ◌≢◌, ◌++◌, replicate, IfErr, IfOk, OnOk};
 ghost use Rattle.ids.specs.declared.refusal.Refusal.TheVariants.{ImageTooLarge, Memory};
 ghost use Rattle.disk_shelf.specs.declared.persist.TheConstants.{HEAD};
+ghost use Rattle.image.specs.Images.{IsTooLarge};
 ghost use Rattle.image.specs.Logged.{IsAnyWholeOf};
 ghost use Rattle.image.specs.Wholes.{saved_whole};
 ghost use Rattle.c_handles.specs.Images.{Imaged, Kept, SizedAs, counts_of, image_in, keeps, released};
@@ -56,10 +56,10 @@ impl LoneNode {
     fn image_behind(&self, alloc: Global) -> Result<Vec<u8>, Refusal>
         ensures bytes { IfOk result (λ v. v.items ≡ replicate HEAD 0 ++ image_in self.now) }
         ensures read { OnOk result (IsAnyWholeOf (image_in self.now) (saved_whole self.now.node)) }
+        ensures within { OnOk result (IsTooLarge self.now.node.core → ⊥) }
         ensures refused { IfErr result (λ e. e ≢ Memory
-            → (e ≡ ImageTooLarge) × (GREATEST_IMAGE < length (image_in self.now))) }
-        ensures last { IfErr result (λ e. e ≡ Memory
-            → length (image_in self.now) ≤ GREATEST_IMAGE) }
+            → (e ≡ ImageTooLarge) × IsTooLarge self.now.node.core) }
+        ensures last { IfErr result (λ e. e ≡ Memory → IsTooLarge self.now.node.core → ⊥) }
     {
         if self.logs {
             LoggedImages::to_bytes(alloc, &self.node)
@@ -70,7 +70,7 @@ impl LoneNode {
 
     /// The number of bytes of the node's image. Fails with `ImageTooLarge`, and with `Memory`.
     pub fn image_size(&self, alloc: Global) -> Result<usize, Fault>
-        ensures { SizedAs (image_in self.now) result }
+        ensures { SizedAs self.now.node.core (image_in self.now) result }
     {
         let bytes = self.image_behind(alloc)?;
         Ok(bytes.len() - HEAD)

@@ -26,7 +26,7 @@ impl LoneNode {
     #[inline(always)]
     pub(super) fn note(&mut self, event: Event)
         ensures stays { self.new ≡ record self.old { log = self.new.log } }
-        ensures noted { Noted self.old.log self.new.log event }
+        ensures noted { Noted self.old.log self.new.log event.entry }
     {
         let noted = event;
         let _lost = self.log.note(&noted);
@@ -36,7 +36,7 @@ impl LoneNode {
     // is `Next`.
     #[inline(never)]
     pub(super) fn perform_noting(&mut self, event: Event) -> Result<Answer, Fault>
-        ensures { Given false self.old self.new event result }
+        ensures { Given false self.old self.new event.entry result }
     {
         let meant = meant(&self.node, event);
         let answer = self.node.act(event)?;

@@ -1,10 +1,11 @@
 //! Reads of a node that its caller holds. They change nothing and take no memory.
 ghost use Rattle.std.specs.Prelude.{◌≡◌, ◌<◌, OnOk, length};
-ghost use Rattle.c_handles.specs.Reads.{link_of, other_node, register_of, waiting_number};
+ghost use Rattle.c_handles.specs.Reads.{link_of, object_bytes, object_len, other_node, register_of, waiting_number};
+ghost use Rattle.c_values.specs.Bytes.{WroteIf};
 ghost use Rattle.node.specs.Summaries.{summary_of};
 
 use super::LoneNode;
-use c_values::{CLink, Fault};
+use c_values::{CLink, Fault, put};
 use ids::{Ref, Refusal};
 use node::{Core, Node, Summary};
 
@@ -31,6 +32,31 @@ pub(crate) fn register_of(core: &Core, register: u16) -> Result<Ref, Fault>
         Some(None) => Err(Fault::Nothing),
         None => Err(Fault::Refused(Refusal::NoRegister)),
     }
+}
+
+/// Writes `count` bytes of an object, from `offset` on. Fails as the node does, and with
+/// `ShortBuffer`.
+pub(crate) fn bytes_of(
+    node: &Node,
+    object: u16,
+    offset: u32,
+    count: u32,
+    buffer: &mut [u8],
+    needed: &mut usize,
+) -> Result<(), Fault>
+    ensures { WroteIf (object_bytes node.now.core.local object offset count) result buffer.old
+        buffer.new needed.old needed.new }
+{
+    let bytes = node.bytes(object, offset, count)?;
+    put(bytes, buffer, needed)
+}
+
+/// How many bytes an object has. Fails as the node does.
+pub(crate) fn bytes_len_of(node: &Node, object: u16) -> Result<u32, Fault>
+    ensures { result ≡ object_len node.now.core.local object }
+{
+    let len = node.bytes_len(object)?;
+    Ok(len)
 }
 
 /// What the node knows of the links between it and another node. Fails with `NoNode`.
@@ -89,6 +115,29 @@ impl LoneNode {
         ensures { result ≡ register_of self.now.node.core.local register }
     {
         register_of(self.node.core(), register)
+    }
+
+    /// Writes `count` bytes of an object, from `offset` on. Fails as the node does, and with
+    /// `ShortBuffer`.
+    pub fn bytes(
+        &self,
+        object: u16,
+        offset: u32,
+        count: u32,
+        buffer: &mut [u8],
+        needed: &mut usize,
+    ) -> Result<(), Fault>
+        ensures { WroteIf (object_bytes self.now.node.core.local object offset count) result
+            buffer.old buffer.new needed.old needed.new }
+    {
+        bytes_of(&self.node, object, offset, count, buffer, needed)
+    }
+
+    /// How many bytes an object has. Fails as the node does.
+    pub fn bytes_len(&self, object: u16) -> Result<u32, Fault>
+        ensures { result ≡ object_len self.now.node.core.local object }
+    {
+        bytes_len_of(&self.node, object)
     }
 
     /// What the node knows of the links between it and another node. Fails with `NoNode`.

@@ -8,8 +8,8 @@ ghost use Rattle.c_handles.specs.Batches.{IsStored, LogLeads, Reopened};
 
 use super::LoneNode;
 use c_values::Fault;
-use disk_shelf::{HEAD, Persist, Replay};
-use ids::{GREATEST_IMAGE, Refusal};
+use disk_shelf::{GREATEST_SAVED, HEAD, Persist, Replay};
+use ids::Refusal;
 use node::Node;
 use node_store::LoggedImages;
 use std::alloc::Global;
@@ -94,7 +94,7 @@ fn first_batch(bytes: &[u8]) -> Option<&[u8]>
     let mut head = [0; HEAD];
     head.copy_from_slice(&bytes[..HEAD]);
     let len = u64::from_be_bytes(head);
-    if len > GREATEST_IMAGE {
+    if len > GREATEST_SAVED {
         return None;
     }
     let left = bytes.len() as u64 - HEAD as u64;

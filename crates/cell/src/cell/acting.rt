@@ -33,7 +33,7 @@ ghost use Rattle.wire.specs.Readers.{
   IsSame,
   IsSeatOf,
 };
-ghost use Rattle.cell.specs.Cells.{new_cell, GoesOn, IsSound};
+ghost use Rattle.cell.specs.Cells.{desk_of, new_cell, GoesOn, IsSound};
 ghost use Rattle.cell.specs.Desks.{IsAtSeat, IsUnsaved};
 ghost use Rattle.cell.specs.Disks.{OpensToNode};
 ghost use Rattle.cell.specs.Events.{outcome_of, Given};
@@ -96,18 +96,18 @@ impl<D: Disk> Cell<D> {
         requires wire { IsSeatOf wire.now self.old.seat }
         requires own { is_own event ≡ true }
         ensures given { IsTrue self.old.is_open
-            → Given event (met self.old.node.early event)
-            (own_step self.old.node.early (known self.old.seat).me event) result
+            → Given event.entry (met self.old.node.early event.entry)
+            (own_step self.old.node.early (known self.old.seat).me event.entry) result
             self.old.node self.new.node (known self.old.seat) (known self.new.seat) }
         ensures memory_free { IsTrue (is_memory_free self.old.node.core.local
-            (met self.old.node.early event))
+            (met self.old.node.early event.entry))
             → IfErr result (λ e. e ≢ Memory) }
         ensures closed { IsErrOf result Refusal.Closed ↔ (self.old.is_open ≡ false) }
         ensures shut { self.old.is_open ≡ false
             → self.new ≡ record self.old { trace = self.new.trace } }
         ensures goes_on { GoesOn self.old self.new }
         ensures traced { self.new.trace ≡ keep_last TRACE_EVENTS (self.old.trace
-            ++ record { call = call_of event; outcome = outcome_of result } ∷ []) }
+            ++ record { call = call_of event.entry; outcome = outcome_of result } ∷ []) }
     {
         if !self.store.is_ready() {
             let closed = CallOutcome::Refused(Refusal::Closed);
@@ -166,6 +166,13 @@ impl<D: Disk> Cell<D> {
         // Called for its contract.
         let _logs = self.store.logs();
         self.desk.node()
+    }
+
+    // The node at its seat, for proofs alone.
+    pub(crate) fn first(&self) -> Snapshot<Desk>
+        ensures { result.value ≡ desk_of self.now }
+    {
+        Snapshot::of(&self.desk)
     }
 
     /// The cell's last calls as text, oldest first. Fails with `Memory` if an allocation fails.

@@ -33,7 +33,7 @@ use msg::Frame;
 use wire::{Inbound, Outbound, Wire};
 
 // The event that a frame is.
-fn event_of(frame: Frame) -> Event
+fn event_of(frame: Frame) -> Event<'static>
     ensures { result ≡ event_of frame }
 {
     match frame {

@@ -3,12 +3,12 @@
 ghost use Rattle.std.specs.Prelude.{◌≡◌, ◌≢◌, ◌↔◌, ◌⊎◌, ◌-◌, ◌<◌, ◌++◌, [], ◌∷◌, length};
 ghost use Rattle.std.specs.Prelude.{true, false, IfErr, IfOk, IsErrOf, IsTrue, OnErr, OnOk, replicate};
 ghost use Rattle.circular_buffer.specs.Buffer.{keep_last};
-ghost use Rattle.ids.specs.declared.limits.TheConstants.{GREATEST_IMAGE, GREATEST_NODES};
+ghost use Rattle.ids.specs.declared.limits.TheConstants.{GREATEST_NODES};
 ghost use Rattle.ids.specs.declared.limits.TheConstants.{TRACE_EVENTS};
 ghost use Rattle.cell.specs.declared.call.Call.TheVariants as call;
 ghost use Rattle.model.specs.View.{kept_view};
 ghost use Rattle.node.specs.Keeping.{kept_whole};
-ghost use Rattle.image.specs.Images.{image_of};
+ghost use Rattle.image.specs.Images.{IsTooLarge};
 ghost use Rattle.disk.specs.Crashes.{Grew, LeavesOnly};
 ghost use Rattle.disk.specs.Memory.{AfterCrash};
 ghost use Rattle.disk.specs.Plan.{fails_from, fails_once};
@@ -31,9 +31,9 @@ impl<D: Disk> Cell<D> {
     /// saved node or to this one.
     ///
     /// Fails with `Closed` exactly if the cell is closed, with `ImageTooLarge` if the node's image
-    /// is written and is longer than an image may be, and with `Memory`; these change nothing.
-    /// Fails with `Disk` if the device failed: this closes the cell, and no event enters. Either
-    /// way a line is added to the trace.
+    /// is written and is too large, which it never is in a wide space, and with `Memory`; these
+    /// change nothing. Fails with `Disk` if the device failed: this closes the cell, and no event
+    /// enters. Either way a line is added to the trace.
     pub fn save(&mut self, wire: &Wire) -> Result<(), Refusal>
         requires wire { IsSeatOf wire.now self.old.seat }
         ensures done { OnOk result (self.new ≡ record self.old {
@@ -61,11 +61,11 @@ impl<D: Disk> Cell<D> {
             → Grew (D.faults self.old.disk) (D.faults self.new.disk)
             × (self.new.is_open ≡ false) }
         ensures too_large { IsErrOf result Refusal.ImageTooLarge →
-            IsTrue self.old.is_open
-            × (GREATEST_IMAGE < length (image_of self.old.node.core)) }
+            IsTrue self.old.is_open × IsTooLarge self.old.node.core }
         ensures whole { self.old.logs ≡ false → IsTrue self.old.is_open
-            → GREATEST_IMAGE < length (image_of self.old.node.core)
-            → IsErrOf result Refusal.ImageTooLarge }
+            → IsTooLarge self.old.node.core → IsErrOf result Refusal.ImageTooLarge }
+        ensures wide { self.old.node.core.local.shape.wide ≡ true
+            → IfErr result (λ e. e ≢ Refusal.ImageTooLarge) }
         ensures unchanged { IfErr result (λ e. e ≢ Refusal.Disk
             → self.new ≡ record self.old { trace = self.new.trace }) }
         ensures others { IfErr result (λ e. (e ≡ Refusal.Closed) ⊎ ((e ≡ Refusal.ImageTooLarge)

@@ -1,13 +1,16 @@
 //! Objects, found by a register or a reference. If the generation of a reference isn't that of the
 //! object in its slot, nothing is found.
 ghost use Rattle.std.specs.Prelude.{◌≡◌, ℕ, ◌<◌, ◌≤◌, length, count_by, is_some, IsTrue, option_copied};
-ghost use Rattle.std.specs.Prelude.{false, Ok, Err, OnOk, OnErr, IfOk, IfErr};
+ghost use Rattle.std.specs.Prelude.{true, false, Ok, Err, OnOk, OnErr, IfOk, IfErr};
 ghost use Rattle.ids.specs.Limits.{reference_fits};
-ghost use Rattle.ids.specs.declared.limits.TheConstants.{GREATEST_NODES};
+ghost use Rattle.ids.specs.declared.limits.TheConstants.{GREATEST_BYTES, GREATEST_NODES};
+ghost use Rattle.ids.specs.declared.refusal.Refusal.TheVariants.{Memory};
 ghost use Rattle.model.specs.Checks.{guarded, IsFirstRefusal};
 ghost use Rattle.model.specs.Heaps.{object_at, place_of, with_place, with_word, heap_alloc};
 ghost use Rattle.model.specs.Heaps.{load_tests, place_loaded};
 ghost use Rattle.model.specs.Heaps.{heap_store, heap_clear, heap_word, heap_set_word};
+ghost use Rattle.model.specs.Heaps.{heap_bytes, heap_bytes_len, heap_set_bytes, heap_patch};
+ghost use Rattle.model.specs.Heaps.{filling, patching, with_rewritten};
 ghost use Rattle.model.specs.State.{slot_at};
 ghost use Rattle.heap.specs.Heap.{KeepsRoom, IsSlotted, IsBorn, is_occupied};
 ghost use Rattle.heap.specs.Stored.{object_in};
@@ -16,20 +19,28 @@ ghost use Rattle.heap.specs.Tests.{place_tests, object_tests};
 use super::Heap;
 use crate::object::Object;
 use arena::Key;
-use ids::{GREATEST_PLACES, Ref, Refusal};
+use ids::{Ref, Refusal, Shape};
 
 impl Heap {
     /// Makes an object with this many empty places, marked by `cycle`. Its reference goes into the
-    /// register and is returned. `own` is the node's number.
+    /// register and is returned. `own` is the node's number, and `most` is how many places an
+    /// object may have.
     ///
     /// It fails with [`Refusal::NoRegister`] if there is no such register, with
-    /// [`Refusal::TooManyFields`] if an object may not have this many places, and with
+    /// [`Refusal::TooManyFields`] if there are more than `most` places, and with
     /// [`Refusal::ArenaFull`] if no slot is left. If none of these applies, it fails with
     /// [`Refusal::Memory`] if there is no memory for the object. The heap is then as it was.
     #[tactic(auto, unfolding(model::specs::Heaps::heap_alloc))]
-    pub fn alloc(&mut self, own: u8, cycle: u64, register: u16, places: u8) -> Result<Ref, Refusal>
+    pub fn alloc(
+        &mut self,
+        own: u8,
+        cycle: u64,
+        most: u8,
+        register: u16,
+        places: u8,
+    ) -> Result<Ref, Refusal>
         ensures done { IfOk result (λ r.
-            heap_alloc self.old.limit own cycle self.old.heap register places
+            heap_alloc self.old.limit most own cycle self.old.heap register places
             ≡ Ok (self.new.heap, r)) }
         ensures limit { self.new.limit ≡ self.old.limit }
         ensures room { KeepsRoom self.old self.new }
@@ -38,13 +49,13 @@ impl Heap {
 
         ensures refused { IfErr result (λ e.
             IsFirstRefusal false e
-            (heap_alloc self.old.limit own cycle self.old.heap register places)) }
+            (heap_alloc self.old.limit most own cycle self.old.heap register places)) }
         ensures unchanged { OnErr result (self.new ≡ self.old) }
     {
         if register as usize >= self.registers.len() {
             return Err(Refusal::NoRegister);
         }
-        if places > GREATEST_PLACES {
+        if places > most {
             return Err(Refusal::TooManyFields);
         }
         if self.objects.is_full() {
@@ -174,6 +185,121 @@ impl Heap {
         self.write_word(named, word)
     }
 
+    /// The bytes of the object that the register `object` names, `count` of them from `offset` on.
+    /// `own` is the node's number.
+    ///
+    /// It fails with [`Refusal::NoRegister`] if there is no such register, and with
+    /// [`Refusal::EmptyRegister`] if it is empty. It fails with [`Refusal::Remote`] if it names an
+    /// object of another node, with [`Refusal::NoField`] if the object isn't there, and with
+    /// [`Refusal::NoBytes`] if the object doesn't have all of these bytes.
+    #[tactic(auto, unfolding(model::specs::Heaps::heap_bytes))]
+    pub fn bytes(&self, own: u8, object: u16, offset: u32, count: u32) -> Result<&[u8], Refusal>
+        ensures value { IfOk result
+            (λ b. heap_bytes own self.now.heap object offset count ≡ Ok b.now) }
+        ensures refused { IfErr result
+            (λ e. heap_bytes own self.now.heap object offset count ≡ Err e) }
+    {
+        let named = self.local(own, object)?;
+        let Some(object) = self.object(named) else {
+            return Err(Refusal::NoField);
+        };
+        let bytes = object.bytes();
+        let (start, end) = (offset as usize, offset as usize + count as usize);
+        if end > bytes.len() {
+            return Err(Refusal::NoBytes);
+        }
+        Ok(&bytes[start..end])
+    }
+
+    /// How many bytes the object has that the register `object` names. `own` is the node's number.
+    ///
+    /// It fails with [`Refusal::NoRegister`] if there is no such register, and with
+    /// [`Refusal::EmptyRegister`] if it is empty. It fails with [`Refusal::Remote`] if it names an
+    /// object of another node, and with [`Refusal::NoField`] if the object isn't there.
+    #[tactic(auto, unfolding(model::specs::Heaps::heap_bytes_len))]
+    pub fn bytes_len(&self, own: u8, object: u16) -> Result<u32, Refusal>
+        ensures { result ≡ heap_bytes_len own self.now.heap object }
+    {
+        let named = self.local(own, object)?;
+        match self.object(named) {
+            Some(object) => Ok(object.bytes().len() as u32),
+            None => Err(Refusal::NoField),
+        }
+    }
+
+    /// Replaces the bytes of the object that the register `object` names. `own` is the node's
+    /// number, and `shape` that of its space.
+    ///
+    /// It fails with [`Refusal::NoRegister`] if there is no such register, and with
+    /// [`Refusal::EmptyRegister`] if it is empty. It fails with [`Refusal::Remote`] if it names an
+    /// object of another node, with [`Refusal::NoField`] if the object isn't there, and with
+    /// [`Refusal::TooManyBytes`] if they are more than the space allows, or it isn't wide. If none
+    /// of these applies, it fails with [`Refusal::Memory`] if there is no memory for the bytes. The
+    /// heap is then as it was.
+    #[tactic(auto, unfolding(model::specs::Heaps::heap_set_bytes))]
+    pub fn set_bytes(
+        &mut self,
+        own: u8,
+        shape: Shape,
+        object: u16,
+        bytes: &[u8],
+    ) -> Result<(), Refusal>
+        ensures done { OnOk result
+            (heap_set_bytes shape own self.old.heap object bytes.now ≡ Ok self.new.heap) }
+        ensures limit { self.new.limit ≡ self.old.limit }
+        ensures room { KeepsRoom self.old self.new }
+
+        ensures refused { IfErr result (λ e.
+            IsFirstRefusal false e (heap_set_bytes shape own self.old.heap object bytes.now)) }
+        ensures unchanged { OnErr result (self.new ≡ self.old) }
+    {
+        let named = self.local(own, object)?;
+        if !self.is_live(named) {
+            return Err(Refusal::NoField);
+        }
+        if !shape.is_wide() || bytes.len() > shape.bytes() as usize {
+            return Err(Refusal::TooManyBytes);
+        }
+        self.write_bytes(named, bytes)
+    }
+
+    /// Overwrites bytes of the object that the register `object` names, from `offset` on. `own` is
+    /// the node's number, and `shape` that of its space.
+    ///
+    /// It fails with [`Refusal::NoRegister`] if there is no such register, and with
+    /// [`Refusal::EmptyRegister`] if it is empty. It fails with [`Refusal::Remote`] if it names an
+    /// object of another node, with [`Refusal::NoField`] if the object isn't there, and with
+    /// [`Refusal::NoBytes`] if the object doesn't have all of the bytes that would be overwritten,
+    /// or the space isn't wide. The heap is then as it was.
+    #[tactic(auto, unfolding(model::specs::Heaps::heap_patch))]
+    pub fn patch(
+        &mut self,
+        own: u8,
+        shape: Shape,
+        object: u16,
+        offset: u32,
+        bytes: &[u8],
+    ) -> Result<(), Refusal>
+        ensures done { OnOk result
+            (heap_patch shape own self.old.heap object offset bytes.now ≡ Ok self.new.heap) }
+        ensures limit { self.new.limit ≡ self.old.limit }
+        ensures room { KeepsRoom self.old self.new }
+
+        ensures refused { IfErr result
+            (λ e. heap_patch shape own self.old.heap object offset bytes.now ≡ Err e) }
+        ensures unchanged { OnErr result (self.new ≡ self.old) }
+    {
+        let named = self.local(own, object)?;
+        let Some(object) = self.object(named) else {
+            return Err(Refusal::NoField);
+        };
+        if !shape.is_wide() || offset as usize + bytes.len() > object.bytes().len() {
+            return Err(Refusal::NoBytes);
+        }
+        self.overwrite(named, offset, bytes);
+        Ok(())
+    }
+
     /// The number of objects.
     pub fn live(&self) -> u32
         ensures value { result ≡ count_by is_occupied self.now.heap.slots }
@@ -260,6 +386,34 @@ impl Heap {
                 Ok(())
             }
             None => Err(Refusal::NoField),
+        }
+    }
+
+    // Replaces the bytes of an object that is there. Fails only with `Memory`.
+    fn write_bytes(&mut self, object: Ref, bytes: &[u8]) -> Result<(), Refusal>
+        requires there { is_some (object_at self.old.heap object) ≡ true }
+        requires few { length bytes.now ≤ GREATEST_BYTES }
+        ensures done { OnOk result (self.new
+            ≡ record self.old { heap = with_rewritten self.old.heap object (filling bytes.now) }) }
+        ensures refused { IfErr result (λ e. e ≡ Memory) }
+        ensures unchanged { OnErr result (self.new ≡ self.old) }
+    {
+        let alloc = *self.registers.allocator();
+        match self.objects.get_mut(key(object)) {
+            Some(object) => object.set_bytes(alloc, bytes),
+            None => unreachable!(),
+        }
+    }
+
+    // Overwrites bytes of an object, or changes nothing if they aren't there.
+    fn overwrite(&mut self, object: Ref, offset: u32, bytes: &[u8])
+        ensures { self.new ≡ record self.old {
+          heap = with_rewritten self.old.heap object (patching offset bytes.now);
+        } }
+    {
+        match self.objects.get_mut(key(object)) {
+            Some(object) => object.patch(offset, bytes),
+            None => {}
         }
     }
 }

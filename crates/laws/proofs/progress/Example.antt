@@ -1,6 +1,7 @@
 -- Two nodes, of which node 0 has begun a cycle: the bounds, and how many moves it takes.
 use Rattle.std.specs.Int.{int_wrap}
 use Rattle.std.proofs.Common.{◌≡◌, ℕ, Bool, true, false, ◌==◌, ◌&&◌, [], ◌∷◌, refl}
+use Rattle.ids.specs.Limits.{plain_shape}
 use Rattle.model.specs.declared.event.Event.TheVariants as event
 use Rattle.model.specs.declared.step.Step.TheVariants as step
 use Rattle.model.specs.Counting.{append, announce}
@@ -13,7 +14,7 @@ use Rattle.laws.specs.Bounds.{marking_moves, cycle_moves}
 
 abbrev start : World
 start =
-    run (new_world (record { nodes = 2; registers = 1; slots = 1 })) (step.Act 0 event.Begin ∷ [])
+    run (new_world (plain_shape 2 1 1)) (step.Act 0 event.Begin ∷ [])
 
 -- after k moves, whether marking has ended
 abbrev ended_after : ℕ → Bool

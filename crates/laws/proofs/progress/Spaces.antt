@@ -329,7 +329,12 @@ module _ {shape : Shaped} {w : World} {from to : ℕ} (h : Link shape w from to)
       → Moved shape w to effect_there.local effect_there.sends
   link-brought fit =
       let arrival : Arrival shape (now w) from to (taken (now w) from to) message_of =
-      record { inv = (reached-whole h.reached).inv; inside = h.inside; flight = first-of } in
+      record {
+        inv = (reached-whole h.reached).inv;
+        placed = (reached-whole h.reached).placed;
+        inside = h.inside;
+        flight = first-of;
+      } in
       let delivered : take_step w2 (step.Deliver from to number)
       ≡ Ok (w3, outcome.Answer effect_there.answer) =
       deliver-step w2 from to number (inside from h.sender) (inside to h.inside) there

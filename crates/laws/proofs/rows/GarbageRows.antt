@@ -35,7 +35,7 @@ half i j sent got = record {
     shape = space 2 4 16;
     own = i;
     heap = record {
-      slots = Occupied 1 (record { word = 0; places = Some (object j 0 1) ∷ []; mark = 0 }) ∷ [];
+      slots = Occupied 1 (record { word = 0; bytes = []; places = Some (object j 0 1) ∷ []; mark = 0 }) ∷ [];
       free = [];
       registers = None ∷ None ∷ None ∷ None ∷ [];
       letters = [];
@@ -144,12 +144,12 @@ ring-is-garbage node inside =
   where
     by : (i : ℕ) → i < 2 → OldGarbage left (object i 0 1)
     by zero below = record {
-      object = record { word = 0; places = Some (object 1 0 1) ∷ []; mark = 0 };
+      object = record { word = 0; bytes = []; places = Some (object 1 0 1) ∷ []; mark = 0 };
       saved = refl;
       unreachable = λ choice reached. unreachable choice (object 0 0 1) reached;
     }
     by (suc zero) below = record {
-      object = record { word = 0; places = Some (object 0 0 1) ∷ []; mark = 0 };
+      object = record { word = 0; bytes = []; places = Some (object 0 0 1) ∷ []; mark = 0 };
       saved = refl;
       unreachable = λ choice reached. unreachable choice (object 1 0 1) reached;
     }

@@ -67,6 +67,7 @@ scanning =
         slots =
             Occupied 3 (record {
               word = 0;
+              bytes = [];
               places = Some (object 1 0 1) ∷ Some (object 1 1 1) ∷ [];
               mark = 1;
             })
@@ -142,10 +143,10 @@ verdicts = refl
 -- ---- generations
 
 abbrev unmarked : Object
-unmarked = record { word = 0; places = []; mark = 0 }
+unmarked = record { word = 0; bytes = []; places = []; mark = 0 }
 
 abbrev marked : Object
-marked = record { word = 0; places = []; mark = 1 }
+marked = record { word = 0; bytes = []; places = []; mark = 1 }
 
 -- a node that is to sweep cycle 1: an object of the greatest generation, one of the generation
 -- before it, a marked one, and a free slot

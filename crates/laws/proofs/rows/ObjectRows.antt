@@ -1,8 +1,8 @@
 -- Worked examples of what programs do with objects, computed as those of `Rows`.
-use Rattle.std.proofs.Common.{ℕ, ◌^◌, ◌-◌, [], ◌∷◌, ◌++◌, Option, Some, None, Result, Ok, refl}
+use Rattle.std.proofs.Common.{ℕ, List, ◌^◌, ◌-◌, [], ◌∷◌, ◌++◌, Option, Some, None, Result, Ok, refl}
 use Rattle.ids.specs.declared.names.Ref.{Ref}
 use Rattle.ids.specs.declared.refusal.Refusal.{Refusal}
-use Rattle.ids.specs.declared.refusal.Refusal.TheVariants.{NoRegister, EmptyRegister, Remote, Local, NoLetter, NoField, TooManyFields, SelfSend}
+use Rattle.ids.specs.declared.refusal.Refusal.TheVariants.{NoRegister, EmptyRegister, Remote, Local, NoLetter, NoField, TooManyFields, SelfSend, TooManyBytes, NoBytes}
 use Rattle.model.specs.declared.event.Event.TheVariants as event
 use Rattle.model.specs.declared.event.Answer.TheVariants as answer
 use Rattle.model.specs.declared.step.Step.{Step}
@@ -11,7 +11,8 @@ use Rattle.model.specs.declared.step.Outcome.{Outcome}
 use Rattle.model.specs.declared.step.Outcome.TheVariants as outcome
 use Rattle.model.specs.Counting.{append}
 use Rattle.model.specs.Shading.{see_to}
-use Rattle.model.specs.Steps.{settled, act, receive, taken_in, count_in, take_body}
+use Rattle.ids.specs.Limits.{wide_shape}
+use Rattle.model.specs.Steps.{lent, settled, act, receive, taken_in, count_in, take_body}
 use Rattle.model.specs.World.{take_step}
 use Rattle.laws.proofs.rows.Rows.{Table, object, space, alloc, drop_register, give, accept, made, sent, dropped_now, received, letter, empty_letter, done, refused, Holds}
 
@@ -32,6 +33,12 @@ word node object = step.Act node (event.Word object)
 
 abbrev pub set_word : ℕ → ℕ → ℕ → Step
 set_word node object value = step.Act node (event.SetWord object value)
+
+abbrev pub set_bytes : ℕ → ℕ → List ℕ → Step
+set_bytes node object bytes = step.Act node (event.SetBytes object (lent bytes))
+
+abbrev pub patch : ℕ → ℕ → ℕ → List ℕ → Step
+patch node object offset bytes = step.Act node (event.Patch object offset (lent bytes))
 
 abbrev pub put : ℕ → ℕ → ℕ → ℕ → Step
 put node object place register = step.Act node (event.Put object place register)
@@ -92,6 +99,31 @@ pub one-word : Holds (space 2 4 16) (
     ∷ [])
 unfolding take_step act
 one-word = refl
+
+-- In a wide space with 4 bytes an object: bytes are replaced, overwritten within what is there, and
+-- belong to the object. A new object has none.
+pub bytes-kept : Holds (wide_shape 2 2 16 1 4) (
+    (set_bytes 0 0 [], refused EmptyRegister)
+    ∷ (alloc 0 0 1, made (object 0 0 1))
+    ∷ (patch 0 0 0 (1 ∷ []), refused NoBytes)
+    ∷ (patch 0 0 0 [], dropped_now)
+    ∷ (set_bytes 0 0 (1 ∷ 2 ∷ 3 ∷ 4 ∷ 5 ∷ []), refused TooManyBytes)
+    ∷ (set_bytes 0 0 (1 ∷ 2 ∷ 3 ∷ 4 ∷ []), dropped_now)
+    ∷ (patch 0 0 2 (7 ∷ 8 ∷ 9 ∷ []), refused NoBytes)
+    ∷ (patch 0 0 1 (7 ∷ 8 ∷ 9 ∷ []), dropped_now)
+    ∷ (set_bytes 0 2 [], refused NoRegister)
+    ∷ [])
+unfolding take_step act
+bytes-kept = refl
+
+-- plain spaces have no bytes, not even none
+pub no-bytes-in-plain : Holds (space 2 1 16) (
+    (alloc 0 0 1, made (object 0 0 1))
+    ∷ (set_bytes 0 0 [], refused TooManyBytes)
+    ∷ (patch 0 0 0 [], refused NoBytes)
+    ∷ [])
+unfolding take_step act
+no-bytes-in-plain = refl
 
 -- the refusals of a load, in order, and of related events
 pub load-refusals : Holds (space 2 256 16) (

@@ -1,6 +1,6 @@
 -- Worked examples of what programs observe. First come runs of two steps; then a run with a restart
--- and a sweep, and its sights in two cuts. The restart undoes what node 1 received first. Nothing is
--- seen of the collector, and what came after a save isn't in the saved state.
+-- and a sweep, and its sights in two cuts. The restart undoes what node 1 received first. Nothing
+-- is seen of the collector, and what came after a save isn't in the saved state.
 use Rattle.std.proofs.Common.{◌≡◌, Bool, true, false, List, [], ◌∷◌, ◌++◌, Some, Ok, Err, refl}
 use Rattle.std.specs.Int.{int_wrap}
 use Rattle.ids.specs.declared.refusal.Refusal.TheVariants.{EmptyRegister}
@@ -95,7 +95,7 @@ before_saves =
     ∷ []
 
 -- what the restart undid can't be seen together with what came after it: the one message comes once
-pub not-twice : IsRun 2 (new_space (space 2 4 16)) (
+pub not-twice : IsRun (space 2 4 16) (new_space (space 2 4 16)) (
     given
     ++ told 1 (event.Accept 0)
     (Ok (answer.Letter (record { from = 0; label = 7; reference = Some (object 0 0 1) })))

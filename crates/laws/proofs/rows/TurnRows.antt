@@ -36,7 +36,7 @@ abbrev with_object : ℕ → LocalState → LocalState
 with_object mark p =
     record p {
       heap = record p.heap {
-        slots = Occupied 2 (record { word = 0; places = []; mark = mark }) ∷ [];
+        slots = Occupied 2 (record { word = 0; bytes = []; places = []; mark = mark }) ∷ [];
       };
     }
 

@@ -5,7 +5,7 @@ ghost use Rattle.model.specs.View.{Performed, view_act};
 ghost use Rattle.model.specs.declared.event.Event.TheVariants as event;
 
 use super::Core;
-use ids::{GREATEST_PLACES, Refusal};
+use ids::Refusal;
 use model::Answer;
 use msg::Body;
 
@@ -39,7 +39,7 @@ impl Core {
         if target.node == self.own {
             return Err(Refusal::Local);
         }
-        if place >= GREATEST_PLACES {
+        if place >= self.shape.places() {
             return Err(Refusal::NoField);
         }
         let body = Body::Put {
@@ -62,7 +62,7 @@ impl Core {
         if target.node == self.own {
             return Err(Refusal::Local);
         }
-        if place >= GREATEST_PLACES {
+        if place >= self.shape.places() {
             return Err(Refusal::NoField);
         }
         let body = Body::Get {

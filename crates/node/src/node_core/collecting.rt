@@ -1,25 +1,28 @@
 //! A node's own steps of a collection cycle. Each may be requested at any time and in any order,
 //! and is refused if there is nothing to do.
-ghost use Rattle.std.specs.Prelude.{◌≡◌, ◌≢◌, ◌<◌, ◌≤◌, [], true, false, not, take, map, IsTrue, IsSome, IfErr, OnOk, OnErr};
-ghost use Rattle.ids.specs.declared.limits.TheConstants.{GREATEST_PLACES};
+ghost use Rattle.std.specs.Prelude.{◌≡◌, ◌≢◌, ◌<◌, ◌≤◌, ◌↔◌, [], true, false, not, take, length, map, IsTrue, IsSome, IfSome, IfErr, None, OnOk, OnErr};
+ghost use Rattle.ids.specs.declared.limits.TheConstants.{PLAIN_PLACES};
 ghost use Rattle.ids.specs.declared.refusal.Refusal.TheVariants.{LinkSpent, Memory};
 ghost use Rattle.model.specs.Collecting.{handed_on, judged, places_in, reports_sweep};
-ghost use Rattle.model.specs.Shading.{is_calm};
+ghost use Rattle.model.specs.Shading.{is_calm, filled};
 ghost use Rattle.model.specs.State.{slot_at};
 ghost use Rattle.model.specs.Steps.{fits};
 ghost use Rattle.model.specs.View.{Performed, append_to, used, view_act, view_done};
 ghost use Rattle.model.specs.declared.event.Event.TheVariants as event;
 ghost use Rattle.node.specs.Cycles.{reports};
+ghost use Rattle.node.specs.Errands.{Runs, errand};
+ghost use Rattle.node.specs.declared.node_core.errands.Extra.TheVariants.{Scanned};
 
 use super::Core;
 use super::errands::Extra;
 use cycles::Verdict;
 use heap::Heap;
-use ids::{GREATEST_PLACES, Ref, Refusal};
+use ids::{PLAIN_PLACES, Ref, Refusal};
 use model::Answer;
 use msg::Body;
 
-const PLACES: usize = GREATEST_PLACES as usize;
+// Objects with at most this many places are scanned without an allocation.
+const PLACES: usize = PLAIN_PLACES as usize;
 
 impl Core {
     /// Node 0 begins the next cycle: it joins the cycle, sends the token to the last node, and
@@ -48,11 +51,26 @@ impl Core {
             return Err(Refusal::NothingToDo);
         };
         let scanned = self.heap.reference_at(self.own, slot);
-        let mut places = [None; PLACES];
-        let count = copy_places(&self.heap, slot, &mut places);
         let cycle = self.cycle();
-        self.run(cycle, true, &places[..count], Extra::Scanned)?;
+        let mut places = [None; PLACES];
+        match copy_places(&self.heap, slot, &mut places) {
+            Some(count) => self.run(cycle, true, &places[..count], Extra::Scanned)?,
+            None => self.scan_many(slot, cycle)?,
+        }
         Ok(Answer::Scanned(scanned))
+    }
+
+    /// Scans the object in this slot, however many places it has. It fails as [`Core::scan`] does
+    /// after its test.
+    #[inline(never)]
+    fn scan_many(&mut self, slot: u32, cycle: u64) -> Result<(), Refusal>
+        requires cycle { cycle ≡ self.old.local.phases.cycle }
+        ensures { let held = filled (places_in (slot_at self.old.local.heap slot)) in
+            Runs result (errand cycle true held Scanned self.old.local) self.old self.new }
+    {
+        let alloc = self.asked.allocator();
+        let places = Vec::from_slice(alloc, self.heap.places(slot))?;
+        self.run(cycle, true, &places, Extra::Scanned)
     }
 
     /// Passes the token on, or at node 0 judges it. It fails with `NothingToDo` if the node has no
@@ -171,12 +189,17 @@ impl Core {
 }
 
 /// Copies what the places of the object in a slot hold, since the heap changes while they are
-/// shaded, and returns how many there are.
-fn copy_places(heap: &Heap, slot: u32, into: &mut [Option<Ref>; PLACES]) -> usize
-    ensures value { take result into.new ≡ places_in (slot_at heap.now.heap slot) }
-    ensures few { result ≤ GREATEST_PLACES }
+/// shaded, and returns how many there are; or `None` if there are more than [`PLACES`].
+fn copy_places(heap: &Heap, slot: u32, into: &mut [Option<Ref>; PLACES]) -> Option<usize>
+    ensures value { IfSome result (λ count.
+        take count into.new ≡ places_in (slot_at heap.now.heap slot)) }
+    ensures few { IfSome result (λ count. count ≤ PLAIN_PLACES) }
+    ensures many { result ≡ None ↔ (PLAIN_PLACES < length (places_in (slot_at heap.now.heap slot))) }
 {
     let held = heap.places(slot);
+    if held.len() > PLACES {
+        return None;
+    }
     into[..held.len()].copy_from_slice(held);
-    held.len()
+    Some(held.len())
 }

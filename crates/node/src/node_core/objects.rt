@@ -19,8 +19,8 @@ impl Core {
         ensures { Performed false result self.old self.new
             (view_act self.old (event.Alloc register places)) }
     {
-        let own = self.own;
-        let reference = self.heap.alloc(own, self.phases.cycle(), register, places)?;
+        let (own, cycle, most) = (self.own, self.phases.cycle(), self.shape.places());
+        let reference = self.heap.alloc(own, cycle, most, register, places)?;
         Ok(Answer::New(reference))
     }
 
@@ -97,6 +97,32 @@ impl Core {
     {
         let own = self.own;
         self.heap.set_word(own, object, word)?;
+        Ok(Answer::Done)
+    }
+
+    #[tactic(auto, unfolding(model::specs::View::view_act, model::specs::Heaps::heap_set_bytes))]
+    pub(crate) fn set_bytes(&mut self, object: u16, bytes: &[u8]) -> Result<Answer, Refusal>
+        ensures { Performed false result self.old self.new
+            (view_act self.old (event.SetBytes object bytes.entry)) }
+    {
+        let (own, shape) = (self.own, self.shape);
+        self.heap.set_bytes(own, shape, object, bytes)?;
+        Ok(Answer::Done)
+    }
+
+    #[tactic(auto, unfolding(model::specs::View::view_act, model::specs::Heaps::heap_patch))]
+    pub(crate) fn patch(
+        &mut self,
+        object: u16,
+        offset: u32,
+        bytes: &[u8],
+    ) -> Result<Answer, Refusal>
+        ensures performed { Performed false result self.old self.new
+            (view_act self.old (event.Patch object offset bytes.entry)) }
+        ensures memory_free { IfErr result (λ e. e ≢ Memory) }
+    {
+        let (own, shape) = (self.own, self.shape);
+        self.heap.patch(own, shape, object, offset, bytes)?;
         Ok(Answer::Done)
     }
 

@@ -1,8 +1,9 @@
 //! Reads of a node from outside: the roots of its program, its objects, and how many messages it
 //! has received. Nothing here allocates memory or changes the node.
 ghost use Rattle.std.specs.Prelude.{◌≡◌, ℕ, ◌<◌, length, slice_index_or, is_some, None};
+ghost use Rattle.std.specs.Prelude.{Ok, Err, IfOk, IfErr};
 ghost use Rattle.model.specs.State.{got_from, slot_at};
-ghost use Rattle.model.specs.Heaps.{object_at};
+ghost use Rattle.model.specs.Heaps.{object_at, heap_bytes, heap_bytes_len};
 ghost use Rattle.model.specs.Shading.{roots};
 ghost use Rattle.model.specs.Collecting.{places_in};
 ghost use Rattle.model.specs.View.{link_to, message_of};
@@ -11,7 +12,7 @@ ghost use Rattle.node.specs.Invariant.{links_of};
 use super::Core;
 use cycles::{Phases, Ring};
 use heap::Heap;
-use ids::Ref;
+use ids::{Ref, Refusal};
 use link::Links;
 use msg::Message;
 
@@ -44,6 +45,29 @@ impl Core {
         ensures { result.now ≡ places_in (slot_at self.now.local.heap slot) }
     {
         self.heap.places(slot)
+    }
+
+    /// The bytes of the object that the register `object` names, `count` of them from `offset` on.
+    ///
+    /// It fails with [`Refusal::NoRegister`] if there is no such register, and with
+    /// [`Refusal::EmptyRegister`] if it is empty. It fails with [`Refusal::Remote`] if it names an
+    /// object of another node, with [`Refusal::NoField`] if the object isn't there, and with
+    /// [`Refusal::NoBytes`] if the object doesn't have all of these bytes.
+    pub fn bytes(&self, object: u16, offset: u32, count: u32) -> Result<&[u8], Refusal>
+        ensures value { let p = self.now.local in
+            IfOk result (λ b. heap_bytes p.own p.heap object offset count ≡ Ok b.now) }
+        ensures refused { let p = self.now.local in
+            IfErr result (λ e. heap_bytes p.own p.heap object offset count ≡ Err e) }
+    {
+        self.heap.bytes(self.own, object, offset, count)
+    }
+
+    /// How many bytes the object has that the register `object` names. It fails as [`Core::bytes`]
+    /// does, except with [`Refusal::NoBytes`].
+    pub fn bytes_len(&self, object: u16) -> Result<u32, Refusal>
+        ensures { let p = self.now.local in result ≡ heap_bytes_len p.own p.heap object }
+    {
+        self.heap.bytes_len(self.own, object)
     }
 
     /// The number of messages received from the node `from`; 0 if there is no such node.

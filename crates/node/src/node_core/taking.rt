@@ -18,6 +18,7 @@ ghost use Rattle.model.specs.Steps.{
 };
 ghost use Rattle.model.specs.View.{Performed, Performs, view_act};
 ghost use Rattle.model.specs.declared.event.Event.TheVariants as event;
+ghost use Rattle.node.specs.Parts.{is_placed};
 
 use super::Core;
 use ids::{Ref, Refusal};
@@ -41,7 +42,7 @@ impl Core {
             Offer::Early => return Ok(Answer::Early),
             Offer::Next => {}
         }
-        if !self.may_take(frame.from, frame.stamp, frame.body) {
+        if !self.may_take(frame.from, frame.stamp, &frame.body) {
             return Err(Refusal::WrongNode);
         }
         self.receive(frame.from, frame.stamp, frame.body)?;
@@ -61,8 +62,8 @@ impl Core {
         Err(Refusal::NothingToDo)
     }
 
-    fn may_take(&self, from: u8, stamp: u64, body: Body) -> bool
-        ensures { result ≡ may_take self.now.local from stamp body }
+    fn may_take(&self, from: u8, stamp: u64, body: &Body) -> bool
+        ensures { result ≡ may_take self.now.local from stamp body.now }
     {
         self.may_reach(stamp) && self.suits(from, stamp, body)
     }
@@ -80,19 +81,20 @@ impl Core {
     /// message's cycle. (Node 0 joins no cycle, so no Swept is of a later one.)
     #[inline(always)]
     #[tactic(auto, using(crate::proofs::Receipts::joining))]
-    fn suits(&self, from: u8, stamp: u64, body: Body) -> bool
-        ensures { result ≡ (are_within self.now.local.shape (mentioned body)
-            && (may_follow self.now.local from body
-            && may_settle (joined self.now.local stamp).local stamp body)) }
+    fn suits(&self, from: u8, stamp: u64, body: &Body) -> bool
+        ensures { result ≡ (are_within self.now.local.shape (mentioned body.now)
+            && (may_follow self.now.local from body.now
+            && may_settle (joined self.now.local stamp).local stamp body.now)) }
     {
-        match body {
+        match *body {
             Body::Begin => from == 0,
             Body::Token(_) => {
                 from == (self.own + 1) % self.shape.nodes()
                     && (self.marks_once_joined(stamp) && !self.has_token())
             }
-            Body::Mark { target } | Body::Get { target, .. } => {
-                self.is_within(target) && target.node == self.own
+            Body::Mark { target } => self.is_within(target) && target.node == self.own,
+            Body::Get { target, .. } => {
+                self.is_within(target) && (target.node == self.own && self.is_placed(body))
             }
             Body::Give { reference, .. } => self.is_any_within(reference),
             Body::Put {
@@ -100,7 +102,8 @@ impl Core {
                 reference,
                 ..
             } => {
-                (self.is_within(target) && self.is_any_within(reference)) && target.node == self.own
+                (self.is_within(target) && self.is_any_within(reference))
+                    && (target.node == self.own && self.is_placed(body))
             }
             Body::Ended => {
                 from == 0
@@ -108,6 +111,18 @@ impl Core {
                         && (self.is_calm_once_joined(stamp) && !self.has_token()))
             }
             Body::Swept => self.is_director() && stamp >= self.cycle(),
+        }
+    }
+
+    /// Whether an object of the space may have the place that the body names. (Not inlined, so that
+    /// no other body is loaded for its sake.)
+    #[inline(never)]
+    fn is_placed(&self, body: &Body) -> bool
+        ensures { result ≡ is_placed self.now.local.shape body.now }
+    {
+        match *body {
+            Body::Put { place, .. } | Body::Get { place, .. } => place < self.shape.places(),
+            _ => true,
         }
     }
 

@@ -28,5 +28,5 @@ returns-in-Err-clause-refused c =
     let are : AreDisksOf c.args.images.now c.in_ok-disks.disks.items =
     record { held = given.held; short = given.short } in
     subst (IsWhy c.args.shape c.args.images.now) (sym c.fault_of.ensures)
-    (why _ _ c.args.shape are (same-count are ∙ c.requires)
+    (why _ _ _ c.args.shape are (same-count are ∙ c.requires)
     c.in-Err.unopened h.why)

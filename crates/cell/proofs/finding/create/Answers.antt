@@ -1,10 +1,9 @@
-use Rattle.std.proofs.Common.{◌<◌, length, subst}
-use Rattle.ids.specs.declared.limits.TheConstants.{GREATEST_IMAGE}
+use Rattle.std.proofs.Common.{subst}
 use Rattle.ids.specs.declared.refusal.Refusal.TheVariants.{ImageTooLarge}
-use Rattle.image.specs.Wholes.{whole_image}
+use Rattle.image.specs.Wholes.{IsWholeTooLarge}
 use Rattle.node.specs.Keeping.{WholeNode}
 use Rattle.node_store.specs.Stores.{disk_of, logs_in}
-use Rattle.cell.specs.Opened.{IsCause}
+use Rattle.cell.specs.Opened.{IsCause, unsealed}
 use Rattle.cell.proofs.Beside.{new-logs}
 use Rattle.cell.proofs.Causes.{by-cause}
 use Rattle.cell.proofs.NewCells.{opens-new}
@@ -21,11 +20,11 @@ returns-in-Err-clause-cause g c =
     let local = c.args.node.now.core.local in
     let said = c.in-Err.ensures in λ other.
     by-cause
-    (IsCause g.D.Disk.seen g.D.Disk.moment g.D.Disk.faults local.shape local.own c.args.disk)
-    ImageTooLarge c.in-Err.refusal said.refused.others other
+    (IsCause g.D.Disk.seen unsealed g.D.Disk.moment g.D.Disk.faults local.shape local.own
+    c.args.disk) ImageTooLarge c.in-Err.refusal said.refused.others other
     (λ is. record {
       blank = c.requires.0 (g.D.Disk.seen c.args.disk) (g.met.D.Disk.reads_left c.args.disk);
-      large = subst (λ (n : WholeNode). GREATEST_IMAGE < length (whole_image n)) c.requires.1
+      large = subst (λ (n : WholeNode). IsWholeTooLarge n) c.requires.1
           (said.refused.too_large.0 is);
     })
     (λ is. record { after = c.in-Err._disk; later = said.later; failed = said.refused.failed is })

@@ -6,8 +6,8 @@ use Rattle.node_store.specs.Stores.{disk_of, is_ready_in, logs_in}
 use Rattle.wire.specs.OneAge.{AreApart, AreOfOneAge}
 use Rattle.cell.specs.Disks.{OpensToNode}
 use Rattle.cell.specs.Ages.{IsWhy}
-use Rattle.cell.specs.Looking.{AreOn, AreUnmoved, logs_at}
-use Rattle.cell.specs.Opened.{AreBeside, AreFound, IsChosen, StaysOrNew}
+use Rattle.cell.specs.Looking.{AreIntact, AreOn, AreUnmoved, logs_at}
+use Rattle.cell.specs.Opened.{AreBeside, AreFound, IsChosen, StaysOrNew, unsealed}
 use Rattle.cell.proofs.Beside.{beside-by, chosen-as}
 use Rattle.cell.proofs.Looking.{all-on, all-read, were-read, why-before}
 use Rattle.cell.proofs.Underway.{all-stores-since}
@@ -26,6 +26,7 @@ returns-then-len-from g c = record {
   logs = tt;
   read = tt;
   all = tt;
+  intact = tt;
   one_age = tt;
   limits = c.nodes.ensures.within;
 }
@@ -38,8 +39,9 @@ returns-in_err-nodes-clause-disks g c = λ other.
 pub returns-in_err-nodes-clause-why : goal.returns-in_err-nodes-clause-why
 returns-in_err-nodes-clause-why g c =
     let p = err_from_is_err_and c.from_residual.result c.from_residual.ensures.1 in
-    rw (p.1, p.2) (subst (λ l. IsWhy g.D.Disk.seen g.D.Disk.moment g.D.Disk.faults c.args.shape l
-    c.in_err-nodes.field-0.0) c.as_mut_slice.ensures.value c.in_err-nodes.ensures.why)
+    rw (p.1, p.2) (subst (λ l. IsWhy g.D.Disk.seen g.D.Disk.seals g.D.Disk.moment g.D.Disk.faults
+    c.args.shape l c.in_err-nodes.field-0.0) c.as_mut_slice.ensures.value
+    c.in_err-nodes.ensures.why)
 
 pub returns-in_err-nodes-clause-untouched : goal.returns-in_err-nodes-clause-untouched
 returns-in_err-nodes-clause-untouched g c =
@@ -73,6 +75,7 @@ returns-in-Some g c =
       logs = tt;
       read = tt;
       all = tt;
+      intact = tt;
       one_age = tt;
       limits = c.nodes.ensures.within;
     }
@@ -112,8 +115,8 @@ returns-in_err-stores-clause-why g c =
     ap (λ v. v.items) c.replace-found.ensures.value
     ∙ with_items_is c.args.disks.now c.look_at_all.new.disks
     (read.quiet.count ∙ sym c.args.disks.now.ok.0) in
-    rw (p.1, p.2) (why-before read _ c.in_err-stores.ensures.all_read
-    (subst (λ l. IsWhy g.D.Disk.seen g.D.Disk.moment g.D.Disk.faults c.args.shape l
+    rw (p.1, p.2) (why-before read g.D.Disk.seals _ c.in_err-stores.ensures.all_read
+    (subst (λ l. IsWhy g.D.Disk.seen unsealed g.D.Disk.moment g.D.Disk.faults c.args.shape l
     c.in_err-stores.field-0.0) items c.in_err-stores.ensures.why))
 
 pub returns-in_err-stores-clause-untouched : goal.returns-in_err-stores-clause-untouched
@@ -151,14 +154,17 @@ returns g c =
           c.args.shape l c.in_ok-stores.stores.items)
           c.as_slice-2.ensures.value c.in_ok-stores.ensures.found;
       any_moment = all-stores-since seen g.D.Disk.may_leave disk_of c.in_ok-stores.stores.items
-          read.quiet (subst (λ l. AreBeside (λ k d s. LeavesOnly g.D.Disk.moment g.D.Disk.left_since d
-          (disk_of s) (StaysOrNew seen g.D.Disk.may_leave c.args.shape k d)) l
+          read.quiet (subst (λ l. AreBeside (λ k d s.
+          LeavesOnly g.D.Disk.moment g.D.Disk.left_since d (disk_of s)
+          (StaysOrNew seen g.D.Disk.may_leave c.args.shape k d)) l
           c.in_ok-stores.stores.items) items c.in_ok-stores.ensures.any_moment);
       logs = beside-by c.args.disks.now.items areas c.in_ok-stores.stores.items
           (c.in_ok-nodes.ensures.found.places_count ∙ sym read.many)
           (λ d place s. chosen-as saves (seen d) place (logs_in s)) chosen logs;
       read = all-read read;
       all = read.found.nodes_count ∙ sym read.many;
+      intact = subst (AreIntact seen g.D.Disk.seals) c.as_mut_slice.ensures.value
+          c.in_ok-nodes.ensures.intact;
       one_age = subst AreOfOneAge c.as_slice.ensures.value c.in_default.ensures.fit;
       limits = c.nodes.ensures.within;
     }

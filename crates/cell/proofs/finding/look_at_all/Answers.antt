@@ -4,7 +4,7 @@ use Rattle.cell.specs.Looking.{AreLookedAt, IsLookedAt, logs_at}
 use Rattle.cell.specs.Opened.{IsChosen}
 use Rattle.cell.proofs.Beside.{beside-next}
 use Rattle.cell.proofs.Causes.{why-there}
-use Rattle.cell.proofs.Looking.{looked-at, read-there, unmoved-at}
+use Rattle.cell.proofs.Looking.{intact-all, intact-next, looked-at, read-there, unmoved-at}
 use Rattle.cell.proofs.finding.look_at_all.Goals as goal
 
 pub returns-in_err-node : goal.returns-in_err-node
@@ -16,14 +16,15 @@ returns-in_err-node g c =
     rw (p.1, p.2) (record {
       untouched = unmoved-at c.loop-number.number c.from.result x c.look_at.new.disk
           c.loop-number.invariant.quiet c.from.ensures there c.look_at.ensures.quiet;
-      why = why-there g.D.Disk.seen g.D.Disk.moment g.D.Disk.faults c.args.shape c.args.disks.now
-          c.loop-number.number _ (record {
+      why = why-there g.D.Disk.seen g.D.Disk.seals g.D.Disk.moment g.D.Disk.faults c.args.shape
+          c.args.disks.now c.loop-number.number _ (record {
             value = x;
             there = there;
             is = c.in_err-node.ensures.why;
           });
       found = tt;
       chosen = tt;
+      intact = tt;
     })
 
 pub returns-in_err-add : goal.returns-in_err-add
@@ -39,6 +40,7 @@ returns-in_err-add g c =
       why = tt;
       found = tt;
       chosen = tt;
+      intact = tt;
     })
 
 pub returns-in_err-add-2 : goal.returns-in_err-add-2
@@ -54,6 +56,7 @@ returns-in_err-add-2 g c =
       why = tt;
       found = tt;
       chosen = tt;
+      intact = tt;
     })
 
 pub returns : goal.returns
@@ -66,6 +69,7 @@ returns g c =
           c.args.shape n c.args.disks.now c.loop-number.disks c.loop-number.nodes.items
           c.loop-number.areas.items) all c.loop-number.invariant.looked;
       chosen = c.loop-number.invariant.chosen;
+      intact = intact-all c.loop-number.invariant.intact (omega (arith, c.requires, all));
     }
 
 pub loop-number-preserved : goal.loop-number-preserved
@@ -92,4 +96,5 @@ loop-number-preserved g c =
           c.args.disks.now c.loop-number.areas.items c.loop-number.invariant.chosen
           c.loop-number.invariant.looked.places_count there
           c.in_ok-node.ensures.chosen c.in_ok-add-2.ensures.added;
+      intact = intact-next c.loop-number.invariant.intact there c.in_ok-node.ensures.intact;
     }

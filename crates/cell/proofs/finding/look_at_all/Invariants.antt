@@ -1,6 +1,7 @@
 use Rattle.std.proofs.Common.{◌≡◌, length}
 use Rattle.cell.specs.Looking.{AreLookedAt, AreUnmoved, logs_at}
 use Rattle.cell.specs.Opened.{AreBeside, IsChosen}
+use Rattle.cell.proofs.Looking.{AreIntactTo}
 use Rattle.cell.proofs.finding.look_at_all.Given as goal
 
 abbrev pub invariant-loop-number : goal.invariant-loop-number
@@ -12,4 +13,5 @@ invariant-loop-number g l = record {
   count : length l.disks ≡ l.shape.nodes;
   chosen : AreBeside (λ k d place. IsChosen l.saves (g.D.Disk.seen d) (logs_at l.saves place))
       l.fn.disks l.areas.items;
+  intact : AreIntactTo g.D.Disk.seen g.D.Disk.seals l.number l.fn.disks;
 }

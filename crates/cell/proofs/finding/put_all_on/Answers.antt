@@ -5,7 +5,7 @@ use Rattle.node_store.specs.Stores.{disk_of, is_ready_in, logs_in}
 use Rattle.cell.specs.Ages.{IsWhy}
 use Rattle.cell.specs.Looking.{IsOfReading, logs_at}
 use Rattle.cell.specs.Disks.{OpensToNode}
-use Rattle.cell.specs.Opened.{IsCause, StaysOrNew}
+use Rattle.cell.specs.Opened.{IsCause, StaysOrNew, unsealed}
 use Rattle.cell.proofs.Beside.{beside-next}
 use Rattle.cell.proofs.Causes.{as-node, by-refusal}
 use Rattle.cell.proofs.Looking.{first-at, shelf-next, shelves-found}
@@ -17,12 +17,13 @@ returns-in-Err-clause-why g c =
     let inside : c.loop-number.number < length c.args.nodes.now = omega (arith, c.requires.count) in
     let it = first-at c.requires.on inside c.from-place.ensures c.loop-number.invariant.rest
     c.remove-disk.ensures.value c.index-nodes-place.is in
-    by-refusal (IsWhy g.D.Disk.seen g.D.Disk.moment g.D.Disk.faults c.args.shape c.args.disks.items)
+    by-refusal (IsWhy g.D.Disk.seen unsealed g.D.Disk.moment g.D.Disk.faults c.args.shape
+    c.args.disks.items)
     c.loop-number.number c.in-Err.refusal _ c.failed.ensures tt (λ other. record {
       value = c.remove-disk.result;
       there = it.disk;
       is = as-node
-          (λ shape own. IsCause g.D.Disk.seen g.D.Disk.moment g.D.Disk.faults shape own
+          (λ shape own. IsCause g.D.Disk.seen unsealed g.D.Disk.moment g.D.Disk.faults shape own
           c.remove-disk.result c.in-Err.refusal)
           (c.requires.on.each _ _ _ _ it.disk it.node it.area).0 (c.in-Err.ensures.cause other);
     })

@@ -1,6 +1,8 @@
-use Rattle.std.proofs.Common.{Err, ap, refl}
+use Rattle.std.proofs.Common.{Err, ap, refl, subst, sym}
 use Rattle.ids.specs.declared.refusal.Refusal.TheVariants.{BadImage}
-use Rattle.cell.specs.Opened.{IsCause, IsWhyNot}
+use Rattle.cell.specs.Disks.{OpensToNode}
+use Rattle.cell.specs.Opened.{IsCause, IsWhyNot, unsealed}
+use Rattle.node_store.proofs.Stores.{same_lies, same_logged}
 use Rattle.cell.proofs.Causes.{by-cause, by-refusal}
 use Rattle.cell.proofs.Opening.{core-found}
 use Rattle.cell.proofs.finding.read_node.Goals as goal
@@ -10,12 +12,15 @@ returns-in-Err-clause-why g c =
     let own = c.args.own.number in
     let disk = c.args.disk.now in
     let said = c.in-Err.ensures in
-    by-refusal (IsWhyNot g.D.Disk.seen g.D.Disk.moment g.D.Disk.faults c.args.shape own disk) own
-    c.in-Err.refusal _ c.failed.ensures tt (λ other. (
+    by-refusal (IsWhyNot g.D.Disk.seen unsealed g.D.Disk.moment g.D.Disk.faults c.args.shape own
+    disk) own c.in-Err.refusal _ c.failed.ensures tt (λ other. (
       refl,
-      by-cause (IsCause g.D.Disk.seen g.D.Disk.moment g.D.Disk.faults c.args.shape own disk)
-          BadImage c.in-Err.refusal said.refused.others other
-          (λ is. record { written = c.requires; none = said.refused.bad is })
+      by-cause (IsCause g.D.Disk.seen unsealed g.D.Disk.moment g.D.Disk.faults c.args.shape own
+          disk) BadImage c.in-Err.refusal said.refused.others other
+          (λ is. record {
+            written = c.requires;
+            none = λ n opens intact. said.refused.bad is n opens;
+          })
           (λ is. record {
             after = c.read_node.new.disk;
             later = said.quiet.any_moment.later;
@@ -34,7 +39,20 @@ returns-else-is_node_of-clause-why g c = (
 )
 
 pub returns-then-is_node_of-clause-chosen : goal.returns-then-is_node_of-clause-chosen
-returns-then-is_node_of-clause-chosen g c = record {
-  events = c.in-Ok.ensures.events;
-  images = c.in-Ok.ensures.images;
-}
+returns-then-is_node_of-clause-chosen g c =
+    let place = c.in-Ok.found.0 in
+    let other = c.with_digest.result in
+    record {
+      events = λ is. same_logged place other c.with_digest.ensures (c.in-Ok.ensures.events is);
+      images = λ is plain.
+          same_logged place other c.with_digest.ensures (c.in-Ok.ensures.images is plain);
+    }
+
+pub returns-then-is_node_of-clause-holds : goal.returns-then-is_node_of-clause-holds
+returns-then-is_node_of-clause-holds g c =
+    let disk = c.read_node.new.disk in
+    let found = c.in-Ok.found in (
+      same_lies g.D.Disk.seen g.D.Disk.may_leave disk found.0 c.with_digest.result
+          c.with_digest.ensures c.in-Ok.ensures.lies,
+      subst (OpensToNode found.1) (sym c.read_node.ensures.quiet.same) c.in-Ok.ensures.value,
+    )

@@ -7,7 +7,7 @@ use Rattle.cell.proofs.Dues.{next-taken-in}
 use Rattle.cell.proofs.Left.{left-opened, restarted-reached}
 use Rattle.cell.proofs.OneAge.{begin-of-one-age, left-is-of-one-age, reopened-is-reached}
 use Rattle.cell.proofs.Reaches.{alike-go-on, fresh-reached, new-reached, stays-reached, world-of-reached}
-use Rattle.cell.proofs.Sights.{cells-are-told-so, new-is-unseen, reached-is-unseen, sights-are-kept, sights-go-on}
+use Rattle.cell.proofs.Sights.{cells-are-told-so, cells-read-so, new-is-unseen, reached-is-unseen, sights-are-kept, sights-go-on}
 use Rattle.cell.proofs.headline.laws.Goals as goal
 
 pub returns-clause-new : goal.returns-clause-new
@@ -78,6 +78,9 @@ returns-clause-transparent c = reached-is-unseen
 
 pub returns-clause-told : goal.returns-clause-told
 returns-clause-told c = cells-are-told-so
+
+pub returns-clause-read : goal.returns-clause-read
+returns-clause-read c = cells-read-so
 
 pub returns-clause-unseen : goal.returns-clause-unseen
 returns-clause-unseen c = new-is-unseen

@@ -45,23 +45,25 @@ returns-in_err-nodes g c =
       shaped = tt;
       count = tt;
       all = tt;
+      intact = tt;
       one_age = tt;
       closed = λ opening reached width once.
           never-ages (record { reached = reached; width = width; once = once }) g.D.Disk.seen
-          g.met.D.Disk.reads_left g.D.Disk.moment g.D.Disk.faults _ c.in_err-nodes.ensures.why;
+          g.met.D.Disk.reads_left g.D.Disk.seals g.D.Disk.moment g.D.Disk.faults _
+          c.in_err-nodes.ensures.why;
       killed = λ opening reached width kill.
           ages-never g.D.Disk.seen c.args.shape c.args.disks.items (killed-begins g.D.Disk.seen
-          c.args.shape opening c.args.disks.items reached width kill) g.D.Disk.moment
-          g.D.Disk.faults _ c.in_err-nodes.ensures.why;
+          c.args.shape opening c.args.disks.items reached width kill) g.D.Disk.seals
+          g.D.Disk.moment g.D.Disk.faults _ c.in_err-nodes.ensures.why;
       fresh = λ fresh.
           ages-never g.D.Disk.seen c.args.shape c.args.disks.items (fresh-begins g.D.Disk.seen
-          c.args.shape c.args.disks.items c.in_err-nodes.ensures.limits fresh) g.D.Disk.moment
-          g.D.Disk.faults _ c.in_err-nodes.ensures.why;
+          c.args.shape c.args.disks.items c.in_err-nodes.ensures.limits fresh) g.D.Disk.seals
+          g.D.Disk.moment g.D.Disk.faults _ c.in_err-nodes.ensures.why;
       left = λ w on. tt;
       kept = λ w on held.
           never-apart g.D.Disk.seen c.args.shape c.args.disks.items (left-ages g.D.Disk.seen
-          c.args.shape c.args.disks.items w on held) g.D.Disk.moment g.D.Disk.faults _
-          c.in_err-nodes.ensures.why;
+          c.args.shape c.args.disks.items w on held) g.D.Disk.seals g.D.Disk.moment g.D.Disk.faults
+          _ c.in_err-nodes.ensures.why;
       begun = tt;
       new = tt;
       made = tt;
@@ -109,6 +111,7 @@ returns-in-Ok g c =
           (found.each k n shelf.0 there shelf.1).0);
       count = c.in-Ok.opened.1.ok.0 ∙ all ∙ c.in_ok-nodes.ensures.count;
       all = all ∙ c.in_ok-nodes.ensures.all;
+      intact = c.in_ok-nodes.ensures.intact;
       one_age = one_age;
       closed = λ opening reached width once.
           subst IsReached (sym made.opening)

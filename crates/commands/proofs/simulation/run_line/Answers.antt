@@ -1,13 +1,14 @@
-use Rattle.std.proofs.Common.{◌≡◌, ◌∙◌, [], IfOk, Option, Some, not, sym, ap, subst}
+use Rattle.std.proofs.Common.{◌≡◌, ◌∙◌, [], IfOk, Option, Some, not, sym, ap, refl, subst}
 use Rattle.model.specs.declared.step.Outcome.TheVariants as outcome
 use Rattle.model.specs.declared.step.Step.{Step}
 use Rattle.script.specs.declared.line.Line.{Line}
 use Rattle.script.specs.declared.line.Line.TheVariants as line
 use Rattle.script.specs.Grammar.{line_of, words_of}
+use Rattle.script.specs.Words.{last_of}
 use Rattle.commands.specs.Freed.{KeepsSums, freed_in, freed_with}
 use Rattle.commands.specs.Script.{PrintsReply, ShowsHeld, TakesLine}
 use Rattle.commands.specs.declared.simulation.Reply.TheVariants as reply
-use Rattle.commands.proofs.Replies.{denied_shows, outcome_shows, printed_as, prints_refused, prints_taken, read_some, step_refused}
+use Rattle.commands.proofs.Replies.{awaited_shows, denied_shows, outcome_shows, printed_as, prints_refused, prints_taken, read_none, read_some, step_refused}
 use Rattle.commands.proofs.simulation.run_line.Given as given
 use Rattle.commands.proofs.simulation.run_line.Goals as goal
 use Rattle.commands.proofs.simulation.run_line.Goals.{Else-is_none}
@@ -22,6 +23,32 @@ read g c =
 step_read : (g : given.Over) (c : Else-is_none g) {s : Step} → c.read.new.self ≡ line.Step s
     → line_of (words_of c.args.text.now) ≡ Some (line.Step s)
 step_read g c is = sym (read g c) ∙ ap (λ (l : Line). Some l) is
+
+-- the line is outside the grammar
+pub returns-then-is_none : goal.returns-then-is_none
+returns-then-is_none g c =
+    rw (← read_none c.read.result c.read.new.self (line_of (words_of c.args.text.now))
+    c.read.ensures.reads (c.is_none.ensures ∙ ap not c.if-is_none.true))
+    (printed_as c.print_no_command.result c.print_no_command.ensures.text
+    c.print_no_command.ensures.status
+    (λ text status two. record {
+      reply = reply.NoCommand;
+      answers = λ h shown. (h, (refl, refl), shown);
+      prints = text;
+      is = two;
+    }))
+
+pub returns-in-Unopened : goal.returns-in-Unopened
+returns-in-Unopened g c =
+    rw (step_read g (goal.at.returns-in-Unopened g c).Else-is_none c.in-Step.is, c.in-Unopened.is)
+    (printed_as c.print_no_command-in-Unopened.result c.print_no_command-in-Unopened.ensures.text
+    c.print_no_command-in-Unopened.ensures.status
+    (λ text status two. record {
+      reply = reply.NoCommand;
+      answers = λ h shown. awaited_shows h c.in-Step.step shown;
+      prints = text;
+      is = two;
+    }))
 
 pub returns-in-Refused : goal.returns-in-Refused
 returns-in-Refused g c =
@@ -74,6 +101,7 @@ returns-in_default-step g c =
 pub returns-in_default : goal.returns-in_default
 returns-in_default g c =
     subst (λ (l : Option Line). IfOk c.run_other.result (PrintsReply
-    (λ h r later. TakesLine h l r later) c.args.number c.args.state.now c.run_other.new.state
+    (λ h r later. TakesLine h l (last_of (words_of c.args.text.now) []) r later) c.args.number
+    c.args.state.now c.run_other.new.state
     (g.W.Write.contents c.args.out.now) (g.W.Write.contents c.run_other.new.out)))
     (read g (goal.at.returns-in_default g c).Else-is_none) c.run_other.ensures

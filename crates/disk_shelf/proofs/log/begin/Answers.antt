@@ -30,8 +30,8 @@ returns-clause-begun g c =
     let t = g.D.Disk.seen c.put_both.new.disk in
     let a = image_laid c.args.image.now c.args.bytes.now s.a t.a c.requires.fits
     c.requires.spelled c.in_ok-put_both.ensures.a in
-    on_ok_weaker c.put.result (λ set. (begun c.args.image.now c.mark-choice.result t a
-    c.mark-choice.ensures (g.D.Disk.seen c.put.new.disk) set).0) c.put.ensures.written
+    on_ok_weaker c.put.result (λ set. (begun c.args.image.now c.log_mark-choice.result t a
+    c.log_mark-choice.ensures.side (g.D.Disk.seen c.put.new.disk) set).0) c.put.ensures.written
 
 pub returns-clause-logged : goal.returns-clause-logged
 returns-clause-logged g c =
@@ -41,8 +41,8 @@ returns-clause-logged g c =
     c.requires.spelled c.in_ok-put_both.ensures.a in
     logged_by g.D.Disk.seen g.D.Disk.may_leave false _ c.put.new.disk c.put.result
     c.put.ensures.durable
-    (on_ok_weaker c.put.result (λ set. (begun c.args.image.now c.mark-choice.result t a
-    c.mark-choice.ensures (g.D.Disk.seen c.put.new.disk) set).1) c.put.ensures.written)
+    (on_ok_weaker c.put.result (λ set. (begun c.args.image.now c.log_mark-choice.result t a
+    c.log_mark-choice.ensures.side (g.D.Disk.seen c.put.new.disk) set).1) c.put.ensures.written)
 
 pub returns-in_err-put_both-clause-cause : goal.returns-in_err-put_both-clause-cause
 returns-in_err-put_both-clause-cause g c =

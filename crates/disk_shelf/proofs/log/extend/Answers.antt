@@ -51,7 +51,8 @@ returns-clause-added g c =
     let at = (goal.at.returns-clause-added g c).After-half-area in
     on_ok_weaker c.put-2.result (λ set image batches opens.
     batch_added (adding g at)
-    (g.D.Disk.seen c.put.new.disk) c.in_ok-put.ensures.written image batches opens
+    (g.D.Disk.seen c.put.new.disk) c.in_ok-put.ensures.written c.open_gate-gate.result
+    c.open_gate-gate.ensures.odd image batches opens
     (g.D.Disk.seen c.put-2.new.disk) set) c.put-2.ensures.written
 
 pub returns-clause-logged : goal.returns-clause-logged
@@ -60,8 +61,8 @@ returns-clause-logged g c =
     logged_by g.D.Disk.seen g.D.Disk.may_leave c.args.in_b _ c.put-2.new.disk c.put-2.result
     c.put-2.ensures.durable
     (on_ok_weaker c.put-2.result (λ set. end_moved (adding g at)
-    (g.D.Disk.seen c.put.new.disk) c.in_ok-put.ensures.written
-    (g.D.Disk.seen c.put-2.new.disk) set) c.put-2.ensures.written)
+    (g.D.Disk.seen c.put.new.disk) c.in_ok-put.ensures.written c.open_gate-gate.result
+    c.open_gate-gate.ensures.odd (g.D.Disk.seen c.put-2.new.disk) set) c.put-2.ensures.written)
 
 pub returns-in_err-put-clause-cause : goal.returns-in_err-put-clause-cause
 returns-in_err-put-clause-cause g c =

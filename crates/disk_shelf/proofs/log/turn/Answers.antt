@@ -43,7 +43,7 @@ pub returns-clause-turned : goal.returns-clause-turned
 returns-clause-turned g c =
     let at = (goal.at.returns-clause-turned g c).After-half in
     on_ok_weaker c.put-2.result (λ set. (turned (turning g at) (g.D.Disk.seen c.put.new.disk)
-    c.in_ok-put.ensures.written c.mark-choice.result c.mark-choice.ensures
+    c.in_ok-put.ensures.written c.log_mark-choice.result c.log_mark-choice.ensures.side
     (g.D.Disk.seen c.put-2.new.disk) set).0) c.put-2.ensures.written
 
 pub returns-clause-logged : goal.returns-clause-logged
@@ -52,7 +52,7 @@ returns-clause-logged g c =
     logged_by g.D.Disk.seen g.D.Disk.may_leave (not c.args.in_b) _ c.put-2.new.disk c.put-2.result
     c.put-2.ensures.durable
     (on_ok_weaker c.put-2.result (λ set. (turned (turning g at) (g.D.Disk.seen c.put.new.disk)
-    c.in_ok-put.ensures.written c.mark-choice.result c.mark-choice.ensures
+    c.in_ok-put.ensures.written c.log_mark-choice.result c.log_mark-choice.ensures.side
     (g.D.Disk.seen c.put-2.new.disk) set).1) c.put-2.ensures.written)
 
 pub returns-in_err-put-clause-cause : goal.returns-in_err-put-clause-cause

@@ -3,7 +3,7 @@ use Rattle.std.proofs.lemmas.Result.{err_from_is_err_and}
 use Rattle.std.proofs.lemmas.Bool.{false≢true}
 use Rattle.disk.specs.Areas.{part}
 use Rattle.disk.proofs.Causes.{err_cause, later_cause, no_cause}
-use Rattle.disk_shelf.proofs.Quiet.{bad_no_disk, bad_no_memory, both_unmoved, disk_no_bad, disk_no_memory, handed_cause, handed_err, memory_no_bad, memory_no_disk, ok_no_err, same_err, told_no_memory}
+use Rattle.disk_shelf.proofs.Quiet.{bad_no_disk, bad_no_memory, both_unmoved, disk_no_bad, disk_no_memory, handed_cause, handed_err, memory_no_bad, memory_no_disk, ok_no_err, same_err}
 use Rattle.disk_shelf.proofs.Records.{recorded_cut, image_read, whole_behind}
 use Rattle.disk_shelf.proofs.save.load.Goals as goal
 
@@ -14,10 +14,10 @@ returns-in_err-len g c =
     rw (p.1, p.2) (record {
       image = tt;
       none = λ is. said.none (handed_err refl is);
-      memory = λ is. absurd (told_no_memory said.others is);
+      memory = λ is below. absurd (omega (arith, below, said.far (handed_err refl is)));
       quiet = c.told_length.ensures.quiet;
       cause = handed_cause refl said.cause;
-      others = inr said.others;
+      others = said.others;
     })
 
 pub returns-in_err-image : goal.returns-in_err-image
@@ -27,7 +27,7 @@ returns-in_err-image g c =
     rw (p.1, p.2) (record {
       image = tt;
       none = λ is. absurd (memory_no_bad is);
-      memory = λ _. c.in_ok-len.ensures.tells;
+      memory = λ _ _. c.in_ok-len.ensures.tells;
       quiet = c.told_length.ensures.quiet;
       cause = no_cause (c.in_ok-len.ensures.cause.fine ok_no_err) memory_no_disk;
       others = inl refl;
@@ -37,7 +37,7 @@ pub returns-in_default : goal.returns-in_default
 returns-in_default g c = record {
   image = tt;
   none = λ is. absurd (memory_no_bad is);
-  memory = λ _. c.in_ok-len.ensures.tells;
+  memory = λ _ _. c.in_ok-len.ensures.tells;
   quiet = c.told_length.ensures.quiet;
   cause = no_cause (c.in_ok-len.ensures.cause.fine ok_no_err) memory_no_disk;
   others = inl refl;

@@ -1,9 +1,7 @@
-use Rattle.std.proofs.Common.{◌∙◌, Err, ap, inr, sym, arith, refl}
-use Rattle.std.proofs.lemmas.Result.{err_from_is_err_and}
+use Rattle.std.proofs.Common.{◌∙◌, ap, sym, arith, drop}
 use Rattle.std.proofs.lemmas.Bool.{false≢true}
-use Rattle.disk.proofs.Causes.{err_cause, no_cause}
-use Rattle.disk_shelf.proofs.Quiet.{bad_no_disk, ok_no_err}
-use Rattle.disk_shelf.proofs.Records.{recorded_short, recorded_long, told_read, whole_behind}
+use Rattle.disk.specs.Areas.{part}
+use Rattle.disk_shelf.proofs.Records.{length_again, recorded_short, told_read, untold_none, whole_behind}
 use Rattle.disk_shelf.proofs.save.told_length.Goals as goal
 
 pub returns-then-not-branch-clause-none : goal.returns-then-not-branch-clause-none
@@ -12,14 +10,19 @@ returns-then-not-branch-clause-none g c bad =
     c.in_ok-read_whole.ensures.whole in
     recorded_short _ (whole.short c.if-not-branch.true)
 
-pub returns-then-len-gt-GREATEST_IMAGE-clause-none :
-    goal.returns-then-len-gt-GREATEST_IMAGE-clause-none
-returns-then-len-gt-GREATEST_IMAGE-clause-none g c bad =
+pub returns-then-not-branch-2-clause-untold : goal.returns-then-not-branch-2-clause-untold
+returns-then-not-branch-2-clause-untold g c bad says =
     let whole = whole_behind c.args.at 0 c.args.at (omega arith) (omega arith)
     c.in_ok-read_whole.ensures.whole in
-    let tells = told_read _ c.read_whole.new.into (whole.bytes c.if-not-branch.false) in
-    recorded_long _
-    (omega (arith, tells, c.from_be_bytes-len.ensures, c.if-len-gt-GREATEST_IMAGE.true))
+    let is = told_read _ c.read_whole.new.into (whole.bytes c.if-not-branch.false)
+    ∙ sym c.from_be_bytes-len.ensures in
+    let same = ap (λ d. drop c.args.at (part c.args.area d)) c.read_whole.ensures.quiet.same in
+    let all = c.in_ok-may_have.ensures.exact.1 (length_again is (sym same) says.1) in
+    false≢true (sym c.if-not-branch-2.true ∙ all)
+
+pub returns-then-not-branch-2-clause-none : goal.returns-then-not-branch-2-clause-none
+returns-then-not-branch-2-clause-none g c bad =
+    untold_none _ (returns-then-not-branch-2-clause-untold g c bad)
 
 pub returns-clause-told : goal.returns-clause-told
 returns-clause-told g c =
@@ -31,30 +34,9 @@ returns-clause-told g c =
 pub returns-clause-tells : goal.returns-clause-tells
 returns-clause-tells g c =
     let whole = whole_behind c.args.at 0 c.args.at (omega arith) (omega arith)
-    c.in_ok-read_whole.ensures.whole in (
+    c.in_ok-read_whole.ensures.whole in
+    let same = ap (λ d. drop c.args.at (part c.args.area d)) c.read_whole.ensures.quiet.same in
+    let is = c.in_ok-may_have.ensures.exact.0 c.if-not-branch-2.false in (
       omega (arith, whole.enough c.if-not-branch.false),
-      omega (arith, returns-clause-told g c, c.if-len-gt-GREATEST_IMAGE.false),
+      length_again (sym (returns-clause-told g c)) same is,
     )
-
-pub returns-in_err-read_whole-clause-cause : goal.returns-in_err-read_whole-clause-cause
-returns-in_err-read_whole-clause-cause g c =
-    let p = err_from_is_err_and c.from_residual.result c.from_residual.ensures.1 in
-    err_cause c.in_err-read_whole.ensures.cause (p.1 ∙ ap Err p.2)
-
-pub returns-in_err-read_whole-clause-others : goal.returns-in_err-read_whole-clause-others
-returns-in_err-read_whole-clause-others g c =
-    let p = err_from_is_err_and c.from_residual.result c.from_residual.ensures.1 in
-    rw p.1 (inr p.2)
-
-pub returns-then-not-branch-clause-cause : goal.returns-then-not-branch-clause-cause
-returns-then-not-branch-clause-cause g c =
-    no_cause (c.in_ok-read_whole.ensures.cause.fine false≢true) (bad_no_disk refl)
-
-pub returns-then-len-gt-GREATEST_IMAGE-clause-cause :
-    goal.returns-then-len-gt-GREATEST_IMAGE-clause-cause
-returns-then-len-gt-GREATEST_IMAGE-clause-cause g c =
-    no_cause (c.in_ok-read_whole.ensures.cause.fine false≢true) (bad_no_disk refl)
-
-pub returns-clause-cause : goal.returns-clause-cause
-returns-clause-cause g c =
-    no_cause (c.in_ok-read_whole.ensures.cause.fine false≢true) ok_no_err

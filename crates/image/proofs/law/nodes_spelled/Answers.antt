@@ -6,5 +6,5 @@ returns c = record {
   one_node = one_node;
   one_spelling = one_spelling;
   saved = all_saved;
-  second = spelled_later;
+  written = spelled_later;
 }

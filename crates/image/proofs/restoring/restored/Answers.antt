@@ -23,12 +23,12 @@ returns-in_default-from_parts-clause-refused c = λ other. (
 pub every_link-requires : goal.every_link-requires
 every_link-requires c =
     let image = stored_of c.args.image in
-    let v = c.requires.0 in
-    omega (arith, own_below v image c.requires.1, links_count v image c.requires.1)
+    let l = c.args.layout in
+    omega (arith, own_below l image c.requires, links_count l image c.requires)
 
 pub returns-clause-refused : goal.returns-clause-refused
 returns-clause-refused c =
-    said_refused (node_of (stored_of c.args.image)) c.from_parts-2.result
+    said_refused (node_of c.args.layout (stored_of c.args.image)) c.from_parts-2.result
     c.from_parts-2.ensures.refused
     (rw (
       c.in_ok-links.ensures.sent,

@@ -6,7 +6,8 @@ pub returns : goal.returns
 unfolding slots_format
 returns c = record {
   value = both_read
-      (counted_read (slot_format c.args.version) c.u32-count.ensures c.in_ok-slots.ensures.value)
+      (counted_read (slot_format c.args.wide c.args.version) c.u32-count.ensures
+      c.in_ok-slots.ensures.value)
       (both_read c.in_ok-free.ensures.value c.in_ok-grey.ensures.value);
   refused = tt;
 }

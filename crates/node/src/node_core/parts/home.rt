@@ -21,7 +21,7 @@ ghost use Rattle.node.specs.Parts.{
 
 use super::NodeParts;
 use heap::{Object, Slot, Slots};
-use ids::{GREATEST_PLACES, Ref, Shape};
+use ids::{Ref, Shape};
 use model::Letter;
 use std::collections::VecDeque;
 
@@ -111,7 +111,8 @@ fn is_object(shape: Shape, cycle: u64, object: &Object) -> bool
 {
     let places = object.contents();
     object.marked_by() <= cycle
-        && places.len() <= usize::from(GREATEST_PLACES)
+        && places.len() <= usize::from(shape.places())
+        && object.bytes().len() <= shape.bytes() as usize
         && are_any_named(shape, places)
 }
 

@@ -12,7 +12,7 @@ ghost use Rattle.link.specs.Parts.{link_given, links_given};
 
 use super::home::{is_any_named, is_named};
 use cycles::Ring;
-use ids::{GREATEST_PLACES, Shape};
+use ids::Shape;
 use link::{LinkParts, Links};
 use msg::{Body, Message};
 use std::collections::VecDeque;
@@ -70,7 +70,7 @@ fn are_messages(shape: Shape, cycle: u64, messages: &VecDeque<Message>) -> bool
 fn is_message(shape: Shape, cycle: u64, message: Message) -> bool
     ensures { result ≡ is_message shape cycle message }
 {
-    message.stamp <= cycle && are_named(shape, message.body) && is_placed(message.body)
+    message.stamp <= cycle && are_named(shape, message.body) && is_placed(shape, message.body)
 }
 
 // Whether every reference in the body is within the shape.
@@ -89,12 +89,12 @@ fn are_named(shape: Shape, body: Body) -> bool
     }
 }
 
-// Whether an object may have the place that the body names.
-fn is_placed(body: Body) -> bool
-    ensures { result ≡ is_placed body }
+// Whether an object of the space may have the place that the body names.
+fn is_placed(shape: Shape, body: Body) -> bool
+    ensures { result ≡ is_placed shape body }
 {
     match body {
-        Body::Put { place, .. } | Body::Get { place, .. } => place < GREATEST_PLACES,
+        Body::Put { place, .. } | Body::Get { place, .. } => place < shape.places(),
         _ => true,
     }
 }

@@ -7,6 +7,7 @@ use Rattle.script.proofs.line.command.Goals.{In-Some, In-Some-behind_word}
 delivers : (c : In-Some) → IsCommand c.args.text.now (codes "deliver") c.in-Some.rest.now
 delivers c = record {
   none = c.requires.other;
+  narrow = refl;
   word = sym c.in-Some.ensures.word;
   others = c.in-Some.ensures.rest;
 }
@@ -15,6 +16,7 @@ hands : (c : In-Some-behind_word)
     → IsCommand c.args.text.now (codes "ack") c.in-Some-behind_word.rest.now
 hands c = record {
   none = c.requires.other;
+  narrow = refl;
   word = sym c.in-Some-behind_word.ensures.word;
   others = c.in-Some-behind_word.ensures.rest;
 }

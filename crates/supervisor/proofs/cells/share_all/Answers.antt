@@ -1,7 +1,9 @@
-use Rattle.std.proofs.Common.{◌<◌, length, arith}
+use Rattle.std.proofs.Common.{◌<◌, ◌∙◌, length, arith}
 use Rattle.std.specs.Arc.{arc_value}
+use Rattle.cell.specs.Cells.{desk_of}
 use Rattle.cell.specs.Closing.{HasBegun}
-use Rattle.supervisor.proofs.Seats.{first-of, first-seat, later-of, later-seats}
+use Rattle.cell.specs.Shares.{first_of}
+use Rattle.supervisor.proofs.Seats.{first-of, first-seat, later-of, later-seats, moved-one}
 use Rattle.supervisor.proofs.cells.share_all.Goals as goal
 
 pub share-requires-clause-seat : goal.share-requires-clause-seat
@@ -23,4 +25,9 @@ loop-preserved g c = record {
   left = omega (arith, c.loop.invariant.left, c.remove-cell.ensures.len);
   all = c.loop.invariant.all;
   made = omega (arith, c.loop.invariant.made, c.in_ok-push.ensures.len);
+  first = moved-one (λ s. first_of (arc_value s)) desk_of _ _ _ c.remove-cell.result _ _
+      (let some : 0 < length c.loop.cells.items = omega arith in some)
+      c.remove-cell.ensures.value c.remove-cell.ensures.items c.in_ok-share.ensures.first
+      c.in_ok-push.ensures.items
+      ∙ c.loop.invariant.first;
 }

@@ -7,13 +7,13 @@ pub returns-then-bytes-lt-HEAD-clause-found : goal.returns-then-bytes-lt-HEAD-cl
 returns-then-bytes-lt-HEAD-clause-found c =
     sym (recorded_short c.args.bytes.now c.if-bytes-lt-HEAD.true)
 
-pub returns-then-len-gt-GREATEST_IMAGE-clause-found :
-    goal.returns-then-len-gt-GREATEST_IMAGE-clause-found
-returns-then-len-gt-GREATEST_IMAGE-clause-found c =
+pub returns-then-len-gt-GREATEST_SAVED-clause-found :
+    goal.returns-then-len-gt-GREATEST_SAVED-clause-found
+returns-then-len-gt-GREATEST_SAVED-clause-found c =
     let says : told c.args.bytes.now ≡ c.from_be_bytes-len.result =
     told_read c.args.bytes.now c.copy_from_slice.new.self c.copy_from_slice.ensures.after
     ∙ sym c.from_be_bytes-len.ensures in
-    sym (recorded_long c.args.bytes.now (omega (arith, says, c.if-len-gt-GREATEST_IMAGE.true)))
+    sym (recorded_long c.args.bytes.now (omega (arith, says, c.if-len-gt-GREATEST_SAVED.true)))
 
 pub returns-then-left-len-clause-found : goal.returns-then-left-len-clause-found
 returns-then-left-len-clause-found c =
@@ -31,5 +31,5 @@ returns-clause-found c =
     ∙ sym c.from_be_bytes-len.ensures in
     let count : 8 + len - 8 ≡ len = omega arith in
     ap (λ (k : ℕ). Some (take k (drop 8 c.args.bytes.now))) count
-    ∙ sym (recorded_is c.args.bytes.now len says c.if-len-gt-GREATEST_IMAGE.false
+    ∙ sym (recorded_is c.args.bytes.now len says c.if-len-gt-GREATEST_SAVED.false
     (omega (arith, c.if-left-len.false, c.if-bytes-lt-HEAD.false)))

@@ -1,5 +1,4 @@
-use Rattle.std.proofs.Common.{◌≡◌, ℕ, ap, refl, sym, ◌∙◌, subst}
-use Rattle.model.specs.declared.event.Event.{Event}
+use Rattle.std.proofs.Common.{◌≡◌, ℕ, ap, sym, ◌∙◌, subst}
 use Rattle.model.specs.declared.event.Event.TheVariants as event
 use Rattle.model.specs.declared.step.Step.TheVariants as step
 use Rattle.wire.specs.Readers.{known}
@@ -26,7 +25,7 @@ pub returns-in_default-waiting-clause-due : goal.returns-in_default-waiting-clau
 returns-in_default-waiting-clause-due c = λ from d next is.
     let desk = c.self.inside in
     rw (← c.self.view_is)
-    (none-due (known desk.seat) desk.node.core.local c.in-Next.from d is)
+    (none-due (known desk.seat) desk.node.core.local c.in-Next.from d (sym c.in-Next.is ∙ is))
 
 pub returns-clause-due : goal.returns-clause-due
 returns-clause-due c = λ from d next is.
@@ -47,10 +46,9 @@ returns-clause-due c = λ from d next is.
 pub returns-in_default-waiting-clause-may : goal.returns-in_default-waiting-clause-may
 returns-in_default-waiting-clause-may c =
     let desk = c.self.inside in
-    let next = event.Next c.in-Next.from in
     rw (← c.self.view_is)
-    (subst (λ (e : Event). MayAct (known desk.seat) next (step.Act desk.own e)) (sym c.in-Next.is)
-    (own-may (known desk.seat) next desk.own (sym desk.at.own ∙ desk.seat.sits.me_is) refl))
+    (own-may (known desk.seat) c.args.event desk.own (sym desk.at.own ∙ desk.seat.sits.me_is)
+    c.requires.own)
 
 pub returns-clause-may : goal.returns-clause-may
 returns-clause-may c =

@@ -41,20 +41,9 @@ returns-in_default g c = record {
   not_large = memory_no_large;
 }
 
-pub returns-in_err-record : goal.returns-in_err-record
-returns-in_err-record g c =
-    let p = err_from_is_err_and c.from_residual.result c.from_residual.ensures.1 in
-    rw (p.1, p.2) (record {
-      added = tt;
-      any_moment = unwritten g (goal.at.returns-in_err-record g c).After-checked_add;
-      after = unwritten_save c.requires.ready (inl refl);
-      not_large = memory_no_large;
-    })
-
 pub returns-in_err-bytes : goal.returns-in_err-bytes
 returns-in_err-bytes g c =
-    let exit = c.from_residual-in_err-bytes in
-    let p = err_from_is_err_and exit.result exit.ensures.1 in
+    let p = err_from_is_err_and c.from_residual.result c.from_residual.ensures.1 in
     rw (p.1, p.2) (record {
       added = tt;
       any_moment = unwritten g (goal.at.returns-in_err-bytes g c).After-checked_add;

@@ -1,38 +1,40 @@
-use Rattle.std.proofs.Common.{◌≡◌, ◌-◌, ◌+◌, ◌∙◌, Err, [], inl, ap, arith, not, length, refl, subst, sym}
+use Rattle.std.proofs.Common.{◌≡◌, ◌+◌, Err, [], inl, ap, arith, not, length, refl, subst, sym}
 use Rattle.std.proofs.lemmas.Result.{err_from_is_err_and}
 use Rattle.disk_shelf.specs.Logs.{IsLoggedTo, Opens, Restores}
 use Rattle.disk_shelf.proofs.Moments.{started}
 use Rattle.disk_shelf.proofs.Quiet.{ok_no_err, same_err}
 use Rattle.disk_shelf.proofs.Saves.{done_save, failed_save, unwritten_save}
-use Rattle.disk_journal.proofs.Refusals.{disk_not_large, not_above}
-use Rattle.disk_journal.proofs.Shut.{shut_again, shut_image, shut_length}
+use Rattle.disk_journal.proofs.Refusals.{disk_not_large}
+use Rattle.disk_journal.proofs.Shut.{shut_again, shut_image, shut_long}
 use Rattle.disk_journal.proofs.Values.{kept_whole, restores_image, turned_leaves}
 use Rattle.disk_journal.proofs.journal.Journal.renew.Given as given
 use Rattle.disk_journal.proofs.journal.Journal.renew.Goals as goal
 use Rattle.disk_journal.proofs.journal.Journal.renew.Goals.{After-image_before_gate}
 
--- the image is between its length and the gate
+-- the image is before the gate
 same : (g : given.Over) (c : After-image_before_gate g) →
     c.image_before_gate.result.now ≡ g.P.Persist.image c.args.value.now
-same g c = shut_image c.deref.ensures.value c.in_ok-bytes.ensures.bytes c.image_before_gate.ensures
+same g c =
+    shut_image (g.P.Persist.image c.args.value.now) c.in_ok-bytes.field-0.gate
+    c.deref.ensures.value c.in_ok-bytes.ensures.bytes c.in_ok-bytes.ensures.gate
+    c.image_before_gate.ensures
 
 pub image_before_gate-requires : goal.image_before_gate-requires
 image_before_gate-requires g c =
-    omega (
-      arith,
-      ap length c.deref.ensures.value,
-      shut_length (g.P.Persist.image c.args.value.now) c.in_ok-bytes.ensures.bytes,
-    )
+    let long = shut_long (g.P.Persist.image c.args.value.now) c.deref.ensures.value
+    c.in_ok-bytes.ensures.bytes c.in_ok-bytes.ensures.gate in
+    record { behind = long.0; inside = long.1 }
 
 pub turn-requires-clause-spelled : goal.turn-requires-clause-spelled
 turn-requires-clause-spelled g c =
-    shut_again (g.P.Persist.image c.args.value.now) c.deref-2.ensures.value c.deref.ensures.value
-    c.in_ok-bytes.ensures.bytes c.image_before_gate.ensures
+    shut_again (g.P.Persist.image c.args.value.now) c.in_ok-bytes.field-0.gate
+    c.deref-2.ensures.value c.deref.ensures.value c.in_ok-bytes.ensures.bytes
+    c.in_ok-bytes.ensures.gate c.image_before_gate.ensures
 
 pub turn-requires-clause-fits : goal.turn-requires-clause-fits
 turn-requires-clause-fits g c =
     let is = same g (goal.at.turn-requires-clause-fits g c).After-image_before_gate in
-    omega (arith, ap length is, c.in_ok-bytes.ensures.within)
+    omega (arith, ap length is, c.in_ok-bytes.ensures.fits)
 
 pub returns-in_err-bytes : goal.returns-in_err-bytes
 returns-in_err-bytes g c =
@@ -65,7 +67,7 @@ returns-in_err-turn g c =
       after = failed_save c.requires.ready (c.in_err-turn.ensures.cause.failed refl) refl;
       too_large = (
         λ is. absurd (disk_not_large is),
-        λ large. absurd (not_above c.in_ok-bytes.ensures.within large),
+        λ large. absurd (c.in_ok-bytes.ensures.within large),
       );
     })
 
@@ -82,22 +84,16 @@ returns g c =
       after = done_save c.requires.ready refl;
       too_large = (
         λ is. absurd (ok_no_err is),
-        λ large. absurd (not_above c.in_ok-bytes.ensures.within large),
+        λ large. absurd (c.in_ok-bytes.ensures.within large),
       );
     }
 
 pub invariant_of-self-2 : goal.invariant_of-self-2
 invariant_of-self-2 g c =
-    let image = g.P.Persist.image c.args.value.now in
     let in_b = not c.args.self.now.tail.in_b in
     let is = same g (goal.at.invariant_of-self-2 g c).After-image_before_gate in
-    let end : 8 + length c.image_before_gate.result.now ≡ c.len-start.result - 1 =
-    omega (
-      arith,
-      ap length is,
-      c.len-start.ensures ∙ c.in_ok-bytes.bytes.ok.0,
-      shut_length image c.in_ok-bytes.ensures.bytes,
-    ) in
+    let end : 8 + length c.image_before_gate.result.now ≡ c.in_ok-bytes.field-0.gate =
+    omega (arith, ap length is, c.in_ok-bytes.ensures.gate) in
     record {
       kept = λ _. kept_whole
           (subst (IsLoggedTo g.D.Disk.seen g.D.Disk.may_leave c.turn.new.disk in_b) end

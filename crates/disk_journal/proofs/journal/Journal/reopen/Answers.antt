@@ -3,6 +3,7 @@ use Rattle.std.proofs.lemmas.Bool.{false≢true}
 use Rattle.std.proofs.lemmas.Result.{err_from_is_err_and}
 use Rattle.disk.proofs.Causes.{no_cause}
 use Rattle.disk_shelf.proofs.Quiet.{handed_cause, ok_no_err}
+use Rattle.disk_journal.proofs.Values.{kept_less}
 use Rattle.disk_journal.proofs.journal.Journal.reopen.Goals as goal
 
 pub returns-in_err-tail : goal.returns-in_err-tail
@@ -30,4 +31,10 @@ returns g c = record {
     quiet = c.read_logged.ensures.quiet;
     cause = no_cause (c.in_ok-tail.ensures.cause.fine ok_no_err) ok_no_err;
   };
+}
+
+pub invariant_of-self-2 : goal.invariant_of-self-2
+invariant_of-self-2 g c = record {
+  kept = λ _. kept_less c.in_ok-tail.ensures.kept c.renewed-self.ensures.side
+      c.renewed-self.ensures.end;
 }

@@ -37,7 +37,8 @@ pub returns-in_default-place_for : goal.returns-in_default-place_for
 returns-in_default-place_for g c =
     let said = c.renew-in_default-place_for.ensures in
     record {
-      saved = on_ok_weaker c.renew-in_default-place_for.result (λ saved old r led. saved) said.saved;
+      saved = on_ok_weaker c.renew-in_default-place_for.result
+          (λ saved old r led. saved) said.saved;
       any_moment = λ is old r led. said.any_moment old r;
       after = said.after;
       too_large = (

@@ -1,21 +1,19 @@
-use Rattle.std.proofs.Common.{ℕ, ap, sym, ◌∙◌, subst}
+use Rattle.std.proofs.Common.{ap, sym, ◌∙◌, subst}
 use Rattle.std.specs.List.{AllByRecursion}
-use Rattle.model.specs.Collecting.{places_in}
 use Rattle.model.specs.References.{IsWithin}
 use Rattle.model.specs.Shading.{filled}
-use Rattle.model.specs.State.{slot_at}
 use Rattle.model.specs.View.{NodeView}
 use Rattle.node.specs.Inside.{view_of}
-use Rattle.node.proofs.Shading.{held, held-within}
+use Rattle.node.proofs.Shading.{held_at, held-within}
 use Rattle.node.proofs.node_core.Core.scan.Goals as goal
 
 pub run-requires-clause-within : goal.run-requires-clause-within
 run-requires-clause-within c =
     let n : NodeView = view_of c.self.inside in
+    let slot = c.in-Some.slot in
     let holds =
-    ap filled c.copy_places-count.ensures.value
-    ∙ ap (λ (k : ℕ). filled (places_in (slot_at n.local.heap k))) c.in-Some.ensures.value
-    ∙ ap held c.self.view_is in
+    ap filled c.in-Some-copy_places.ensures.value
+    ∙ ap (λ (m : NodeView). held_at m slot) c.self.view_is in
     subst (AllByRecursion (IsWithin c.args.self.now.local.shape)) (sym holds)
-    (subst (λ (m : NodeView). AllByRecursion (IsWithin m.local.shape) (held m)) c.self.view_is
-    (held-within n c.self.invariant.node))
+    (subst (λ (m : NodeView). AllByRecursion (IsWithin m.local.shape) (held_at m slot))
+    c.self.view_is (held-within n c.self.invariant.node slot))

@@ -14,6 +14,7 @@ invariant_of-result g c =
       some = opened.some;
       wide = ap (λ (w : Wire). nodes_of (opened_with w)) same ∙ opened.wide;
       of = subst (λ (w : Wire). AreWatches w opened.watches.items) (sym same) opened.of;
+      planned = λ t is. absurd cc;
     }
 
 pub share_on-requires-clause-begun : goal.share_on-requires-clause-begun

@@ -1,8 +1,15 @@
-use Rattle.std.proofs.Common.{◌∙◌, ap, map, subst, sym}
+use Rattle.std.proofs.Common.{◌∙◌, List, ap, map, subst, sym}
 use Rattle.std.proofs.lemmas.List.{length-map}
+use Rattle.std.specs.Arc.{arc_value}
+use Rattle.std.specs.Global.{Vec}
 use Rattle.wire.specs.Readers.{opened_with}
+use Rattle.wire.specs.declared.seats.Watch.{Watch}
 use Rattle.wire.specs.declared.seats.Wire.{Wire}
+use Rattle.cell.specs.Cells.{desk_of}
+use Rattle.cell.specs.Desks.{DeskView}
 use Rattle.cell.specs.Reached.{IsReached}
+use Rattle.supervisor.specs.Opened.{HaveOpened}
+use Rattle.supervisor.proofs.Openings.{have-opened}
 use Rattle.supervisor.proofs.space.SpaceOn+D+Unnamed.open.Goals as goal
 
 pub returns-in-Ok-clause-closed : goal.returns-in-Ok-clause-closed
@@ -34,3 +41,22 @@ returns-in-Ok-clause-begins g c =
       read = opened.read;
       are = ap opened_with c.in-Ok.ensures.wire ∙ opened.made.opening;
     }
+
+pub returns-in-Ok-clause-opened : goal.returns-in-Ok-clause-opened
+returns-in-Ok-clause-opened g c =
+    let opened = c.in_ok-opened.ensures in
+    let space = c.in-Ok.space in
+    let shared = c.in-Ok.ensures in
+    subst
+    (λ (l : List DeskView). HaveOpened g.D.Disk.seen c.args.config.now.shape c.args.disks.items l
+    (arc_value space.wire) space.watches.items)
+    (sym shared.cells)
+    (subst
+    (λ (w : Wire). HaveOpened g.D.Disk.seen c.args.config.now.shape c.args.disks.items
+    (map desk_of c.in_ok-opened.opened.cells.items) w space.watches.items)
+    (sym shared.wire)
+    (subst
+    (λ (v : Vec Watch). HaveOpened g.D.Disk.seen c.args.config.now.shape c.args.disks.items
+    (map desk_of c.in_ok-opened.opened.cells.items) c.in_ok-opened.opened.wire v.items)
+    (sym shared.watches)
+    (have-opened c.in_ok-opened.opened.cells.items opened.all opened.read opened.new opened.made)))

@@ -11,7 +11,7 @@ use Rattle.supervisor.proofs.space.SpaceOn.revive.Goals as goal
 
 pub begin-requires-send-S : goal.begin-requires-send-S
 begin-requires-send-S g c κs within =
-    param_send _ _ (arg_send _ no _ (shared-send _ _ g.row.W _ c.type_bounds.send-D))
+    param_send _ _ (arg_send _ no _ (shared-send _ _ _ _ c.type_bounds.send-D))
 
 pub begin-requires-sync-S : goal.begin-requires-sync-S
 begin-requires-sync-S g c κs within =

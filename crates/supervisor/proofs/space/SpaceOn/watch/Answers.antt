@@ -10,6 +10,7 @@ invariant_of-self g c =
       some = space.some;
       wide = space.wide;
       of = left-of (arc_value space.wire) _ _ c.pop.result space.of c.pop.ensures.items;
+      planned = space.planned;
     }
 
 pub returns-clause-of : goal.returns-clause-of

@@ -1,0 +1,36 @@
+-- Reading the bytes of objects. It is no event of the node.
+use Rattle.std.specs.Prelude.{◌≡◌, ◌⊎◌, ℕ, List, length, IsErrOf, IsTrue, Option, Result, Ok, Err}
+use Rattle.ids.specs.declared.refusal.Refusal.{Refusal}
+use Rattle.ids.specs.declared.refusal.Refusal.TheVariants.{Closed}
+use Rattle.model.specs.Heaps.{heap_bytes}
+use Rattle.disk.specs.Areas.{Areas}
+use Rattle.node.specs.Keeping.{WholeNode}
+use Rattle.cell.specs.Cells.{CellView}
+use Rattle.cell.specs.Locked.{IsLocked, WasShut}
+use Rattle.cell.specs.Names.{Name}
+
+-- this many bytes of an object of the node, from this offset on, or the refusal of reading them
+abbrev pub node_bytes : WholeNode → ℕ → ℕ → ℕ → Result (List ℕ) Refusal
+node_bytes n object offset count =
+    heap_bytes n.core.local.own n.core.local.heap object offset count
+
+-- The bytes that were read fill the buffer; or the call returns the refusal, and the buffer is as
+-- before.
+abbrev pub Fills : Result (List ℕ) Refusal → List ℕ → List ℕ → Result (Unit {0}) Refusal → Type 0
+Fills read old new (Ok u) = read ≡ Ok new
+Fills read old new (Err e) = (read ≡ Err e) × (new ≡ old)
+
+-- what a call read of a cell that it had locked, into a buffer
+pub record WasRead {D : Type 0} (may_leave : D → Areas → Type 0) (wire : Option Name)
+    (object offset : ℕ) (old new : List ℕ) (result : Result (Unit {0}) Refusal) : Type 0 where
+  pub cell : CellView D
+  pub locked : IsLocked may_leave wire cell
+  pub ready : IsTrue cell.is_open
+  pub fills : Fills (node_bytes cell.node object offset (length old)) old new result
+
+-- the node was read, or the cell was closed
+abbrev pub WasFilled : {D : Type 0} → (D → Areas → Type 0) → Option Name → ℕ → ℕ → List ℕ → List ℕ
+    → Result (Unit {0}) Refusal → Type 0
+WasFilled may_leave wire object offset old new result =
+    (IsErrOf result Closed × (new ≡ old) × WasShut may_leave wire)
+    ⊎ WasRead may_leave wire object offset old new result

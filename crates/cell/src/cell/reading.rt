@@ -1,0 +1,26 @@
+//! Reads bytes of objects. That is no event: it changes nothing, and adds no line to the trace.
+ghost use Rattle.std.specs.Prelude.{◌≡◌, ◌≢◌, ◌↔◌, Ok, Err, false, IfErr, IfOk, IsErrOf};
+ghost use Rattle.cell.specs.Reading.{node_bytes};
+
+use super::Cell;
+use disk::Disk;
+use ids::Refusal;
+
+impl<D: Disk> Cell<D> {
+    /// The bytes of the object that the register `object` names, `count` of them from `offset` on.
+    /// It is no event, and adds no line to the trace.
+    ///
+    /// Fails as the node does; with `Closed` exactly if the cell is closed.
+    pub fn bytes(&self, object: u16, offset: u32, count: u32) -> Result<&[u8], Refusal>
+        ensures value { IfOk result
+            (λ b. node_bytes self.now.node object offset count ≡ Ok b.now) }
+        ensures refused { IfErr result (λ e. e ≢ Refusal.Closed
+            → node_bytes self.now.node object offset count ≡ Err e) }
+        ensures closed { IsErrOf result Refusal.Closed ↔ (self.now.is_open ≡ false) }
+    {
+        if !self.store.is_ready() {
+            return Err(Refusal::Closed);
+        }
+        self.desk.node().bytes(object, offset, count)
+    }
+}
