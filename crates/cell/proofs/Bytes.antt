@@ -1,18 +1,18 @@
 -- What is read of an object's bytes.
-use Rattle.std.proofs.Common.{◌≡◌, ℕ, ◌+◌, ◌≤◌, Bool, true, false, ◌||◌, List, [], ◌∷◌, length, take, drop, Option, Result, Ok, Err, inl, inr, refl, ap, sym, ◌∙◌, subst, arith}
+use Rattle.std.proofs.Common.{◌≡◌, ℕ, ◌+◌, ◌<◌, ◌≤◌, Bool, true, false, ◌||◌, List, [], ◌∷◌, ◌++◌, length, take, drop, Option, Result, Ok, Err, inl, inr, refl, ap, sym, ◌∙◌, subst, arith}
 use Rattle.std.specs.Prelude.{IfErr, IsErrOf}
-use Rattle.std.proofs.lemmas.Bool.{leb-true, or_parts, true≢false}
+use Rattle.std.proofs.lemmas.Bool.{leb-true, lt-leb, or_parts, true≢false}
 use Rattle.std.proofs.lemmas.List.{length-take, length-drop}
 use Rattle.ids.specs.declared.refusal.Refusal.{Refusal}
-use Rattle.ids.specs.declared.refusal.Refusal.TheVariants.{Closed}
+use Rattle.ids.specs.declared.refusal.Refusal.TheVariants.{Closed, NoBytes}
 use Rattle.model.specs.Checks.{guarded}
 use Rattle.model.specs.State.{Heap}
-use Rattle.model.specs.Heaps.{bytes_of, bytes_tests, heap_bytes, named, object_at}
-use Rattle.model.proofs.Checks.{guarded-ok, guarded-passes}
+use Rattle.model.specs.Heaps.{bytes_of, bytes_tests, has_range, heap_bytes, heap_bytes_len, named, object_at, word_tests}
+use Rattle.model.proofs.Checks.{guarded-ok, guarded-passed, guarded-passes}
 use Rattle.disk.specs.Areas.{Areas}
-use Rattle.cell.specs.Locked.{WasShut}
+use Rattle.cell.specs.Cells.{CellView}
 use Rattle.cell.specs.Names.{Name}
-use Rattle.cell.specs.Reading.{WasFilled, WasRead}
+use Rattle.cell.specs.Reading.{WasRead}
 
 -- as many as were asked for
 pub bytes-count : (own : ℕ) (h : Heap) (object offset count : ℕ) (bytes : List ℕ)
@@ -69,12 +69,45 @@ open-never-closed own h object offset count (Err e) refused closed =
     bytes-never-closed own h object offset count
     (subst (λ (f : Refusal). heap_bytes own h object offset count ≡ Err f) same refused)
 
+-- the refusal of the first tests stays if further tests follow
+refused-first : {A : Type 0} {B : Type 0} (ts us : List (Bool × Refusal)) (x : A) (y : B)
+    (e : Refusal) → guarded ts x ≡ Err e → guarded (ts ++ us) y ≡ Err e
+refused-first [] us x y e h = absurd cc
+refused-first ((true, r) ∷ ts) us x y e h = refused-first ts us x y e h
+refused-first ((false, r) ∷ ts) us x y e h = let same : r ≡ e = cc in ap (λ f. Err f) same
+
+-- what refuses to say how many bytes there are refuses to read some
+pub unmeasured : (own : ℕ) (h : Heap) (object offset count : ℕ) (e : Refusal)
+    → heap_bytes_len own h object ≡ Err e → heap_bytes own h object offset count ≡ Err e
+unfolding heap_bytes, heap_bytes_len
+unmeasured own h object offset count e refused =
+    let held : List ℕ = bytes_of (object_at h (named h object)) in
+    refused-first (word_tests own h object) ((has_range held offset count, NoBytes) ∷ [])
+    (length held) (take count (drop offset held)) e refused
+
+-- no object has more bytes than it has
+pub more-than-there : (own : ℕ) (h : Heap) (object offset count there : ℕ)
+    → heap_bytes_len own h object ≡ Ok there → there < count
+    → heap_bytes own h object offset count ≡ Err NoBytes
+unfolding heap_bytes, heap_bytes_len
+more-than-there own h object offset count there measured more =
+    let held : List ℕ = bytes_of (object_at h (named h object)) in
+    let found : List ℕ = take count (drop offset held) in
+    let passed = guarded-passes (word_tests own h object) (length held) there measured in
+    let same = guarded-ok (word_tests own h object) (length held) there measured in
+    let outside : has_range held offset count ≡ false =
+        lt-leb (offset + count) (length held) (omega (arith, same, more)) in
+    guarded-passed (word_tests own h object) ((has_range held offset count, NoBytes) ∷ []) found
+        passed
+    ∙ rw outside refl
+
 -- ---- a shared cell
 
-pub was-filled : {D : Type 0} {may_leave : D → Areas → Type 0} {wire : Option Name}
-    (object offset : ℕ) (old new : List ℕ) (result : Result (Unit {0}) Refusal) (is_open : Bool)
-    → (is_open ≡ true → WasRead may_leave wire object offset old new result)
-    → (is_open ≡ false → IsErrOf result Closed × (new ≡ old) × WasShut may_leave wire)
-    → WasFilled may_leave wire object offset old new result
-was-filled object offset old new result true read closed = inr (read refl)
-was-filled object offset old new result false read closed = inl (closed refl)
+-- what a locked cell told while it was open, or what a closed one refused
+pub told-or-shut : {D : Type 0} {may_leave : D → Areas → Type 0} {wire : Option Name}
+    (Tells : CellView D → Type 0) (Refused : Type 0) (is_open : Bool)
+    → (is_open ≡ true → WasRead may_leave wire Tells)
+    → (is_open ≡ false → Refused)
+    → Refused ⊎ WasRead may_leave wire Tells
+told-or-shut Tells Refused true read closed = inr (read refl)
+told-or-shut Tells Refused false read closed = inl (closed refl)

@@ -2,7 +2,7 @@
 use Rattle.std.specs.Prelude.{◌≡◌, ◌⊎◌, ℕ, List, length, IsErrOf, IsTrue, Option, Result, Ok, Err}
 use Rattle.ids.specs.declared.refusal.Refusal.{Refusal}
 use Rattle.ids.specs.declared.refusal.Refusal.TheVariants.{Closed}
-use Rattle.model.specs.Heaps.{heap_bytes}
+use Rattle.model.specs.Heaps.{heap_bytes, heap_bytes_len}
 use Rattle.disk.specs.Areas.{Areas}
 use Rattle.node.specs.Keeping.{WholeNode}
 use Rattle.cell.specs.Cells.{CellView}
@@ -14,23 +14,35 @@ abbrev pub node_bytes : WholeNode → ℕ → ℕ → ℕ → Result (List ℕ) 
 node_bytes n object offset count =
     heap_bytes n.core.local.own n.core.local.heap object offset count
 
+-- how many bytes an object of the node has, or the refusal of reading them
+abbrev pub node_bytes_len : WholeNode → ℕ → Result ℕ Refusal
+node_bytes_len n object = heap_bytes_len n.core.local.own n.core.local.heap object
+
 -- The bytes that were read fill the buffer; or the call returns the refusal, and the buffer is as
 -- before.
 abbrev pub Fills : Result (List ℕ) Refusal → List ℕ → List ℕ → Result (Unit {0}) Refusal → Type 0
 Fills read old new (Ok u) = read ≡ Ok new
 Fills read old new (Err e) = (read ≡ Err e) × (new ≡ old)
 
--- what a call read of a cell that it had locked, into a buffer
+-- what a call was told of a cell that it had locked
 pub record WasRead {D : Type 0} (may_leave : D → Areas → Type 0) (wire : Option Name)
-    (object offset : ℕ) (old new : List ℕ) (result : Result (Unit {0}) Refusal) : Type 0 where
+    (Tells : CellView D → Type 0) : Type 0 where
   pub cell : CellView D
   pub locked : IsLocked may_leave wire cell
   pub ready : IsTrue cell.is_open
-  pub fills : Fills (node_bytes cell.node object offset (length old)) old new result
+  pub told : Tells cell
 
--- the node was read, or the cell was closed
+-- the bytes were read into a buffer, or the cell was closed
 abbrev pub WasFilled : {D : Type 0} → (D → Areas → Type 0) → Option Name → ℕ → ℕ → List ℕ → List ℕ
     → Result (Unit {0}) Refusal → Type 0
 WasFilled may_leave wire object offset old new result =
     (IsErrOf result Closed × (new ≡ old) × WasShut may_leave wire)
-    ⊎ WasRead may_leave wire object offset old new result
+    ⊎ WasRead may_leave wire
+        (λ c. Fills (node_bytes c.node object offset (length old)) old new result)
+
+-- the bytes were counted, or the cell was closed
+abbrev pub WasMeasured : {D : Type 0} → (D → Areas → Type 0) → Option Name → ℕ → Result ℕ Refusal
+    → Type 0
+WasMeasured may_leave wire object result =
+    (IsErrOf result Closed × WasShut may_leave wire)
+    ⊎ WasRead may_leave wire (λ c. result ≡ node_bytes_len c.node object)

@@ -5,8 +5,6 @@ ghost use Rattle.std.specs.Prelude.{
   ◌≢◌,
   ◌↔◌,
   ◌⊎◌,
-  ◌<◌,
-  ◌^◌,
   false,
   length,
   slice_index_or,
@@ -32,7 +30,7 @@ ghost use Rattle.cell.specs.Events.{saved_by};
 ghost use Rattle.cell.specs.Cells.{desk_of};
 ghost use Rattle.cell.specs.Locked.{WasAnswered};
 ghost use Rattle.cell.specs.Pumping.{is_out, PumpedIn};
-ghost use Rattle.cell.specs.Reading.{node_bytes, Fills, WasFilled};
+ghost use Rattle.cell.specs.Reading.{node_bytes, Fills, WasFilled, WasMeasured};
 ghost use Rattle.cell.specs.Names.{name_of, raised_on, seat_name, IsNamed};
 
 use crate::cell::Cell;
@@ -198,14 +196,18 @@ impl<D: Disk, W: Naming> Held<D, W> {
 
     // As `Cell::bytes` does, into a buffer.
     fn bytes(&self, object: u16, offset: u32, buffer: &mut [u8]) -> Result<(), Refusal>
-        requires { length buffer.old < 2 ^ 32 }
         ensures read { IsTrue self.now.cell.is_open
             → Fills (node_bytes self.now.cell.node object offset (length buffer.old))
             buffer.old buffer.new result }
         ensures closed { self.now.cell.is_open ≡ false
             → IsErrOf result Refusal.Closed × (buffer.new ≡ buffer.old) }
     {
-        let bytes = self.cell.bytes(object, offset, buffer.len() as u32)?;
+        let Ok(count) = u32::try_from(buffer.len()) else {
+            // No object has as many bytes. What it refuses first is refused here, too.
+            let _len = self.cell.bytes_len(object)?;
+            return Err(Refusal::NoBytes);
+        };
+        let bytes = self.cell.bytes(object, offset, count)?;
         buffer.copy_from_slice(bytes);
         Ok(())
     }
@@ -270,7 +272,6 @@ impl<D: Disk, W: Naming> SharedOn<D, W> {
         offset: u32,
         buffer: &mut [u8],
     ) -> Result<(), Refusal>
-        requires { length buffer.old < 2 ^ 32 }
         ensures read { WasFilled D.may_leave W.wire object offset buffer.old buffer.new result }
     {
         let locked = self.held.lock(rt);
@@ -278,6 +279,18 @@ impl<D: Disk, W: Naming> SharedOn<D, W> {
         // Called for its contract.
         let _node = held.cell.node();
         held.bytes(object, offset, buffer)
+    }
+
+    /// How many bytes the object has that the register `object` names; see [`Cell::bytes_len`]. It
+    /// is that of the node as it was when this call had locked the cell.
+    pub fn bytes_len<R: Wait>(&self, rt: &R, object: u16) -> Result<u32, Refusal>
+        ensures read { WasMeasured D.may_leave W.wire object result }
+    {
+        let locked = self.held.lock(rt);
+        let held = &*locked;
+        // Called for its contract.
+        let _node = held.cell.node();
+        held.cell.bytes_len(object)
     }
 
     /// Gives the node the waiting message from another node, or else the frame in the mailbox from

@@ -11,8 +11,8 @@ use Rattle.ids.specs.declared.refusal.Refusal.{Refusal}
 use Rattle.ids.specs.declared.refusal.Refusal.TheVariants.{Memory, NoNode, ImageTooLarge}
 use Rattle.model.specs.declared.event.Event.{Event}
 use Rattle.model.specs.declared.event.Event.TheVariants as event
-use Rattle.commands.specs.declared.simulation.Writing.{Writing}
-use Rattle.commands.specs.declared.simulation.Writing.TheVariants as writing
+use Rattle.commands.specs.declared.bytes.Writing.{Writing}
+use Rattle.commands.specs.declared.bytes.Writing.TheVariants as writing
 use Rattle.model.specs.World.{World, IsStepRefusal, acknowledged, new_world, is_step_memory_free, take_step}
 use Rattle.model.specs.declared.step.Outcome.{Outcome}
 use Rattle.model.specs.declared.step.Outcome.TheVariants as outcome

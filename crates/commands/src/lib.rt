@@ -3,6 +3,7 @@
 //! state that for every writer whose contents are known.
 #![tactic(auto)]
 
+mod bytes;
 mod decoding;
 mod freed;
 mod output;
@@ -11,6 +12,7 @@ mod simulation;
 mod splitting;
 mod streams;
 
+pub use bytes::{Writing, bytes_spelled, text_of_bytes};
 pub use decoding::decode;
 pub use output::{Lost, print_refusal, print_unread};
 pub use reading::{Unread, read_file, read_text};

@@ -11,11 +11,10 @@ ghost use Rattle.world.specs.Spaces.{ShowsSpace};
 ghost use Rattle.commands.specs.Freed.{KeepsSums, freed_with};
 ghost use Rattle.script.specs.Grammar.{words_of};
 ghost use Rattle.script.specs.Words.{last_of};
-ghost use Rattle.hex.specs.declared.error.FromHexError.TheVariants as hex_error;
 ghost use Rattle.world.specs.Shows.{bytes_read};
 ghost use Rattle.commands.specs.Script.{Moves, PrintsReplies};
 ghost use Rattle.commands.specs.Script.{PrintsUnread, TakesLine, TakesText, TakesReport, TakesSpace};
-ghost use Rattle.commands.specs.Script.{IsRead, TakesBytes, TakesRead, TakesWrite, hex_bytes, hex_text, is_wide, writes};
+ghost use Rattle.commands.specs.Script.{IsRead, TakesBytes, TakesRead, TakesWrite, hex_bytes, is_wide, writes};
 ghost use Rattle.commands.specs.Script.{TakesState, TakesStep, reply_text, status_after};
 ghost use Rattle.commands.specs.Script.{PrintsReply, StepDone};
 ghost use Rattle.commands.specs.declared.freed.Freed.{Freed};
@@ -25,6 +24,7 @@ ghost use Rattle.commands.specs.declared.simulation.Reply.TheVariants as reply;
 ghost use Rattle.commands.specs.declared.simulation.State.TheVariants as state;
 ghost use Rattle.script.specs.declared.line.Line.TheVariants as line;
 
+use crate::bytes::{Writing, bytes_spelled, text_of_bytes};
 use crate::freed::{Freed, freed_by, sweeper};
 use crate::output::{
     Lost, flush, print_line, print_no_command, print_outcome, print_refusal, print_unread,
@@ -37,7 +37,7 @@ use ids::{Refusal, Shape};
 use model::{Answer, Event, Outcome, Step};
 use node::Summary;
 use script::{Line, Printer, last_word};
-use std::alloc::{AllocError, Global};
+use std::alloc::Global;
 use std::io::Write;
 use words::{DONE, UNREADABLE};
 use world::Sim;
@@ -67,31 +67,6 @@ enum Reply {
     Refused(Refusal),
     /// The line is outside the grammar.
     NoCommand,
-}
-
-/// How a line writes bytes of an object.
-#[derive(Clone, Copy)]
-enum Writing {
-    /// In place of all that the object has.
-    All { object: u16 },
-    /// Over a part, from this offset on.
-    Part { object: u16, offset: u32 },
-}
-
-impl Writing {
-    /// The event that writes these bytes.
-    fn event(self, bytes: &[u8]) -> Event
-        ensures { result ≡ writes self bytes.entry }
-    {
-        match self {
-            Writing::All { object } => Event::SetBytes { object, bytes },
-            Writing::Part { object, offset } => Event::Patch {
-                object,
-                offset,
-                bytes,
-            },
-        }
-    }
 }
 
 /// Runs a script in one thread, prints the replies to its lines, and returns the exit status. The
@@ -475,25 +450,13 @@ fn write_in(alloc: Global, space: &mut Sim, node: u8, writing: Writing, word: &s
         TakesBytes h (hex_bytes word.now) (λ b. steps.Act node (writes writing b)) result later)
         (state.Open space.old f) (state.Open space.new f) }
 {
-    match spelled(alloc, word) {
+    match bytes_spelled(alloc, word) {
         Ok(bytes) => match space.act(node, writing.event(bytes.as_slice())) {
             Ok(answer) => Reply::Outcome(Outcome::Answer(answer)),
             Err(refusal) => Reply::Refused(refusal),
         },
         Err(FromHexError::OutOfMemory) => Reply::Refused(Refusal::Memory),
         Err(_) => Reply::NoCommand,
-    }
-}
-
-/// The bytes that a word spells, with two hexadecimal digits for each; `-` spells none.
-fn spelled(alloc: Global, word: &str) -> Result<Vec<u8>, FromHexError>
-    ensures ok { IfOk result (λ bytes. hex_bytes word.now ≡ Ok bytes.items) }
-    ensures err { IfErr result (λ e. (e ≡ hex_error.OutOfMemory) ⊎ (hex_bytes word.now ≡ Err e)) }
-{
-    if word == "-" {
-        Ok(Vec::new(alloc))
-    } else {
-        hex::decode(alloc, word)
     }
 }
 
@@ -522,22 +485,11 @@ fn read_in(alloc: Global, space: &Sim, node: u8, object: u16, offset: u32, count
         → IsRead (bytes_read w node object offset count) result }
 {
     match space.bytes(node, object, offset, count) {
-        Ok(bytes) => match told(alloc, bytes) {
+        Ok(bytes) => match text_of_bytes(alloc, bytes) {
             Ok(text) => Reply::Bytes(text),
             Err(_) => Reply::Refused(Refusal::Memory),
         },
         Err(refusal) => Reply::Refused(refusal),
-    }
-}
-
-/// The text that spells these bytes.
-fn told(alloc: Global, bytes: &[u8]) -> Result<String, AllocError>
-    ensures { IfOk result (λ text. string_bytes text ≡ hex_text bytes.now) }
-{
-    if bytes.is_empty() {
-        String::from_str(alloc, "-")
-    } else {
-        hex::encode(alloc, bytes)
     }
 }
 

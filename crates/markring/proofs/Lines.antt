@@ -1,5 +1,5 @@
 -- What has been printed before each iteration of the loop over a script's lines.
-use Rattle.std.proofs.Common.{◌≡◌, ◌≢◌, ℕ, ◌+◌, ◌≤◌, max, List, [], ◌∷◌, ◌++◌, length, Option, refl, sym, ap, ◌∙◌, subst, arith, append_assoc, append-nil, length-append}
+use Rattle.std.proofs.Common.{◌≡◌, ◌≢◌, ℕ, Bool, ◌+◌, ◌≤◌, max, List, [], ◌∷◌, ◌++◌, length, Option, refl, sym, ap, ◌∙◌, subst, arith, append_assoc, append-nil, length-append}
 use Rattle.std.specs.Io.KnownBytes.{Appends}
 use Rattle.std.specs.Str.Lines.{lines}
 use Rattle.std.proofs.KnownBytes.{Appends-nil, Appends-trans}
@@ -14,6 +14,7 @@ verdict-ends cycle (told.Outcome o) is = tt
 verdict-ends cycle (told.NoVerdict last) is = tt
 verdict-ends cycle told.Nothing is = absurd is
 verdict-ends cycle (told.Trace texts) is = absurd is
+verdict-ends cycle (told.Bytes text) is = absurd is
 verdict-ends cycle (told.Refused e) is = absurd is
 verdict-ends cycle (told.NotAccepted last) is = absurd is
 verdict-ends cycle told.NoCommand is = absurd is
@@ -38,6 +39,7 @@ status_after_le : (t : Told) → status_after t ≤ 2
 status_after_le told.Nothing = omega arith
 status_after_le (told.Outcome o) = omega arith
 status_after_le (told.Trace texts) = omega arith
+status_after_le (told.Bytes text) = omega arith
 status_after_le (told.Refused e) = omega arith
 status_after_le (told.NotAccepted last) = omega arith
 status_after_le (told.NoVerdict last) = omega arith
@@ -47,9 +49,9 @@ status_of_le : (ts : List Told) → status_of ts ≤ 2
 status_of_le [] = omega arith
 status_of_le (t ∷ ts) = omega (arith, status_after_le t, status_of_le ts)
 
-pub small_status : (script : List ℕ) (status : ℕ) (old new : Option (List ℕ))
-    → PrintsTold script status old new → status ≤ 2
-small_status script status old new prints =
+pub small_status : {wide : Bool} {script : List ℕ} {status : ℕ} {old new : Option (List ℕ)}
+    → PrintsTold wide script status old new → status ≤ 2
+small_status prints =
     omega (arith, prints.worst, status_of_le prints.outcomes)
 
 -- A point of the loop: the remaining text, how many lines were processed, the status so far, and
@@ -61,19 +63,20 @@ pub record Point : Type 0 where
   pub output : Option (List ℕ)
 
 -- before an iteration: the outcomes of the lines processed so far, and the remaining text
-pub record PrintedBefore (script : List ℕ) (start : Option (List ℕ)) (p : Point) : Type 0 where
+pub record PrintedBefore (wide : Bool) (script : List ℕ) (start : Option (List ℕ)) (p : Point)
+    : Type 0 where
   pub outcomes : List Told
   pub counted : length outcomes ≡ p.count
-  pub follow : (more : List Told) → AreTold (lines p.rest) more
-      → AreTold (lines script) (outcomes ++ more)
+  pub follow : (more : List Told) → AreTold wide (lines p.rest) more
+      → AreTold wide (lines script) (outcomes ++ more)
   pub worst : p.status ≡ status_of outcomes
   pub appended : Appends start p.output (printed 1 outcomes)
 
 -- before the first line
-pub printed_nothing : (script : List ℕ) (known : Option (List ℕ))
-    → PrintedBefore script known
+pub printed_nothing : (wide : Bool) (script : List ℕ) (known : Option (List ℕ))
+    → PrintedBefore wide script known
     (record { rest = script; count = 0; status = 0; output = known })
-printed_nothing script known = record {
+printed_nothing wide script known = record {
   outcomes = [];
   counted = refl;
   follow = λ more follows. follows;
@@ -86,6 +89,7 @@ goes_on told.NoCommand ts P goes p = absurd (goes refl)
 goes_on told.Nothing ts P goes p = p
 goes_on (told.Outcome o) ts P goes p = p
 goes_on (told.Trace texts) ts P goes p = p
+goes_on (told.Bytes text) ts P goes p = p
 goes_on (told.Refused e) ts P goes p = p
 goes_on (told.NotAccepted last) ts P goes p = p
 goes_on (told.NoVerdict last) ts P goes p = p
@@ -99,21 +103,22 @@ last_told told.NoCommand e = refl
 last_told told.Nothing e = absurd cc
 last_told (told.Outcome o) e = absurd cc
 last_told (told.Trace texts) e = absurd cc
+last_told (told.Bytes text) e = absurd cc
 last_told (told.Refused x) e = absurd cc
 last_told (told.NotAccepted last) e = absurd cc
 last_told (told.NoVerdict last) e = absurd cc
 
 -- an iteration: the line and its outcome
-pub record Turn (p q : Point) : Type 0 where
+pub record Turn (wide : Bool) (p q : Point) : Type 0 where
   pub text : List ℕ
   pub status : ℕ
   pub step : lines p.rest ≡ text ∷ lines q.rest
   pub counts : q.count ≡ p.count + 1
-  pub says : PrintsLine text q.count p.output q.output status
+  pub says : PrintsLine wide text q.count p.output q.output status
   pub worse : q.status ≡ max p.status status
 
-module _ (script : List ℕ) (start : Option (List ℕ)) (p q : Point)
-    (before : PrintedBefore script start p) (turn : Turn p q) where
+module _ (wide : Bool) (script : List ℕ) (start : Option (List ℕ)) (p q : Point)
+    (before : PrintedBefore wide script start p) (turn : Turn wide p q) where
   abbrev outcome_now : Told
   outcome_now = turn.says.outcome
 
@@ -139,7 +144,7 @@ module _ (script : List ℕ) (start : Option (List ℕ)) (p q : Point)
       ∙ sym (status_of_push before.outcomes outcome_now)
 
   -- a line that isn't the last
-  pub printed_more : turn.status ≢ 2 → PrintedBefore script start q
+  pub printed_more : turn.status ≢ 2 → PrintedBefore wide script start q
   printed_more other =
       let goes : outcome_now ≢ told.NoCommand =
       (λ e. other (turn.says.is ∙ ap status_after e)) in
@@ -149,35 +154,36 @@ module _ (script : List ℕ) (start : Option (List ℕ)) (p q : Point)
             let more = length-append before.outcomes (outcome_now ∷ []) in
             omega (arith, before.counted, turn.counts, more);
         follow = λ ts follows.
-            subst (AreTold (lines script))
+            subst (AreTold wide (lines script))
             (sym (append_assoc before.outcomes (outcome_now ∷ []) ts))
             (before.follow (outcome_now ∷ ts)
-            (subst (λ ls. AreTold ls (outcome_now ∷ ts)) (sym turn.step)
+            (subst (λ ls. AreTold wide ls (outcome_now ∷ ts)) (sym turn.step)
             (turn.says.of, goes_on outcome_now ts _ goes follows)));
         worst = worst_push;
         appended = appended_push;
       }
 
   -- one that is
-  pub printed_last : turn.status ≡ 2 → PrintsTold script q.status start q.output
+  pub printed_last : turn.status ≡ 2 → PrintsTold wide script q.status start q.output
   printed_last last =
       let ends = last_told outcome_now (sym turn.says.is ∙ last) in
       record {
         outcomes = outcomes_so_far;
         follow = before.follow (outcome_now ∷ [])
-            (subst (λ ls. AreTold ls (outcome_now ∷ [])) (sym turn.step)
-            (turn.says.of, ends_here outcome_now ends (AreTold (lines q.rest) [])));
+            (subst (λ ls. AreTold wide ls (outcome_now ∷ [])) (sym turn.step)
+            (turn.says.of, ends_here outcome_now ends (AreTold wide (lines q.rest) [])));
         worst = worst_push;
         appended = appended_push;
       }
 
 -- no line is left
-pub printed_all : (script : List ℕ) (start : Option (List ℕ)) (p : Point)
-    → PrintedBefore script start p → length p.rest ≡ 0 → PrintsTold script p.status start p.output
-printed_all script start p before none = record {
+pub printed_all : (wide : Bool) (script : List ℕ) (start : Option (List ℕ)) (p : Point)
+    → PrintedBefore wide script start p → length p.rest ≡ 0
+    → PrintsTold wide script p.status start p.output
+printed_all wide script start p before none = record {
   outcomes = before.outcomes;
-  follow = subst (AreTold (lines script)) (append-nil before.outcomes)
-      (before.follow [] (subst (λ t. AreTold (lines t) [])
+  follow = subst (AreTold wide (lines script)) (append-nil before.outcomes)
+      (before.follow [] (subst (λ t. AreTold wide (lines t) [])
       (sym (nil_from_length p.rest none)) refl));
   worst = before.worst;
   appended = before.appended;

@@ -1,17 +1,20 @@
 -- What `run` prints for a line of its script, and the status of the line.
-use Rattle.std.specs.Prelude.{◌≡◌, ◌≢◌, ◌<◌, ℕ, ◌+◌, max, List, [], ◌∷◌, ◌++◌, codes, decimal, map, string_bytes, Option, Some, None, Result, Ok, Err}
+use Rattle.std.specs.Prelude.{◌≡◌, ◌≢◌, ◌⊎◌, ◌<◌, ℕ, ◌+◌, Bool, max, List, [], ◌∷◌, ◌++◌, codes, decimal, length, map, string_bytes, Option, Some, None, Result, Ok, Err}
 use Rattle.std.specs.Io.KnownBytes.{Appends}
 use Rattle.std.specs.Str.Lines.{lines}
 use Rattle.ids.specs.declared.refusal.Refusal.{Refusal}
 use Rattle.ids.specs.declared.refusal.Refusal.TheVariants as refusal
 use Rattle.script.specs.Grammar.{words_of}
 use Rattle.script.specs.RunLines.{run_line_of}
+use Rattle.script.specs.Words.{last_of}
 use Rattle.script.specs.Text.{outcome_text, refused_text}
 use Rattle.script.specs.declared.run_line.RunLine.{RunLine}
 use Rattle.script.specs.declared.run_line.RunLine.TheVariants as said
 use Rattle.model.specs.declared.event.Answer.{Answer}
 use Rattle.model.specs.declared.event.Answer.TheVariants as answer
 use Rattle.model.specs.declared.step.Outcome.TheVariants as outcome
+use Rattle.commands.specs.Script.{hex_bytes, hex_text}
+use Rattle.hex.specs.declared.error.FromHexError.{FromHexError}
 use Rattle.markring.specs.declared.running.Told.{Told}
 use Rattle.markring.specs.declared.running.Told.TheVariants as told
 
@@ -30,6 +33,7 @@ abbrev pub told_text : ℕ → Told → List ℕ
 told_text number told.Nothing = []
 told_text number (told.Outcome o) = outcome_text o ++ (10 ∷ [])
 told_text number (told.Trace texts) = trace_text (map string_bytes texts.items)
+told_text number (told.Bytes text) = string_bytes text ++ (10 ∷ [])
 told_text number (told.Refused e) = refused_text e ++ (10 ∷ [])
 told_text number (told.NotAccepted last) = refused_text last.refusal ++ (10 ∷ [])
 told_text number (told.NoVerdict last) = codes "no verdict" ++ (10 ∷ [])
@@ -40,6 +44,7 @@ abbrev pub status_after : Told → ℕ
 status_after told.Nothing = 0
 status_after (told.Outcome o) = 0
 status_after (told.Trace texts) = 0
+status_after (told.Bytes text) = 0
 status_after (told.Refused e) = 1
 status_after (told.NotAccepted last) = 1
 status_after (told.NoVerdict last) = 1
@@ -81,21 +86,46 @@ IsTrace (told.Trace texts) = Unit {0}
 IsTrace (told.Refused e) = Unit {0}
 IsTrace t = ⊥
 
--- what kind of outcome a line has that says this
-abbrev pub IsToldOf : Option RunLine → Told → Type 0
-IsToldOf None t = t ≡ told.NoCommand
-IsToldOf (Some said.Blank) t = t ≡ told.Nothing
-IsToldOf (Some (said.Act node e)) t = IsAnswer t
-IsToldOf (Some (said.Restart node)) t = IsAnswer t
-IsToldOf (Some said.Cycle) t = IsEnd t
-IsToldOf (Some (said.Await node register)) t = IsAwaited t
-IsToldOf (Some (said.Trace node)) t = IsTrace t
+-- Bytes that a word spells were written, or there was no memory for them. If the word spells none,
+-- the line is outside the grammar.
+abbrev pub IsWritten : Result (List ℕ) FromHexError → Told → Type 0
+IsWritten (Ok bytes) t = IsAnswer t
+IsWritten (Err e) t = (t ≡ told.NoCommand) ⊎ (t ≡ told.Refused refusal.Memory)
+
+-- the text spells this many bytes
+pub record Spells (count : ℕ) (text : List ℕ) : Type 0 where
+  pub bytes : List ℕ
+  pub counted : length bytes ≡ count
+  pub spelled : text ≡ hex_text bytes
+
+-- as many bytes as were asked for, or a refusal
+abbrev pub IsSpelled : ℕ → Told → Type 0
+IsSpelled count (told.Bytes text) = Spells count (string_bytes text)
+IsSpelled count (told.Refused e) = Unit {0}
+IsSpelled count t = ⊥
+
+-- what kind of outcome a line has that says this and ends with this word
+abbrev pub IsToldOf : List ℕ → Option RunLine → Told → Type 0
+IsToldOf last None t = t ≡ told.NoCommand
+IsToldOf last (Some said.Blank) t = t ≡ told.Nothing
+IsToldOf last (Some (said.Act node e)) t = IsAnswer t
+IsToldOf last (Some (said.Restart node)) t = IsAnswer t
+IsToldOf last (Some (said.SetBytes node object)) t = IsWritten (hex_bytes last) t
+IsToldOf last (Some (said.Patch node object offset)) t = IsWritten (hex_bytes last) t
+IsToldOf last (Some (said.Bytes node object offset count)) t = IsSpelled count t
+IsToldOf last (Some said.Cycle) t = IsEnd t
+IsToldOf last (Some (said.Await node register)) t = IsAwaited t
+IsToldOf last (Some (said.Trace node)) t = IsTrace t
+
+-- what kind of outcome a line of a script has, if the space is wide or not
+abbrev pub IsTold : Bool → List ℕ → Told → Type 0
+IsTold wide line t = IsToldOf (last_of (words_of line) []) (run_line_of wide (words_of line)) t
 
 -- a line has such an outcome, which is printed, and the status is that of the outcome
-pub record PrintsLine (line : List ℕ) (number : ℕ) (old new : Option (List ℕ)) (status : ℕ)
+pub record PrintsLine (wide : Bool) (line : List ℕ) (number : ℕ) (old new : Option (List ℕ)) (status : ℕ)
     : Type 0 where
   pub outcome : Told
-  pub of : IsToldOf (run_line_of (words_of line)) outcome
+  pub of : IsTold wide line outcome
   pub prints : Appends old new (told_text number outcome)
   pub is : status ≡ status_after outcome
 
@@ -105,10 +135,10 @@ GoesOn told.NoCommand ts rest = ts ≡ []
 GoesOn t ts rest = rest
 
 -- the outcomes of the lines, one by one
-abbrev pub AreTold : List (List ℕ) → List Told → Type 0
-AreTold [] ts = ts ≡ []
-AreTold (l ∷ ls) [] = ⊥
-AreTold (l ∷ ls) (t ∷ ts) = IsToldOf (run_line_of (words_of l)) t × GoesOn t ts (AreTold ls ts)
+abbrev pub AreTold : Bool → List (List ℕ) → List Told → Type 0
+AreTold wide [] ts = ts ≡ []
+AreTold wide (l ∷ ls) [] = ⊥
+AreTold wide (l ∷ ls) (t ∷ ts) = IsTold wide l t × GoesOn t ts (AreTold wide ls ts)
 
 -- what is printed for outcomes, the first of which is that of the line of this number
 abbrev pub printed : ℕ → List Told → List ℕ
@@ -122,8 +152,9 @@ status_of (t ∷ ts) = max (status_after t) (status_of ts)
 
 -- The outcomes of the script's lines were printed, and the status is that of the worst. The
 -- contents of the output before and afterwards are described if they are known.
-pub record PrintsTold (script : List ℕ) (status : ℕ) (old new : Option (List ℕ)) : Type 0 where
+pub record PrintsTold (wide : Bool) (script : List ℕ) (status : ℕ) (old new : Option (List ℕ))
+    : Type 0 where
   pub outcomes : List Told
-  pub follow : AreTold (lines script) outcomes
+  pub follow : AreTold wide (lines script) outcomes
   pub worst : status ≡ status_of outcomes
   pub appended : Appends old new (printed 1 outcomes)

@@ -6,6 +6,7 @@
 ghost use Rattle.std.specs.Prelude.{◌≤◌, IfOk};
 
 mod asking;
+mod bytes;
 mod running;
 
 use commands::{print_unread, read_file, run_decode, run_script};

@@ -6,18 +6,17 @@ ghost use Rattle.std.specs.Io.KnownBytes.{Appends};
 ghost use Rattle.ids.specs.declared.refusal.Refusal.TheVariants.{Memory};
 ghost use Rattle.script.specs.Text.{refused_text};
 ghost use Rattle.wire.specs.Readers.{IsWatchOf};
-ghost use Rattle.script.specs.Grammar.{words_of};
-ghost use Rattle.script.specs.RunLines.{run_line_of};
-ghost use Rattle.markring.specs.Told.{IsAnswer, IsAwaited, IsEnd, IsToldOf, IsVerdict};
+ghost use Rattle.markring.specs.Told.{IsAnswer, IsAwaited, IsEnd, IsTold, IsVerdict};
 ghost use Rattle.markring.specs.Told.{PrintsLine, PrintsTold};
 ghost use Rattle.markring.specs.Told.{status_after, told_of, told_text, trace_text};
 
 use crate::asking::{LastRefusal, accept_last, act};
-use commands::next_line;
+use crate::bytes::{Bytes, read, write};
+use commands::{Writing, next_line};
 use disk::{Disk, FileDisk, MemoryDisk};
 use ids::Refusal;
 use model::{Answer, Event, Outcome};
-use script::{OutcomeText, RunLine};
+use script::{OutcomeText, RunLine, last_word};
 use std::alloc::Global;
 use std::fs::File;
 use std::io::Write;
@@ -40,12 +39,14 @@ const LOOK: u64 = 500;
 
 /// The outcome of a script's line.
 #[derive(Drop)]
-enum Told {
+pub(crate) enum Told {
     /// Nothing is printed.
     Nothing,
     Outcome(Outcome),
     /// The texts of a node's last calls.
     Trace(Vec<String>),
+    /// Bytes of an object, as text.
+    Bytes(String),
     Refused(Refusal),
     /// All workers had ended, and a node then refused to accept a letter.
     NotAccepted(LastRefusal),
@@ -196,7 +197,11 @@ where
     if space.start(rt, gate).is_err() {
         return print_unopened(out);
     }
-    let status = run_lines(rt, &space, &mut watch, script, out);
+    let bytes = Bytes {
+        alloc,
+        wide: config.shape.is_wide(),
+    };
+    let status = run_lines(rt, &space, bytes, &mut watch, script, out);
     let saved = save_all(rt, &space, config.shape.nodes());
     let _ = space.close(rt);
     Ok(status?.max(saved))
@@ -230,13 +235,14 @@ fn save_all<R: Wait, D: Disk + Drop>(rt: &R, space: &Space<D>, nodes: u8) -> u8
 fn run_lines<R: Clock + Wait, D: Disk + Drop, W: Write>(
     rt: &R,
     space: &Space<D>,
+    bytes: Bytes,
     watch: &mut Watch,
     script: &str,
     out: &mut W,
 ) -> io::Result<u8>
     requires { IsWatchOf (arc_value space.now.wire) watch.old }
     ensures told { IfOk result (λ status.
-        PrintsTold script.now status (W.contents out.old) (W.contents out.new)) }
+        PrintsTold bytes.wide script.now status (W.contents out.old) (W.contents out.new)) }
     ensures small { IfOk result (λ status. status ≤ 2) }
 {
     let mut status = DONE;
@@ -246,7 +252,7 @@ fn run_lines<R: Clock + Wait, D: Disk + Drop, W: Write>(
         let (text, others) = next_line(rest);
         rest = others;
         number += 1;
-        let reached = run_line(rt, space, watch, number, text, out)?;
+        let reached = run_line(rt, space, bytes, watch, number, text, out)?;
         status = status.max(reached);
         if reached == UNREADABLE {
             return Ok(status);
@@ -259,6 +265,7 @@ fn run_lines<R: Clock + Wait, D: Disk + Drop, W: Write>(
 fn run_line<R: Clock + Wait, D: Disk + Drop, W: Write>(
     rt: &R,
     space: &Space<D>,
+    bytes: Bytes,
     watch: &mut Watch,
     number: usize,
     text: &str,
@@ -267,9 +274,9 @@ fn run_line<R: Clock + Wait, D: Disk + Drop, W: Write>(
     requires { IsWatchOf (arc_value space.now.wire) watch.old }
     ensures watch { IsWatchOf (arc_value space.now.wire) watch.new }
     ensures told { IfOk result
-        (PrintsLine text.now number (W.contents out.old) (W.contents out.new)) }
+        (PrintsLine bytes.wide text.now number (W.contents out.old) (W.contents out.new)) }
 {
-    let told = take_line(rt, space, watch, text);
+    let told = take_line(rt, space, bytes, watch, text);
     print_told(out, number, &told)?;
     Ok(status_after(&told))
 }
@@ -278,20 +285,39 @@ fn run_line<R: Clock + Wait, D: Disk + Drop, W: Write>(
 fn take_line<R: Clock + Wait, D: Disk + Drop>(
     rt: &R,
     space: &Space<D>,
+    bytes: Bytes,
     watch: &mut Watch,
     text: &str,
 ) -> Told
     requires { IsWatchOf (arc_value space.now.wire) watch.old }
     ensures watch { IsWatchOf (arc_value space.now.wire) watch.new }
-    ensures told { IsToldOf (run_line_of (words_of text.now)) result }
+    ensures told { IsTold bytes.wide text.now result }
 {
-    match RunLine::parse(text) {
+    match RunLine::parse(bytes.wide, text) {
         Some(RunLine::Blank) => Told::Nothing,
         Some(RunLine::Act(node, event)) => told_of(act(rt, space, node, event)),
         Some(RunLine::Restart(node)) => match space.restart(rt, node) {
             Ok(()) => Told::Outcome(Outcome::Done),
             Err(refusal) => Told::Refused(refusal),
         },
+        Some(RunLine::SetBytes { node, object }) => {
+            let writing = Writing::All { object };
+            write(rt, space, bytes, node, writing, last_word(text))
+        }
+        Some(RunLine::Patch {
+            node,
+            object,
+            offset,
+        }) => {
+            let writing = Writing::Part { object, offset };
+            write(rt, space, bytes, node, writing, last_word(text))
+        }
+        Some(RunLine::Bytes {
+            node,
+            object,
+            offset,
+            count,
+        }) => read(rt, space, bytes, node, object, offset, count),
         Some(RunLine::Cycle) => cycle(rt, space, watch),
         Some(RunLine::Await { node, register }) => await_letter(rt, space, node, register),
         Some(RunLine::Trace(node)) => match trace(rt, space, node) {
@@ -302,7 +328,7 @@ fn take_line<R: Clock + Wait, D: Disk + Drop>(
     }
 }
 
-fn told_of(answered: Result<Answer, Refusal>) -> Told
+pub(crate) fn told_of(answered: Result<Answer, Refusal>) -> Told
     ensures told { result ≡ told_of answered }
     ensures answer { IsAnswer result }
 {
@@ -411,6 +437,7 @@ fn print_told<W: Write>(out: &mut W, number: usize, told: &Told) -> io::Result<(
         Told::Nothing => {}
         Told::Outcome(outcome) => writeln!(out, "{}", OutcomeText(*outcome))?,
         Told::Trace(texts) => print_texts(out, texts.as_slice())?,
+        Told::Bytes(text) => writeln!(out, "{text}")?,
         Told::Refused(refusal) => writeln!(out, "refused {refusal}")?,
         Told::NotAccepted(last) => writeln!(out, "refused {}", last.refusal())?,
         Told::NoVerdict(_) => writeln!(out, "no verdict")?,
@@ -438,7 +465,7 @@ fn status_after(told: &Told) -> u8
     ensures { result ≡ status_after told.now }
 {
     match told {
-        Told::Nothing | Told::Outcome(_) | Told::Trace(_) => DONE,
+        Told::Nothing | Told::Outcome(_) | Told::Trace(_) | Told::Bytes(_) => DONE,
         Told::Refused(_) | Told::NotAccepted(_) | Told::NoVerdict(_) => REFUSED,
         Told::NoCommand => UNREADABLE,
     }

@@ -27,11 +27,16 @@ step_said (step.Restart node) = Some (said.Restart node)
 step_said (step.Act node e) = cond (is_for_workers e) None (Some (said.Act node e))
 step_said s = None
 
--- what a line of other scripts means here
-abbrev pub shared_of : Line → Option RunLine
-shared_of line.Blank = Some said.Blank
-shared_of (line.Step s) = step_said s
-shared_of l = None
+-- what a line of other scripts means here, in a space that is wide or not
+abbrev pub shared_of : Bool → Line → Option RunLine
+shared_of wide line.Blank = Some said.Blank
+shared_of wide (line.Step s) = step_said s
+shared_of wide (line.SetBytes node object) = cond wide (Some (said.SetBytes node object)) None
+shared_of wide (line.Patch node object offset) =
+    cond wide (Some (said.Patch node object offset)) None
+shared_of wide (line.Bytes node object offset count) =
+    cond wide (Some (said.Bytes node object offset count)) None
+shared_of wide l = None
 
 -- the meaning of one, two and three words that aren't a line of other scripts
 unfoldable pub with_word : List ℕ → Option RunLine
@@ -54,13 +59,14 @@ of_runs (a ∷ b ∷ c ∷ []) = with_all a b c
 of_runs words = None
 
 -- a line of other scripts means here what it means there, or nothing
-abbrev pub said_of : Option Line → List (List ℕ) → Option RunLine
-said_of (Some l) words = shared_of l
-said_of None words = of_runs words
+abbrev pub said_of : Bool → Option Line → List (List ℕ) → Option RunLine
+said_of wide (Some l) words = shared_of wide l
+said_of wide None words = of_runs words
 
--- what a line of these words says, or None if they are outside the grammar
-abbrev pub run_line_of : List (List ℕ) → Option RunLine
-run_line_of words = said_of (line_of words) words
+-- What a line of these words says in a space that is wide or not, or None if they are outside the
+-- grammar there.
+abbrev pub run_line_of : Bool → List (List ℕ) → Option RunLine
+run_line_of wide words = said_of wide (line_of words) words
 
 -- a line whose event, if it has one, is the node's own, so it comes from no other node
 abbrev pub is_own_said : RunLine → Bool

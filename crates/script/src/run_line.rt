@@ -1,6 +1,6 @@
 //! One line of a script that runs on node threads. The grammar is that of scripts on one thread,
 //! without what the workers do by themselves, and with three more lines.
-ghost use Rattle.std.specs.Prelude.{◌≡◌, IfSome, IsTrue};
+ghost use Rattle.std.specs.Prelude.{◌≡◌, None, Some, cond, IfSome, IsTrue};
 ghost use Rattle.script.specs.Grammar.{is_own_line, line_of, words_of};
 ghost use Rattle.script.specs.RunLines.{is_for_workers, is_own_said, of_runs, run_line_of, shared_of};
 ghost use Rattle.script.specs.RunLines.{with_all, with_word, with_words};
@@ -19,6 +19,17 @@ pub enum RunLine {
     Act(u8, Event<'static>),
     /// A restart of a node.
     Restart(u8),
+    /// The object that a register names gets the bytes that the last word spells.
+    SetBytes { node: u8, object: u16 },
+    /// These overwrite its bytes from an offset on.
+    Patch { node: u8, object: u16, offset: u32 },
+    /// Prints a count of its bytes from an offset on.
+    Bytes {
+        node: u8,
+        object: u16,
+        offset: u32,
+        count: u32,
+    },
     /// A collection cycle, until its end.
     Cycle,
     /// Waits for a letter and accepts it into this register of the node.
@@ -28,24 +39,25 @@ pub enum RunLine {
 }
 
 impl RunLine {
-    /// What the line says, or `None` if it is outside the grammar. The grammar has `cycle`, `await`
-    /// with a node and a register, a node and `trace`, and the lines of other scripts that ask for
-    /// an event of a program or for a restart.
+    /// What the line says in a space that is wide or not, or `None` if it is outside the grammar
+    /// there. The grammar has `cycle`, `await` with a node and a register, a node and `trace`, and
+    /// the lines of other scripts that ask for an event of a program or for a restart. In wide
+    /// spaces it also has their lines about bytes.
     #[tactic(auto, using(crate::proofs::Words::after_spaces))]
-    pub fn parse(text: &str) -> Option<RunLine>
-        ensures reads { result ≡ run_line_of (words_of text.now) }
+    pub fn parse(wide: bool, text: &str) -> Option<RunLine>
+        ensures reads { result ≡ run_line_of wide (words_of text.now) }
         ensures own { IfSome result (λ l. IsTrue (is_own_said l)) }
     {
         match Line::parse(text) {
-            Some(line) => shared(line),
+            Some(line) => shared(wide, line),
             None => of_runs(past_spaces(text)),
         }
     }
 }
 
 // What a line of other scripts means here.
-fn shared(line: Line) -> Option<RunLine>
-    ensures { result ≡ shared_of line }
+fn shared(wide: bool, line: Line) -> Option<RunLine>
+    ensures { result ≡ shared_of wide line }
 {
     match line {
         Line::Blank => Some(RunLine::Blank),
@@ -57,10 +69,42 @@ fn shared(line: Line) -> Option<RunLine>
                 Some(RunLine::Act(node, event))
             }
         }
-        Line::SetBytes { .. } | Line::Patch { .. } | Line::Bytes { .. } => None,
+        Line::SetBytes { node, object } => only_if(wide, RunLine::SetBytes { node, object }),
+        Line::Patch {
+            node,
+            object,
+            offset,
+        } => only_if(
+            wide,
+            RunLine::Patch {
+                node,
+                object,
+                offset,
+            },
+        ),
+        Line::Bytes {
+            node,
+            object,
+            offset,
+            count,
+        } => only_if(
+            wide,
+            RunLine::Bytes {
+                node,
+                object,
+                offset,
+                count,
+            },
+        ),
         Line::Step(_) | Line::Space { .. } | Line::Wide { .. } | Line::State(_) | Line::Report =>
             None,
     }
+}
+
+fn only_if(wide: bool, said: RunLine) -> Option<RunLine>
+    ensures { result ≡ cond wide (Some said) None }
+{
+    if wide { Some(said) } else { None }
 }
 
 // Whether the workers take care of an event: those of the collector, and messages that wait.

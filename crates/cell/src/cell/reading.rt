@@ -1,6 +1,6 @@
 //! Reads bytes of objects. That is no event: it changes nothing, and adds no line to the trace.
-ghost use Rattle.std.specs.Prelude.{◌≡◌, ◌≢◌, ◌↔◌, Ok, Err, false, IfErr, IfOk, IsErrOf};
-ghost use Rattle.cell.specs.Reading.{node_bytes};
+ghost use Rattle.std.specs.Prelude.{◌≡◌, ◌≢◌, ◌↔◌, Ok, Err, false, IfErr, IfOk, IsErrOf, IsTrue};
+ghost use Rattle.cell.specs.Reading.{node_bytes, node_bytes_len};
 
 use super::Cell;
 use disk::Disk;
@@ -22,5 +22,18 @@ impl<D: Disk> Cell<D> {
             return Err(Refusal::Closed);
         }
         self.desk.node().bytes(object, offset, count)
+    }
+    /// How many bytes the object has that the register `object` names. It is no event, and adds no
+    /// line to the trace.
+    ///
+    /// Fails as the node does; with `Closed` if the cell is closed.
+    pub fn bytes_len(&self, object: u16) -> Result<u32, Refusal>
+        ensures read { IsTrue self.now.is_open → result ≡ node_bytes_len self.now.node object }
+        ensures closed { self.now.is_open ≡ false → IsErrOf result Refusal.Closed }
+    {
+        if !self.store.is_ready() {
+            return Err(Refusal::Closed);
+        }
+        self.desk.node().bytes_len(object)
     }
 }

@@ -1,8 +1,8 @@
 use Rattle.std.proofs.Common.{◌≡◌, ◌∙◌, None, Ok, ap, inr, refl, sym}
 use Rattle.commands.specs.Freed.{sweeper}
 use Rattle.commands.specs.Script.{writes}
-use Rattle.commands.specs.declared.simulation.Writing.{Writing}
-use Rattle.commands.specs.declared.simulation.Writing.TheVariants as writing
+use Rattle.commands.specs.declared.bytes.Writing.{Writing}
+use Rattle.commands.specs.declared.bytes.Writing.TheVariants as writing
 use Rattle.std.specs.Prelude.{ℕ, List}
 use Rattle.std.specs.Borrow.{Bor}
 use Rattle.model.specs.declared.step.Step.TheVariants as step

@@ -9,7 +9,7 @@ loop-rest-init g c = (
   search rules,
   omega arith,
   c.requires,
-  printed_nothing c.args.script.now (g.W.Write.contents c.args.out.now),
+  printed_nothing c.args.bytes.wide c.args.script.now (g.W.Write.contents c.args.out.now),
 )
 
 -- a line that doesn't end the program
@@ -18,7 +18,7 @@ loop-rest-preserved g c = (
   search rules,
   omega (arith, c.loop-rest.invariant.1, c.next_line.ensures.less),
   c.in_ok-reached.ensures.watch,
-  printed_more c.args.script.now (g.W.Write.contents c.args.out.now) _ _
+  printed_more c.args.bytes.wide c.args.script.now (g.W.Write.contents c.args.out.now) _ _
       c.loop-rest.invariant.3
       (record {
         text = c.next_line.result.0.now;
@@ -35,9 +35,9 @@ loop-rest-preserved g c = (
 pub returns-then-reached-eq-UNREADABLE : goal.returns-then-reached-eq-UNREADABLE
 returns-then-reached-eq-UNREADABLE g c =
     let out = g.W.Write.contents c.run_line.new.out in
-    let told : PrintsTold c.args.script.now c.max-status.result
+    let told : PrintsTold c.args.bytes.wide c.args.script.now c.max-status.result
     (g.W.Write.contents c.args.out.now) out =
-    printed_last c.args.script.now (g.W.Write.contents c.args.out.now) _
+    printed_last c.args.bytes.wide c.args.script.now (g.W.Write.contents c.args.out.now) _
     (record {
       rest = c.next_line.result.1.now;
       count = c.loop-rest.number + 1;
@@ -54,14 +54,14 @@ returns-then-reached-eq-UNREADABLE g c =
       worse = c.max-status.ensures;
     })
     c.if-reached-eq-UNREADABLE.true in
-    record { told = told; small = small_status c.args.script.now c.max-status.result _ _ told }
+    record { told = told; small = small_status told }
 
 -- the end of the script
 pub returns : goal.returns
 returns g c =
-    let told : PrintsTold c.args.script.now c.loop-rest.status
+    let told : PrintsTold c.args.bytes.wide c.args.script.now c.loop-rest.status
     (g.W.Write.contents c.args.out.now) (g.W.Write.contents c.loop-rest.out) =
-    printed_all c.args.script.now (g.W.Write.contents c.args.out.now) _
+    printed_all c.args.bytes.wide c.args.script.now (g.W.Write.contents c.args.out.now) _
     c.loop-rest.invariant.3
     (eqb-true _ 0 (sym c.is_empty.ensures ∙ c.loop-rest-test.false)) in
-    record { told = told; small = small_status c.args.script.now c.loop-rest.status _ _ told }
+    record { told = told; small = small_status told }

@@ -13,7 +13,7 @@ invariant-loop-rest g l =
     shadow (Utf8 l.rest)
     × (l.number + length l.rest ≤ length l.script)
     × IsWatchOf (arc_value l.space.wire) l.watch
-    × PrintedBefore l.script (contents l.initial.out) (record {
+    × PrintedBefore l.bytes.wide l.script (contents l.initial.out) (record {
       rest = l.rest;
       count = l.number;
       status = l.status;
