@@ -38,7 +38,7 @@ abbrev pub WasFilled : {D : Type 0} → (D → Areas → Type 0) → Option Name
 WasFilled may_leave wire object offset old new result =
     (IsErrOf result Closed × (new ≡ old) × WasShut may_leave wire)
     ⊎ WasRead may_leave wire
-        (λ c. Fills (node_bytes c.node object offset (length old)) old new result)
+    (λ c. Fills (node_bytes c.node object offset (length old)) old new result)
 
 -- the bytes were counted, or the cell was closed
 abbrev pub WasMeasured : {D : Type 0} → (D → Areas → Type 0) → Option Name → ℕ → Result ℕ Refusal

@@ -304,20 +304,24 @@ fn take_line<R: Clock + Wait, D: Disk + Drop>(
             let writing = Writing::All { object };
             write(rt, space, bytes, node, writing, last_word(text))
         }
-        Some(RunLine::Patch {
-            node,
-            object,
-            offset,
-        }) => {
+        Some(
+            RunLine::Patch {
+                node,
+                object,
+                offset,
+            },
+        ) => {
             let writing = Writing::Part { object, offset };
             write(rt, space, bytes, node, writing, last_word(text))
         }
-        Some(RunLine::Bytes {
-            node,
-            object,
-            offset,
-            count,
-        }) => read(rt, space, bytes, node, object, offset, count),
+        Some(
+            RunLine::Bytes {
+                node,
+                object,
+                offset,
+                count,
+            },
+        ) => read(rt, space, bytes, node, object, offset, count),
         Some(RunLine::Cycle) => cycle(rt, space, watch),
         Some(RunLine::Await { node, register }) => await_letter(rt, space, node, register),
         Some(RunLine::Trace(node)) => match trace(rt, space, node) {

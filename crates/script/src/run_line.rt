@@ -20,9 +20,16 @@ pub enum RunLine {
     /// A restart of a node.
     Restart(u8),
     /// The object that a register names gets the bytes that the last word spells.
-    SetBytes { node: u8, object: u16 },
+    SetBytes {
+        node: u8,
+        object: u16,
+    },
     /// These overwrite its bytes from an offset on.
-    Patch { node: u8, object: u16, offset: u32 },
+    Patch {
+        node: u8,
+        object: u16,
+        offset: u32,
+    },
     /// Prints a count of its bytes from an offset on.
     Bytes {
         node: u8,
@@ -33,7 +40,10 @@ pub enum RunLine {
     /// A collection cycle, until its end.
     Cycle,
     /// Waits for a letter and accepts it into this register of the node.
-    Await { node: u8, register: u16 },
+    Await {
+        node: u8,
+        register: u16,
+    },
     /// The trace of a node's last calls.
     Trace(u8),
 }

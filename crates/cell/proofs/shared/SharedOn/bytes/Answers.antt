@@ -12,7 +12,7 @@ returns g c =
     let cell = held.cell in
     let old = c.args.buffer.now in
     let locked : IsLocked g.D.Disk.may_leave g.W.Naming.wire cell =
-        record { sound = c.node-node.ensures.sound; name = held.named } in
+    record { sound = c.node-node.ensures.sound; name = held.named } in
     record {
       read = told-or-shut
           (λ v. Fills (node_bytes v.node c.args.object c.args.offset (length old)) old

@@ -10,7 +10,7 @@ returns g c =
     let held = c.deref-held.result.now in
     let cell = held.cell in
     let locked : IsLocked g.D.Disk.may_leave g.W.Naming.wire cell =
-        record { sound = c.node-node.ensures.sound; name = held.named } in
+    record { sound = c.node-node.ensures.sound; name = held.named } in
     record {
       read = told-or-shut
           (λ v. c.bytes_len.result ≡ node_bytes_len v.node c.args.object)
@@ -22,6 +22,8 @@ returns g c =
             ready = ready;
             told = c.bytes_len.ensures.read ready;
           })
-          (λ shut. (c.bytes_len.ensures.closed shut,
-          record { before = cell; locked = locked; shut = shut }));
+          (λ shut. (
+            c.bytes_len.ensures.closed shut,
+            record { before = cell; locked = locked; shut = shut },
+          ));
     }
