@@ -79,7 +79,7 @@ refused-first ((false, r) ∷ ts) us x y e h = let same : r ≡ e = cc in ap (λ
 -- what refuses to say how many bytes there are refuses to read some
 pub unmeasured : (own : ℕ) (h : Heap) (object offset count : ℕ) (e : Refusal)
     → heap_bytes_len own h object ≡ Err e → heap_bytes own h object offset count ≡ Err e
-unfolding heap_bytes, heap_bytes_len
+unfolding heap_bytes heap_bytes_len
 unmeasured own h object offset count e refused =
     let held : List ℕ = bytes_of (object_at h (named h object)) in
     refused-first (word_tests own h object) ((has_range held offset count, NoBytes) ∷ [])
@@ -89,7 +89,7 @@ unmeasured own h object offset count e refused =
 pub more-than-there : (own : ℕ) (h : Heap) (object offset count there : ℕ)
     → heap_bytes_len own h object ≡ Ok there → there < count
     → heap_bytes own h object offset count ≡ Err NoBytes
-unfolding heap_bytes, heap_bytes_len
+unfolding heap_bytes heap_bytes_len
 more-than-there own h object offset count there measured more =
     let held : List ℕ = bytes_of (object_at h (named h object)) in
     let found : List ℕ = take count (drop offset held) in
