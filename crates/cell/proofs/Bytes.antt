@@ -1,5 +1,5 @@
 -- What is read of an object's bytes.
-use Rattle.std.proofs.Common.{◌≡◌, ℕ, ◌+◌, ◌<◌, ◌≤◌, Bool, true, false, ◌||◌, List, [], ◌∷◌, ◌++◌, length, take, drop, Option, Result, Ok, Err, inl, inr, refl, ap, sym, ◌∙◌, subst, arith}
+use Rattle.std.proofs.Common.{◌≡◌, ◌⊎◌, ℕ, ◌+◌, ◌<◌, ◌≤◌, Bool, true, false, ◌||◌, List, [], ◌∷◌, ◌++◌, length, take, drop, Option, Result, Ok, Err, inl, inr, refl, ap, sym, ◌∙◌, subst, arith}
 use Rattle.std.specs.Prelude.{IfErr, IsErrOf}
 use Rattle.std.proofs.lemmas.Bool.{leb-true, lt-leb, or_parts, true≢false}
 use Rattle.std.proofs.lemmas.List.{length-take, length-drop}
@@ -96,9 +96,9 @@ more-than-there own h object offset count there measured more =
     let passed = guarded-passes (word_tests own h object) (length held) there measured in
     let same = guarded-ok (word_tests own h object) (length held) there measured in
     let outside : has_range held offset count ≡ false =
-        lt-leb (offset + count) (length held) (omega (arith, same, more)) in
+    lt-leb (offset + count) (length held) (omega (arith, same, more)) in
     guarded-passed (word_tests own h object) ((has_range held offset count, NoBytes) ∷ []) found
-        passed
+    passed
     ∙ rw outside refl
 
 -- ---- a shared cell
