@@ -62,6 +62,7 @@ typedef struct host_shape {
     uint64_t limit;
     bool wide;
     uint8_t places; // that an object has at most; at its creation a plain space may leave it out
+    uint32_t bytes; // that an object has at most; in a plain space 0
 } host_shape;
 
 typedef struct host_options {
