@@ -540,7 +540,11 @@ static uint16_t random_register(const part *it)
 // What it asks of the bytes of an object.
 static void write_reading(part *it, writer *to)
 {
-    it->from_register = random_register(it);
+    for (int tries = 0; tries < 5; tries++) {
+        it->from_register = random_register(it);
+        const object *of = &objects[it->registers[it->from_register]];
+        tries += of->owner == it->node && of->length > 0 ? 5 : 0;
+    }
     it->from_byte = below(3) == 0 ? below(BYTES) : 0;
     it->wanted = below(2) == 0 ? objects[it->registers[it->from_register]].length : below(BYTES);
     write_number(to, (uint64_t)first_register() + it->from_register, 2);
@@ -642,10 +646,6 @@ static void plan_near(part *it, uint16_t reg, uint16_t value)
     uint8_t place = (uint8_t)below(LOCAL_PLACES);
     uint32_t id = it->registers[reg];
     markring_event event = {.object = reg, .reg = value, .place = place};
-    if (is_wide && below(3) == 0) {
-        plan_bytes(it, reg);
-        return;
-    }
     switch (below(4)) {
     case 0:
         event.kind = MARKRING_EVENT_LOAD;
@@ -682,7 +682,9 @@ static void plan(part *it)
     uint16_t reg = random_register(it), other = random_register(it);
     uint32_t id = it->registers[reg], kind = below(100);
     it->count = 0;
-    if (kind < 20) {
+    if (is_wide && id != 0 && objects[id].owner == it->node && below(4) == 0) {
+        plan_bytes(it, reg);
+    } else if (kind < 20) {
         plan_new(it, reg);
     } else if (kind < 30) {
         add_event(it, (markring_event){.kind = MARKRING_EVENT_COPY, .reg = reg, .source = other});

@@ -185,7 +185,10 @@ static void finish_cycle(void)
         }
         OK(markring_node_state(&nodes[i], &state));
         if (state.swept < state.ended) {
+            // (That is all if no slot was ever used.)
             MAY(markring_node_sweep(&nodes[i], 0, &answer));
+        }
+        if (state.swept < state.ended && !answer.done) {
             MAY(markring_node_sweep(&nodes[i], 100, &answer));
         }
         save_and_send(i);

@@ -375,9 +375,10 @@ static void use_bytes(uint8_t own_number, uint16_t reg)
     uint32_t length = 77;
     int without_place = own_place(own_number, reg, 0, &it);
     without_place = it != NULL ? MARKRING_OK : without_place;
-    if (below(&seed, 2) == 0) {
+    if (it == NULL || it->length == 0 || below(&seed, 3) == 0) {
         set_bytes(node, reg, it, without_place);
-    } else {
+    }
+    for (int times = 0; times < 2; times++) {
         patch_or_read(node, reg, it, without_place);
     }
     IS(without_place, markring_node_bytes_length(node, reg, &length));
