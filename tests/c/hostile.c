@@ -568,10 +568,10 @@ static void make_wide(markring_node *node)
 static unsigned long spelled, unspelled;
 
 // What reading these bytes as an image of this version gives: BAD_IMAGE, or the one node that they
-// spell. It takes no more memory than for what is there.
+// spell. It takes no more memory than for what is there, and for the first block of slots.
 static void read_again(const bytes *it, size_t length, int version)
 {
-    enum { FOR_ALL = 1 << 16 };
+    enum { FOR_ALL = 1 << 17 };
     markring_node node = {0};
     // A block of this length, so that reading beyond it shows.
     uint8_t *exact = (uint8_t *)own(malloc(length + 1));
