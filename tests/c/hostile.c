@@ -587,6 +587,8 @@ static void read_again(const bytes *it, size_t length, int version)
     HOLDS((node.at != NULL) == (status == MARKRING_OK));
     if (status == MARKRING_OK) {
         bytes again = image_of(&node);
+        // (An image of version 4 is read, too, where batches could follow; the node then has a log.)
+        exact[3] = version == 5 && exact[3] == 4 ? 5 : exact[3];
         HOLDS(again.length == length && memcmp(again.at, exact + 1, length) == 0);
         drop_bytes(&again);
         OK(markring_node_free(&node));
