@@ -1240,6 +1240,19 @@ static void open_again(station *at)
     settle(at, STORE_OK);
 }
 
+// Parts of the bytes of the object in register 1.
+static void expect_ranges(station *at, uint32_t kind, uint32_t length)
+{
+    const uint8_t *bytes = at->text + ANSWER_HEAD + RESULT_BYTES;
+    for (uint32_t offset = 0; offset < length; offset += 1 + length / 7) {
+        uint32_t count = (length - offset) / 2;
+        HOLDS(status_of_reading(at, 1, offset, count) == MARKRING_OK);
+        for (uint32_t i = 0; i < count; i++) {
+            HOLDS(bytes[i] == byte_of(kind, offset + i));
+        }
+    }
+}
+
 // Bytes are set, patched and read; those that are refused change nothing; all is there after
 // restarts, also from entries.
 static void test_bytes(void)
@@ -1254,6 +1267,7 @@ static void test_bytes(void)
             HOLDS(set_bytes(&at, 1, 5 + length, length) == MARKRING_OK);
             HOLDS(has(&at, 1, 5 + length, length, 0, 0, 0));
             HOLDS(set_bytes(&at, 1, 9, MOST + 1) == MARKRING_TOO_MANY_BYTES);
+            expect_ranges(&at, 5 + length, length);
             for (uint32_t offset = 0; offset <= length + 1; offset += 1 + length / 3) {
                 uint32_t room = offset <= length ? length - offset : 0;
                 HOLDS(patch(&at, 1, offset, 8, room + 1) == MARKRING_NO_BYTES);
@@ -1369,6 +1383,26 @@ static void test_byte_requests(void)
     // And the next one.
     HOLDS(write_three(bytes, WHOLE, 3, 30) == WHOLE);
     HOLDS(judge_bytes(&at, bytes, WHOLE) == VERDICT_DONE && has(&at, 1, 30, 5, 1, 80, 3));
+    drop(&at);
+    free(at.stored);
+}
+
+// The same of readings.
+static void test_cut_readings(void)
+{
+    uint8_t bytes[REQUEST_HEAD + READ_BYTES + 1] = {0};
+    station at;
+    make_with_bytes(&at, 10, true);
+    for (uint16_t count = 0; count < 3; count++) {
+        for (size_t length = REQUEST_HEAD; length <= sizeof bytes; length++) {
+            writer to = writer_of(bytes, sizeof bytes);
+            write_request_head(&to, &(request_head){REQUEST_READ_BYTES, 3, 103, 7, count});
+            write_number(&to, 1, 2);
+            bool is_right = count == 1 && length == REQUEST_HEAD + READ_BYTES;
+            int said = judge_bytes(&at, bytes, length);
+            HOLDS(said == (is_right ? VERDICT_DONE : VERDICT_MALFORMED));
+        }
+    }
     drop(&at);
     free(at.stored);
 }
@@ -1511,6 +1545,15 @@ static void test_bytes_growth(void)
     }
     drop(&at);
     free(at.stored);
+    // Bytes that are replaced by none.
+    make_with_bytes(&at, 10 * MOST, true);
+    HOLDS(set_bytes(&at, 1, 1, 10 * MOST) == MARKRING_OK);
+    open_again(&at);
+    HOLDS(image_of(&at) > 10 * MOST && set_bytes(&at, 1, 1, 0) == MARKRING_OK);
+    settle(&at, STORE_OK);
+    HOLDS(image_of(&at) < MOST);
+    drop(&at);
+    free(at.stored);
 }
 
 // A node whose image is larger than that of a plain space may be: it is saved, takes messages and
@@ -1621,6 +1664,35 @@ static void go_on(int turns, uint64_t time)
         turn(&pair[0], time, STORE_OK);
         turn(&pair[1], time, STORE_OK);
     }
+}
+
+// Once an object with bytes is freed, the status shows how large the image is without it.
+static void test_swept_bytes(void)
+{
+    enum { LENGTH = 100000 };
+    markring_answer answer;
+    wide_places = 8;
+    wide_bytes = LENGTH;
+    make_pair();
+    wide_places = 0;
+    wide_bytes = 0;
+    go_on(20, 10);
+    markring_node *node = host_node(pair[0].host);
+    HOLDS(markring_node_alloc(node, 1, 0, &answer) == MARKRING_OK);
+    HOLDS(markring_node_set_bytes(node, 1, bytes_of(1, LENGTH), LENGTH, &answer) == MARKRING_OK);
+    host_changed(pair[0].host);
+    go_on(20, 10);
+    drop(&pair[0]);
+    open_host(&pair[0]);
+    go_on(20, 10);
+    HOLDS(image_of(&pair[0]) > LENGTH);
+    node = host_node(pair[0].host);
+    HOLDS(markring_node_drop(node, 1, &answer) == MARKRING_OK);
+    host_changed(pair[0].host);
+    host_control(pair[0].host, pair[0].now, "begin", 5, "r");
+    go_on(100, 10);
+    HOLDS(live(&pair[0]) == 0 && image_of(&pair[0]) < LENGTH / 10);
+    drop_pair();
 }
 
 static void give(int from, uint32_t label)
@@ -1934,6 +2006,7 @@ int main(void)
     test_bytes();
     test_byte_refusals();
     test_byte_requests();
+    test_cut_readings();
     test_most_bytes();
     test_bytes_wait();
     test_held_bytes();
@@ -1948,6 +2021,7 @@ int main(void)
     test_room();
     test_gets();
     test_waiting();
+    test_swept_bytes();
     printf("%lu passed, %lu failed\n", passed, failed);
     return failed != 0 || passed == 0;
 }
