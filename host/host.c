@@ -142,6 +142,11 @@ void host_changed(host *it)
     note_change(it, GROWTH, 0);
 }
 
+void host_wrote(host *it, size_t bytes)
+{
+    note_change(it, GROWTH + bytes, 0);
+}
+
 uint64_t limit_of(const host *it)
 {
     return it->options.has_limit ? it->options.limit : it->shape.limit;

@@ -169,8 +169,9 @@ const host_shape *host_is(const host *it);
 const host_counts *host_counted(const host *it);
 
 // The node, for programs that are linked to the host, and for tests. Call host_changed after an
-// event that was Ok.
+// event that was Ok, or host_wrote after one that wrote this many bytes into an object.
 markring_node *host_node(host *it);
 void host_changed(host *it);
+void host_wrote(host *it, size_t bytes);
 
 #endif

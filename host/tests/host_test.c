@@ -1680,13 +1680,10 @@ static void test_swept_bytes(void)
     markring_node *node = host_node(pair[0].host);
     HOLDS(markring_node_alloc(node, 1, 0, &answer) == MARKRING_OK);
     HOLDS(markring_node_set_bytes(node, 1, bytes_of(1, LENGTH), LENGTH, &answer) == MARKRING_OK);
-    host_changed(pair[0].host);
-    go_on(20, 10);
-    drop(&pair[0]);
-    open_host(&pair[0]);
+    host_wrote(pair[0].host, LENGTH);
+    expect_bound(&pair[0]);
     go_on(20, 10);
     HOLDS(image_of(&pair[0]) > LENGTH);
-    node = host_node(pair[0].host);
     HOLDS(markring_node_drop(node, 1, &answer) == MARKRING_OK);
     host_changed(pair[0].host);
     host_control(pair[0].host, pair[0].now, "begin", 5, "r");
