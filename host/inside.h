@@ -16,9 +16,9 @@ enum {
     // Steps of the collector in one turn.
     SCANS = 256,
     SWEEPS = 4096,
-    // What any event adds to an image, at most, besides the bytes that it writes into an object, if
-    // the node doesn't join a cycle and the object has at most PLAIN_PLACES; what a message from
-    // another node does; and what joining does, for each register and each letter.
+    // What any event adds to an image, at most, if the node doesn't join a cycle and the object
+    // has at most PLAIN_PLACES; what a message from another node does; and what joining does, for
+    // each register and each letter. Bytes that an event writes into an object come on top.
     GROWTH = 640,
     MESSAGE_GROWTH = 128,
     JOINING = 40,

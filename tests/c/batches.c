@@ -89,7 +89,7 @@ static void act(uint8_t own_number)
     (void)both(&sites[own_number], &event);
 }
 
-// Writes bytes of an object; often too many, or where it has none.
+// Writes bytes of an object; often too many, or over some that it hasn't.
 static void write_bytes(uint8_t own_number)
 {
     markring_answer answer, other;

@@ -327,9 +327,9 @@ static void wide_images(void)
     OK(markring_node_free(&node));
 }
 
-// The calls with bytes of a node or of a cell of a wide space, whose objects have at most 10 bytes:
-// register 0 has an object with 10 bytes, 1 is empty, 2 refers to an object of the other node, and
-// there is no register 3. In a plain space there are no bytes.
+// The calls with bytes, of a node or of a cell of a wide space, whose objects have at most 10 bytes;
+// or of a plain one, whose objects have none. Register 0 has an object, 1 is empty, 2 refers to an
+// object of the other node, and there is no register 3.
 #define BYTES_OF(type) \
     static void bytes_of_##type(markring_##type *at, int is_wide) \
     { \
@@ -587,7 +587,7 @@ static void read_again(const bytes *it, size_t length, int version)
     HOLDS((node.at != NULL) == (status == MARKRING_OK));
     if (status == MARKRING_OK) {
         bytes again = image_of(&node);
-        // (An image of version 4 is read, too, where batches could follow; the node then has a log.)
+        // (An image of version 4 is read, too, if there are no batches. The node then has a log.)
         exact[3] = version == 5 && exact[3] == 4 ? 5 : exact[3];
         HOLDS(again.length == length && memcmp(again.at, exact + 1, length) == 0);
         drop_bytes(&again);
