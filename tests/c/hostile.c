@@ -327,9 +327,9 @@ static void wide_images(void)
     OK(markring_node_free(&node));
 }
 
-// The calls with bytes, of a node or of a cell of a wide space, whose objects have at most 10 bytes;
-// or of a plain one, whose objects have none. Register 0 has an object, 1 is empty, 2 refers to an
-// object of the other node, and there is no register 3.
+// The calls with bytes, of a node or of a cell: of a wide space, whose objects have at most 10
+// bytes, or of a plain one, whose objects have none. Register 0 has an object, 1 is empty, 2 refers
+// to an object of the other node, and there is no register 3.
 #define BYTES_OF(type) \
     static void bytes_of_##type(markring_##type *at, int is_wide) \
     { \
