@@ -29,6 +29,9 @@ enum {
     SPACE_ID = 8
 };
 
+_Static_assert(LONGEST_REQUEST <= 1048576 && LONGEST_ANSWER <= 1048576,
+    "a server with the usual max_payload takes all messages");
+
 // A process that runs a node: a random number, the number of the first save that it made, and that
 // of the last one. All are 0 if nothing is known.
 typedef struct process {
