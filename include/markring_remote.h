@@ -2,9 +2,10 @@
 // docs/PROCESSES.md says how to run the nodes. C11, or C++.
 //
 // A node has up to 64 programs, numbered from 0. A program sends its node requests, one after
-// another; each has up to 256 events. The node performs them once, whatever is lost or crashes: the
-// program, the node or the server. It performs the events in order, up to the first one that is
-// refused. Its answer comes once all of that is stored, so nothing takes it back.
+// another; each has up to 256 events, and 1,000,000 bytes of objects. The node performs them once,
+// whatever is lost or crashes: the program, the node or the server. It performs the events in
+// order, up to the first one that is refused. Its answer comes once all of that is stored, so
+// nothing takes it back.
 //
 // All times are in milliseconds. No call takes longer than its time-out, whatever the server does:
 // a thread of the space speaks with it.

@@ -5,9 +5,9 @@
             program.alloc(0, places=1)
             program.give(to=1, label=7, register=0)
 
-A node has up to 64 programs. A program sends its node requests, one after another, each with up to 256 events; the node
-performs them once, whatever is lost or crashes. An answer comes once all that it shows is stored, so nothing takes it
-back. docs/PROCESSES.md has more.
+A node has up to 64 programs. A program sends its node requests, one after another, each with up to 256 events and
+1,000,000 bytes of objects; the node performs them once, whatever is lost or crashes. An answer comes once all that it
+shows is stored, so nothing takes it back. docs/PROCESSES.md has more.
 
 The client is the file that the variable MARKRING_REMOTE_LIBRARY names. Without that variable it is
 `libmarkring-remote.so`, in the package, beside it, or in a folder in which the system looks for libraries. Each space
