@@ -545,8 +545,9 @@ static void write_reading(part *it, writer *to)
         const object *of = &objects[it->registers[it->from_register]];
         tries += of->owner == it->node && of->length > 0 ? 5 : 0;
     }
-    it->from_byte = below(3) == 0 ? below(BYTES) : 0;
-    it->wanted = below(2) == 0 ? objects[it->registers[it->from_register]].length : below(BYTES);
+    uint32_t length = objects[it->registers[it->from_register]].length;
+    it->from_byte = below(3) == 0 ? below(length + 2) : 0;
+    it->wanted = below(4) > 0 && it->from_byte <= length ? length - it->from_byte : below(BYTES);
     write_number(to, (uint64_t)first_register() + it->from_register, 2);
     write_number(to, it->from_byte, 4);
     write_number(to, it->wanted, 4);
@@ -555,10 +556,11 @@ static void write_reading(part *it, writer *to)
 // Asks what all registers hold, or for bytes of an object, or waits for a letter.
 static void read_something(part *it)
 {
-    static const uint8_t kinds[] = {REQUEST_WAIT, REQUEST_READ, REQUEST_READ, REQUEST_READ_BYTES};
+    static const uint8_t kinds[] = {
+        REQUEST_WAIT, REQUEST_READ, REQUEST_READ, REQUEST_READ_BYTES, REQUEST_READ_BYTES};
     uint8_t bytes[REQUEST_HEAD + 2 * REGISTERS + READ_BYTES];
     writer to = writer_of(bytes, sizeof bytes);
-    uint8_t kind = kinds[below(is_wide ? 4 : 3)];
+    uint8_t kind = kinds[below(is_wide ? 5 : 3)];
     request_head head = {kind, it->number, it->session, ++it->reads,
         kind == REQUEST_WAIT ? 0 : kind == REQUEST_READ ? REGISTERS : 1};
     write_request_head(&to, &head);
