@@ -37,7 +37,8 @@ bool copy_reply(char *to, const char *reply)
 
 void hold_answer(host *it, uint64_t due, const char *reply, const uint8_t *bytes, size_t length)
 {
-    held *answer = it->held_count < HELD_ANSWERS ? malloc(sizeof *answer + length) : NULL;
+    bool has_room = it->held_count < HELD_ANSWERS && length <= HELD_BYTES - it->held_bytes;
+    held *answer = has_room ? malloc(sizeof *answer + length) : NULL;
     if (answer == NULL || !copy_reply(answer->reply, reply)) {
         it->counts.dropped++;
         free(answer);
@@ -50,6 +51,7 @@ void hold_answer(host *it, uint64_t due, const char *reply, const uint8_t *bytes
     *it->last = answer;
     it->last = &answer->next;
     it->held_count++;
+    it->held_bytes += length;
 }
 
 // ## The size of the image
@@ -140,6 +142,11 @@ void host_changed(host *it)
     note_change(it, GROWTH, 0);
 }
 
+void host_wrote(host *it, size_t bytes)
+{
+    note_change(it, GROWTH + bytes, 0);
+}
+
 uint64_t limit_of(const host *it)
 {
     return it->options.has_limit ? it->options.limit : it->shape.limit;
@@ -184,6 +191,7 @@ int host_create(const host_shape *shape, store_value *value)
         .registers = shape->registers,
         .nodes = shape->nodes,
         .places = shape->wide ? shape->places : PLAIN_PLACES,
+        .bytes = shape->bytes,
         .wide = shape->wide};
     int status = markring_node_make(&it->node, &sizes, shape->own, shape->limit);
     if (status == MARKRING_OK) {

@@ -62,6 +62,7 @@ typedef struct host_shape {
     uint64_t limit;
     bool wide;
     uint8_t places; // that an object has at most; at its creation a plain space may leave it out
+    uint32_t bytes; // that an object has at most; in a plain space 0
 } host_shape;
 
 typedef struct host_options {
@@ -168,8 +169,9 @@ const host_shape *host_is(const host *it);
 const host_counts *host_counted(const host *it);
 
 // The node, for programs that are linked to the host, and for tests. Call host_changed after an
-// event that was Ok.
+// event that was Ok, or host_wrote after one that wrote this many bytes into an object.
 markring_node *host_node(host *it);
 void host_changed(host *it);
+void host_wrote(host *it, size_t bytes);
 
 #endif

@@ -18,13 +18,13 @@ enum {
     SWEEPS = 4096,
     // What any event adds to an image, at most, if the node doesn't join a cycle and the object
     // has at most PLAIN_PLACES; what a message from another node does; and what joining does, for
-    // each register and each letter.
+    // each register and each letter. Bytes that an event writes into an object come on top.
     GROWTH = 640,
     MESSAGE_GROWTH = 128,
     JOINING = 40,
     // What a place of an object adds, at most, if the object is scanned.
     SCAN_GROWTH = 40,
-    // What an object and a message have in an image, about.
+    // What an object without bytes and a message have in an image, about.
     OBJECT_BYTES = 64,
     MESSAGE_BYTES = 32,
     // An image of a node of a plain space has at most this many bytes.
@@ -32,6 +32,7 @@ enum {
     // A large image is scanned only while fewer messages aren't acknowledged.
     SCAN_MESSAGES = 32768,
     HELD_ANSWERS = 1024,
+    HELD_BYTES = 16 << 20, // in them
     LINE = 256,
     REGISTERS_MOST = UINT16_MAX, // of a node
     PLAIN_PLACES = 8,            // that an object of a plain space has at most
@@ -120,7 +121,7 @@ struct host {
     // For each register the program that has it for itself, plus one; or 0.
     uint8_t owners[REGISTERS_MOST];
     held *first, **last;
-    size_t held_count;
+    size_t held_count, held_bytes;
     uint64_t nonce, run, stored; // of this process: its number, its first save, its last one
     // The processes that ran this node, up to this one. The first element has neither nonce nor
     // run. `line_saved`: the last save holds it.

@@ -96,6 +96,28 @@ void read_event(reader *from, markring_event *it)
     it->word = read_number(from, 8);
 }
 
+bool has_bytes(uint8_t kind)
+{
+    return kind == MARKRING_REMOTE_SET_BYTES || kind == MARKRING_REMOTE_PATCH;
+}
+
+void write_remote_event(writer *to, const markring_remote_event *it)
+{
+    write_event(to, &it->event);
+    if (has_bytes(it->event.kind)) {
+        write_number(to, it->length, 4);
+        write_bytes(to, it->bytes, it->length);
+    }
+}
+
+void read_remote_event(reader *from, markring_remote_event *it)
+{
+    read_event(from, &it->event);
+    size_t length = has_bytes(it->event.kind) ? (size_t)read_number(from, 4) : 0;
+    it->bytes = read_bytes(from, length);
+    it->length = it->bytes != NULL ? length : 0;
+}
+
 void write_answer_head(writer *to, const answer_head *it)
 {
     write_bytes(to, ANSWER, sizeof ANSWER);

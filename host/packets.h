@@ -19,10 +19,18 @@ enum {
     EVENT_BYTES = 25,
     ANSWER_HEAD = 49,
     RESULT_BYTES = 43,
+    // The longest request and answer without bytes of objects; and with them, which is less than
+    // the 1,048,576 bytes that servers take, unless they are told otherwise.
     REQUEST_BYTES = REQUEST_HEAD + REQUEST_EVENTS * EVENT_BYTES,
     ANSWER_BYTES = ANSWER_HEAD + REQUEST_EVENTS * RESULT_BYTES,
+    BYTES_MOST = MARKRING_REMOTE_BYTES,
+    LONGEST_REQUEST = REQUEST_BYTES + REQUEST_EVENTS * 4 + BYTES_MOST,
+    LONGEST_ANSWER = ANSWER_HEAD + RESULT_BYTES + BYTES_MOST,
     SPACE_ID = 8
 };
+
+_Static_assert(LONGEST_REQUEST <= 1048576 && LONGEST_ANSWER <= 1048576,
+    "a server with the usual max_payload takes all messages");
 
 // A process that runs a node: a random number, the number of the first save that it made, and that
 // of the last one. All are 0 if nothing is known.
@@ -58,8 +66,13 @@ typedef enum request_kind {
     REQUEST_WAIT = 4,    // Answered once a letter waits at the node.
     // As REQUEST_OPEN; the program has these registers, and no others. The first one and how many
     // they are follow the head, with two bytes each.
-    REQUEST_OPEN_APART = 5
+    REQUEST_OPEN_APART = 5,
+    // Bytes of one object: its register (2), the offset (4) and how many (4) follow the head. The
+    // answer has one result, and behind it the bytes.
+    REQUEST_READ_BYTES = 6
 } request_kind;
+
+enum { READ_BYTES = 2 + 4 + 4 };
 
 typedef struct request_head {
     uint8_t kind, program;
@@ -73,6 +86,12 @@ bool read_request_head(reader *from, request_head *it);
 void write_event(writer *to, const markring_event *it);
 void read_event(reader *from, markring_event *it);
 
+// An event, with its bytes if it is one that has some: they follow it, after their length (4). What
+// is read points into the request.
+bool has_bytes(uint8_t kind);
+void write_remote_event(writer *to, const markring_remote_event *it);
+void read_remote_event(reader *from, markring_remote_event *it);
+
 typedef enum verdict {
     VERDICT_DONE = 0,
     // Later requests of this program were performed; or it was opened since this process looked.
@@ -84,7 +103,9 @@ typedef enum verdict {
     // The bytes aren't a request, or there is no such program.
     VERDICT_MALFORMED = 4,
     // The program has other registers, or another program has one of these, or the node hasn't.
-    VERDICT_REGISTERS = 5
+    VERDICT_REGISTERS = 5,
+    // The request or its answer would carry more than BYTES_MOST bytes of objects.
+    VERDICT_TOO_LONG = 6
 } verdict;
 
 typedef struct answer_head {

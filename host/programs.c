@@ -108,7 +108,7 @@ static void open_program(host *it, const request_head *request, reader *from, co
 
 static bool is_of_program(uint8_t kind)
 {
-    return kind >= MARKRING_EVENT_ALLOC && kind <= MARKRING_EVENT_GET;
+    return (kind >= MARKRING_EVENT_ALLOC && kind <= MARKRING_EVENT_GET) || has_bytes(kind);
 }
 
 // How many bytes an event of a program adds to the image, at most, and how many of it may be gone:
@@ -141,6 +141,23 @@ static size_t more_places(const markring_event *event)
     return event->kind == MARKRING_EVENT_ALLOC && event->place > PLAIN_PLACES ? event->place : 0;
 }
 
+// How many bytes the event adds to the image, at most. (What an object had before goes.)
+static size_t growth_of(const markring_remote_event *event)
+{
+    size_t bytes = event->event.kind == MARKRING_REMOTE_SET_BYTES ? event->length : 0;
+    return moves_of(event->event.kind).grown + more_places(&event->event) + bytes;
+}
+
+// How many bytes the event replaces, if it replaces those of an object.
+static size_t replaced_by(host *it, const markring_remote_event *event)
+{
+    uint32_t length = 0;
+    if (event->event.kind == MARKRING_REMOTE_SET_BYTES) {
+        (void)markring_node_bytes_length(&it->node, event->event.object, &length);
+    }
+    return length;
+}
+
 static void note_full(host *it)
 {
     markring_state state;
@@ -167,32 +184,47 @@ static bool may_use_all(const host *it, uint8_t number, const markring_event *ev
     bool has_register = kind <= MARKRING_EVENT_STORE || kind == MARKRING_EVENT_GIVE
         || kind == MARKRING_EVENT_ACCEPT || kind == MARKRING_EVENT_PUT;
     bool has_object = (kind >= MARKRING_EVENT_LOAD && kind <= MARKRING_EVENT_SET_WORD)
-        || kind == MARKRING_EVENT_PUT || kind == MARKRING_EVENT_GET;
+        || kind == MARKRING_EVENT_PUT || kind == MARKRING_EVENT_GET || has_bytes(kind);
     return (!has_register || may_use(it, number, event->reg))
         && (!has_object || may_use(it, number, event->object))
         && (kind != MARKRING_EVENT_COPY || may_use(it, number, event->source));
 }
 
-static int perform_event(
-    host *it, uint8_t number, const markring_event *event, markring_answer *answer)
+static int act(host *it, const markring_remote_event *event, markring_answer *answer)
 {
-    if (!is_of_program(event->kind)) {
+    uint16_t object = event->event.object;
+    switch (event->event.kind) {
+    case MARKRING_REMOTE_SET_BYTES:
+        return markring_node_set_bytes(&it->node, object, event->bytes, event->length, answer);
+    case MARKRING_REMOTE_PATCH:
+        return markring_node_patch(
+            &it->node, object, event->event.count, event->bytes, event->length, answer);
+    default: return markring_node_act(&it->node, &event->event, answer);
+    }
+}
+
+static int perform_event(
+    host *it, uint8_t number, const markring_remote_event *event, markring_answer *answer)
+{
+    uint8_t kind = event->event.kind;
+    size_t growth = growth_of(event);
+    if (!is_of_program(kind)) {
         return MARKRING_BAD_ARGUMENT;
     }
-    if (!may_use_all(it, number, event)) {
+    if (!may_use_all(it, number, &event->event)) {
         return MARKRING_NO_REGISTER;
     }
-    if (moves_of(event->kind).grown > 0 && is_full(it)) {
+    if (growth > 0 && is_full(it)) {
         return MARKRING_IMAGE_TOO_LARGE;
     }
     // Answers to Get become letters here. If they aren't taken, they pile up at the other node.
-    if (event->kind == MARKRING_EVENT_GET && !takes_messages(it)) {
+    if (kind == MARKRING_EVENT_GET && !takes_messages(it)) {
         return MARKRING_CONGESTED;
     }
-    int status = markring_node_act(&it->node, event, answer);
-    if (status == MARKRING_OK && event->kind != MARKRING_EVENT_WORD) {
-        moves moved = moves_of(event->kind);
-        note_change(it, moved.grown + more_places(event), moved.gone);
+    size_t gone = moves_of(kind).gone + replaced_by(it, event);
+    int status = act(it, event, answer);
+    if (status == MARKRING_OK && kind != MARKRING_EVENT_WORD) {
+        note_change(it, growth, gone);
     }
     if (status == MARKRING_ARENA_FULL) {
         note_full(it);
@@ -205,9 +237,9 @@ static void perform_events(host *it, const request_head *request, reader *from, 
 {
     int status = MARKRING_OK;
     for (uint16_t i = 0; i < request->count; i++) {
-        markring_event event;
+        markring_remote_event event;
         markring_result done = {MARKRING_NOT_DONE, {0}};
-        read_event(from, &event);
+        read_remote_event(from, &event);
         if (status == MARKRING_OK) {
             status = done.status = perform_event(it, request->program, &event, &done.answer);
         }
@@ -252,13 +284,29 @@ static verdict judge(const program *at, const request_head *request)
                                            : VERDICT_DONE;
 }
 
+// Whether the bytes are this many events, and nothing else. No event is performed before that is
+// known of all.
+static verdict judge_events(const request_head *request, reader from)
+{
+    size_t bytes = 0;
+    for (uint16_t i = 0; i < request->count; i++) {
+        markring_remote_event event;
+        read_remote_event(&from, &event);
+        bytes += event.length;
+    }
+    if (!from.ok || from.left > 0) {
+        return VERDICT_MALFORMED;
+    }
+    return bytes > BYTES_MOST ? VERDICT_TOO_LONG : VERDICT_DONE;
+}
+
 static void perform_once(host *it, uint64_t now, const request_head *request, reader *from,
     const char *reply)
 {
     program *at = &it->programs[request->program];
     verdict why = judge(at, request);
-    if (why == VERDICT_DONE && from->left != request->count * (size_t)EVENT_BYTES) {
-        why = VERDICT_MALFORMED;
+    if (why == VERDICT_DONE) {
+        why = judge_events(request, *from);
     }
     if (why != VERDICT_DONE) {
         refuse(it, request, why, reply);
@@ -298,6 +346,77 @@ static void read_registers(host *it, const request_head *request, reader *from, 
     hold_answer(it, due_image(it), reply, bytes, to.length);
 }
 
+// What a program asks to read of an object.
+typedef struct bytes_wanted {
+    uint16_t object;
+    uint32_t offset, count;
+} bytes_wanted;
+
+static verdict judge_reading(const request_head *request, reader *from, bytes_wanted *wanted)
+{
+    wanted->object = (uint16_t)read_number(from, 2);
+    wanted->offset = (uint32_t)read_number(from, 4);
+    wanted->count = (uint32_t)read_number(from, 4);
+    if (!from->ok || from->left > 0 || request->count != 1) {
+        return VERDICT_MALFORMED;
+    }
+    return wanted->count > BYTES_MOST ? VERDICT_TOO_LONG : VERDICT_DONE;
+}
+
+// Whether the program may read that; and how many bytes the object has.
+static int find_bytes(host *it, uint8_t number, const bytes_wanted *wanted, uint32_t *length)
+{
+    if (!may_use(it, number, wanted->object)) {
+        return MARKRING_NO_REGISTER;
+    }
+    int status = markring_node_bytes_length(&it->node, wanted->object, length);
+    bool has_all = wanted->offset <= *length && wanted->count <= *length - wanted->offset;
+    return status == MARKRING_OK && !has_all ? MARKRING_NO_BYTES : status;
+}
+
+// Writes the answer: a result, and behind it the bytes. Returns its length, or 0.
+static size_t write_object(host *it, const request_head *request, const bytes_wanted *wanted,
+    const markring_result *found, uint8_t *bytes)
+{
+    writer to = writer_of(bytes, ANSWER_HEAD + RESULT_BYTES);
+    answer_head head;
+    size_t count = 0;
+    fill_head(it, request, &head);
+    head.count = 1;
+    write_answer_head(&to, &head);
+    write_result(&to, found);
+    int status = found->status == MARKRING_OK
+        ? markring_node_bytes(&it->node, wanted->object, wanted->offset, wanted->count,
+              bytes + to.length, wanted->count, &count)
+        : MARKRING_OK;
+    return status == MARKRING_OK ? to.length + count : 0;
+}
+
+// The bytes of an object. The answer waits until what it shows is stored. It takes no more memory
+// than for bytes that are there; without that it is dropped, and asked for again.
+static void read_object(host *it, const request_head *request, reader *from, const char *reply)
+{
+    bytes_wanted wanted;
+    uint32_t length = 0;
+    markring_result found = {MARKRING_OK, {0}};
+    verdict why = judge_reading(request, from, &wanted);
+    if (why != VERDICT_DONE) {
+        refuse(it, request, why, reply);
+        return;
+    }
+    found.status = find_bytes(it, request->program, &wanted, &length);
+    size_t count = found.status == MARKRING_OK ? wanted.count : 0;
+    found.answer.number = found.status == MARKRING_OK ? length : 0;
+    uint8_t *bytes = malloc(ANSWER_HEAD + RESULT_BYTES + count);
+    size_t written = bytes != NULL ? write_object(it, request, &wanted, &found, bytes) : 0;
+    if (written > 0) {
+        hold_answer(it, due_image(it), reply, bytes, written);
+    } else {
+        it->counts.dropped++;
+    }
+    free(bytes);
+}
+
 // Each program has one such request at a time; a later one takes its place.
 static void await_letter(host *it, const request_head *request, const char *reply)
 {
@@ -326,6 +445,7 @@ void host_request(host *it, uint64_t now, const uint8_t *bytes, size_t length, c
     case REQUEST_OPEN_APART: open_program(it, &head, &from, reply); break;
     case REQUEST_PERFORM: perform_once(it, now, &head, &from, reply); break;
     case REQUEST_READ: read_registers(it, &head, &from, reply); break;
+    case REQUEST_READ_BYTES: read_object(it, &head, &from, reply); break;
     case REQUEST_WAIT: await_letter(it, &head, reply); break;
     default: refuse(it, &head, VERDICT_MALFORMED, reply);
     }
@@ -369,8 +489,9 @@ static void answer_held(host *it)
         }
         it->calls.answer(it->calls.context, answer->reply, answer->bytes, answer->length);
         *at = answer->next;
-        free(answer);
         it->held_count--;
+        it->held_bytes -= answer->length;
+        free(answer);
     }
     it->last = at;
 }

@@ -319,6 +319,7 @@ static int read_node(host *it, const uint8_t *image, size_t length, const writer
     it->shape.slots = state.slots;
     it->shape.wide = state.wide != 0;
     it->shape.places = state.places;
+    it->shape.bytes = state.bytes;
     it->joined = state.cycle;
     status = status == MARKRING_OK ? markring_node_image_size(&it->node, &it->size) : status;
     it->measured = it->size;

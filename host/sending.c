@@ -256,6 +256,14 @@ static int scan(host *it)
     return status;
 }
 
+// About how many bytes of the image are gone after a step of a sweep. Nobody counts the bytes of
+// objects, so after the last step the image is looked at, if objects may have some.
+static size_t freed_bytes(const host *it, const markring_answer *swept)
+{
+    size_t bytes = it->shape.bytes > 0 && swept->done ? it->measured : 0;
+    return OBJECT_BYTES * (size_t)swept->count + bytes;
+}
+
 void collect(host *it, uint64_t now)
 {
     markring_answer answer;
@@ -266,7 +274,7 @@ void collect(host *it, uint64_t now)
     }
     int swept = markring_node_sweep(&it->node, SWEEPS, &answer);
     if (swept == MARKRING_OK) {
-        note_change(it, MESSAGE_BYTES, OBJECT_BYTES * (size_t)answer.count);
+        note_change(it, MESSAGE_BYTES, freed_bytes(it, &answer));
         it->counts.freed += answer.count;
     }
     bool refused = is_late || scanned == MARKRING_IMAGE_TOO_LARGE || scanned == MARKRING_MEMORY

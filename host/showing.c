@@ -14,6 +14,7 @@ const host_number HOST_NUMBER[] = {
     NUMBER("registers", registers, "registers", "Registers of the node"),
     NUMBER("slots", slots, "slots", "Objects that the node has room for"),
     NUMBER("places", places, "places", "Places that an object has at most"),
+    NUMBER("bytes", bytes, "bytes", "Bytes that an object has at most"),
     NUMBER("wide", wide, "wide", "Whether the space is wide"),
     NUMBER("limit", limit, "message_limit",
         "Unacknowledged messages to one node, from which on programs can send it nothing; 0 for "
@@ -89,6 +90,7 @@ void host_look(host *it, uint64_t now, host_view *to)
     to->registers = it->shape.registers;
     to->slots = it->shape.slots;
     to->places = it->shape.places;
+    to->bytes = it->shape.bytes;
     to->wide = it->shape.wide;
     to->limit = limit_of(it);
     to->cycle = state.cycle;

@@ -29,7 +29,7 @@ typedef struct host_peer_view {
 // A host at one moment. Times are in milliseconds.
 typedef struct host_view {
     char space[HOST_NAME + 1];
-    uint64_t own, nodes, registers, slots, places, wide, limit;
+    uint64_t own, nodes, registers, slots, places, bytes, wide, limit;
     uint64_t cycle, ended, swept, token, live, letters, unacknowledged;
     uint64_t image, save, saved_ago, save_took, run;
     host_counts counts;

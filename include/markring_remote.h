@@ -2,9 +2,10 @@
 // docs/PROCESSES.md says how to run the nodes. C11, or C++.
 //
 // A node has up to 64 programs, numbered from 0. A program sends its node requests, one after
-// another; each has up to 256 events. The node performs them once, whatever is lost or crashes: the
-// program, the node or the server. It performs the events in order, up to the first one that is
-// refused. Its answer comes once all of that is stored, so nothing takes it back.
+// another; each has up to 256 events, and 1,000,000 bytes of objects. The node performs them once,
+// whatever is lost or crashes: the program, the node or the server. It performs the events in
+// order, up to the first one that is refused. Its answer comes once all of that is stored, so
+// nothing takes it back.
 //
 // All times are in milliseconds. No call takes longer than its time-out, whatever the server does:
 // a thread of the space speaks with it.
@@ -22,6 +23,10 @@ extern "C" {
 // Events in one request, at most.
 #define MARKRING_REMOTE_EVENTS 256
 
+// Bytes of objects in one request, or in one answer, at most. A server with the usual limit
+// (max_payload) takes such messages.
+#define MARKRING_REMOTE_BYTES 1000000
+
 enum markring_remote_status {
     MARKRING_REMOTE_OK = 0,
     // An allocation failed.
@@ -35,14 +40,18 @@ enum markring_remote_status {
     // A request isn't answered yet: call markring_remote_finish first.
     MARKRING_REMOTE_UNFINISHED = 5,
     // libnats failed: the address or a certificate is wrong, or the server refuses the password. Or
-    // the server takes no message as long as the answer (its max_payload is too small).
+    // the server takes no message as long as the request or its answer (max_payload is too small).
     MARKRING_REMOTE_CARRIER = 6,
     // The node's answer doesn't fit the request: the folder of the node is older than what this
     // program was told, or it belongs to another space.
     MARKRING_REMOTE_CONFUSED = 7,
     // The program can't have these registers for itself: it was opened before with others or with
     // none, another program has one of them, or the node has fewer.
-    MARKRING_REMOTE_REGISTERS = 8
+    MARKRING_REMOTE_REGISTERS = 8,
+    // The request, or its answer, would carry more than MARKRING_REMOTE_BYTES bytes of objects.
+    MARKRING_REMOTE_TOO_LONG = 9,
+    // The node is of an earlier version, and knows no bytes of objects. Nothing was performed.
+    MARKRING_REMOTE_EARLIER = 10
 };
 
 typedef struct markring_remote_space markring_remote_space;
@@ -55,6 +64,20 @@ typedef struct markring_remote_options {
     const char *certificate, *key; // files of one's own certificate and its key
     const char *credentials;       // a file of NATS credentials
 } markring_remote_options;
+
+// The events that have bytes. `event` of markring_remote_event has their other fields.
+enum markring_remote_event_kind {
+    MARKRING_REMOTE_SET_BYTES = 18, // object: it gets the bytes in place of its own
+    MARKRING_REMOTE_PATCH = 19      // object, count: the offset from which on they are overwritten
+};
+
+// An event with bytes, or any other one, whose bytes are ignored. Without a length, `bytes` may be
+// null.
+typedef struct markring_remote_event {
+    markring_event event;
+    const uint8_t *bytes;
+    size_t length;
+} markring_remote_event;
 
 // What became of one event. The status is one of markring.h, or MARKRING_NOT_DONE if an event of
 // the same request was refused before it. The answer holds something only after MARKRING_OK.
@@ -115,6 +138,12 @@ int markring_remote_last(
 int markring_remote_perform(markring_remote *program, const markring_event *events, size_t count,
     markring_result *results, int64_t timeout);
 
+// The same for events of which some have bytes; these are copied. It is one request, too.
+// MARKRING_REMOTE_TOO_LONG, MARKRING_REMOTE_MEMORY: nothing was sent. MARKRING_REMOTE_EARLIER:
+// nothing was performed, and the next request may be made.
+int markring_remote_perform_bytes(markring_remote *program, const markring_remote_event *events,
+    size_t count, markring_result *results, int64_t timeout);
+
 // Asks again for the answer to the request that had none: with the same number, so that it is
 // performed once. `results` has room for all its events. MARKRING_REMOTE_BAD_ARGUMENT: there is no
 // such request.
@@ -125,6 +154,15 @@ int markring_remote_finish(markring_remote *program, markring_result *results, i
 // MARKRING_REMOTE_TIMEOUT nothing has changed.
 int markring_remote_read(markring_remote *program, const uint16_t *registers, size_t count,
     markring_result *results, int64_t timeout);
+
+// Reads `count` bytes, from `offset` on, of the object that the register refers to. The status in
+// `*result` is that of markring_node_bytes. After MARKRING_OK the bytes are in `buffer`, and
+// `result->answer.number` is how many the object has in all: so with a `count` of 0, only that is
+// asked for. The answer comes once all that it shows is stored. After MARKRING_REMOTE_TIMEOUT
+// nothing has changed.
+// MARKRING_REMOTE_TOO_LONG: `count` is above MARKRING_REMOTE_BYTES. MARKRING_REMOTE_EARLIER.
+int markring_remote_read_bytes(markring_remote *program, uint16_t object, uint32_t offset,
+    uint32_t count, uint8_t *buffer, markring_result *result, int64_t timeout);
 
 // Waits until a letter waits at the node, and writes how many do. Another program of the node may
 // accept them first. After MARKRING_REMOTE_TIMEOUT nothing has changed.

@@ -16,6 +16,8 @@
 #include <time.h>
 
 enum { EVENTS = 5, SHORT = 4, LONG = 2000, ROOM = 400 };
+// Of the request with bytes and of the reading.
+enum { SET = 3, PATCHED = 2, FETCHED = 6 };
 
 static atomic_ulong passed, failed;
 
@@ -29,6 +31,20 @@ static void check(bool holds, const char *text, int line)
 }
 
 #define HOLDS(condition) check((condition), #condition, __LINE__)
+
+// ## Memory
+
+// The allocation of this thread with this number is refused; 0 for none.
+static _Thread_local int refuse_in;
+
+void *__real_malloc(size_t size);
+void *__wrap_malloc(size_t size);
+
+void *__wrap_malloc(size_t size)
+{
+    bool is_refused = refuse_in > 0 && --refuse_in == 0;
+    return is_refused ? NULL : __real_malloc(size);
+}
 
 // ## The clock
 
@@ -74,6 +90,7 @@ static struct {
     uint8_t verdict, kind, program; // the last two are added to what is asked for
     int count;                      // of results; -1 for as many as are right
     int length;                     // of the answer that is left; -1 for all
+    int behind;                     // bytes behind the results; -1 for as many as are right
     uint64_t session, number, round, last;
     bool silent, astray, is_text;
     int unheard; // requests that get no answer
@@ -84,17 +101,17 @@ static struct {
 // What it was asked for last, and how often.
 static request_head asked;
 static char address[160], subject[160];
-static uint8_t request[REQUEST_BYTES];
+static uint8_t request[LONGEST_REQUEST];
 static size_t request_length;
 static unsigned long asks;
 // Its last answer.
-static uint8_t answer[ANSWER_HEAD + ROOM * RESULT_BYTES];
+static uint8_t answer[LONGEST_ANSWER];
 static size_t answer_length;
 
 static void behave(void)
 {
     memset(&node, 0, sizeof node);
-    node.count = node.length = -1;
+    node.count = node.length = node.behind = -1;
     node.own = 3;
     node.round = 7;
     node.last = 41;
@@ -103,7 +120,15 @@ static void behave(void)
 static int right_count(void)
 {
     bool opens = asked.kind == REQUEST_OPEN || asked.kind == REQUEST_OPEN_APART;
+    HOLDS(asked.kind != REQUEST_READ_BYTES || asked.count == 1);
     return asked.kind == REQUEST_WAIT ? 1 : opens ? 2 : asked.count;
+}
+
+// How many bytes the request asks for.
+static uint32_t wanted_bytes(void)
+{
+    reader from = reader_of(request + REQUEST_HEAD + 6, 4);
+    return asked.kind == REQUEST_READ_BYTES ? (uint32_t)read_number(&from, 4) : 0;
 }
 
 static void write_answer(writer *to)
@@ -116,6 +141,11 @@ static void write_answer(writer *to)
     for (int i = 0; i < count; i++) {
         markring_result it = {node.status, {.number = 1000 + (uint64_t)i}};
         write_result(to, &it);
+    }
+    bool has_some = count == 1 && node.status == MARKRING_OK;
+    uint32_t behind = node.behind >= 0 ? (uint32_t)node.behind : has_some ? wanted_bytes() : 0;
+    for (uint32_t i = 0; i < behind; i++) {
+        write_number(to, 50 + i, 1);
     }
 }
 
@@ -196,6 +226,45 @@ static int read_registers(int64_t timeout)
     return status;
 }
 
+// The request with bytes, or the same again. What isn't of an event with bytes is ignored.
+static int write_some(int64_t timeout, bool again)
+{
+    markring_remote_event events[EVENTS];
+    markring_result *results = calloc(EVENTS, sizeof *results);
+    memset(events, 0, sizeof events);
+    for (int i = 0; i < EVENTS; i++) {
+        events[i] = (markring_remote_event){{.kind = MARKRING_EVENT_COPY}, NULL, SIZE_MAX};
+    }
+    events[1] = (markring_remote_event){
+        {.kind = MARKRING_REMOTE_SET_BYTES, .object = 258}, (const uint8_t *)"a\0b", SET};
+    events[2] = (markring_remote_event){{.kind = MARKRING_REMOTE_SET_BYTES}, NULL, 0};
+    events[4] = (markring_remote_event){{.kind = MARKRING_REMOTE_PATCH, .count = 0x01020304},
+        (const uint8_t *)"cd", PATCHED};
+    int status = again ? markring_remote_finish(program, results, timeout)
+                       : markring_remote_perform_bytes(program, events, EVENTS, results, timeout);
+    for (uint64_t i = 0; i < EVENTS && status == MARKRING_REMOTE_OK; i++) {
+        HOLDS(results[i].status == node.status && results[i].answer.number == 1000 + i);
+    }
+    free(results);
+    return status;
+}
+
+static int read_some(int64_t timeout)
+{
+    markring_result found = {-1, {0}};
+    uint8_t *bytes = calloc(FETCHED, 1);
+    int status =
+        markring_remote_read_bytes(program, 258, 0x01020304, FETCHED, bytes, &found, timeout);
+    HOLDS(status != MARKRING_REMOTE_TIMEOUT || found.status == -1);
+    HOLDS(status != MARKRING_REMOTE_OK || found.status == node.status);
+    for (int i = 0; i < FETCHED && status == MARKRING_REMOTE_OK; i++) {
+        HOLDS(bytes[i] == (node.status == MARKRING_OK ? 50 + i : 0));
+    }
+    HOLDS(status != MARKRING_REMOTE_OK || found.answer.number == 1000);
+    free(bytes);
+    return status;
+}
+
 static int wait_for_letter(int64_t timeout)
 {
     uint64_t letters = 77;
@@ -204,23 +273,36 @@ static int wait_for_letter(int64_t timeout)
     return status;
 }
 
-typedef enum call { OPEN, PERFORM, READ, WAIT, CALLS } call;
+typedef enum call { OPEN, PERFORM, READ, WAIT, WRITE, READ_SOME, CALLS } call;
 
-// Calls. A request that has no answer yet is finished then, so that the next call is a new one.
-static int ask(call which, int64_t timeout)
+static bool performs(call which)
+{
+    return which == PERFORM || which == WRITE;
+}
+
+static int call_once(call which, int64_t timeout, bool again)
 {
     switch (which) {
     case OPEN: return open_program(timeout);
     case READ: return read_registers(timeout);
     case WAIT: return wait_for_letter(timeout);
-    default: break;
+    case READ_SOME: return read_some(timeout);
+    case WRITE: return write_some(timeout, again);
+    default: return perform(timeout, again);
     }
-    int status = perform(timeout, false);
-    if (status == MARKRING_REMOTE_TIMEOUT || status == MARKRING_REMOTE_CONFUSED) {
+}
+
+// Calls. A request that has no answer yet is finished then, so that the next call is a new one.
+static int ask(call which, int64_t timeout)
+{
+    int status = call_once(which, timeout, false);
+    if (performs(which)
+        && (status == MARKRING_REMOTE_TIMEOUT || status == MARKRING_REMOTE_CONFUSED)) {
         uint64_t number = asked.number;
         HOLDS(perform(LONG, false) == MARKRING_REMOTE_UNFINISHED);
+        HOLDS(write_some(LONG, false) == MARKRING_REMOTE_UNFINISHED);
         behave();
-        HOLDS(perform(LONG, true) == MARKRING_REMOTE_OK && asked.number == number);
+        HOLDS(call_once(which, LONG, true) == MARKRING_REMOTE_OK && asked.number == number);
     }
     return status;
 }
@@ -235,11 +317,97 @@ static void test_right(void)
         unsigned long before = asks;
         HOLDS(ask(which, LONG) == MARKRING_REMOTE_OK && asks == before + 1);
     }
-    // The number of the last request, and one more.
-    HOLDS(ask(PERFORM, LONG) == MARKRING_REMOTE_OK && asked.number == 43 && asked.program == 9);
-    HOLDS(ask(PERFORM, LONG) == MARKRING_REMOTE_OK && asked.number == 44);
+    // The number of the last request, and one more. (Two have been performed.)
+    HOLDS(ask(PERFORM, LONG) == MARKRING_REMOTE_OK && asked.number == 44 && asked.program == 9);
+    HOLDS(ask(PERFORM, LONG) == MARKRING_REMOTE_OK && asked.number == 45);
     HOLDS(perform(LONG, true) == MARKRING_REMOTE_BAD_ARGUMENT);
     HOLDS(request_length == REQUEST_HEAD + EVENTS * EVENT_BYTES);
+}
+
+// How requests with bytes are spelled.
+static void test_spelling(void)
+{
+    static const uint8_t reading[] = {1, 2, 1, 2, 3, 4, 0, 0, 0, FETCHED};
+    behave();
+    HOLDS(write_some(LONG, false) == MARKRING_REMOTE_OK && asked.kind == REQUEST_PERFORM);
+    HOLDS(request_length == REQUEST_HEAD + EVENTS * EVENT_BYTES + 3 * 4 + SET + PATCHED);
+    const uint8_t *set = request + REQUEST_HEAD + EVENT_BYTES, *next = set + EVENT_BYTES + 4 + SET;
+    const uint8_t *patched = next + 2 * EVENT_BYTES + 4;
+    HOLDS(set[0] == 18 && memcmp(set + 7, "\1\2", 2) == 0);
+    HOLDS(memcmp(set + EVENT_BYTES, "\0\0\0\3a\0b", 4 + SET) == 0);
+    HOLDS(next[0] == 18 && memcmp(next + EVENT_BYTES, "\0\0\0\0\2", 5) == 0);
+    HOLDS(patched[0] == 19 && memcmp(patched + 13, "\1\2\3\4", 4) == 0);
+    HOLDS(memcmp(patched + EVENT_BYTES, "\0\0\0\2cd", 4 + PATCHED) == 0);
+    HOLDS(read_some(LONG) == MARKRING_REMOTE_OK && asked.kind == REQUEST_READ_BYTES);
+    HOLDS(request_length == REQUEST_HEAD + sizeof reading);
+    HOLDS(memcmp(request + REQUEST_HEAD, reading, sizeof reading) == 0);
+    // A reading that is refused has no bytes.
+    node.status = MARKRING_NO_BYTES;
+    HOLDS(read_some(LONG) == MARKRING_REMOTE_OK);
+}
+
+// A node of an earlier version refuses both; the program goes on with the same number.
+static void test_earlier(void)
+{
+    behave();
+    HOLDS(open_program(LONG) == MARKRING_REMOTE_OK);
+    node.verdict = VERDICT_MALFORMED;
+    HOLDS(read_some(LONG) == MARKRING_REMOTE_EARLIER);
+    HOLDS(write_some(LONG, false) == MARKRING_REMOTE_EARLIER && asked.number == 42);
+    HOLDS(write_some(LONG, true) == MARKRING_REMOTE_BAD_ARGUMENT);
+    behave();
+    HOLDS(perform(LONG, false) == MARKRING_REMOTE_OK && asked.number == 42);
+    HOLDS(request_length == REQUEST_HEAD + EVENTS * EVENT_BYTES);
+}
+
+// The most bytes in a request and an answer; and one more, which aren't sent.
+static void test_most(void)
+{
+    static uint8_t bytes[BYTES_MOST + 1];
+    markring_result found[2];
+    behave();
+    HOLDS(open_program(LONG) == MARKRING_REMOTE_OK);
+    for (int i = 0; i < 5; i++) {
+        size_t lengths[][2] = {{BYTES_MOST, 0}, {BYTES_MOST / 2, BYTES_MOST - BYTES_MOST / 2},
+            {BYTES_MOST + 1, 0}, {BYTES_MOST, 1}, {1, SIZE_MAX}};
+        markring_remote_event events[2] = {
+            {{.kind = MARKRING_REMOTE_SET_BYTES}, bytes, lengths[i][0]},
+            {{.kind = MARKRING_REMOTE_PATCH}, bytes, lengths[i][1]}};
+        unsigned long before = asks;
+        int status = markring_remote_perform_bytes(program, events, 2, found, LONG);
+        HOLDS(status == (i < 2 ? MARKRING_REMOTE_OK : MARKRING_REMOTE_TOO_LONG));
+        HOLDS(asks == before + (i < 2));
+        uint32_t count = BYTES_MOST + (i == 2);
+        status = markring_remote_read_bytes(program, 0, 0, count, bytes, found, LONG);
+        HOLDS(status == (i != 2 ? MARKRING_REMOTE_OK : MARKRING_REMOTE_TOO_LONG));
+    }
+    HOLDS(bytes[BYTES_MOST - 1] == (uint8_t)(50 + BYTES_MOST - 1) && bytes[BYTES_MOST] == 0);
+}
+
+// Without memory nothing is sent, and the next request is a new one.
+static void test_memory(void)
+{
+    for (int which = 1; which < 4; which++) {
+        behave();
+        unsigned long before = asks;
+        refuse_in = which;
+        int status = write_some(LONG, false);
+        bool is_refused = refuse_in == 0;
+        refuse_in = 0;
+        HOLDS(is_refused == (which < 3) && asks == before + !is_refused);
+        HOLDS(status == (is_refused ? MARKRING_REMOTE_MEMORY : MARKRING_REMOTE_OK));
+        refuse_in = 1;
+        HOLDS(read_registers(LONG) == MARKRING_REMOTE_MEMORY);
+        HOLDS(refuse_in == 0 && write_some(LONG, false) == MARKRING_REMOTE_OK);
+    }
+    // A request that was sent before isn't over.
+    node.silent = true;
+    HOLDS(write_some(SHORT, false) == MARKRING_REMOTE_TIMEOUT);
+    behave();
+    refuse_in = 1;
+    HOLDS(write_some(LONG, true) == MARKRING_REMOTE_MEMORY);
+    HOLDS(write_some(LONG, false) == MARKRING_REMOTE_UNFINISHED);
+    HOLDS(write_some(LONG, true) == MARKRING_REMOTE_OK);
 }
 
 static void test_last(void)
@@ -265,12 +433,15 @@ static void test_verdicts(void)
                 HOLDS(open_program(LONG) == MARKRING_REMOTE_OK);
                 node.verdict = (uint8_t)said;
                 node.count = counts[i];
+                bool is_one = which == WAIT || which == READ_SOME;
                 int count = counts[i] >= 0 ? counts[i]
                     : said != 0            ? 0
-                    : which == WAIT        ? 1
+                    : is_one               ? 1
                     : which == OPEN        ? 2
                                            : EVENTS;
-                int most = which == OPEN ? 256 : which == WAIT ? 1 : EVENTS;
+                int most = which == OPEN ? 256 : is_one ? 1 : EVENTS;
+                bool is_earlier =
+                    said == VERDICT_MALFORMED && (which == WRITE || which == READ_SOME);
                 bool is_right = said == VERDICT_DONE && (which == OPEN || count == most);
                 int status = ask(which, 2 * SHORT);
                 if (count > most || (which == OPEN && said == VERDICT_STALE)) {
@@ -279,10 +450,12 @@ static void test_verdicts(void)
                     HOLDS(status == MARKRING_REMOTE_OK);
                 } else if (which == OPEN) {
                     HOLDS(status == MARKRING_REMOTE_BAD_ARGUMENT);
-                } else if (which == PERFORM && said == VERDICT_SUPERSEDED) {
+                } else if (performs(which) && said == VERDICT_SUPERSEDED) {
                     HOLDS(status == MARKRING_REMOTE_SUPERSEDED);
                     unsigned long before = asks;
                     HOLDS(perform(LONG, true) == MARKRING_REMOTE_SUPERSEDED && asks == before);
+                } else if (is_earlier) {
+                    HOLDS(status == MARKRING_REMOTE_EARLIER);
                 } else {
                     HOLDS(status == MARKRING_REMOTE_CONFUSED);
                 }
@@ -295,12 +468,18 @@ static void test_verdicts(void)
 static void test_others(void)
 {
     for (call which = OPEN; which < CALLS; which++) {
-        int length = ANSWER_HEAD + RESULT_BYTES * (which == WAIT ? 1 : which == OPEN ? 2 : EVENTS);
+        bool is_one = which == WAIT || which == READ_SOME;
+        int length = ANSWER_HEAD + RESULT_BYTES * (is_one ? 1 : which == OPEN ? 2 : EVENTS);
+        length += which == READ_SOME ? FETCHED : 0;
         for (int left = 0; left < length; left++) {
             behave();
             node.length = left;
             HOLDS(ask(which, SHORT) == MARKRING_REMOTE_TIMEOUT);
         }
+        // More bytes than are right.
+        behave();
+        node.behind = which == READ_SOME ? FETCHED + 1 : 1;
+        HOLDS(ask(which, SHORT) == MARKRING_REMOTE_TIMEOUT);
         for (int i = 0; i < 6; i++) {
             behave();
             node.kind = i == 0;
@@ -311,6 +490,11 @@ static void test_others(void)
             HOLDS(ask(which, SHORT) == MARKRING_REMOTE_TIMEOUT);
         }
     }
+    // Bytes of an object that couldn't be read.
+    behave();
+    node.status = MARKRING_NO_BYTES;
+    node.behind = FETCHED;
+    HOLDS(read_some(SHORT) == MARKRING_REMOTE_TIMEOUT);
     // A number of letters that the node couldn't find out.
     behave();
     node.status = MARKRING_MEMORY;
@@ -378,7 +562,7 @@ static void test_words(void)
     HOLDS(markring_remote_ask(space, 2, "status", text, 9, SHORT) == MARKRING_REMOTE_TIMEOUT);
 }
 
-// A server that takes no message as long as the answer.
+// A server that takes no message as long as the answer, or as the request.
 static void test_payload(void)
 {
     behave();
@@ -391,6 +575,21 @@ static void test_payload(void)
     HOLDS(wait_for_letter(LONG) == MARKRING_REMOTE_OK);
     model.max_payload++;
     HOLDS(perform(LONG, true) == MARKRING_REMOTE_OK && read_registers(LONG) == MARKRING_REMOTE_OK);
+    static uint8_t bytes[1000], got[1000];
+    markring_remote_event event = {{.kind = MARKRING_REMOTE_SET_BYTES}, bytes, sizeof bytes};
+    markring_result found;
+    model.max_payload = REQUEST_HEAD + EVENT_BYTES + 4 + sizeof bytes - 1;
+    before = asks;
+    int performed = markring_remote_perform_bytes(program, &event, 1, &found, LONG);
+    HOLDS(performed == MARKRING_REMOTE_CARRIER && asks == before);
+    model.max_payload++;
+    HOLDS(markring_remote_finish(program, &found, LONG) == MARKRING_REMOTE_OK);
+    model.max_payload = ANSWER_HEAD + RESULT_BYTES + sizeof got - 1;
+    for (int way = 0; way < 2; way++) {
+        int read = markring_remote_read_bytes(program, 0, 0, sizeof got, got, &found, LONG);
+        HOLDS(read == (way == 0 ? MARKRING_REMOTE_CARRIER : MARKRING_REMOTE_OK));
+        model.max_payload++;
+    }
     model.max_payload = 1048576;
 }
 
@@ -419,14 +618,6 @@ static void hold_lock(void)
     outlast(LONG);
 }
 
-static int call_once(call which, int64_t timeout)
-{
-    return which == OPEN   ? open_program(timeout)
-        : which == READ    ? read_registers(timeout)
-        : which == PERFORM ? perform(timeout, false)
-                           : wait_for_letter(timeout);
-}
-
 // A connection's lock is held, since libnats connects it again; or the client makes a new one. The
 // call ends in time, and the next one has its answer as soon as the lock is free.
 static void test_waiting(void)
@@ -442,11 +633,11 @@ static void test_waiting(void)
         node.unheard = 1;
         model.locked = hold_lock;
         long long began = clock_ms;
-        int status = call_once(which, LONG);
+        int status = call_once(which, LONG, false);
         long long ended = clock_ms;
         HOLDS(status == MARKRING_REMOTE_TIMEOUT && ended - began == LONG);
         is_over = true;
-        status = which == PERFORM ? perform(LONG, true) : call_once(which, LONG);
+        status = call_once(which, LONG, true);
         HOLDS(status == MARKRING_REMOTE_OK && clock_ms - ended < SHORT);
         model.locked = NULL;
     }
@@ -463,23 +654,27 @@ static void answer_late(int64_t time)
 }
 
 // An answer comes when its call is over: nothing is written to the call's results.
-static void test_late(void)
+static void test_late(bool is_of_bytes)
 {
     static const uint16_t registers[EVENTS];
     static markring_result results[EVENTS];
+    static uint8_t bytes[FETCHED];
     behave();
     HOLDS(open_program(LONG) == MARKRING_REMOTE_OK);
     node.unheard = 1;
-    is_over = false;
+    is_over = is_answered = false;
     model.waited = answer_late;
     memset(results, 255, sizeof results);
-    int status = markring_remote_read(program, registers, EVENTS, results, SHORT);
+    int status = is_of_bytes
+        ? markring_remote_read_bytes(program, 0, 0, FETCHED, bytes, results, SHORT)
+        : markring_remote_read(program, registers, EVENTS, results, SHORT);
     is_over = true;
     // Until there is the connection and its subscription only. (Nothing is called, since that would
     // use the stack of the call that is over.)
     for (long i = 0; i < 4000000000 && (!is_answered || model.alive > 2); i++) {
     }
     HOLDS(status == MARKRING_REMOTE_TIMEOUT && is_answered && results[0].status == -1);
+    HOLDS(bytes[0] == 0);
     HOLDS(read_registers(LONG) == MARKRING_REMOTE_OK);
 }
 
@@ -499,6 +694,9 @@ static void test_arguments(void)
     HOLDS(performed == MARKRING_REMOTE_BAD_ARGUMENT && read == MARKRING_REMOTE_BAD_ARGUMENT);
     HOLDS(markring_remote_connect(&other, &options, "a.b") == MARKRING_REMOTE_BAD_ARGUMENT);
     HOLDS(markring_remote_connect(&other, &options, "") == MARKRING_REMOTE_BAD_ARGUMENT);
+    static markring_remote_event others[REQUEST_EVENTS + 1];
+    performed = markring_remote_perform_bytes(program, others, 257, NULL, LONG);
+    HOLDS(performed == MARKRING_REMOTE_BAD_ARGUMENT);
     HOLDS(asks == before && it == NULL && other == NULL);
     HOLDS(open_program(INT64_MAX) == MARKRING_REMOTE_OK && ask(WAIT, INT64_MAX) == 0);
     HOLDS(open_program(INT64_MIN) == MARKRING_REMOTE_TIMEOUT);
@@ -544,6 +742,10 @@ int main(void)
     test_inboxes();
     HOLDS(markring_remote_connect(&space, &options, "test") == MARKRING_REMOTE_OK);
     test_right();
+    test_spelling();
+    test_earlier();
+    test_most();
+    test_memory();
     test_last();
     test_verdicts();
     test_others();
@@ -553,7 +755,8 @@ int main(void)
     test_payload();
     test_arguments();
     test_waiting();
-    test_late();
+    test_late(false);
+    test_late(true);
     markring_remote_close(program);
     markring_remote_disconnect(space);
     HOLDS(model.alive == 0);

@@ -92,7 +92,7 @@ static host *open_host(uint8_t own)
     static const host_options options = {.entries_least = 4096};
     host_calls calls = {&stations[own], on_send, on_answer, on_save};
     host_shape shape = {.name = "fuzz", .own = own, .nodes = 2, .registers = 8, .slots = 32,
-        .wide = is_wide, .places = is_wide ? 20 : 0};
+        .wide = is_wide, .places = is_wide ? 20 : 0, .bytes = is_wide ? 30 : 0};
     store_value value = {NULL, 0, 0, false, 0, 0};
     host *it = NULL;
     if (host_create(&shape, &value) != MARKRING_OK
@@ -140,11 +140,11 @@ static void try_packet(host *it, uint64_t now)
 
 static void try_request(host *it, uint64_t now)
 {
-    uint8_t bytes[REQUEST_BYTES + 64];
+    uint8_t bytes[REQUEST_BYTES + 512], data[40];
     uint16_t count = (uint16_t)below(6);
-    writer to = writer_of(bytes, sizeof bytes);
+    writer to = writer_of(bytes, sizeof bytes - 64);
     program *program = &it->programs[0];
-    uint8_t kind = (uint8_t)(1 + below(5));
+    uint8_t kind = (uint8_t)(1 + below(6));
     bool opens = kind == REQUEST_OPEN || kind == REQUEST_OPEN_APART;
     request_head head = {kind, (uint8_t)(below(9) == 0 ? below(256) : 0),
         below(2) ? program->session : 1 + below(3),
@@ -154,10 +154,20 @@ static void try_request(host *it, uint64_t now)
         write_number(&to, below(9), 2);
         write_number(&to, below(4), 2);
     }
+    memset(data, (int)below(256), sizeof data);
     for (uint16_t i = 0; i < count && !opens; i++) {
-        markring_event event = {(uint8_t)below(19), (uint8_t)below(3), (uint8_t)below(9),
-            (uint16_t)below(9), (uint16_t)below(9), (uint16_t)below(9), below(9), 1, below(9)};
-        write_event(&to, &event);
+        markring_event event = {(uint8_t)below(21), (uint8_t)below(3), (uint8_t)below(9),
+            (uint16_t)below(9), (uint16_t)below(9), (uint16_t)below(9), below(9), below(9),
+            below(9)};
+        write_remote_event(&to, &(markring_remote_event){event, data, below(sizeof data)});
+    }
+    if (kind == REQUEST_READ_BYTES && below(4) > 0) {
+        // One object; offsets and counts of any size.
+        to.length = REQUEST_HEAD;
+        bytes[REQUEST_HEAD - 1] = 1;
+        write_number(&to, below(9), 2);
+        write_number(&to, below(5) == 0 ? below(UINT32_MAX) : below(9), 4);
+        write_number(&to, below(5) == 0 ? below(UINT32_MAX) : below(32), 4);
     }
     size_t length = below(3) == 0 ? damage(bytes, to.length, sizeof bytes) : to.length;
     uint8_t *exact = malloc(length > 0 ? length : 1);

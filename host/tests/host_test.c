@@ -7,7 +7,7 @@
 #include <stdio.h>
 #include <stdlib.h>
 
-enum { TURNS = 200, ROOM = 12000, LETTERS = 300, ENTRY_HEAD = 16, STARTS = LINE + 60 };
+enum { TURNS = 200, ROOM = LONGEST_ANSWER + 1, LETTERS = 300, ENTRY_HEAD = 16, STARTS = LINE + 60 };
 
 static unsigned long passed, failed;
 
@@ -36,6 +36,20 @@ int __wrap_markring_node_image_size(markring_node *node, size_t *size)
     return status;
 }
 
+// ## Memory
+
+// The largest block that was asked for.
+static size_t largest;
+
+void *__real_malloc(size_t size);
+void *__wrap_malloc(size_t size);
+
+void *__wrap_malloc(size_t size)
+{
+    largest = size > largest ? size : largest;
+    return __real_malloc(size);
+}
+
 // ## A node
 
 typedef struct station {
@@ -59,6 +73,7 @@ static host_options options;
 static uint32_t slots = 64;
 static uint16_t registers = 8;
 static uint8_t wide_places; // of a wide space; 0 for a plain one
+static uint32_t wide_bytes;
 static uint64_t folder_limit;
 static const uint8_t SPACE[SPACE_ID] = {1, 2, 3, 4, 5, 6, 7, 8};
 enum { NONCE = 77 };
@@ -105,7 +120,8 @@ static void make_node(station *at, uint8_t own, uint8_t nodes, bool has_entries)
 {
     store_value value = {NULL, 0, 0, false, 0, 0};
     host_shape shape = {
-        "test", {0}, own, nodes, registers, slots, folder_limit, wide_places > 0, wide_places};
+        "test", {0}, own, nodes, registers, slots, folder_limit, wide_places > 0, wide_places,
+        wide_bytes};
     memset(at, 0, sizeof *at);
     memcpy(shape.space, SPACE, SPACE_ID);
     at->nonce = NONCE;
@@ -799,13 +815,15 @@ static void test_held(void)
 
 // ## Programs with registers for themselves
 
-// Says this to the host, and settles. Returns whether one answer came; `*head` is its.
+// Says this to the host, and waits for an answer. Returns whether one came; `*head` is its.
 static bool say(station *at, const writer *bytes, answer_head *head)
 {
     HOLDS(bytes->ok);
     at->answers = 0;
     host_request(at->host, at->now, bytes->start, bytes->length, "r");
-    settle(at, STORE_OK);
+    for (int i = 0; i < TURNS && at->answers == 0 && host_ended(at->host) == HOST_RUNS; i++) {
+        turn(at, 10, STORE_OK);
+    }
     reader from = reader_of(at->text, at->told);
     return at->answers == 1 && read_answer_head(&from, head);
 }
@@ -824,20 +842,26 @@ static int open_apart(station *at, uint8_t number, uint64_t session, uint16_t fi
     return head.verdict;
 }
 
-// What becomes of one event of a program.
-static int perform_one(station *at, uint8_t number, uint64_t session, markring_event event)
+// What becomes of one event of a program, with its bytes.
+static int perform_bytes(
+    station *at, uint8_t number, uint64_t session, const markring_remote_event *event)
 {
-    uint8_t bytes[REQUEST_HEAD + EVENT_BYTES];
+    static uint8_t bytes[LONGEST_REQUEST + EVENT_BYTES];
     writer to = writer_of(bytes, sizeof bytes);
     answer_head head = {0};
     uint64_t next = at->host->programs[number].number + 1;
     write_request_head(&to, &(request_head){REQUEST_PERFORM, number, session, next, 1});
-    write_event(&to, &event);
+    write_remote_event(&to, event);
     HOLDS(say(at, &to, &head));
     reader from = reader_of(at->text + ANSWER_HEAD, RESULT_BYTES);
     markring_result found;
     read_result(&from, &found);
     return head.verdict == VERDICT_DONE ? found.status : -1 - head.verdict;
+}
+
+static int perform_one(station *at, uint8_t number, uint64_t session, markring_event event)
+{
+    return perform_bytes(at, number, session, &(markring_remote_event){event, NULL, 0});
 }
 
 // What a program reads in a register.
@@ -859,18 +883,22 @@ static int read_one(station *at, uint8_t number, uint16_t reg)
 // use these.
 static void expect_apart(station *at)
 {
-    static const char *const uses[] = {
-        "", "r", "rs", "r", "ro", "ro", "o", "o", "o", "r", "r", "ro", "o"};
-    for (uint8_t kind = MARKRING_EVENT_ALLOC; kind <= MARKRING_EVENT_GET; kind++) {
+    static const char *const uses[MARKRING_REMOTE_PATCH + 1] = {"", "r", "rs", "r", "ro", "ro", "o",
+        "o", "o", "r", "r", "ro", "o", [MARKRING_REMOTE_SET_BYTES] = "o",
+        [MARKRING_REMOTE_PATCH] = "o"};
+    for (uint8_t kind = MARKRING_EVENT_ALLOC; kind <= MARKRING_REMOTE_PATCH;
+         kind = kind == MARKRING_EVENT_BEGIN ? MARKRING_REMOTE_SET_BYTES : kind + 1) {
         for (const char *field = "rso"; *field != 0; field++) {
             for (int way = 0; way < 2; way++) {
                 uint8_t program = way == 0 ? 3 : 4;
                 uint16_t own = way == 0 ? 3 : 4, other = way == 0 ? 4 : 3;
                 markring_event event = {.kind = kind, .reg = *field == 'r' ? other : own,
                     .source = *field == 's' ? other : own, .object = *field == 'o' ? other : own};
-                bool is_refused =
-                    perform_one(at, program, 100u + program, event) == MARKRING_NO_REGISTER;
-                HOLDS(is_refused == (strchr(uses[kind], *field) != NULL));
+                int status = perform_one(at, program, 100u + program, event);
+                // (No program has the events of the collector.)
+                HOLDS((status == MARKRING_BAD_ARGUMENT) == (uses[kind] == NULL));
+                HOLDS((status == MARKRING_NO_REGISTER)
+                    == (uses[kind] != NULL && strchr(uses[kind], *field) != NULL));
             }
         }
     }
@@ -1113,6 +1141,421 @@ static void test_wide_growth(void)
     free(at.stored);
 }
 
+// ## Bytes of objects
+
+// The answer to a reading of bytes. Returns the verdict, and in `*found` the result.
+static int read_object(station *at, uint8_t number, uint16_t object, uint32_t offset,
+    uint32_t count, markring_result *found)
+{
+    uint8_t bytes[REQUEST_HEAD + READ_BYTES];
+    writer to = writer_of(bytes, sizeof bytes);
+    answer_head head = {0};
+    write_request_head(&to, &(request_head){REQUEST_READ_BYTES, number, 1, 1, 1});
+    write_number(&to, object, 2);
+    write_number(&to, offset, 4);
+    write_number(&to, count, 4);
+    HOLDS(say(at, &to, &head) && head.kind == REQUEST_READ_BYTES);
+    reader from = reader_of(at->text + ANSWER_HEAD, at->told - ANSWER_HEAD);
+    HOLDS(head.count == (head.verdict == VERDICT_DONE));
+    if (head.count == 1) {
+        read_result(&from, found);
+        HOLDS(from.ok && from.left == (found->status == MARKRING_OK ? count : 0));
+        HOLDS(found->status == MARKRING_OK || found->answer.number == 0);
+    }
+    return head.verdict;
+}
+
+// The byte at this place of what a test writes.
+static uint8_t byte_of(uint32_t kind, uint32_t at)
+{
+    return (uint8_t)(kind + 7 * at + at / 256);
+}
+
+// They stay until the call after the next one.
+static const uint8_t *bytes_of(uint32_t kind, uint32_t length)
+{
+    static uint8_t rooms[2][BYTES_MOST + 1];
+    static int last;
+    uint8_t *bytes = rooms[last = 1 - last];
+    for (uint32_t i = 0; i < length; i++) {
+        bytes[i] = byte_of(kind, i);
+    }
+    return bytes;
+}
+
+static int set_bytes(station *at, uint16_t object, uint32_t kind, uint32_t length)
+{
+    markring_remote_event event = {
+        {.kind = MARKRING_REMOTE_SET_BYTES, .object = object}, bytes_of(kind, length), length};
+    return perform_bytes(at, 3, 103, &event);
+}
+
+static int patch(station *at, uint16_t object, uint32_t offset, uint32_t kind, uint32_t length)
+{
+    markring_remote_event event = {
+        {.kind = MARKRING_REMOTE_PATCH, .object = object, .count = offset}, bytes_of(kind, length),
+        length};
+    return perform_bytes(at, 3, 103, &event);
+}
+
+// What reading gives, if the verdict is that it is done.
+static int status_of_reading(station *at, uint16_t object, uint32_t offset, uint32_t count)
+{
+    markring_result found = {0};
+    HOLDS(read_object(at, 3, object, offset, count, &found) == VERDICT_DONE);
+    return found.status;
+}
+
+// Whether the object has these bytes, and no more: `patched` of another kind from `offset` on.
+static bool has(station *at, uint16_t object, uint32_t kind, uint32_t length, uint32_t offset,
+    uint32_t other, uint32_t patched)
+{
+    markring_result found = {0};
+    bool all = read_object(at, 3, object, 0, length, &found) == VERDICT_DONE
+        && found.status == MARKRING_OK && found.answer.number == length;
+    const uint8_t *bytes = at->text + ANSWER_HEAD + RESULT_BYTES;
+    for (uint32_t i = 0; i < length && all; i++) {
+        bool is_patched = i >= offset && i - offset < patched;
+        all = bytes[i] == (is_patched ? byte_of(other, i - offset) : byte_of(kind, i));
+    }
+    return all;
+}
+
+// A wide space whose objects have up to `most` bytes. Program 3 has the registers 1 to 4, and an
+// object in register 1.
+static void make_with_bytes(station *at, uint32_t most, bool has_entries)
+{
+    wide_bytes = most;
+    make_wide(at, 6, has_entries);
+    wide_bytes = 0;
+    HOLDS(open_apart(at, 3, 103, 1, 4) == VERDICT_DONE);
+    markring_event alloc = {.kind = MARKRING_EVENT_ALLOC, .reg = 1, .place = 1};
+    HOLDS(perform_one(at, 3, 103, alloc) == MARKRING_OK);
+}
+
+static void open_again(station *at)
+{
+    drop(at);
+    open_host(at);
+    settle(at, STORE_OK);
+}
+
+// Parts of the bytes of the object in register 1.
+static void expect_ranges(station *at, uint32_t kind, uint32_t length)
+{
+    const uint8_t *bytes = at->text + ANSWER_HEAD + RESULT_BYTES;
+    for (uint32_t offset = 0; offset < length; offset += 1 + length / 7) {
+        uint32_t count = (length - offset) / 2;
+        HOLDS(status_of_reading(at, 1, offset, count) == MARKRING_OK);
+        for (uint32_t i = 0; i < count; i++) {
+            HOLDS(bytes[i] == byte_of(kind, offset + i));
+        }
+    }
+}
+
+// Bytes are set, patched and read; those that are refused change nothing; all is there after
+// restarts, also from entries.
+static void test_bytes(void)
+{
+    enum { MOST = 1000 };
+    for (int way = 0; way < 2; way++) {
+        station at;
+        make_with_bytes(&at, MOST, way == 1);
+        HOLDS(number_of(&at, "bytes") == MOST);
+        HOLDS(has(&at, 1, 0, 0, 0, 0, 0) && status_of_reading(&at, 1, 0, 1) == MARKRING_NO_BYTES);
+        for (uint32_t length = 0; length <= MOST; length += 250) {
+            HOLDS(set_bytes(&at, 1, 5 + length, length) == MARKRING_OK);
+            HOLDS(has(&at, 1, 5 + length, length, 0, 0, 0));
+            HOLDS(set_bytes(&at, 1, 9, MOST + 1) == MARKRING_TOO_MANY_BYTES);
+            expect_ranges(&at, 5 + length, length);
+            for (uint32_t offset = 0; offset <= length + 1; offset += 1 + length / 3) {
+                uint32_t room = offset <= length ? length - offset : 0;
+                HOLDS(patch(&at, 1, offset, 8, room + 1) == MARKRING_NO_BYTES);
+                HOLDS(status_of_reading(&at, 1, offset, room + 1) == MARKRING_NO_BYTES);
+                HOLDS(status_of_reading(&at, 1, offset, room)
+                    == (offset <= length ? MARKRING_OK : MARKRING_NO_BYTES));
+            }
+            HOLDS(status_of_reading(&at, 1, UINT32_MAX, 1) == MARKRING_NO_BYTES);
+            HOLDS(status_of_reading(&at, 1, 1, BYTES_MOST) == MARKRING_NO_BYTES);
+            open_again(&at);
+            HOLDS(has(&at, 1, 5 + length, length, 0, 0, 0));
+        }
+        HOLDS(patch(&at, 1, 900, 77, 100) == MARKRING_OK && has(&at, 1, 1005, MOST, 900, 77, 100));
+        open_again(&at);
+        HOLDS(has(&at, 1, 1005, MOST, 900, 77, 100));
+        HOLDS((at.end > STORE_HEAD + at.length + STORE_TAIL) == (way == 1));
+        drop(&at);
+        free(at.stored);
+    }
+}
+
+// Whose bytes a program reads and writes, and in which kind of space.
+static void test_byte_refusals(void)
+{
+    station at;
+    markring_answer answer;
+    make_with_bytes(&at, 10, false);
+    markring_node *node = host_node(at.host);
+    fill_place(&at, 1, 1, 0);
+    HOLDS(markring_node_load(node, 3, 1, 0, &answer) == MARKRING_OK);
+    static const struct {
+        uint16_t object;
+        int status;
+    } cases[] = {{0, MARKRING_NO_REGISTER}, {5, MARKRING_NO_REGISTER}, {6, MARKRING_NO_REGISTER},
+        {65535, MARKRING_NO_REGISTER}, {2, MARKRING_EMPTY_REGISTER}, {3, MARKRING_REMOTE},
+        {1, MARKRING_OK}};
+    for (size_t i = 0; i < sizeof cases / sizeof *cases; i++) {
+        HOLDS(set_bytes(&at, cases[i].object, 1, 10) == cases[i].status);
+        HOLDS(patch(&at, cases[i].object, 2, 1, 8) == cases[i].status);
+        HOLDS(status_of_reading(&at, cases[i].object, 0, 0) == cases[i].status);
+    }
+    drop(&at);
+    free(at.stored);
+    make_node(&at, 0, 3, false);
+    settle(&at, STORE_OK);
+    HOLDS(open_apart(&at, 3, 103, 1, 4) == VERDICT_DONE);
+    HOLDS(perform_one(&at, 3, 103, (markring_event){.kind = MARKRING_EVENT_ALLOC, .reg = 1})
+        == MARKRING_OK);
+    HOLDS(set_bytes(&at, 1, 1, 1) == MARKRING_TOO_MANY_BYTES && number_of(&at, "bytes") == 0);
+    HOLDS(patch(&at, 1, 0, 1, 1) == MARKRING_NO_BYTES && has(&at, 1, 0, 0, 0, 0, 0));
+    drop(&at);
+    free(at.stored);
+}
+
+// Writes a request with three events, of which two have 5 and 3 bytes.
+static size_t write_three(uint8_t *bytes, size_t room, uint64_t number, uint32_t first)
+{
+    writer to = writer_of(bytes, room);
+    write_request_head(&to, &(request_head){REQUEST_PERFORM, 3, 103, number, 3});
+    markring_remote_event events[3] = {
+        {{.kind = MARKRING_REMOTE_SET_BYTES, .object = 1}, bytes_of(first, 5), 5},
+        {{.kind = MARKRING_EVENT_ALLOC, .reg = 2, .place = 1}, NULL, 0},
+        {{.kind = MARKRING_REMOTE_PATCH, .object = 1, .count = 1}, bytes_of(first + 50, 3), 3}};
+    for (int i = 0; i < 3; i++) {
+        write_remote_event(&to, &events[i]);
+    }
+    HOLDS(to.ok);
+    return to.length;
+}
+
+// What a host says to these bytes.
+static int judge_bytes(station *at, uint8_t *bytes, size_t length)
+{
+    answer_head head = {0};
+    writer to = {bytes, length, length, true};
+    bool is_answered = say(at, &to, &head);
+    HOLDS(is_answered == (length >= REQUEST_HEAD));
+    return is_answered ? head.verdict : -1;
+}
+
+// Nothing of a request is done if any length in it is wrong, and what is done is done once.
+static void test_byte_requests(void)
+{
+    enum { SECOND = REQUEST_HEAD + 2 * EVENT_BYTES + 9, WHOLE = SECOND + EVENT_BYTES + 7 };
+    static const size_t lengths[2] = {REQUEST_HEAD + EVENT_BYTES, SECOND + EVENT_BYTES};
+    uint8_t bytes[WHOLE + 1] = {0};
+    station at;
+    make_with_bytes(&at, 10, true);
+    HOLDS(write_three(bytes, WHOLE, 2, 20) == WHOLE);
+    for (size_t length = 0; length <= sizeof bytes; length++) {
+        int said = length != WHOLE ? judge_bytes(&at, bytes, length) : VERDICT_MALFORMED;
+        HOLDS(said == (length < REQUEST_HEAD ? -1 : VERDICT_MALFORMED));
+    }
+    for (int i = 0; i < 2; i++) {
+        for (uint64_t by = 1; by < UINT32_MAX; by = 3 * by + 1) {
+            for (int sign = -1; sign <= 1; sign += 2) {
+                reader from = reader_of(bytes + lengths[i], 4);
+                uint64_t right = read_number(&from, 4);
+                writer to = writer_of(bytes + lengths[i], 4);
+                write_number(&to, sign < 0 ? right - by : right + by, 4);
+                HOLDS(judge_bytes(&at, bytes, WHOLE) == VERDICT_MALFORMED);
+                to = writer_of(bytes + lengths[i], 4);
+                write_number(&to, right, 4);
+            }
+        }
+    }
+    HOLDS(live(&at) == 1 && has(&at, 1, 0, 0, 0, 0, 0));
+    for (int i = 0; i < 3; i++) {
+        HOLDS(judge_bytes(&at, bytes, WHOLE) == VERDICT_DONE && at.host->programs[3].count == 3);
+        HOLDS(live(&at) == 2 && has(&at, 1, 20, 5, 1, 70, 3));
+        open_again(&at);
+    }
+    // And the next one.
+    HOLDS(write_three(bytes, WHOLE, 3, 30) == WHOLE);
+    HOLDS(judge_bytes(&at, bytes, WHOLE) == VERDICT_DONE && has(&at, 1, 30, 5, 1, 80, 3));
+    drop(&at);
+    free(at.stored);
+}
+
+// The same of readings.
+static void test_cut_readings(void)
+{
+    uint8_t bytes[REQUEST_HEAD + READ_BYTES + 1] = {0};
+    station at;
+    make_with_bytes(&at, 10, true);
+    for (uint16_t count = 0; count < 3; count++) {
+        for (size_t length = REQUEST_HEAD; length <= sizeof bytes; length++) {
+            writer to = writer_of(bytes, sizeof bytes);
+            write_request_head(&to, &(request_head){REQUEST_READ_BYTES, 3, 103, 7, count});
+            write_number(&to, 1, 2);
+            bool is_right = count == 1 && length == REQUEST_HEAD + READ_BYTES;
+            int said = judge_bytes(&at, bytes, length);
+            HOLDS(said == (is_right ? VERDICT_DONE : VERDICT_MALFORMED));
+        }
+    }
+    drop(&at);
+    free(at.stored);
+}
+
+// The most bytes that a request and an answer carry, and one more.
+static void test_most_bytes(void)
+{
+    static uint8_t bytes[LONGEST_REQUEST + 64];
+    station at;
+    markring_result found = {0};
+    make_with_bytes(&at, 2 * BYTES_MOST, true);
+    HOLDS(set_bytes(&at, 1, 3, BYTES_MOST + 1) == -1 - VERDICT_TOO_LONG);
+    HOLDS(has(&at, 1, 0, 0, 0, 0, 0) && set_bytes(&at, 1, 3, BYTES_MOST) == MARKRING_OK);
+    HOLDS(has(&at, 1, 3, BYTES_MOST, 0, 0, 0));
+    // Two events share them.
+    for (uint32_t more = 0; more < 2; more++) {
+        writer to = writer_of(bytes, sizeof bytes);
+        write_request_head(&to, &(request_head){REQUEST_PERFORM, 3, 103, 3 + more, 2});
+        for (uint32_t i = 0; i < 2; i++) {
+            write_remote_event(&to,
+                &(markring_remote_event){{.kind = MARKRING_REMOTE_PATCH, .object = 1},
+                    bytes_of(40 + more, BYTES_MOST), BYTES_MOST / 2 + more * i});
+        }
+        int said = more ? VERDICT_TOO_LONG : VERDICT_DONE;
+        HOLDS(to.ok && judge_bytes(&at, bytes, to.length) == said);
+    }
+    HOLDS(has(&at, 1, 3, BYTES_MOST, 0, 40, BYTES_MOST / 2));
+    HOLDS(read_object(&at, 3, 1, 0, BYTES_MOST + 1, &found) == VERDICT_TOO_LONG);
+    HOLDS(read_object(&at, 3, 1, 0, UINT32_MAX, &found) == VERDICT_TOO_LONG);
+    // No block is as large as a program says that something is.
+    HOLDS(set_bytes(&at, 1, 3, 10) == MARKRING_OK);
+    settle(&at, STORE_OK);
+    largest = 0;
+    HOLDS(status_of_reading(&at, 1, 0, BYTES_MOST) == MARKRING_NO_BYTES && largest < 1000);
+    drop(&at);
+    free(at.stored);
+}
+
+// No answer shows bytes before they are stored; and a process that ends before takes them along.
+static void test_bytes_wait(void)
+{
+    station at;
+    uint8_t bytes[REQUEST_HEAD + READ_BYTES];
+    make_with_bytes(&at, 10, false);
+    HOLDS(set_bytes(&at, 1, 1, 10) == MARKRING_OK);
+    writer to = writer_of(bytes, sizeof bytes);
+    write_request_head(&to, &(request_head){REQUEST_READ_BYTES, 3, 103, 9, 1});
+    write_number(&to, 1, 2);
+    write_number(&to, 0, 4);
+    write_number(&to, 10, 4);
+    for (int way = 0; way < 2; way++) {
+        markring_answer answer;
+        at.answers = 0;
+        HOLDS(markring_node_set_bytes(host_node(at.host), 1, bytes_of(2, 10), 10, &answer)
+            == MARKRING_OK);
+        host_changed(at.host);
+        host_request(at.host, at.now, bytes, to.length, "r");
+        host_turn(at.host, at.now += 10);
+        HOLDS(at.job != NULL && at.answers == 0);
+        if (way == 0) {
+            at.job = NULL;
+            open_again(&at);
+            HOLDS(at.answers == 0 && has(&at, 1, 1, 10, 0, 0, 0));
+        } else {
+            finish_save(&at, STORE_FAILED);
+            host_turn(at.host, at.now += 10);
+            HOLDS(at.answers == 0);
+            settle(&at, STORE_OK);
+            HOLDS(at.answers == 1 && at.told == ANSWER_HEAD + RESULT_BYTES + 10);
+            HOLDS(has(&at, 1, 2, 10, 0, 0, 0));
+        }
+    }
+    drop(&at);
+    free(at.stored);
+}
+
+// Answers with bytes that wait for a save have a limit of their own.
+static void test_held_bytes(void)
+{
+    enum { LENGTH = 500000, ANSWER = ANSWER_HEAD + RESULT_BYTES + LENGTH };
+    station at;
+    uint8_t bytes[REQUEST_HEAD + READ_BYTES];
+    make_with_bytes(&at, LENGTH, false);
+    for (int way = 0; way < 2; way++) {
+        HOLDS(set_bytes(&at, 1, 1, LENGTH) == MARKRING_OK);
+        uint64_t dropped = host_counted(at.host)->dropped;
+        host_changed(at.host);
+        host_turn(at.host, at.now += 10);
+        for (int i = 0; i < 100; i++) {
+            writer to = writer_of(bytes, sizeof bytes);
+            write_request_head(&to, &(request_head){REQUEST_READ_BYTES, 3, 103, 9, 1});
+            write_number(&to, 1, 2);
+            write_number(&to, 0, 4);
+            write_number(&to, LENGTH, 4);
+            host_request(at.host, at.now, bytes, to.length, "r");
+        }
+        at.answers = 0;
+        finish_save(&at, STORE_OK);
+        settle(&at, STORE_OK);
+        HOLDS(at.answers == HELD_BYTES / ANSWER);
+        HOLDS(host_counted(at.host)->dropped == dropped + 100 - HELD_BYTES / ANSWER);
+    }
+    drop(&at);
+    free(at.stored);
+}
+
+// The host reckons with the bytes of objects: the image is never larger, programs can't fill it
+// beyond its limit, and once they are gone it is small again.
+static void test_bytes_growth(void)
+{
+    enum { LENGTH = 3000, MOST = 20000 };
+    station at;
+    int refused = 0;
+    options.image_most = MOST;
+    make_with_bytes(&at, LENGTH, true);
+    markring_event alloc = {.kind = MARKRING_EVENT_ALLOC, .reg = 2, .place = 1};
+    markring_event store = {.kind = MARKRING_EVENT_STORE, .object = 2, .reg = 1};
+    markring_event copy = {.kind = MARKRING_EVENT_COPY, .reg = 1, .source = 2};
+    for (int i = 0; i < 20; i++) {
+        int status = perform_one(&at, 3, 103, alloc);
+        status = status == MARKRING_OK ? perform_one(&at, 3, 103, store) : status;
+        status = status == MARKRING_OK ? perform_one(&at, 3, 103, copy) : status;
+        status = status == MARKRING_OK ? set_bytes(&at, 1, 1, LENGTH) : status;
+        refused += status == MARKRING_IMAGE_TOO_LARGE;
+        HOLDS(status == MARKRING_OK || status == MARKRING_IMAGE_TOO_LARGE);
+        expect_bound(&at);
+        HOLDS(image_of(&at) < MOST + LENGTH + GROWTH);
+    }
+    HOLDS(refused > 0 && image_of(&at) > MOST && set_bytes(&at, 1, 1, 1) != MARKRING_OK);
+    // What needs no room is done.
+    HOLDS(patch(&at, 1, 0, 2, LENGTH) == MARKRING_OK && has(&at, 1, 1, LENGTH, 0, 2, LENGTH));
+    options.image_most = 0;
+    drop(&at);
+    open_host(&at);
+    settle(&at, STORE_OK);
+    for (int i = 0; i < 200; i++) {
+        HOLDS(set_bytes(&at, 1, 1, (uint32_t)(i % 2) * LENGTH) == MARKRING_OK);
+        expect_bound(&at);
+        HOLDS(at.host->size < 10 * MOST);
+    }
+    drop(&at);
+    free(at.stored);
+    // Bytes that are replaced by none.
+    make_with_bytes(&at, 10 * MOST, true);
+    HOLDS(set_bytes(&at, 1, 1, 10 * MOST) == MARKRING_OK);
+    open_again(&at);
+    HOLDS(image_of(&at) > 10 * MOST && set_bytes(&at, 1, 1, 0) == MARKRING_OK);
+    settle(&at, STORE_OK);
+    HOLDS(image_of(&at) < MOST);
+    drop(&at);
+    free(at.stored);
+}
+
 // A node whose image is larger than that of a plain space may be: it is saved, takes messages and
 // events, and is opened again.
 static void test_wide_size(void)
@@ -1221,6 +1664,32 @@ static void go_on(int turns, uint64_t time)
         turn(&pair[0], time, STORE_OK);
         turn(&pair[1], time, STORE_OK);
     }
+}
+
+// Once an object with bytes is freed, the status shows how large the image is without it.
+static void test_swept_bytes(void)
+{
+    enum { LENGTH = 100000 };
+    markring_answer answer;
+    wide_places = 8;
+    wide_bytes = LENGTH;
+    make_pair();
+    wide_places = 0;
+    wide_bytes = 0;
+    go_on(20, 10);
+    markring_node *node = host_node(pair[0].host);
+    HOLDS(markring_node_alloc(node, 1, 0, &answer) == MARKRING_OK);
+    HOLDS(markring_node_set_bytes(node, 1, bytes_of(1, LENGTH), LENGTH, &answer) == MARKRING_OK);
+    host_wrote(pair[0].host, LENGTH);
+    expect_bound(&pair[0]);
+    go_on(20, 10);
+    HOLDS(image_of(&pair[0]) > LENGTH);
+    HOLDS(markring_node_drop(node, 1, &answer) == MARKRING_OK);
+    host_changed(pair[0].host);
+    host_control(pair[0].host, pair[0].now, "begin", 5, "r");
+    go_on(100, 10);
+    HOLDS(live(&pair[0]) == 0 && image_of(&pair[0]) < LENGTH / 10);
+    drop_pair();
 }
 
 static void give(int from, uint32_t label)
@@ -1531,6 +2000,14 @@ int main(void)
     test_wide();
     test_wide_growth();
     test_wide_size();
+    test_bytes();
+    test_byte_refusals();
+    test_byte_requests();
+    test_cut_readings();
+    test_most_bytes();
+    test_bytes_wait();
+    test_held_bytes();
+    test_bytes_growth();
     test_results();
     test_pace();
     test_absence();
@@ -1541,6 +2018,7 @@ int main(void)
     test_room();
     test_gets();
     test_waiting();
+    test_swept_bytes();
     printf("%lu passed, %lu failed\n", passed, failed);
     return failed != 0 || passed == 0;
 }

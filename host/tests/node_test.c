@@ -272,6 +272,13 @@ static void test_payload(void)
         HOLDS(end_hearing("max_payload") == 1);
     }
     model.max_payload = 1048576;
+    // With bytes of objects, answers may be longer.
+    for (uint32_t bytes = ANSWER_BYTES - ANSWER_HEAD - RESULT_BYTES - 1; bytes < 2000000;
+         bytes = bytes < ANSWER_BYTES ? bytes + 1 : bytes * 2) {
+        int64_t longest = longest_answer(&(host_shape){.bytes = bytes});
+        uint32_t more = bytes < 1000000 ? bytes : 1000000;
+        HOLDS(longest == (more <= 256 * 43 - 43 ? 49 + 256 * 43 : 49 + 43 + more));
+    }
 }
 
 // More messages than the loop takes: what finds no room is lost, and nothing else.
@@ -388,23 +395,29 @@ static int show_as(const char *folder)
 static void test_wide_words(void)
 {
     static const struct {
+        char *option;
         int at;
         const char *good, *bad;
-    } limits[] = {{4, "64", "65"}, {5, "257", "0"}, {5, "65535", "65536"}, {6, "1048577", "0"},
-        {6, "16777216", "16777217"}, {8, "0", "-1"}, {8, "255", "256"}};
+    } limits[] = {{"--places", 4, "64", "65"}, {"--places", 5, "257", "0"},
+        {"--bytes", 5, "65535", "65536"}, {"--places", 6, "1048577", "0"},
+        {"--bytes", 6, "16777216", "16777217"}, {"--places", 8, "0", "-1"},
+        {"--places", 8, "255", "256"}, {"--bytes", 8, "0", "-1"},
+        {"--bytes", 8, "16777216", "16777217"}};
     char folder[PATH + 16];
     begin_hearing();
     for (size_t i = 0; i < sizeof limits / sizeof *limits; i++) {
         snprintf(folder, sizeof folder, "%s/wide%d", place, (int)i);
         for (int is_bad = 1; is_bad >= 0; is_bad--) {
             char *words[] = {
-                folder, "test", "0123456789abcdef", "63", "64", "8", "64", "--places", "9"};
+                folder, "test", "0123456789abcdef", "63", "64", "8", "64", limits[i].option, "9"};
+            bool is_bytes = strcmp(limits[i].option, "--bytes") == 0;
             words[limits[i].at] = strdup(is_bad ? limits[i].bad : limits[i].good);
             HOLDS(create(9, words) == (is_bad ? LEAVE_USAGE : 0));
             HOLDS((access(folder, F_OK) == 0) == !is_bad);
             if (!is_bad) {
                 host_shape shape = shape_in(folder);
-                HOLDS(shape.wide && shape.places == strtoul(words[8], NULL, 10));
+                HOLDS(shape.wide && shape.places == (is_bytes ? 8 : strtoul(words[8], NULL, 10)));
+                HOLDS(shape.bytes == (is_bytes ? strtoul(words[8], NULL, 10) : 0));
                 HOLDS(shape.registers == strtoul(words[5], NULL, 10));
                 HOLDS(shape.slots == strtoul(words[6], NULL, 10));
             }
@@ -421,7 +434,8 @@ static void test_create_options(void)
     static char *const odd[][4] = {{"--places", "9", "--places", "9"},
         {"--limit", "1", "--limit", "1"}, {"--places", "9", "--limit", ""},
         {"--places", "", "--limit", "1"}, {"--place", "9", "--limit", "1"},
-        {"9", "--places", "--limit", "1"}};
+        {"9", "--places", "--limit", "1"}, {"--bytes", "9", "--bytes", "9"},
+        {"--bytes", "", "--places", "1"}, {"--byte", "9", "--limit", "1"}};
     char folder[PATH + 16];
     begin_hearing();
     snprintf(folder, sizeof folder, "%s/odd", place);
@@ -433,16 +447,18 @@ static void test_create_options(void)
     }
     HOLDS(end_hearing("usage:") == 3 * sizeof odd / sizeof *odd);
     begin_hearing();
-    for (int way = 0; way < 2; way++) {
-        char *words[] = {folder, "test", "0123456789abcdef", "1", "2", "300", "64",
-            way == 0 ? "--places" : "--limit", "20", way == 0 ? "--limit" : "--places", "20"};
-        snprintf(folder, sizeof folder, "%s/both%d", place, way);
-        HOLDS(create(11, words) == 0);
+    for (int way = 0; way < 3; way++) {
+        static char *const orders[3][3] = {{"--places", "--limit", "--bytes"},
+            {"--bytes", "--places", "--limit"}, {"--limit", "--bytes", "--places"}};
+        char *words[] = {folder, "test", "0123456789abcdef", "1", "2", "300", "64", orders[way][0],
+            "20", orders[way][1], "20", orders[way][2], "20"};
+        snprintf(folder, sizeof folder, "%s/all%d", place, way);
+        HOLDS(create(13, words) == 0);
         host_shape shape = shape_in(folder);
         HOLDS(shape.wide && shape.places == 20 && shape.registers == 300 && shape.limit == 20);
-        HOLDS(show_as(folder) == 0);
+        HOLDS(shape.bytes == 20 && show_as(folder) == 0);
     }
-    HOLDS(end_hearing(", node 1 of 2, 300 registers, 64 slots, 20 places, save ") == 2);
+    HOLDS(end_hearing(", node 1 of 2, 300 registers, 64 slots, 20 places, 20 bytes, save ") == 3);
     snprintf(folder, sizeof folder, "%s/limit0", place);
     HOLDS(!shape_in(folder).wide && shape_in(folder).places == 8);
     begin_hearing();

@@ -3,7 +3,8 @@
 // at any call, allocations fail, and the clock jumps. Older folders and snapshots of machines are
 // put back, nodes are stopped, and programs flood nodes. Each answer is compared with a model of
 // the programs; at checkpoints, each node comes to have exactly the objects that the model reaches.
-// A third of the spaces are wide: their programs use the last registers and places of many.
+// A third of the spaces are wide: their programs use the last registers and places of many, and
+// bytes of objects.
 //
 //     sim SEEDS [FIRST [STEPS]]
 #include "../inside.h"
@@ -32,7 +33,8 @@ enum {
     TIGHT = 60000,     // bytes of an image that takes no messages
     // In wide spaces, the registers and places before those that are used.
     MORE_REGISTERS = 400,
-    MORE_PLACES = 60
+    MORE_PLACES = 60,
+    BYTES = 200 // of an object there, at most
 };
 
 // ## Random numbers and checks
@@ -115,6 +117,8 @@ typedef struct object {
     markring_ref name;
     uint8_t owner;
     uint32_t content[PLACES]; // as last written by a request that was answered; 0 for nothing
+    uint8_t bytes[BYTES];     // the same of its bytes
+    uint32_t length;
     // All that was ever written to a place, in order, beginning with nothing.
     uint32_t *history[PLACES];
     size_t lengths[PLACES], seen[PLACES];
@@ -236,10 +240,14 @@ typedef struct part {
     bool opened, asks; // `asks`: a request waits for its answer
     uint64_t asked_at;
     markring_event events[OPERATIONS];
+    uint8_t bytes[OPERATIONS][BYTES + 1]; // of events that have some
+    uint16_t lengths[OPERATIONS];
     uint16_t count;
     uint32_t registers[REGISTERS];
     uint64_t round;          // the number of the next opening
     uint64_t reads, reading; // the last reading or waiting, and the one that waits for its answer
+    uint16_t from_register;  // a reading of bytes
+    uint32_t from_byte, wanted;
 } part;
 
 typedef struct packet {
@@ -262,7 +270,7 @@ static bool is_still; // nobody asks for cycles
 static bool is_flood; // nobody accepts letters
 static packet net[NET];
 static int in_net;
-static unsigned long full, tight, readings;
+static unsigned long full, tight, readings, byte_readings, byte_events;
 static unsigned long unseen; // snapshots that made as many saves again before they met a node
 static unsigned long crashes, powers, cycles, answered, lost, requests, checkpoints, mixed,
     failed_saves, failed_calls, stops, stopped, barely, again, snapshots, floods, absences,
@@ -506,7 +514,7 @@ static markring_event placed(markring_event it)
 
 static void send_request(part *it, uint8_t kind, uint64_t number)
 {
-    uint8_t bytes[REQUEST_BYTES];
+    uint8_t bytes[REQUEST_BYTES + OPERATIONS * (4 + BYTES + 1)];
     writer to = writer_of(bytes, sizeof bytes);
     uint16_t count = kind == REQUEST_PERFORM ? it->count : 0;
     request_head head = {kind, it->number, it->session, number, count};
@@ -516,24 +524,51 @@ static void send_request(part *it, uint8_t kind, uint64_t number)
         write_number(&to, it->number == 0 ? FIRST : REGISTERS - FIRST, 2);
     }
     for (uint16_t i = 0; i < count; i++) {
-        markring_event event = placed(it->events[i]);
-        write_event(&to, &event);
+        markring_remote_event event = {placed(it->events[i]), it->bytes[i], it->lengths[i]};
+        write_remote_event(&to, &event);
     }
+    HOLDS(to.ok);
     it->asked_at = now;
     put_in_net(1, (uint8_t)(10 * it->node + it->number), it->node, bytes, to.length);
 }
 
-// Asks what all registers hold, or waits for a letter.
+static uint16_t random_register(const part *it)
+{
+    return (uint16_t)(it->number == 0 ? below(FIRST) : FIRST + below(REGISTERS - FIRST));
+}
+
+// What it asks of the bytes of an object.
+static void write_reading(part *it, writer *to)
+{
+    for (int tries = 0; tries < 5; tries++) {
+        it->from_register = random_register(it);
+        const object *of = &objects[it->registers[it->from_register]];
+        tries += of->owner == it->node && of->length > 0 ? 5 : 0;
+    }
+    uint32_t length = objects[it->registers[it->from_register]].length;
+    it->from_byte = below(3) == 0 ? below(length + 2) : 0;
+    it->wanted = below(4) > 0 && it->from_byte <= length ? length - it->from_byte : below(BYTES);
+    write_number(to, (uint64_t)first_register() + it->from_register, 2);
+    write_number(to, it->from_byte, 4);
+    write_number(to, it->wanted, 4);
+}
+
+// Asks what all registers hold, or for bytes of an object, or waits for a letter.
 static void read_something(part *it)
 {
-    uint8_t bytes[REQUEST_HEAD + 2 * REGISTERS];
+    static const uint8_t kinds[] = {
+        REQUEST_WAIT, REQUEST_READ, REQUEST_READ, REQUEST_READ_BYTES, REQUEST_READ_BYTES};
+    uint8_t bytes[REQUEST_HEAD + 2 * REGISTERS + READ_BYTES];
     writer to = writer_of(bytes, sizeof bytes);
-    bool waits = below(3) == 0;
-    request_head head = {waits ? REQUEST_WAIT : REQUEST_READ, it->number, it->session, ++it->reads,
-        waits ? 0 : REGISTERS};
+    uint8_t kind = kinds[below(is_wide ? 5 : 3)];
+    request_head head = {kind, it->number, it->session, ++it->reads,
+        kind == REQUEST_WAIT ? 0 : kind == REQUEST_READ ? REGISTERS : 1};
     write_request_head(&to, &head);
-    for (uint16_t reg = 0; reg < head.count; reg++) {
+    for (uint16_t reg = 0; reg < REGISTERS && kind == REQUEST_READ; reg++) {
         write_number(&to, (uint64_t)first_register() + reg, 2);
+    }
+    if (kind == REQUEST_READ_BYTES) {
+        write_reading(it, &to);
     }
     it->reading = it->reads;
     it->asked_at = now;
@@ -548,12 +583,18 @@ static void ask(part *it)
 
 static void add_event(part *it, markring_event event)
 {
+    it->lengths[it->count] = 0;
     it->events[it->count++] = event;
 }
 
-static uint16_t random_register(const part *it)
+// Adds an event that has bytes.
+static void add_bytes(part *it, markring_event event, uint32_t length)
 {
-    return (uint16_t)(it->number == 0 ? below(FIRST) : FIRST + below(REGISTERS - FIRST));
+    for (uint32_t i = 0; i < length; i++) {
+        it->bytes[it->count][i] = (uint8_t)below(256);
+    }
+    add_event(it, event);
+    it->lengths[it->count - 1] = (uint16_t)length;
 }
 
 static void plan_gives(part *it, uint16_t reg)
@@ -585,6 +626,21 @@ static void plan_far(part *it, uint16_t reg, uint16_t value)
     markring_event event = {.kind = MARKRING_EVENT_GET, .object = reg, .place = place};
     event.label = new_letter(got);
     add_event(it, event);
+}
+
+// Writes all bytes of an object, and overwrites some; now and then more than there may be.
+static void plan_bytes(part *it, uint16_t reg)
+{
+    markring_event set = {.kind = MARKRING_REMOTE_SET_BYTES, .object = reg};
+    markring_event patch = {.kind = MARKRING_REMOTE_PATCH, .object = reg};
+    uint32_t most = below(4) == 0 ? BYTES + 2 : 1 + below(20), length = below(most);
+    if (below(2) == 0) {
+        add_bytes(it, set, length);
+    } else {
+        length = objects[it->registers[reg]].length;
+    }
+    patch.count = below(length + 1);
+    add_bytes(it, patch, below(length - patch.count + (below(6) == 0) + 1) % (BYTES + 1));
 }
 
 static void plan_near(part *it, uint16_t reg, uint16_t value)
@@ -628,7 +684,9 @@ static void plan(part *it)
     uint16_t reg = random_register(it), other = random_register(it);
     uint32_t id = it->registers[reg], kind = below(100);
     it->count = 0;
-    if (kind < 20) {
+    if (is_wide && id != 0 && objects[id].owner == it->node && below(4) == 0) {
+        plan_bytes(it, reg);
+    } else if (kind < 20) {
         plan_new(it, reg);
     } else if (kind < 30) {
         add_event(it, (markring_event){.kind = MARKRING_EVENT_COPY, .reg = reg, .source = other});
@@ -684,10 +742,27 @@ static void check_load(part *it, const markring_event *event, const markring_ans
 
 static uint64_t words[1 << 20];
 
-static void check_done(part *it, const markring_event *event, const markring_answer *answer)
+static void check_bytes_done(part *it, uint16_t at)
 {
+    const markring_event *event = &it->events[at];
+    object *of = &objects[it->registers[event->object]];
+    bool sets = event->kind == MARKRING_REMOTE_SET_BYTES;
+    uint32_t from = sets ? 0 : event->count, length = it->lengths[at];
+    HOLDS(from + length <= (sets ? BYTES : of->length));
+    if (from + length <= BYTES) {
+        memcpy(of->bytes + from, it->bytes[at], length);
+        of->length = sets ? length : of->length;
+    }
+    byte_events++;
+}
+
+static void check_done(part *it, uint16_t at, const markring_answer *answer)
+{
+    const markring_event *event = &it->events[at];
     uint32_t id = it->registers[event->object];
     switch (event->kind) {
+    case MARKRING_REMOTE_SET_BYTES:
+    case MARKRING_REMOTE_PATCH: check_bytes_done(it, at); break;
     case MARKRING_EVENT_ALLOC:
         HOLDS(answer->reference.node == it->node);
         it->registers[event->reg] = new_object(it->node, answer->reference);
@@ -706,15 +781,16 @@ static void check_done(part *it, const markring_event *event, const markring_ans
 }
 
 // Whether the model says that an event is refused like this.
-static bool is_right_refusal(const part *it, const markring_event *event, int status)
+static bool is_right_refusal(const part *it, uint16_t at, int status)
 {
+    const markring_event *event = &it->events[at];
     bool is_tight = options.image_most > 0;
     if (is_tight && status == MARKRING_CONGESTED && event->kind == MARKRING_EVENT_GET) {
         congested++;
         return true;
     }
     if (is_tight && status == MARKRING_IMAGE_TOO_LARGE && event->kind != MARKRING_EVENT_ACCEPT
-        && event->kind != MARKRING_EVENT_DROP) {
+        && event->kind != MARKRING_EVENT_DROP && event->kind != MARKRING_REMOTE_PATCH) {
         tight++;
         return true;
     }
@@ -728,6 +804,10 @@ static bool is_right_refusal(const part *it, const markring_event *event, int st
     case MARKRING_EVENT_ACCEPT: return status == MARKRING_NO_LETTER;
     case MARKRING_EVENT_GIVE: return status == MARKRING_CONGESTED && limit > 0;
     case MARKRING_EVENT_STORE: return status == MARKRING_EMPTY_REGISTER && held == 0;
+    case MARKRING_REMOTE_SET_BYTES:
+        return status == MARKRING_TOO_MANY_BYTES && it->lengths[at] > BYTES;
+    case MARKRING_REMOTE_PATCH:
+        return status == MARKRING_NO_BYTES && event->count + it->lengths[at] > objects[id].length;
     default:
         return (status == MARKRING_EMPTY_REGISTER && id == 0)
             || (status == MARKRING_CONGESTED && limit > 0 && far_event);
@@ -744,11 +824,10 @@ static void check_results(part *it, reader *from, uint16_t count)
         if (stopped) {
             HOLDS(found.status == MARKRING_NOT_DONE);
         } else if (found.status == MARKRING_OK) {
-            check_done(it, &it->events[i], &found.answer);
+            check_done(it, i, &found.answer);
         } else {
             stopped = true;
-            HOLDS(found.status == MARKRING_MEMORY
-                || is_right_refusal(it, &it->events[i], found.status));
+            HOLDS(found.status == MARKRING_MEMORY || is_right_refusal(it, i, found.status));
         }
     }
     HOLDS(from->ok && from->left == 0);
@@ -779,6 +858,30 @@ static void check_reading(part *it, const answer_head *head, reader *from)
     readings++;
 }
 
+// The same of bytes: they are those that were written last.
+static void check_bytes(part *it, const answer_head *head, reader *from)
+{
+    markring_result found;
+    uint32_t id = it->registers[it->from_register];
+    const object *of = &objects[id];
+    bool is_own = id != 0 && of->owner == it->node;
+    bool has_all = it->from_byte + it->wanted <= of->length;
+    read_result(from, &found);
+    HOLDS(head->verdict == VERDICT_DONE && head->count == 1 && from->ok);
+    HOLDS(found.status
+        == (id == 0        ? MARKRING_EMPTY_REGISTER
+                : !is_own  ? MARKRING_REMOTE
+                : !has_all ? MARKRING_NO_BYTES
+                           : MARKRING_OK));
+    HOLDS(from->left == (found.status == MARKRING_OK ? it->wanted : 0));
+    HOLDS(found.status != MARKRING_OK
+        || (found.answer.number == of->length
+            && memcmp(from->at, of->bytes + it->from_byte, from->left) == 0));
+    byte_readings += found.status == MARKRING_OK && it->wanted > 0;
+    it->reading = 0;
+    readings++;
+}
+
 static void take_answer(part *it, const packet *came)
 {
     answer_head head;
@@ -805,9 +908,10 @@ static void take_answer(part *it, const packet *came)
             // It wasn't done. The program thinks of something else.
             it->asks = false;
         }
-    } else if (head.kind == REQUEST_READ || head.kind == REQUEST_WAIT) {
+    } else if (head.kind != REQUEST_PERFORM) {
         if (it->opened && head.number == it->reading) {
-            check_reading(it, &head, &from);
+            bool is_of_bytes = head.kind == REQUEST_READ_BYTES;
+            (is_of_bytes ? check_bytes : check_reading)(it, &head, &from);
         }
     } else if (it->opened && it->asks && head.number == it->last + 1) {
         if (HOLDS(head.verdict == VERDICT_DONE)) {
@@ -1558,6 +1662,7 @@ static void create(uint8_t node)
     shape.registers = (uint16_t)(first_register() + REGISTERS);
     shape.wide = is_wide;
     shape.places = is_wide ? MORE_PLACES + PLACES : 0;
+    shape.bytes = is_wide ? BYTES : 0;
     shape.slots = SLOTS;
     shape.limit = limit;
     at->disk.seed = &seed;
@@ -1683,17 +1788,17 @@ int main(int count, char **given)
     printf("%lu seeds: %lu requests, %lu answers, %lu crashes, %lu of them with the machine, %lu "
            "failed saves, %lu failed calls, %lu refused allocations, %lu packets lost, %lu cycles "
            "asked for, %lu checkpoints, %lu folders mixed up, %lu frames not taken, %lu events "
-           "refused by full nodes, %lu readings, %lu of %lu stops answered, %lu folders one save "
-           "old, %lu started again, %lu snapshots (%lu unseen), %lu floods, %lu Gets refused, %lu "
-           "absences\n",
+           "refused by full nodes, %lu readings, %lu of bytes, %lu events with bytes, %lu of %lu "
+           "stops answered, %lu folders one save old, %lu started again, %lu snapshots (%lu "
+           "unseen), %lu floods, %lu Gets refused, %lu absences\n",
         run_seed - first, requests, answered, crashes, powers, failed_saves, failed_calls, refused,
-        lost, cycles, checkpoints, mixed, full, tight, readings, stopped, stops, barely, again,
-        snapshots, unseen, floods, congested, absences);
+        lost, cycles, checkpoints, mixed, full, tight, readings, byte_readings, byte_events,
+        stopped, stops, barely, again, snapshots, unseen, floods, congested, absences);
     bool all = failures == 0
         && (seeds < 40
             || (crashes && powers && failed_saves && refused && mixed && lost && full && tight
-                && readings && stopped && barely && again && snapshots > 10 * unseen && floods
-                && congested && absences));
+                && readings && byte_readings && byte_events && stopped && barely && again
+                && snapshots > 10 * unseen && floods && congested && absences));
     printf("%lu passed, %d failed\n", run_seed - first - (failures != 0), !all);
     free(objects);
     free(letters);

@@ -7,7 +7,7 @@
 //     batches SEEDS STEPS
 #include "check.h"
 
-enum { NODES = 3, REGISTERS = 4, SLOTS = 40, MOST_PLACES = 20, NET = 48 };
+enum { NODES = 3, REGISTERS = 4, SLOTS = 40, MOST_PLACES = 20, BYTES = 50, NET = 48 };
 
 typedef struct site {
     // The node with a log, and the one without.
@@ -31,7 +31,7 @@ static site sites[NODES];
 static packet net[NET];
 static int in_net;
 static uint64_t seed;
-static unsigned long crashes, given, images, resumed, bad, good;
+static unsigned long crashes, given, images, resumed, bad, good, written;
 
 static void copy(bytes *to, const bytes *from)
 {
@@ -87,6 +87,34 @@ static void act(uint8_t own_number)
     event.count = 1 + below(&seed, 30);
     event.word = draw(&seed);
     (void)both(&sites[own_number], &event);
+}
+
+// Writes bytes of an object; often too many, or over some that it hasn't.
+static void write_bytes(uint8_t own_number)
+{
+    markring_answer answer, other;
+    uint8_t all[BYTES + 1];
+    site *it = &sites[own_number];
+    uint16_t object = (uint16_t)below(&seed, REGISTERS);
+    uint32_t length = below(&seed, BYTES + 2), offset = below(&seed, BYTES);
+    int is_patch = below(&seed, 2) == 0, status, again;
+    for (uint32_t i = 0; i < length; i++) {
+        all[i] = (uint8_t)draw(&seed);
+    }
+    blot(&answer);
+    blot(&other);
+    if (is_patch) {
+        length = below(&seed, length + 1);
+        status = markring_node_patch(&it->node, object, offset, all, length, &answer);
+        again = markring_node_patch(&it->twin, object, offset, all, length, &other);
+    } else {
+        status = markring_node_set_bytes(&it->node, object, all, length, &answer);
+        again = markring_node_set_bytes(&it->twin, object, all, length, &other);
+    }
+    IS(status, again);
+    HOLDS(status == MARKRING_OK ? same_answer(&answer, &other)
+                                : is_blotted(&answer) && is_blotted(&other));
+    written += status == MARKRING_OK && length > 0;
 }
 
 static void take(const packet *it)
@@ -262,7 +290,9 @@ static void step(void)
     uint8_t own_number = (uint8_t)below(&seed, NODES), other = (uint8_t)below(&seed, NODES - 1);
     other = (uint8_t)(other + (other >= own_number));
     uint32_t kind = below(&seed, 1000);
-    if (kind < 400) {
+    if (kind < 80 && is_wide) {
+        write_bytes(own_number);
+    } else if (kind < 400) {
         act(own_number);
     } else if (kind < 600) {
         deliver_one();
@@ -329,7 +359,7 @@ static void damage(site *it)
 // A node of a wide space, or of a plain one.
 static int make(markring_node *node, uint8_t own_number)
 {
-    static const markring_shape SHAPE = {SLOTS, 0, REGISTERS, NODES, MOST_PLACES, 1};
+    static const markring_shape SHAPE = {SLOTS, BYTES, REGISTERS, NODES, MOST_PLACES, 1};
     return is_wide ? markring_node_make(node, &SHAPE, own_number, 0)
                    : markring_node_new(node, NODES, REGISTERS, SLOTS, own_number, 0);
 }
@@ -494,6 +524,45 @@ static void long_log(void)
     drop_bytes(&batch);
 }
 
+// So has one with bytes of objects. Setting them takes 7 bytes more than these.
+static void long_bytes(void)
+{
+    enum { LENGTH = 1048576 - 7 };
+    static const markring_shape SHAPE = {8, LENGTH + 1, 2, 2, 1, 1};
+    static uint8_t all[LENGTH + 1];
+    for (int more = 0; more < 2; more++) {
+        markring_node node = {0}, other = {0};
+        size_t size = 0, needed = 0;
+        uint64_t mark = 0;
+        OK(markring_node_make(&node, &SHAPE, 0, 0));
+        OK(markring_node_log(&node, 1));
+        OK(markring_node_alloc(&node, 0, 1, &answer));
+        bytes image = image_of(&node), batch = {0};
+        OK(markring_node_kept(&node, 1));
+        memset(all, 1 + more, sizeof all);
+        OK(markring_node_set_bytes(&node, 0, all, (size_t)LENGTH + (size_t)more, &answer));
+        if (more) {
+            IS(MARKRING_NO_LOG, batch_status(&node));
+        } else {
+            OK(markring_node_batch_size(&node, &size));
+            EQUAL(8 + 1048576, size);
+            batch.at = (uint8_t *)own(malloc(size));
+            OK(markring_node_batch(&node, batch.at, size, &needed, &mark));
+            OK(take_back(&other, &image, batch.at, size));
+            memset(all, 0, sizeof all);
+            OK(markring_node_bytes(&other, 0, 0, LENGTH, all, sizeof all, &needed));
+            HOLDS(all[0] == 1 && all[LENGTH - 1] == 1 && all[LENGTH] == 0);
+            OK(markring_node_free(&other));
+            // A length that is larger than the bytes that are there.
+            batch.at[8 + 3]++;
+            IS(MARKRING_BAD_IMAGE, take_back(&other, &image, batch.at, size));
+        }
+        OK(markring_node_free(&node));
+        drop_bytes(&image);
+        drop_bytes(&batch);
+    }
+}
+
 // The image of a node without a log has no batches, and its next save is an image.
 static void plain_image(void)
 {
@@ -528,6 +597,7 @@ int main(int length, char **words)
     without_log();
     quiet();
     long_log();
+    long_bytes();
     plain_image();
     for (unsigned long i = 1; i <= seeds && failed == 0; i++) {
         seed = i * UINT64_C(0x9E3779B97F4A7C15) | 1;
@@ -538,7 +608,9 @@ int main(int length, char **words)
         }
     }
     HOLDS(crashes > 0 && given > 0 && images > 0 && resumed > 0 && bad > 0 && good > 0);
-    printf("%lu batches, %lu images, %lu crashes, damaged ones: %lu bad, %lu good\n", given, images,
-        crashes, bad, good);
+    HOLDS(written > 0);
+    printf("%lu batches, %lu images, %lu crashes, bytes written %lu times, damaged ones: %lu bad, "
+           "%lu good\n",
+        given, images, crashes, written, bad, good);
     return report();
 }

@@ -3,6 +3,7 @@
 //
 //     hostile SEED IMAGES
 #include "check.h"
+#include "refuse.h"
 
 // Bytes that no call writes.
 static uint8_t buffer[4096], clean[4096];
@@ -33,6 +34,10 @@ static void blot_buffer(void)
     NONE(markring_##type##_clear(at, 0, 0, answer)); \
     NONE(markring_##type##_word(at, 0, answer)); \
     NONE(markring_##type##_set_word(at, 0, 0, answer)); \
+    NONE(markring_##type##_set_bytes(at, 0, clean, 1, answer)); \
+    NONE(markring_##type##_patch(at, 0, 0, clean, 1, answer)); \
+    NONE(markring_##type##_bytes(at, 0, 0, 1, buffer, 512, TO(size_t))); \
+    NONE(markring_##type##_bytes_length(at, 0, TO(uint32_t))); \
     NONE(markring_##type##_give(at, 1, 0, 0, answer)); \
     NONE(markring_##type##_accept(at, 0, answer)); \
     NONE(markring_##type##_put(at, 0, 0, 0, answer)); \
@@ -322,6 +327,96 @@ static void wide_images(void)
     OK(markring_node_free(&node));
 }
 
+// The calls with bytes, of a node or of a cell: of a wide space, whose objects have at most 10
+// bytes, or of a plain one, whose objects have none. Register 0 has an object, 1 is empty, 2 refers
+// to an object of the other node, and there is no register 3.
+#define BYTES_OF(type) \
+    static void bytes_of_##type(markring_##type *at, int is_wide) \
+    { \
+        static const int STATUS[] = {MARKRING_OK, MARKRING_EMPTY_REGISTER, MARKRING_REMOTE, \
+            MARKRING_NO_REGISTER, MARKRING_NO_REGISTER}; \
+        static const uint16_t REGISTER[] = {0, 1, 2, 3, 65535}; \
+        const uint8_t *all = (const uint8_t *)"0123456789A"; \
+        markring_answer answer; \
+        uint32_t most = is_wide ? 10 : 0, length = 77; \
+        int too_many = MARKRING_TOO_MANY_BYTES; \
+        for (int i = 0; i < 5; i++) { \
+            int status = STATUS[i]; \
+            uint16_t reg = REGISTER[i]; \
+            size_t needed = 77; \
+            int written = status == MARKRING_OK && !is_wide ? too_many : status; \
+            int beyond = status == MARKRING_OK ? MARKRING_NO_BYTES : status; \
+            int too_short = status == MARKRING_OK && is_wide ? MARKRING_SHORT_BUFFER : beyond; \
+            blot(&answer); \
+            blot_buffer(); \
+            IS(written == MARKRING_OK ? too_many : written, \
+                markring_##type##_set_bytes(at, reg, all, 11, &answer)); \
+            IS(beyond, markring_##type##_patch(at, reg, 8, all, 3, &answer)); \
+            IS(beyond, markring_##type##_patch(at, reg, 11, all, 0, &answer)); \
+            IS(beyond, markring_##type##_patch(at, reg, UINT32_MAX, all, 2, &answer)); \
+            HOLDS(is_blotted(&answer)); \
+            IS(written, markring_##type##_set_bytes(at, reg, all, 10, &answer)); \
+            written = status == MARKRING_OK && !is_wide ? MARKRING_NO_BYTES : status; \
+            IS(written, markring_##type##_patch(at, reg, 2, all, 8, &answer)); \
+            IS(beyond, markring_##type##_bytes(at, reg, 0, most + 1, buffer, 9, &needed)); \
+            IS(beyond, markring_##type##_bytes(at, reg, 11, 0, buffer, 9, &needed)); \
+            IS(beyond, markring_##type##_bytes(at, reg, UINT32_MAX, 2, buffer, 9, &needed)); \
+            EQUAL(77, needed); \
+            IS(too_short, markring_##type##_bytes(at, reg, 0, 10, buffer, 9, &needed)); \
+            EQUAL(too_short == MARKRING_SHORT_BUFFER ? 10 : 77, needed); \
+            HOLDS(memcmp(buffer, clean, sizeof buffer) == 0); \
+            IS(status, markring_##type##_bytes(at, reg, 0, most, buffer, most, &needed)); \
+            HOLDS(memcmp(buffer, status == MARKRING_OK ? all : clean, most / 5) == 0); \
+            HOLDS(memcmp(buffer + 2, status == MARKRING_OK ? all : clean, most - most / 5) == 0); \
+            HOLDS(memcmp(buffer + most, clean, sizeof buffer - most) == 0); \
+            length = 77; \
+            IS(status, markring_##type##_bytes_length(at, reg, &length)); \
+            EQUAL(status == MARKRING_OK ? most : 77, length); \
+        } \
+    }
+
+BYTES_OF(node)
+BYTES_OF(cell)
+
+static void object_bytes(void)
+{
+    for (uint8_t is_wide = 0; is_wide < 2; is_wide++) {
+        markring_shape shape = {4, is_wide ? 10 : 0, 3, 2, 8, is_wide};
+        markring_node node = {0};
+        markring_space space = {0};
+        markring_cell cell = {0}, other = {0};
+        markring_answer answer;
+        uint8_t sent = 0;
+        size_t needed = 0;
+        uint64_t mark = 0;
+        OK(markring_node_make(&node, &shape, 0, 0));
+        OK(markring_node_alloc(&node, 0, 1, &answer));
+        // A letter of node 1 with a reference to its object 1.0.1.
+        static const uint8_t LETTER[38] = {0x45, 1, 0, 0, 0, 0, 0, 0, 0, 0, 1, 0, 0, 0, 0, 0, 0, 0,
+            0, 4, 0, 0, 0, 7, 1, 1, 0, 0, 0, 0, 0, 0, 0, 0, 0, 0, 0, 1};
+        OK(markring_node_take(&node, LETTER, sizeof LETTER, &answer));
+        OK(markring_node_accept(&node, 2, &answer));
+        bytes_of_node(&node, is_wide);
+        OK(markring_node_free(&node));
+        OK(markring_space_make(&space, &shape, 0));
+        OK(open_space(&space));
+        OK(markring_space_cell(&space, 0, &cell));
+        OK(markring_space_cell(&space, 1, &other));
+        OK(markring_space_free(&space));
+        OK(markring_cell_alloc(&cell, 0, 1, &answer));
+        OK(markring_cell_alloc(&other, 0, 1, &answer));
+        OK(markring_cell_give(&other, 0, 7, 0, &answer));
+        OK(markring_cell_image(&other, buffer, sizeof buffer, &needed, &mark));
+        OK(markring_cell_save(&other, mark));
+        OK(markring_cell_send(&other, 0, &sent));
+        OK(markring_cell_receive(&cell, 1, &answer));
+        OK(markring_cell_accept(&cell, 2, &answer));
+        bytes_of_cell(&cell, is_wide);
+        OK(markring_cell_free(&cell));
+        OK(markring_cell_free(&other));
+    }
+}
+
 // A frame, which is given to the node.
 static void give_frame(markring_node *node, const char *hexadecimal)
 {
@@ -448,6 +543,93 @@ static void damage(uint64_t *seed, bytes *it)
             memmove(it->at + at, it->at + other, length);
         }
         }
+    }
+}
+
+// Node 0 of two of a wide space while it marks in cycle 1, with a letter, messages, and objects
+// that have bytes.
+static void make_wide(markring_node *node)
+{
+    static const markring_shape SHAPE = {4, 20, 2, 2, 9, 1};
+    markring_answer answer;
+    OK(markring_node_make(node, &SHAPE, 0, 0));
+    OK(markring_node_alloc(node, 0, 9, &answer));
+    OK(markring_node_set_bytes(node, 0, (const uint8_t *)"0123456789", 10, &answer));
+    OK(markring_node_alloc(node, 1, 1, &answer));
+    OK(markring_node_store(node, 0, 8, 1, &answer));
+    OK(markring_node_give(node, 1, 7, 0, &answer));
+    OK(markring_node_begin(node, &answer));
+    OK(markring_node_alloc(node, 0, 0, &answer));
+    OK(markring_node_set_bytes(node, 0, (const uint8_t *)"\1\0", 2, &answer));
+    give_frame(node, "450100" "0000000000000001" "0000000000000001" "04" "00000007"
+        "01" "01" "00000003" "0000000000000009");
+}
+
+static unsigned long spelled, unspelled;
+
+// What reading these bytes as an image of this version gives: BAD_IMAGE, or the one node that they
+// spell. It takes no more memory than for what is there, and for the first block of slots.
+static void read_again(const bytes *it, size_t length, int version)
+{
+    enum { FOR_ALL = 1 << 17 };
+    markring_node node = {0};
+    // A block of this length, so that reading beyond it shows.
+    uint8_t *exact = (uint8_t *)own(malloc(length + 1));
+    memcpy(exact + 1, it->at, length);
+    largest = 0;
+    within = 1;
+    int status = version == 4
+        ? markring_node_from_image(&node, exact + 1, length, 0)
+        : markring_node_from_batches(&node, exact + 1, length, clean, 0, 0);
+    within = 0;
+    HOLDS(largest < FOR_ALL);
+    HOLDS(status == MARKRING_OK || status == MARKRING_BAD_IMAGE);
+    HOLDS((node.at != NULL) == (status == MARKRING_OK));
+    if (status == MARKRING_OK) {
+        bytes again = image_of(&node);
+        // (An image of version 4 is read, too, if there are no batches. The node then has a log.)
+        exact[3] = version == 5 && exact[3] == 4 ? 5 : exact[3];
+        HOLDS(again.length == length && memcmp(again.at, exact + 1, length) == 0);
+        drop_bytes(&again);
+        OK(markring_node_free(&node));
+    }
+    spelled += status == MARKRING_OK;
+    unspelled += status != MARKRING_OK;
+    free(exact);
+}
+
+// Images of both versions of a wide space with each byte changed to each other value (or, if there
+// is little time, in each bit), cut at each length, and with a byte too many.
+static void each_byte(int has_time)
+{
+    for (int version = 4; version <= 5; version++) {
+        markring_node node = {0};
+        make_wide(&node);
+        OK(markring_node_log(&node, version == 5));
+        bytes image = image_of(&node);
+        EQUAL((uint64_t)version, image.at[2]);
+        OK(markring_node_free(&node));
+        spelled = unspelled = 0;
+        read_again(&image, image.length, version);
+        EQUAL(1, spelled);
+        for (size_t at = 0; at < image.length; at++) {
+            uint8_t right = image.at[at];
+            for (int i = 1; i < 256; i = has_time ? i + 1 : 2 * i) {
+                image.at[at] = (uint8_t)(right ^ i);
+                read_again(&image, image.length, version);
+            }
+            image.at[at] = right;
+        }
+        // A word, for example, may have any value; a count may not.
+        HOLDS(spelled > image.length && unspelled > image.length);
+        unsigned long before = spelled;
+        for (size_t length = 0; length < image.length; length++) {
+            read_again(&image, length, version);
+        }
+        add_number(&image, 0, 1);
+        read_again(&image, image.length, version);
+        EQUAL(before, spelled);
+        drop_bytes(&image);
     }
 }
 
@@ -679,7 +861,9 @@ int main(int length, char **given)
     sizes();
     shapes();
     wide_images();
+    object_bytes();
     events();
+    each_byte(count >= 1000);
     images(seed, count);
     frames(seed, count);
     disks(seed, count);

@@ -11,6 +11,25 @@ static unsigned long refusals;
 
 static markring_cell cells[2];
 
+// Adds the bytes of the objects of which registers of a node or of a cell hold the references.
+#define ADD_OBJECT_BYTES(type) \
+    static void add_bytes_of_##type(markring_##type *at, uint16_t registers, bytes *all) \
+    { \
+        for (uint16_t reg = 0; reg < registers; reg++) { \
+            uint8_t found[128]; \
+            uint32_t length = 0; \
+            size_t needed = 0; \
+            if (markring_##type##_bytes_length(at, reg, &length) == MARKRING_OK) { \
+                OK(markring_##type##_bytes(at, reg, 0, length, found, sizeof found, &needed)); \
+                add(all, found, needed); \
+                add_number(all, length, 4); \
+            } \
+        } \
+    }
+
+ADD_OBJECT_BYTES(node)
+ADD_OBJECT_BYTES(cell)
+
 static bytes cell_shown(markring_cell *cell)
 {
     bytes all = {0};
@@ -38,6 +57,7 @@ static bytes cell_shown(markring_cell *cell)
         add_number(&all, reference.slot, 4);
         add_number(&all, reference.generation, 8);
     }
+    add_bytes_of_cell(cell, state.registers, &all);
     return all;
 }
 
@@ -78,6 +98,7 @@ static bytes all_shown(void)
                 add_number(&all, reference.slot, 4);
                 add_number(&all, reference.generation, 8);
             }
+            add_bytes_of_node(&nodes[i], state.registers, &all);
         }
         add_cell(&all, i);
     }
@@ -149,6 +170,44 @@ static void save_and_send(int from)
     MAY(markring_node_take(&nodes[from], frame, needed, &answer));
 }
 
+// Goes on with a cycle that has begun, until it is swept.
+static void finish_cycle(void)
+{
+    for (int round = 0; round < 8; round++) {
+        int i = round % 2;
+        OK(markring_node_state(&nodes[i], &state));
+        while (state.grey > 0) {
+            MAY(markring_node_scan(&nodes[i], &answer));
+            OK(markring_node_state(&nodes[i], &state));
+        }
+        if (state.has_token) {
+            MAY(markring_node_pass(&nodes[i], &answer));
+        }
+        OK(markring_node_state(&nodes[i], &state));
+        if (state.swept < state.ended) {
+            // (That is all if no slot was ever used.)
+            MAY(markring_node_sweep(&nodes[i], 0, &answer));
+        }
+        if (state.swept < state.ended && !answer.done) {
+            MAY(markring_node_sweep(&nodes[i], 100, &answer));
+        }
+        save_and_send(i);
+    }
+    OK(markring_node_state(&nodes[0], &state));
+    EQUAL(1, state.swept);
+}
+
+// The images of both nodes, which are freed.
+static bytes end_nodes(void)
+{
+    bytes all = image_of(&nodes[0]), rest = image_of(&nodes[1]);
+    add(&all, rest.at, rest.length);
+    drop_bytes(&rest);
+    SPARES(markring_node_free(&nodes[0]));
+    SPARES(markring_node_free(&nodes[1]));
+    return all;
+}
+
 // A scenario over nodes: objects, letters, a put and a get, early messages, a cycle, an image.
 static bytes over_nodes(void)
 {
@@ -195,35 +254,57 @@ static bytes over_nodes(void)
     SPARES(markring_node_accept(one, 0, &answer));
     SPARES(markring_node_drop(zero, 1, &answer));
     MAY(markring_node_begin(zero, &answer));
-    for (int round = 0; round < 4; round++) {
-        for (int i = 0; i < 2; i++) {
-            OK(markring_node_state(&nodes[i], &state));
-            while (state.grey > 0) {
-                MAY(markring_node_scan(&nodes[i], &answer));
-                OK(markring_node_state(&nodes[i], &state));
-            }
-            if (state.has_token) {
-                MAY(markring_node_pass(&nodes[i], &answer));
-            }
-            OK(markring_node_state(&nodes[i], &state));
-            if (state.swept < state.ended) {
-                MAY(markring_node_sweep(&nodes[i], 0, &answer));
-                MAY(markring_node_sweep(&nodes[i], 100, &answer));
-            }
-            save_and_send(i);
-        }
-    }
-    OK(markring_node_state(zero, &state));
-    EQUAL(1, state.swept);
+    finish_cycle();
     MAY(markring_node_image(zero, image, sizeof image, &needed, &mark));
     SPARES(markring_node_free(zero));
     MAY(markring_node_from_image(zero, image, needed, 0));
-    bytes all = image_of(zero), rest = image_of(one);
-    add(&all, rest.at, rest.length);
-    drop_bytes(&rest);
+    return end_nodes();
+}
+
+// What objects get in a wide space.
+enum { MOST = 100 };
+static const markring_shape WIDE = {64, MOST, 4, 2, 20, 1};
+static uint8_t given[MOST + 1], found[MOST];
+static uint32_t length_of;
+
+static void fill(uint8_t with)
+{
+    for (size_t i = 0; i < sizeof given; i++) {
+        given[i] = (uint8_t)(with + 7 * i);
+    }
+}
+
+// A scenario over nodes of a wide space: bytes that are set, patched and read, a cycle that frees
+// objects with bytes, and an image.
+static bytes with_bytes(void)
+{
+    markring_node *zero = &nodes[0], *one = &nodes[1];
+    MAY(markring_node_make(zero, &WIDE, 0, 0));
+    MAY(markring_node_make(one, &WIDE, 1, 0));
+    for (uint8_t i = 0; i < 12; i++) {
+        uint16_t reg = i % 3;
+        fill(i);
+        MAY(markring_node_alloc(zero, reg, (uint8_t)(i % 4 * 6), &answer));
+        MAY(markring_node_set_bytes(zero, reg, given, (size_t)(9 * i), &answer));
+        SPARES(markring_node_patch(zero, reg, i, given, (size_t)(8 * i), &answer));
+        MAY(markring_node_set_bytes(zero, reg, given, (size_t)(MOST - 9 * i), &answer));
+    }
+    MAY(markring_node_set_bytes(zero, 0, given, 0, &answer));
+    MAKE(MARKRING_TOO_MANY_BYTES, 0, markring_node_set_bytes(zero, 0, given, MOST + 1, &answer));
+    MAKE(MARKRING_NO_BYTES, 1, markring_node_patch(zero, 0, 0, given, 1, &answer));
+    SPARES(markring_node_bytes_length(zero, 1, &length_of));
+    SPARES(markring_node_bytes(zero, 1, 3, length_of - 3, found, sizeof found, &needed));
+    MAKE(MARKRING_NO_BYTES, 1,
+        markring_node_bytes(zero, 1, 0, length_of + 1, found, sizeof found, &needed));
+    MAKE(MARKRING_SHORT_BUFFER, 1, markring_node_bytes(zero, 1, 0, 2, found, 1, &needed));
+    SPARES(markring_node_drop(zero, 2, &answer));
+    MAY(markring_node_begin(zero, &answer));
+    finish_cycle();
+    EQUAL(2, state.live);
+    MAY(markring_node_image(zero, image, sizeof image, &needed, &mark));
     SPARES(markring_node_free(zero));
-    SPARES(markring_node_free(one));
-    return all;
+    MAY(markring_node_from_image(zero, image, needed, 0));
+    return end_nodes();
 }
 
 // What is stored of node 0: an image, and the batches behind it.
@@ -297,6 +378,31 @@ static bytes with_log(void)
     bytes all = image_of(zero);
     SPARES(markring_node_free(zero));
     SPARES(markring_node_free(one));
+    drop_bytes(&stored);
+    drop_bytes(&behind);
+    return all;
+}
+
+// The same with bytes of objects in a log.
+static bytes with_logged_bytes(void)
+{
+    markring_node *zero = &nodes[0];
+    MAY(markring_node_make(zero, &WIDE, 0, 0));
+    SPARES(markring_node_log(zero, 1));
+    store_image();
+    for (uint8_t round = 0; round < 5; round++) {
+        fill(round);
+        MAY(markring_node_alloc(zero, 0, 1, &answer));
+        MAY(markring_node_set_bytes(zero, 0, given, MOST - round, &answer));
+        LOGS(markring_node_patch(zero, 0, round, given, 60, &answer));
+        SPARES(markring_node_bytes(zero, 0, 0, 60, found, sizeof found, &needed));
+        store_batch();
+    }
+    SPARES(markring_node_free(zero));
+    uint8_t *from = behind.length > 0 ? behind.at : frame;
+    MAY(markring_node_from_batches(zero, stored.at, stored.length, from, behind.length, 0));
+    bytes all = image_of(zero);
+    SPARES(markring_node_free(zero));
     drop_bytes(&stored);
     drop_bytes(&behind);
     return all;
@@ -425,6 +531,32 @@ static bytes over_cells(void)
     return all;
 }
 
+// Bytes of objects in a cell of a wide space, before and after a reopening.
+static bytes in_cells(void)
+{
+    markring_space space = {0};
+    MAY(markring_space_make(&space, &WIDE, 0));
+    MAY(open_space(&space));
+    SPARES(markring_space_cell(&space, 0, &cells[0]));
+    SPARES(markring_space_free(&space));
+    fill(1);
+    MAY(markring_cell_alloc(&cells[0], 0, 2, &answer));
+    MAY(markring_cell_set_bytes(&cells[0], 0, given, 50, &answer));
+    SPARES(markring_cell_patch(&cells[0], 0, 10, given, 40, &answer));
+    save_cell(0);
+    MAY(markring_cell_set_bytes(&cells[0], 0, given, MOST, &answer));
+    reopen(&cells[0]);
+    SPARES(markring_cell_bytes_length(&cells[0], 0, &length_of));
+    EQUAL(50, length_of);
+    SPARES(markring_cell_bytes(&cells[0], 0, 0, 50, found, sizeof found, &needed));
+    HOLDS(memcmp(found, given, 10) == 0 && memcmp(found + 10, given, 40) == 0);
+    MAY(markring_cell_image(&cells[0], image, sizeof image, &needed, &mark));
+    bytes all = {0};
+    add(&all, image, needed);
+    SPARES(markring_cell_free(&cells[0]));
+    return all;
+}
+
 // Saves a cell with a new object, and refuses an allocation of the save. After MEMORY the mark is
 // still good. After DISK the cell is closed, and a reopening finds the old node or the new one.
 // Returns whether the save made that allocation.
@@ -499,8 +631,11 @@ static void refuse_each(bytes (*scenario)(void))
 int main(void)
 {
     refuse_each(over_nodes);
+    refuse_each(with_bytes);
     refuse_each(with_log);
+    refuse_each(with_logged_bytes);
     refuse_each(over_cells);
+    refuse_each(in_cells);
     saves();
     return report();
 }

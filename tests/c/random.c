@@ -3,7 +3,7 @@
 // stored image. Every answer is compared with a space without a collector (docs/PROOF.md), which is
 // written here from the rules. At checkpoints the programs stop, everything is received and saved,
 // and one whole cycle has to free the garbage: each node then has exactly the objects that the model
-// reaches. Half of the spaces are wide.
+// reaches. Half of the spaces are wide, and their objects have bytes.
 //
 //     random SEEDS STEPS [NODES]
 #include "check.h"
@@ -12,6 +12,8 @@
 enum { MOST = 4, REGISTERS = 5, SLOTS = 48, IMAGE = 1 << 17, NET = 64, ROUNDS = 1000 };
 // The most places of an object in plain and in wide spaces.
 enum { PLAIN_PLACES = 8, PLACES = 20 };
+// The most bytes of an object in wide spaces.
+enum { BYTES = 60 };
 
 // ## The model
 
@@ -20,6 +22,8 @@ typedef struct object {
     uint64_t word;
     uint8_t places;
     markring_ref at[PLACES];
+    uint32_t length;
+    uint8_t bytes[BYTES];
 } object;
 
 // A Give (tag 4), a Put (5) or a Get (6), as in frames.
@@ -119,6 +123,7 @@ static bytes tags[MOST][MOST];
 static unsigned long crashes, cycles, answers, lost;
 // Objects that the cycles of checkpoints freed, and those that were reached there.
 static unsigned long freed, kept;
+static unsigned long written, patched, read;
 
 static message *sent_by(model *it, uint8_t to, size_t index)
 {
@@ -304,6 +309,82 @@ static void read_and_write(uint8_t own_number, uint16_t object_reg, uint8_t plac
     }
 }
 
+// Writes all bytes of an object, if there aren't too many.
+static void set_bytes(markring_node *node, uint16_t reg, object *it, int without_place)
+{
+    markring_answer answer;
+    uint8_t given[BYTES + 1];
+    uint32_t length = below(&seed, 3) != 0 ? below(&seed, BYTES + 2) : below(&seed, 4);
+    for (uint32_t i = 0; i < length; i++) {
+        given[i] = (uint8_t)draw(&seed);
+    }
+    int expected = it == NULL               ? without_place
+        : !is_wide || length > BYTES        ? MARKRING_TOO_MANY_BYTES
+                                            : MARKRING_OK;
+    if (IS(expected, markring_node_set_bytes(node, reg, given, length, &answer))
+        && expected == MARKRING_OK) {
+        expect(&answer, MARKRING_ANSWER_DONE, NOTHING);
+        memcpy(it->bytes, given, length);
+        it->length = length;
+        written++;
+    }
+}
+
+// A number up to this one, or now and then one more, or any.
+static uint32_t near(uint32_t most)
+{
+    uint32_t kind = below(&seed, 8);
+    return kind == 0 ? most + 1 : kind == 1 ? (uint32_t)draw(&seed) : below(&seed, most + 1);
+}
+
+// Overwrites a range of an object's bytes, or reads one.
+static void patch_or_read(markring_node *node, uint16_t reg, object *it, int without_place)
+{
+    markring_answer answer;
+    uint8_t given[BYTES + 1] = {0};
+    size_t needed = 0;
+    int is_patch = below(&seed, 2) == 0;
+    uint32_t length = it != NULL ? it->length : 0, offset = near(length);
+    uint32_t count = offset <= length ? near(length - offset) : below(&seed, 3);
+    count = is_patch && count > BYTES ? BYTES : count;
+    int has_all = offset <= length && count <= length - offset && (is_wide || !is_patch);
+    int expected = it == NULL ? without_place : has_all ? MARKRING_OK : MARKRING_NO_BYTES;
+    for (uint32_t i = 0; is_patch && i < count; i++) {
+        given[i] = (uint8_t)draw(&seed);
+    }
+    int status = is_patch
+        ? markring_node_patch(node, reg, offset, given, count, &answer)
+        : markring_node_bytes(node, reg, offset, count, given, sizeof given, &needed);
+    if (!IS(expected, status) || expected != MARKRING_OK) {
+        return;
+    }
+    if (is_patch) {
+        expect(&answer, MARKRING_ANSWER_DONE, NOTHING);
+        memcpy(it->bytes + offset, given, count);
+    }
+    HOLDS(memcmp(it->bytes + offset, given, count) == 0 && (is_patch || needed == count));
+    patched += is_patch && count > 0;
+    read += !is_patch && count > 0;
+}
+
+// Bytes of an object, written and read.
+static void use_bytes(uint8_t own_number, uint16_t reg)
+{
+    markring_node *node = &sites[own_number].node;
+    object *it = NULL;
+    uint32_t length = 77;
+    int without_place = own_place(own_number, reg, 0, &it);
+    without_place = it != NULL ? MARKRING_OK : without_place;
+    if (it == NULL || it->length == 0 || below(&seed, 3) == 0) {
+        set_bytes(node, reg, it, without_place);
+    }
+    for (int times = 0; times < 2; times++) {
+        patch_or_read(node, reg, it, without_place);
+    }
+    IS(without_place, markring_node_bytes_length(node, reg, &length));
+    EQUAL(it != NULL ? it->length : 77, length);
+}
+
 static void copy_or_drop(uint8_t own_number, uint16_t reg, uint16_t source, int is_copy)
 {
     markring_answer answer;
@@ -324,7 +405,7 @@ static void program(uint8_t own_number)
     uint8_t more = is_wide && below(&seed, 2) != 0 ? PLACES - 2 : 0;
     uint8_t place = (uint8_t)(more + below(&seed, 3));
     answers++;
-    switch (below(&seed, 12)) {
+    switch (below(&seed, 14)) {
     case 0:
     case 1:
         alloc(own_number, (uint16_t)(reg + below(&seed, 8) / 7),
@@ -338,6 +419,8 @@ static void program(uint8_t own_number)
     case 7: give(own_number, (uint8_t)below(&seed, nodes + below(&seed, 2)), reg); break;
     case 8: put_or_get(own_number, reg, place, other, 1); break;
     case 9: put_or_get(own_number, reg, place, other, 0); break;
+    case 10:
+    case 11: use_bytes(own_number, reg); break;
     default: read_and_write(own_number, reg, place, other);
     }
 }
@@ -584,6 +667,19 @@ static unsigned reach(markring_ref it, bytes *seen)
     return 1;
 }
 
+// An object of this node, if the register has one, has all its bytes.
+static void expect_bytes(uint8_t node, uint16_t reg)
+{
+    uint8_t found[BYTES];
+    size_t needed = 0;
+    object *it = NULL;
+    (void)own_place(node, reg, 0, &it);
+    if (it != NULL) {
+        OK(markring_node_bytes(&sites[node].node, reg, 0, it->length, found, BYTES, &needed));
+        HOLDS(needed == it->length && memcmp(found, it->bytes, needed) == 0);
+    }
+}
+
 // Nothing is in flight. What the model reaches from registers and letters is there, and after a cycle
 // that begins now nothing else is. (It is over once the next one begins.)
 static void checkpoint(void)
@@ -601,6 +697,7 @@ static void checkpoint(void)
             int status = markring_node_register(&sites[node].node, (uint16_t)reg, &held);
             HOLDS(status == MARKRING_OK || status == MARKRING_NOTHING);
             HOLDS(same_ref(held, now->registers[reg]));
+            expect_bytes(node, (uint16_t)reg);
             (void)reach(now->registers[reg], &seen);
         }
         for (size_t at = now->accepted; at < now->letters.length; at += sizeof(letter)) {
@@ -626,7 +723,8 @@ static void run(unsigned long steps, uint8_t size)
     nodes = size != 0 ? size : (uint8_t)(2 + below(&seed, MOST - 1));
     limit = below(&seed, 2) != 0 ? 6 + below(&seed, 40) : 0;
     for (uint8_t node = 0; node < nodes; node++) {
-        markring_shape shape = {SLOTS, 0, REGISTERS, nodes, most_places(), (uint8_t)is_wide};
+        markring_shape shape = {
+            SLOTS, is_wide ? BYTES : 0, REGISTERS, nodes, most_places(), (uint8_t)is_wide};
         OK(markring_node_make(&sites[node].node, &shape, node, limit));
         sites[node].image = (uint8_t *)own(malloc(IMAGE));
         store(node);
@@ -668,8 +766,9 @@ int main(int length, char **given)
     HOLDS(crashes > 0 && cycles > 0 && lost > 0);
     // On average one in each program, or else too little happens.
     HOLDS(freed >= seeds && kept >= seeds);
+    HOLDS(written > 0 && patched > 0 && read > 0);
     printf("%lu events of programs, %lu crashes, %lu cycles, %lu frames lost, %lu objects freed, "
-           "%lu kept\n",
-        answers, crashes, cycles, lost, freed, kept);
+           "%lu kept; bytes set %lu times, patched %lu times, read %lu times\n",
+        answers, crashes, cycles, lost, freed, kept, written, patched, read);
     return report();
 }

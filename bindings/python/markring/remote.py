@@ -5,9 +5,9 @@
             program.alloc(0, places=1)
             program.give(to=1, label=7, register=0)
 
-A node has up to 64 programs. A program sends its node requests, one after another, each with up to 256 events; the node
-performs them once, whatever is lost or crashes. An answer comes once all that it shows is stored, so nothing takes it
-back. docs/PROCESSES.md has more.
+A node has up to 64 programs. A program sends its node requests, one after another, each with up to 256 events and
+1,000,000 bytes of objects; the node performs them once, whatever is lost or crashes. An answer comes once all that it
+shows is stored, so nothing takes it back. docs/PROCESSES.md has more.
 
 The client is the file that the variable MARKRING_REMOTE_LIBRARY names. Without that variable it is
 `libmarkring-remote.so`, in the package, beside it, or in a folder in which the system looks for libraries. Each space
@@ -30,6 +30,8 @@ from ._space import Letter, Ref
 
 NAME = "libmarkring-remote.so"
 EVENTS = 256
+# Bytes of objects in one request, or in one answer, at most.
+BYTES = 1_000_000
 NOT_DONE = 150
 SECONDS = 10.0
 LONGEST = 1e9
@@ -77,9 +79,10 @@ class Unfinished(Failure):
 
 
 class NoCarrier(Failure, ConnectionError):
-    """The connection to the server can't be made, or the server takes no message as long as the answer."""
+    """The connection to the server can't be made, or the server takes no message as long as the request or its answer
+    (its `max_payload` is too small)."""
 
-    status, text = 6, "the connection can't be made, or the server takes no message as long as the answer"
+    status, text = 6, "the connection can't be made, or the server's max_payload is too small"
 
 
 class Confused(Failure):
@@ -96,6 +99,18 @@ class NoRegisters(Failure):
     status, text = 8, "the program can't have these registers for itself"
 
 
+class TooLong(Failure, ValueError):
+    """A request or its answer would carry more than BYTES bytes of objects. Nothing was sent."""
+
+    status, text = 9, "the request or its answer would carry more than 1,000,000 bytes of objects"
+
+
+class EarlierNode(Failure):
+    """The node is of an earlier version, and knows no bytes of objects. Nothing was performed."""
+
+    status, text = 10, "the node is of an earlier version, and knows no bytes of objects"
+
+
 class Closed(Failure):
     """The space or the program was closed."""
 
@@ -103,6 +118,8 @@ class Closed(Failure):
 
 
 _FAILURES = {it.status: it for it in Failure.__subclasses__()}
+# After these, `perform` has sent nothing, or its request is over.
+_UNSENT = [it.status for it in (OutOfMemory, BadRequest, Unfinished, TooLong, EarlierNode)]
 
 
 class RawEvent(ctypes.Structure):
@@ -117,6 +134,10 @@ class RawEvent(ctypes.Structure):
         ("count", c_uint32),
         ("word", c_uint64),
     ]
+
+
+class RawRemoteEvent(ctypes.Structure):
+    _fields_ = [("event", RawEvent), ("bytes", c_char_p), ("length", c_size_t)]
 
 
 class RawResult(ctypes.Structure):
@@ -148,6 +169,8 @@ class Event(NamedTuple):
     object: int = 0
     label: int = 0
     word: int = 0
+    offset: int = 0
+    data: bytes = b""
 
 
 def alloc(register: int, places: int) -> Event:
@@ -188,6 +211,16 @@ def word(object: int) -> Event:
 def set_word(object: int, word: int) -> Event:
     """The object gets the word."""
     return Event(8, object=object, word=word)
+
+
+def set_bytes(object: int, data: bytes) -> Event:
+    """The object gets these bytes in place of its own."""
+    return Event(18, object=object, data=data)
+
+
+def patch(object: int, offset: int, data: bytes) -> Event:
+    """Overwrites bytes of the object, from `offset` on. It makes them no longer."""
+    return Event(19, object=object, offset=offset, data=data)
 
 
 def give(to: int, label: int, register: int) -> Event:
@@ -283,9 +316,10 @@ def _load() -> ctypes.CDLL:
         "open": (POINTER(at), at, c_uint8, c_uint8, c_int64, POINTER(RawFacts)),
         "open_apart": (POINTER(at), at, c_uint8, c_uint8, c_uint16, c_uint16, c_int64, POINTER(RawFacts)),
         "last": (at, results, c_size_t, to_size),
-        "perform": (at, POINTER(RawEvent), c_size_t, results, c_int64),
+        "perform_bytes": (at, POINTER(RawRemoteEvent), c_size_t, results, c_int64),
         "finish": (at, results, c_int64),
         "read": (at, numbers, c_size_t, results, c_int64),
+        "read_bytes": (at, c_uint16, c_uint32, c_uint32, c_char_p, results, c_int64),
         "wait": (at, POINTER(c_uint64), c_int64),
         "ask": (at, c_uint8, c_char_p, c_char_p, c_size_t, c_int64),
     }
@@ -313,11 +347,12 @@ def _fits(number: int, bits: int) -> int:
     return number
 
 
-def _raw_event(event: Event) -> RawEvent:
+def _raw_event(event: Event) -> RawRemoteEvent:
     raw = RawEvent()
-    for field, number in zip(("kind", "node", "place", "reg", "source", "object", "label", "word"), event):
+    for field, number in zip(("kind", "node", "place", "reg", "source", "object", "label", "word", "count"), event):
         setattr(raw, field, _fits(number, 8 * getattr(RawEvent, field).size))
-    return raw
+    data = bytes(memoryview(event.data))
+    return RawRemoteEvent(raw, data, len(data))
 
 
 def _milliseconds(seconds: float) -> int:
@@ -414,13 +449,13 @@ class Program:
         """Performs events, in order, up to the first one that is refused."""
         if len(events) > EVENTS:
             raise BadRequest()
-        given = (RawEvent * len(events))(*map(_raw_event, events))
+        given = (RawRemoteEvent * len(events))(*map(_raw_event, events))
         raw_results = (RawResult * EVENTS)()
         with self._space._lock:
-            status = _LIBRARY.markring_remote_perform(
+            status = _LIBRARY.markring_remote_perform_bytes(
                 self._handle(), given, len(events), raw_results, self._wait(timeout)
             )
-        if status not in (BadRequest.status, Unfinished.status):
+        if status not in _UNSENT:
             self._count = len(events)
         _check(status)
         return _results(raw_results, len(events))
@@ -442,6 +477,29 @@ class Program:
             at, count = self._handle(), len(numbers)
             _check(_LIBRARY.markring_remote_read(at, given, count, raw, self._wait(timeout)))
         return [_reference(it.answer.reference) if errors.found(it.status) else None for it in raw[:count]]
+
+    def read_bytes(
+        self, object: int, offset: int = 0, count: Optional[int] = None, timeout: Optional[float] = None
+    ) -> bytes:
+        """The object's bytes from `offset` on: `count` of them, or all. Raises `NoBytes` if it hasn't that many."""
+        if count is None:
+            count = max(self.bytes_len(object, timeout) - offset, 0)
+        return self._read(object, offset, count, timeout)[1]
+
+    def bytes_len(self, object: int, timeout: Optional[float] = None) -> int:
+        """How many bytes the object has."""
+        return self._read(object, 0, 0, timeout)[0]
+
+    def _read(self, object: int, offset: int, count: int, timeout: Optional[float]) -> tuple[int, bytes]:
+        if count > BYTES:
+            raise TooLong()
+        wanted = _fits(object, 16), _fits(offset, 32), _fits(count, 32)
+        buffer, raw = ctypes.create_string_buffer(count), RawResult()
+        with self._space._lock:
+            at, wait = self._handle(), self._wait(timeout)
+            _check(_LIBRARY.markring_remote_read_bytes(at, *wanted, buffer, byref(raw), wait))
+        errors.check(raw.status)
+        return raw.answer.number, buffer.raw
 
     def wait(self, timeout: Optional[float] = None) -> int:
         """Waits until a letter waits at the node, and returns how many do. Another program may accept them first."""
@@ -493,6 +551,14 @@ class Program:
     def set_word(self, object: int, word: int) -> None:
         """The object gets the word."""
         self._one(set_word(object, word))
+
+    def set_bytes(self, object: int, data: bytes) -> None:
+        """The object gets these bytes in place of its own."""
+        self._one(set_bytes(object, data))
+
+    def patch(self, object: int, offset: int, data: bytes) -> None:
+        """Overwrites bytes of the object, from `offset` on. It makes them no longer."""
+        self._one(patch(object, offset, data))
 
     def give(self, to: int, label: int, register: int) -> int:
         """Sends a letter with the label and the register's content. Returns the message's number."""
