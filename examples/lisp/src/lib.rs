@@ -3,7 +3,7 @@
 //! Each value is an object, except `()`, which is nothing. An object's word has a tag and a payload
 //! of 61 bits; a string also has bytes. All that an interpreter works on is in registers
 //! ([`Root`]). Calls that wait for a value are objects too ([`eval`]), so the heap alone bounds how
-//! deep they nest. Each level of brackets that is read or shown takes a few registers.
+//! deep they nest. Lists that are being shown take a register for each level.
 //!
 //! `(send NODE VALUE)` sends a reference, and `(receive)` waits for one. A pair of another node is
 //! read by a Get and written by a Put, as if it were the node's own. Words and strings come in
@@ -314,25 +314,39 @@ impl<'r> Lisp<'r> {
 
     // The value as a text, which the reader would read again.
     fn show(&mut self, value: &Value<'r>) -> Result<String> {
-        match self.word(value)? {
-            None => return Ok("()".into()),
-            Some((Tag::Number, number)) => return Ok(number.to_string()),
-            Some((Tag::Symbol, name)) => return Ok(self.machine.name(name)),
-            Some((Tag::String, _)) => return Ok(read::quoted(&self.text_of(value)?)),
-            Some((Tag::Pair, _)) => {}
-            Some(_) => return Ok("a closure".into()),
-        }
-        // A loop along the list, so a long one needs few registers.
-        let (mut text, mut rest) = (String::from("("), copy(value)?);
-        loop {
-            let item = self.load(&rest, CAR)?;
-            text += &self.show(&item)?;
-            rest = self.load(&rest, CDR)?;
-            match self.word(&rest)? {
-                None => return Ok(text + ")"),
-                Some((Tag::Pair, _)) => text.push(' '),
-                Some(_) => return Ok(format!("{text} . {})", self.show(&rest)?)),
+        // What follows in each list whose ) isn't shown yet.
+        let (mut text, mut open) = (String::new(), Vec::new());
+        let mut next = Some(copy(value)?);
+        while let Some(item) = next.take() {
+            if let Some((Tag::Pair, _)) = self.word(&item)? {
+                text.push('(');
+                open.push(self.load(&item, CDR)?);
+                next = Some(self.load(&item, CAR)?);
+                continue;
+            }
+            text += &self.show_atom(&item)?;
+            while let (None, Some(rest)) = (&next, open.pop()) {
+                match self.word(&rest)? {
+                    None => text.push(')'),
+                    Some((Tag::Pair, _)) => {
+                        text.push(' ');
+                        open.push(self.load(&rest, CDR)?);
+                        next = Some(self.load(&rest, CAR)?);
+                    }
+                    Some(_) => text += &format!(" . {})", self.show_atom(&rest)?),
+                }
             }
         }
+        Ok(text)
+    }
+
+    fn show_atom(&mut self, value: &Value<'r>) -> Result<String> {
+        Ok(match self.word(value)? {
+            None => "()".into(),
+            Some((Tag::Number, number)) => number.to_string(),
+            Some((Tag::Symbol, name)) => self.machine.name(name),
+            Some((Tag::String, _)) => read::quoted(&self.text_of(value)?),
+            Some(_) => "a closure".into(),
+        })
     }
 }

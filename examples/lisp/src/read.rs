@@ -28,6 +28,53 @@ enum Token {
     Word(String),
 }
 
+// A list that is being read, or a ' and what follows it, which is a list too.
+#[derive(Default)]
+struct Open<'r> {
+    first: Value<'r>,
+    last: Value<'r>,
+    is_quote: bool,
+}
+
+impl<'r> Open<'r> {
+    fn append(&mut self, item: Value<'r>, lisp: &mut Lisp<'r>) -> Result<()> {
+        let pair = lisp.pair(&item, &None)?;
+        if self.first.is_none() {
+            self.first = copy(&pair)?;
+        } else {
+            lisp.store(&self.last, CDR, &pair)?;
+        }
+        self.last = pair;
+        Ok(())
+    }
+}
+
+// Puts a value into the innermost list that is open. Returns it if none is.
+fn put_in<'r>(
+    value: Value<'r>,
+    open: &mut Vec<Open<'r>>,
+    lisp: &mut Lisp<'r>,
+) -> Result<Option<Value<'r>>> {
+    let mut value = value;
+    while let Some(mut list) = open.pop() {
+        list.append(value, lisp)?;
+        if !list.is_quote {
+            open.push(list);
+            return Ok(None);
+        }
+        value = list.first;
+    }
+    Ok(Some(value))
+}
+
+fn atom<'r>(word: &str, lisp: &mut Lisp<'r>) -> Result<Value<'r>> {
+    match word.parse::<i64>() {
+        Ok(number) => lisp.number(Some(number)),
+        Err(it) if matches!(it.kind(), PosOverflow | NegOverflow) => lisp.number(None),
+        Err(_) => lisp.symbol(word),
+    }
+}
+
 pub(crate) struct Reader<'t> {
     rest: Peekable<Chars<'t>>,
 }
@@ -39,43 +86,35 @@ impl<'t> Reader<'t> {
 
     /// The next expression, or nothing at the end of the text.
     pub(crate) fn next<'r>(&mut self, lisp: &mut Lisp<'r>) -> Result<Option<Value<'r>>> {
-        self.token()?.map(|token| self.expression(token, lisp)).transpose()
-    }
-
-    fn expression<'r>(&mut self, token: Token, lisp: &mut Lisp<'r>) -> Result<Value<'r>> {
-        match token {
-            Token::Close => fault("a ) is too much"),
-            Token::Open => self.list(lisp),
-            Token::Quote => {
-                let Some(quoted) = self.next(lisp)? else { return fault("nothing follows '") };
-                let (quote, rest) = (lisp.symbol("quote")?, lisp.pair(&quoted, &None)?);
-                lisp.pair(&quote, &rest)
-            }
-            Token::Text(text) => lisp.string(&text),
-            Token::Word(word) => match word.parse::<i64>() {
-                Ok(number) => lisp.number(Some(number)),
-                Err(it) if matches!(it.kind(), PosOverflow | NegOverflow) => lisp.number(None),
-                Err(_) => lisp.symbol(&word),
-            },
-        }
-    }
-
-    // Each pair becomes the rest of the one before it, so a long list needs few registers.
-    fn list<'r>(&mut self, lisp: &mut Lisp<'r>) -> Result<Value<'r>> {
-        let (mut first, mut last) = (None, None);
+        let mut open: Vec<Open<'r>> = Vec::new();
         loop {
-            let item = match self.token()? {
-                None => return fault("a ) is missing"),
-                Some(Token::Close) => return Ok(first),
-                Some(token) => self.expression(token, lisp)?,
+            let value = match self.token()? {
+                None => match open.last() {
+                    None => return Ok(None),
+                    Some(list) if list.is_quote => return fault("nothing follows '"),
+                    Some(_) => return fault("a ) is missing"),
+                },
+                Some(Token::Open) => {
+                    open.push(Open::default());
+                    continue;
+                }
+                Some(Token::Quote) => {
+                    let mut list = Open { is_quote: true, ..Open::default() };
+                    list.append(lisp.symbol("quote")?, lisp)?;
+                    open.push(list);
+                    continue;
+                }
+                Some(Token::Close) => match open.pop() {
+                    None => return fault("a ) is too much"),
+                    Some(list) if list.is_quote => return fault("nothing follows '"),
+                    Some(list) => list.first,
+                },
+                Some(Token::Text(text)) => lisp.string(&text)?,
+                Some(Token::Word(word)) => atom(&word, lisp)?,
             };
-            let pair = lisp.pair(&item, &None)?;
-            if first.is_none() {
-                first = copy(&pair)?;
-            } else {
-                lisp.store(&last, CDR, &pair)?;
+            if let Some(whole) = put_in(value, &mut open, lisp)? {
+                return Ok(Some(whole));
             }
-            last = pair;
         }
     }
 

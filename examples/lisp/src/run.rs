@@ -19,8 +19,6 @@ const SWEEPS: u32 = 4_000;
 // A cycle is due if there are twice as many objects as the last one left, and these.
 const SPARE: u32 = 1_000;
 const PAUSE: Duration = Duration::from_millis(1);
-// The reader and the printer nest as deep as there are registers.
-const STACK: usize = 64 << 20;
 
 /// The names that are built in, first those of special forms. Each is a symbol, whose number is its
 /// position here.
@@ -96,7 +94,7 @@ impl Machine<'_> {
     // A few steps of the collector.
     fn collect(&self) -> Result<()> {
         let (node, state) = (&self.node, self.node.state()?);
-        if state.swept == state.cycle && state.live / 2 > self.left.get() + SPARE / 2 {
+        if state.swept == state.cycle && state.live > 2 * self.left.get() + SPARE {
             self.ask_for_cycle();
         }
         let begins = self.own == 0 && self.shared.due.swap(false, Ordering::SeqCst);
@@ -202,9 +200,7 @@ pub fn run(programs: &[&str], slots: u32) -> std::result::Result<Outcome, Fault>
     let (values, machines): (Vec<_>, Vec<_>) = thread::scope(|scope| {
         let mut threads = Vec::new();
         for (machine, program) in machines.into_iter().zip(programs) {
-            let work = move || (run_node(&machine, program), machine);
-            let thread = thread::Builder::new().stack_size(STACK).spawn_scoped(scope, work);
-            threads.push(thread.expect("a thread starts"));
+            threads.push(scope.spawn(move || (run_node(&machine, program), machine)));
         }
         threads.into_iter().map(|it| it.join().expect("no interpreter panics")).unzip()
     });

@@ -57,6 +57,10 @@ fn expressions_have_values() {
         ("(null 1 2)", "error: null has other arguments"),
         ("(car (list 1)", "error: a ) is missing"),
         ("(list 1))", "error: a ) is too much"),
+        ("''a", "(quote a)"),
+        ("'(1 ('2))", "(1 ((quote 2)))"),
+        ("(list 'a')", "error: nothing follows '"),
+        ("'", "error: nothing follows '"),
     ]);
 }
 
@@ -147,8 +151,8 @@ fn what_is_shown_is_read_again() {
     let nested = "(".repeat(10_000) + &")".repeat(10_000);
     // (The brackets in the middle are (), which is shown as such.)
     assert_eq!(on_one_of(&format!("'{nested}"), LARGE).values[0], nested);
-    let too_deep = "(".repeat(70_000);
-    assert_eq!(on_one_of(&too_deep, LARGE).values[0], "error: no register is left");
+    let too_deep = "(".repeat(70_000) + &")".repeat(70_000);
+    assert_eq!(on_one_of(&format!("'{too_deep}"), LARGE).values[0], "error: no register is left");
 }
 
 #[test]
