@@ -52,7 +52,7 @@ fn map(pairs: &[(&str, &str)]) -> Map {
     pairs.iter().map(|(key, value)| (key.to_string(), value.to_string())).collect()
 }
 
-// The answers to words, or to lines if there are none.
+// The answers to a command of these words, or to the commands in these lines.
 fn answers(folder: &Folder, words: &[&str], lines: &str) -> (String, String, bool) {
     let mut kv = Command::new(env!("CARGO_BIN_EXE_kv"))
         .args([&[folder.0.to_str().expect("a path")], words].concat())

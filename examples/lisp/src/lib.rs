@@ -125,7 +125,7 @@ impl<'r> Lisp<'r> {
         Ok(Some(object))
     }
 
-    // A number, unless there is none that fits.
+    // A number, unless it doesn't fit.
     fn number(&mut self, number: Option<i64>) -> Result<Value<'r>> {
         match number {
             Some(it) if it.abs() <= GREATEST => self.make(Tag::Number, it, &[]),
