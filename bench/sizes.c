@@ -4,10 +4,14 @@
 //     sizes PLACES BYTES SHAPE_PLACES SHAPE_BYTES
 //
 // All objects are held: by registers, or by an array. It prints what an object costs, in nanoseconds
-// of processor time: to make it; to read and to overwrite it, which is all its bytes or a place if
-// it has none; to scan it, or its part of a whole collection; to save it in an image, and in a
-// batch of ten. Then come the bytes that it takes in memory and in an image. What a heap doesn't
-// have is 0.
+// of processor time, in this order:
+//
+// - to make it;
+// - to read it and to overwrite it: all its bytes, or a place if it has none;
+// - to scan it, or its part of a whole collection;
+// - to save it in an image, and in a batch of ten.
+//
+// Then come the bytes that it takes in memory and in an image. What a heap doesn't have is 0.
 #define _POSIX_C_SOURCE 200809L
 #include <stdint.h>
 #include <stdio.h>
