@@ -172,9 +172,9 @@ static void save_batches(costs *it)
 
 static void collect_and_save(costs *it)
 {
+    scan(it);
     save_image(it);
     save_batches(it);
-    scan(it);
 }
 
 #else

@@ -122,15 +122,17 @@ fn what_was_deleted_is_freed() {
     let mut kv = folder.open();
     assert_eq!(kv.objects().unwrap(), TABLES);
     for round in 0..40 {
-        for key in 0..100 {
+        for key in 0..50 {
             kv.put(format!("{key}").as_bytes(), format!("{round}").as_bytes()).unwrap();
         }
-        // 4,000 values were put, and most of them are freed by now.
-        assert!(kv.objects().unwrap() < 2_500, "{} objects", kv.objects().unwrap());
+        // A cycle is due once there are half as many objects more than needed, and 1,000. In the
+        // end 2,000 values were put.
+        let most = (TABLES + 100) * 3 / 2 + 1_000;
+        assert!(kv.objects().unwrap() <= most, "{} objects", kv.objects().unwrap());
     }
     kv.collect().unwrap();
-    assert_eq!(kv.objects().unwrap(), TABLES + 200);
-    for key in 1..100 {
+    assert_eq!(kv.objects().unwrap(), TABLES + 100);
+    for key in 1..50 {
         assert!(kv.delete(format!("{key}").as_bytes()).unwrap());
     }
     assert!(!kv.delete(b"1").unwrap());
