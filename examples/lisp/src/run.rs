@@ -35,12 +35,9 @@ struct Shared {
     symbols: Mutex<Vec<String>>,
 }
 
-// A frame, and the node that sent it.
-type Packet = (u8, Vec<u8>);
-
 // What a node knows of another one.
 struct Peer {
-    channel: Sender<Packet>,
+    channel: Sender<Vec<u8>>,
     // The numbers of the last frame that was sent to it, and of the last of its frames that was
     // acknowledged.
     sent: u64,
@@ -52,7 +49,7 @@ pub struct Machine<'s> {
     /// The node.
     pub node: Node,
     own: u8,
-    packets: Receiver<Packet>,
+    frames: Receiver<Vec<u8>>,
     peers: RefCell<Vec<Peer>>,
     // How many objects there were after the last sweep.
     left: Cell<u32>,
@@ -63,8 +60,8 @@ impl Machine<'_> {
     /// One turn: receives, collects and sends. It returns whether anything happened. The node is
     /// never saved, since a program that ends starts again from its text.
     pub fn turn(&self) -> Result<bool> {
-        for packet in self.packets.try_iter() {
-            self.take(packet)?;
+        for frame in self.frames.try_iter() {
+            self.node.take(&frame)?;
         }
         self.collect()?;
         let changed = self.node.unsaved()?;
@@ -75,20 +72,17 @@ impl Machine<'_> {
         Ok(changed)
     }
 
-    /// Waits for a packet, but not for long.
+    /// Waits for a frame, but not for long.
     pub fn pause(&self) -> Result<()> {
-        self.packets.recv_timeout(PAUSE).map_or(Ok(()), |packet| self.take(packet))
+        if let Ok(frame) = self.frames.recv_timeout(PAUSE) {
+            self.node.take(&frame)?;
+        }
+        Ok(())
     }
 
     /// Asks node 0 for a cycle.
     pub fn ask_for_cycle(&self) {
         self.shared.due.store(true, Ordering::SeqCst);
-    }
-
-    // No frame is lost or late, since channels keep the order.
-    fn take(&self, (_, frame): Packet) -> Result<()> {
-        self.node.take(&frame)?;
-        Ok(())
     }
 
     // A few steps of the collector.
@@ -116,18 +110,19 @@ impl Machine<'_> {
         Ok(())
     }
 
-    // Sends each other node what it hasn't been sent yet. A node that has ended hears nothing.
+    // Sends each other node what it hasn't been sent yet. A channel loses nothing and keeps the
+    // order, so nothing is sent twice. A node that has ended hears nothing.
     fn send(&self) -> Result<()> {
         let mut peers = self.peers.borrow_mut();
         for (to, peer) in (0..).zip(peers.iter_mut()).filter(|it| it.0 != self.own) {
             for frame in self.node.frames(to, peer.sent)? {
                 peer.sent = frame.number;
-                let _ = peer.channel.send((self.own, frame.bytes));
+                let _ = peer.channel.send(frame.bytes);
             }
             let received = self.node.link(to)?.received_saved;
             if received > peer.acknowledged {
                 peer.acknowledged = received;
-                let _ = peer.channel.send((self.own, self.node.ack_for(to)?));
+                let _ = peer.channel.send(self.node.ack_for(to)?);
             }
         }
         Ok(())
@@ -179,11 +174,11 @@ fn run_node(machine: &Machine<'_>, program: &str) -> String {
 fn machines(shared: &Shared, slots: u32) -> Result<Vec<Machine<'_>>> {
     let shape = Shape::wide(shared.nodes, REGISTERS, slots, PLACES, BYTES);
     let (senders, receivers): (Vec<_>, Vec<_>) = (0..shared.nodes).map(|_| channel()).unzip();
-    let peer = |it: &Sender<Packet>| Peer { channel: it.clone(), sent: 0, acknowledged: 0 };
-    let machine = |(own, packets)| {
+    let peer = |it: &Sender<Vec<u8>>| Peer { channel: it.clone(), sent: 0, acknowledged: 0 };
+    let machine = |(own, frames)| {
         let node = Node::with_shape(shape, own, 0)?;
         let peers = RefCell::new(senders.iter().map(peer).collect());
-        Ok(Machine { node, own, packets, peers, left: Cell::new(0), shared })
+        Ok(Machine { node, own, frames, peers, left: Cell::new(0), shared })
     };
     (0..).zip(receivers).map(machine).collect()
 }
