@@ -325,7 +325,8 @@ impl<'r> Lisp<'r> {
                 continue;
             }
             text += &self.show_atom(&item)?;
-            while let (None, Some(rest)) = (&next, open.pop()) {
+            while next.is_none() {
+                let Some(rest) = open.pop() else { break };
                 match self.word(&rest)? {
                     None => text.push(')'),
                     Some((Tag::Pair, _)) => {

@@ -151,7 +151,8 @@ fn what_is_shown_is_read_again() {
     let nested = "(".repeat(10_000) + &")".repeat(10_000);
     // (The brackets in the middle are (), which is shown as such.)
     assert_eq!(on_one_of(&format!("'{nested}"), LARGE).values[0], nested);
-    let too_deep = "(".repeat(70_000) + &")".repeat(70_000);
+    // While a list in a list is shown, what follows it is in a register.
+    let too_deep = "(".repeat(70_000) + &" 1)".repeat(70_000);
     assert_eq!(on_one_of(&format!("'{too_deep}"), LARGE).values[0], "error: no register is left");
 }
 
