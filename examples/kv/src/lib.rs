@@ -14,9 +14,11 @@ use std::path::Path;
 
 pub type Result<T> = std::result::Result<T, Box<dyn std::error::Error>>;
 
-const PLACES: u8 = 255;
+// The places of the root and of a table.
+const PLACES: u8 = 64;
 const SHAPE: Shape = Shape::wide(2, 6, 16_777_216, PLACES, 16_777_216);
-// The registers of node 0. Only the root is kept in one.
+// The registers of node 0. Only the root is kept in one. Reading fills registers too, so the next
+// save has it.
 const ROOT: u16 = 0;
 const LINK: u16 = 1;
 const ENTRY: u16 = 2;

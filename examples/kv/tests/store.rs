@@ -10,8 +10,8 @@ use std::thread;
 use std::time::Duration;
 
 // The root and its tables.
-const TABLES: u32 = 256;
-const KILLS: u64 = 25;
+const TABLES: u32 = 65;
+const KILLS: u64 = 40;
 
 type Map = BTreeMap<String, String>;
 
@@ -152,10 +152,7 @@ fn a_record_that_was_cut_short_is_dropped() {
     let whole = fs::read(folder.0.join("0")).unwrap();
     for length in before..whole.len() {
         fs::write(folder.0.join("0"), &whole[..length]).unwrap();
-        let mut kv = folder.open();
-        assert_eq!(all(&kv), map(&[("a", "1")]), "{length} bytes");
-        kv.put(b"c", b"3").unwrap();
-        drop(kv);
+        folder.open().put(b"c", b"3").unwrap();
         assert_eq!(all(&folder.open()), map(&[("a", "1"), ("c", "3")]), "{length} bytes");
     }
     // A changed byte in the last record is like a record that was being written. In an earlier one,
@@ -190,7 +187,8 @@ fn command(dice: &mut Dice, number: u64, before: &Map) -> (String, Map) {
         0 => "collect\n".into(),
         1..=6 if after.remove(&key).is_some() => format!("delete {key}\n"),
         _ => {
-            let value = format!("{number}{}", "x".repeat(dice.below(3_000) as usize));
+            let length = if dice.below(10) == 0 { 300_000 } else { 3_000 };
+            let value = format!("{number}{}", "x".repeat(dice.below(length) as usize));
             let line = format!("put {key} {value}\n");
             after.insert(key, value);
             line
@@ -199,9 +197,9 @@ fn command(dice: &mut Dice, number: u64, before: &Map) -> (String, Map) {
     (line, after)
 }
 
-// Gives commands to a process until it is killed, after this time. Returns what the store had after
-// the last one that was answered, and after the one that wasn't.
-fn run_until_killed(folder: &Folder, dice: &mut Dice, number: &mut u64, before: Map) -> [Map; 2] {
+// Gives commands to a process and kills it: at any moment of the last one, or at once after its
+// answer. Returns what the store had after the last one that was answered, and after the last one.
+fn run_and_kill(folder: &Folder, dice: &mut Dice, number: &mut u64, before: Map) -> [Map; 2] {
     let mut kv = Command::new(env!("CARGO_BIN_EXE_kv"))
         .arg(&folder.0)
         .stdin(Stdio::piped())
@@ -209,27 +207,26 @@ fn run_until_killed(folder: &Folder, dice: &mut Dice, number: &mut u64, before: 
         .spawn()
         .expect("kv starts");
     let (mut input, output) = (kv.stdin.take().unwrap(), kv.stdout.take().unwrap());
-    let life = Duration::from_micros(dice.below(100_000));
-    let killer = thread::spawn(move || {
-        thread::sleep(life);
-        kv.kill().expect("it is killed");
-        kv.wait().expect("it ends")
-    });
-    let (mut answered, mut lines) = (before, BufReader::new(output).lines());
-    let left = loop {
+    let (mut answers, mut last) = (BufReader::new(output).lines().map_while(Result::ok), before);
+    let mut answered = last.clone();
+    for left in (0..1 + dice.below(40)).rev() {
         *number += 1;
-        let (line, after) = command(dice, *number, &answered);
-        let sent = input.write_all(line.as_bytes());
-        match lines.next() {
-            Some(Ok(answer)) if answer == "ok" => answered = after,
-            Some(answer) => panic!("{line} was answered {answer:?}"),
-            None if sent.is_err() => break [answered.clone(), answered],
-            None => break [answered, after],
+        let line;
+        (line, last) = command(dice, *number, &last);
+        input.write_all(line.as_bytes()).expect("kv reads");
+        if left == 0 && dice.below(3) > 0 {
+            thread::sleep(Duration::from_micros(dice.below(3_000)));
+            break;
         }
-    };
-    let status = killer.join().expect("the killer ends");
-    assert_eq!(status.code(), None, "kv ended before it was killed");
-    left
+        assert_eq!(answers.next().as_deref(), Some("ok"), "{line}");
+        answered = last.clone();
+    }
+    kv.kill().expect("it is killed");
+    assert_eq!(kv.wait().expect("it ends").code(), None, "kv ended before it was killed");
+    if answers.next().is_some() {
+        answered = last.clone();
+    }
+    [answered, last]
 }
 
 #[test]
@@ -237,7 +234,7 @@ fn each_answered_change_outlives_kills() {
     let (folder, mut dice, mut number) = (Folder::new("kills"), Dice(0x9e37_79b9_7f4a_7c15), 0);
     let mut before = Map::new();
     for kill in 0..KILLS {
-        let [answered, sent] = run_until_killed(&folder, &mut dice, &mut number, before);
+        let [answered, sent] = run_and_kill(&folder, &mut dice, &mut number, before);
         let found = all(&folder.open());
         assert!(found == answered || found == sent, "after kill {kill}, at command {number}");
         before = found;
