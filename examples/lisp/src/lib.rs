@@ -1,18 +1,20 @@
 //! A small Lisp whose heap is a space: an interpreter runs on each node, in a thread of its own.
 //!
 //! Each value is an object, except `()`, which is nothing. An object's word has a tag and a payload
-//! of 28 bits. A pair has two places, a closure three: parameters, body and environment. All that
-//! an interpreter works on is in registers ([`Root`]), so the registers are its stack: an
-//! evaluation that nests too deeply ends with `no register is left`.
+//! of 61 bits; a string also has bytes. All that an interpreter works on is in registers
+//! ([`Root`]). Calls that wait for a value are objects too ([`eval`]), so the heap alone bounds how
+//! deep they nest. Lists that are being shown take a register for each level.
 //!
 //! `(send NODE VALUE)` sends a reference, and `(receive)` waits for one. A pair of another node is
-//! read by a Get and written by a Put, as if it were the node's own.
+//! read by a Get and written by a Put, as if it were the node's own. Words and strings come in
+//! letters from their owner.
 
+mod eval;
 mod read;
 pub mod run;
 
 use markring::{Events, Node, Refusal, Root, Roots};
-use run::Machine;
+use run::{Machine, NAMES};
 use std::collections::VecDeque;
 
 /// A value: `()`, or an object in a register.
@@ -42,22 +44,31 @@ enum Tag {
     Pair,
     Number,
     Symbol,
+    String,
     Closure,
+    Binding,
+    Frame,
 }
 
-const TAGS: [Tag; 4] = [Tag::Pair, Tag::Number, Tag::Symbol, Tag::Closure];
-const PAYLOAD: u32 = (1 << 28) - 1;
+const TAGS: [Tag; 7] =
+    [Tag::Pair, Tag::Number, Tag::Symbol, Tag::String, Tag::Closure, Tag::Binding, Tag::Frame];
+const TAG_BITS: u32 = 3;
+const GREATEST: i64 = (1 << 60) - 1;
 const CAR: u8 = 0;
 const CDR: u8 = 1;
 // The upper two bits of a letter's label say what it is: a value that was sent, the question for an
-// object's word, and the answers to that question and to a Get. The rest is a word.
+// object's word or bytes, and the answers to that question and to a Get.
 const SENT: u32 = 0;
 const ASKED: u32 = 1 << 30;
-const WORD: u32 = 2 << 30;
+const DATA: u32 = 2 << 30;
 const PLACE: u32 = 3 << 30;
+// What is asked for.
+const WORD: u32 = 0;
+const BYTES: u32 = 1;
+// The bytes in a letter with DATA.
+const PART: usize = 3;
 // Evaluations between two turns of the node.
 const STEPS: u32 = 32;
-const FUNCTIONS: &str = "+ - * < eq null cons car cdr set-car set-cdr list send receive";
 
 fn copy<'r>(value: &Value<'r>) -> Result<Value<'r>> {
     Ok(value.as_ref().map(Root::duplicate).transpose()?)
@@ -67,59 +78,86 @@ fn copy<'r>(value: &Value<'r>) -> Result<Value<'r>> {
 pub struct Lisp<'r> {
     roots: &'r Roots<'r, Node>,
     machine: &'r Machine<'r>,
+    names: Vec<&'static str>,
     globals: Value<'r>,
+    // The frame that waits for the value that is evaluated.
+    stack: Value<'r>,
     inbox: VecDeque<Value<'r>>,
-    // The answer of another node.
-    answer: Option<(u32, Value<'r>)>,
+    // The answers of other nodes, each with its label.
+    answers: VecDeque<(u32, Value<'r>)>,
     steps: u32,
 }
 
 impl<'r> Lisp<'r> {
     pub fn new(roots: &'r Roots<'r, Node>, machine: &'r Machine<'r>) -> Self {
-        Lisp { roots, machine, globals: None, inbox: VecDeque::new(), answer: None, steps: STEPS }
+        Lisp {
+            roots,
+            machine,
+            names: NAMES.split(' ').collect(),
+            globals: None,
+            stack: None,
+            inbox: VecDeque::new(),
+            answers: VecDeque::new(),
+            steps: STEPS,
+        }
     }
 
     // ## Objects
 
     // A new object. If the node is full, two collection cycles come first.
-    fn make(&mut self, tag: Tag, payload: u32, places: &[&Value<'r>]) -> Result<Value<'r>> {
-        let mut made = self.roots.alloc(places.len() as u8);
+    fn alloc(&mut self, places: u8) -> Result<Root<'r, Node>> {
+        let mut made = self.roots.alloc(places);
         let last = self.roots.node().state()?.swept + 2;
         while matches!(made, Err(Refusal::ArenaFull)) && self.roots.node().state()?.swept < last {
-            self.turn()?;
-            made = self.roots.alloc(places.len() as u8);
+            self.machine.ask_for_cycle();
+            self.wait_turn()?;
+            made = self.roots.alloc(places);
         }
-        let object = made?;
-        object.set_word(u64::from(payload << 2 | tag as u32))?;
+        Ok(made?)
+    }
+
+    fn make(&mut self, tag: Tag, payload: i64, places: &[&Value<'r>]) -> Result<Value<'r>> {
+        let object = self.alloc(places.len() as u8)?;
+        object.set_word((payload << TAG_BITS) as u64 | tag as u64)?;
         for (place, value) in (0..).zip(places) {
             value.as_ref().map_or(Ok(()), |value| object.store(place, value))?;
         }
         Ok(Some(object))
     }
 
-    fn number(&mut self, number: i64) -> Result<Value<'r>> {
-        self.make(Tag::Number, number as u32 & PAYLOAD, &[])
+    // A number, unless it doesn't fit.
+    fn number(&mut self, number: Option<i64>) -> Result<Value<'r>> {
+        match number {
+            Some(it) if it.abs() <= GREATEST => self.make(Tag::Number, it, &[]),
+            _ => fault("the number is too large"),
+        }
     }
 
     fn symbol(&mut self, name: &str) -> Result<Value<'r>> {
         self.make(Tag::Symbol, self.machine.intern(name), &[])
     }
 
+    fn string(&mut self, text: &str) -> Result<Value<'r>> {
+        let made = self.make(Tag::String, text.len() as i64, &[])?;
+        made.as_ref().map_or(Ok(()), |object| object.set_bytes(text.as_bytes()))?;
+        Ok(made)
+    }
+
     fn pair(&mut self, car: &Value<'r>, cdr: &Value<'r>) -> Result<Value<'r>> {
         self.make(Tag::Pair, 0, &[car, cdr])
     }
 
-    // The tag and the payload, unless the value is (). The owner of the object is asked for them.
-    fn word(&mut self, value: &Value<'r>) -> Result<Option<(Tag, u32)>> {
+    // The tag and the payload, unless the value is ().
+    fn word(&mut self, value: &Value<'r>) -> Result<Option<(Tag, i64)>> {
         let Some(object) = value else { return Ok(None) };
         let word = match object.word() {
             Err(Refusal::Remote) => {
-                object.give(object.reference().node, ASKED)?;
-                self.wait(WORD)?.0
+                let bytes = self.ask(object, WORD, 8)?;
+                bytes.iter().rev().fold(0, |word, byte| word << 8 | u64::from(*byte))
             }
-            word => word? as u32,
+            word => word?,
         };
-        Ok(Some((TAGS[(word & 3) as usize], word >> 2 & PAYLOAD)))
+        Ok(Some((TAGS[(word & 7) as usize], word as i64 >> TAG_BITS)))
     }
 
     fn load(&mut self, value: &Value<'r>, place: u8) -> Result<Value<'r>> {
@@ -157,10 +195,20 @@ impl<'r> Lisp<'r> {
 
     fn number_of(&mut self, value: &Value<'r>) -> Result<i64> {
         match self.word(value)? {
-            // The first of the 28 bits is the sign.
-            Some((Tag::Number, payload)) => Ok(i64::from((payload << 4) as i32 >> 4)),
+            Some((Tag::Number, number)) => Ok(number),
             _ => fault("the value isn't a number"),
         }
+    }
+
+    fn text_of(&mut self, value: &Value<'r>) -> Result<String> {
+        let (Some(object), Some((Tag::String, length))) = (value, self.word(value)?) else {
+            return fault("the value isn't a string");
+        };
+        let bytes = match object.bytes() {
+            Err(Refusal::Remote) => self.ask(object, BYTES, length as usize)?,
+            bytes => bytes?,
+        };
+        Ok(String::from_utf8_lossy(&bytes).into_owned())
     }
 
     // Whether both are (), the same number or symbol, or the same object.
@@ -173,35 +221,73 @@ impl<'r> Lisp<'r> {
 
     // ## Letters
 
-    // A turn of the node. Then questions of other nodes are answered, and letters are sorted.
-    fn turn(&mut self) -> Result<()> {
-        self.machine.turn()?;
+    // A turn of the node. Then questions of other nodes are answered, and letters are sorted. It
+    // returns whether anything happened.
+    fn turn(&mut self) -> Result<bool> {
+        let changed = self.machine.turn()?;
         while let Some(letter) = self.roots.accept()? {
             match (letter.label & PLACE, letter.root) {
                 (SENT, root) => self.inbox.push_back(root),
-                (ASKED, Some(object)) => {
-                    self.roots.give_nothing(letter.from, WORD | object.word()? as u32)?;
-                }
-                (_, root) => self.answer = Some((letter.label, root)),
+                (ASKED, Some(object)) => self.answer(letter.from, letter.label, &object)?,
+                (_, root) => self.answers.push_back((letter.label, root)),
             }
+        }
+        Ok(changed)
+    }
+
+    // A turn of a node that has nothing else to do.
+    fn wait_turn(&mut self) -> Result<()> {
+        if self.turn()? {
+            Ok(())
+        } else {
+            self.machine.pause()
+        }
+    }
+
+    // Sends an object's word or bytes, a few bytes in each letter.
+    fn answer(&mut self, to: u8, label: u32, object: &Root<'r, Node>) -> Result<()> {
+        let is_word = label & !PLACE == WORD;
+        let bytes = if is_word { object.word()?.to_le_bytes().into() } else { object.bytes()? };
+        for part in bytes.chunks(PART) {
+            let part = part.iter().rev().fold(0, |label, byte| label << 8 | u32::from(*byte));
+            self.roots.give_nothing(to, DATA | part)?;
         }
         Ok(())
     }
 
+    // Asks the owner of an object for its word or its bytes, which are this many.
+    fn ask(&mut self, object: &Root<'r, Node>, what: u32, length: usize) -> Result<Vec<u8>> {
+        object.give(object.reference().node, ASKED | what)?;
+        let mut bytes = Vec::new();
+        while bytes.len() < length {
+            bytes.extend_from_slice(&self.wait(DATA)?.0.to_le_bytes()[..PART]);
+        }
+        bytes.truncate(length);
+        Ok(bytes)
+    }
+
     fn wait(&mut self, kind: u32) -> Result<(u32, Value<'r>)> {
         loop {
-            match self.answer.take() {
+            match self.answers.pop_front() {
                 Some((label, root)) if label & PLACE == kind => return Ok((label, root)),
-                _ => self.turn()?,
+                _ => self.wait_turn()?,
             }
         }
+    }
+
+    fn send(&mut self, to: u8, value: &Value<'r>) -> Result<Value<'r>> {
+        match value {
+            Some(value) => value.give(to, SENT)?,
+            None => self.roots.give_nothing(to, SENT)?,
+        };
+        Ok(None)
     }
 
     fn receive(&mut self) -> Result<Value<'r>> {
         loop {
             match self.inbox.pop_front() {
                 Some(value) => return Ok(value),
-                None => self.turn()?,
+                None => self.wait_turn()?,
             }
         }
     }
@@ -209,187 +295,59 @@ impl<'r> Lisp<'r> {
     /// Answers questions until all nodes have ended their programs.
     pub fn serve(&mut self) -> Result<()> {
         while !self.machine.all_ended() {
-            self.turn()?;
+            self.wait_turn()?;
         }
         Ok(())
     }
 
-    // ## Evaluation
+    // ## Texts
 
     /// Evaluates all expressions of a text, and shows the value of the last one.
     pub fn run(&mut self, text: &str) -> Result<String> {
         let mut reader = read::Reader::new(text);
         let mut value = None;
         while let Some(expression) = reader.next(self)? {
-            value = self.eval(expression, None)?;
+            value = self.eval(expression)?;
         }
         self.show(&value)
     }
 
-    fn lookup(&mut self, symbol: Value<'r>, environment: &Value<'r>) -> Result<Value<'r>> {
-        let name = self.word(&symbol)?;
-        for mut list in [copy(environment)?, copy(&self.globals)?] {
-            while list.is_some() {
-                let binding = self.load(&list, CAR)?;
-                let bound = self.load(&binding, CAR)?;
-                if self.word(&bound)? == name {
-                    return self.load(&binding, CDR);
-                }
-                list = self.load(&list, CDR)?;
-            }
-        }
-        let name = self.show(&symbol)?;
-        if FUNCTIONS.split(' ').any(|it| it == name) {
-            return Ok(symbol);
-        }
-        fault(format!("{name} isn't bound"))
-    }
-
-    fn eval(&mut self, expression: Value<'r>, environment: Value<'r>) -> Result<Value<'r>> {
-        let (mut expression, mut environment) = (expression, environment);
-        loop {
-            self.steps -= 1;
-            if self.steps == 0 {
-                self.steps = STEPS;
-                self.turn()?;
-            }
-            match self.word(&expression)? {
-                Some((Tag::Symbol, _)) => return self.lookup(expression, &environment),
-                Some((Tag::Pair, _)) => {}
-                _ => return Ok(expression),
-            }
-            let (head, rest) = (self.load(&expression, CAR)?, self.load(&expression, CDR)?);
-            let form = match self.word(&head)? {
-                Some((Tag::Symbol, name)) => self.machine.name(name),
-                _ => String::new(),
-            };
-            match form.as_str() {
-                "quote" => return self.nth(&rest, 0),
-                "lambda" => {
-                    let (parameters, body) = (self.nth(&rest, 0)?, self.nth(&rest, 1)?);
-                    return self.make(Tag::Closure, 0, &[&parameters, &body, &environment]);
-                }
-                "define" => {
-                    let (name, value) = (self.nth(&rest, 0)?, self.nth(&rest, 1)?);
-                    let value = self.eval(value, environment)?;
-                    let (binding, globals) = (self.pair(&name, &value)?, self.globals.take());
-                    self.globals = self.pair(&binding, &globals)?;
-                    return Ok(name);
-                }
-                "if" => {
-                    let condition = self.nth(&rest, 0)?;
-                    let holds = self.eval(condition, copy(&environment)?)?.is_some();
-                    expression = self.nth(&rest, if holds { 1 } else { 2 })?;
-                }
-                _ => {
-                    let function = self.eval(head, copy(&environment)?)?;
-                    let arguments = self.eval_all(rest, &environment)?;
-                    match self.word(&function)? {
-                        Some((Tag::Symbol, name)) => {
-                            return self.call(&self.machine.name(name), &arguments);
-                        }
-                        // The body is evaluated without a deeper stack.
-                        Some((Tag::Closure, _)) => {
-                            environment = self.bind(&function, &arguments)?;
-                            expression = self.load(&function, 1)?;
-                        }
-                        _ => return fault("the value isn't a function"),
-                    }
-                }
-            }
-        }
-    }
-
-    fn eval_all(&mut self, list: Value<'r>, environment: &Value<'r>) -> Result<Vec<Value<'r>>> {
-        let (mut list, mut values) = (list, Vec::new());
-        while list.is_some() {
-            let expression = self.load(&list, CAR)?;
-            values.push(self.eval(expression, copy(environment)?)?);
-            list = self.load(&list, CDR)?;
-        }
-        Ok(values)
-    }
-
-    // The environment of a closure, with its parameters bound.
-    fn bind(&mut self, closure: &Value<'r>, arguments: &[Value<'r>]) -> Result<Value<'r>> {
-        let (mut names, mut bound) = (self.load(closure, 0)?, self.load(closure, 2)?);
-        for argument in arguments {
-            let name = self.load(&names, CAR)?;
-            let binding = self.pair(&name, argument)?;
-            bound = self.pair(&binding, &bound)?;
-            names = self.load(&names, CDR)?;
-        }
-        if names.is_some() {
-            fault("an argument is missing")
-        } else {
-            Ok(bound)
-        }
-    }
-
-    // Calls a function that is built in.
-    fn call(&mut self, name: &str, given: &[Value<'r>]) -> Result<Value<'r>> {
-        match (name, given) {
-            ("+" | "-" | "*" | "<", [one, other]) => {
-                let (one, other) = (self.number_of(one)?, self.number_of(other)?);
-                match name {
-                    "+" => self.number(one + other),
-                    "-" => self.number(one - other),
-                    "*" => self.number(one * other),
-                    _ => self.truth(one < other),
-                }
-            }
-            ("eq", [one, other]) => {
-                let is_same = self.is_same(one, other)?;
-                self.truth(is_same)
-            }
-            ("null", [value]) => self.truth(value.is_none()),
-            ("cons", [car, cdr]) => self.pair(car, cdr),
-            ("car", [pair]) => self.load(pair, CAR),
-            ("cdr", [pair]) => self.load(pair, CDR),
-            ("set-car", [pair, value]) => self.store(pair, CAR, value),
-            ("set-cdr", [pair, value]) => self.store(pair, CDR, value),
-            ("list", _) => given.iter().rev().try_fold(None, |list, value| self.pair(value, &list)),
-            ("send", [node, value]) => {
-                let to = u8::try_from(self.number_of(node)?).unwrap_or(u8::MAX);
-                match value {
-                    Some(value) => value.give(to, SENT)?,
-                    None => self.roots.give_nothing(to, SENT)?,
-                };
-                Ok(None)
-            }
-            ("receive", []) => self.receive(),
-            _ => fault(format!("{name} has other arguments")),
-        }
-    }
-
-    fn truth(&mut self, holds: bool) -> Result<Value<'r>> {
-        if holds {
-            self.symbol("t")
-        } else {
-            Ok(None)
-        }
-    }
-
-    // The value as a text.
+    // The value as a text, which the reader would read again.
     fn show(&mut self, value: &Value<'r>) -> Result<String> {
-        match self.word(value)? {
-            None => return Ok("()".into()),
-            Some((Tag::Number, _)) => return Ok(self.number_of(value)?.to_string()),
-            Some((Tag::Symbol, name)) => return Ok(self.machine.name(name)),
-            Some((Tag::Closure, _)) => return Ok("a closure".into()),
-            Some((Tag::Pair, _)) => {}
-        }
-        // A loop along the list, so a long one needs few registers.
-        let (mut text, mut rest) = (String::from("("), copy(value)?);
-        loop {
-            let item = self.load(&rest, CAR)?;
-            text += &self.show(&item)?;
-            rest = self.load(&rest, CDR)?;
-            match self.word(&rest)? {
-                None => return Ok(text + ")"),
-                Some((Tag::Pair, _)) => text.push(' '),
-                Some(_) => return Ok(format!("{text} . {})", self.show(&rest)?)),
+        // What follows in each list whose ) isn't shown yet.
+        let (mut text, mut open) = (String::new(), Vec::new());
+        let mut next = Some(copy(value)?);
+        while let Some(item) = next.take() {
+            if let Some((Tag::Pair, _)) = self.word(&item)? {
+                text.push('(');
+                open.push(self.load(&item, CDR)?);
+                next = Some(self.load(&item, CAR)?);
+                continue;
+            }
+            text += &self.show_atom(&item)?;
+            while next.is_none() {
+                let Some(rest) = open.pop() else { break };
+                match self.word(&rest)? {
+                    None => text.push(')'),
+                    Some((Tag::Pair, _)) => {
+                        text.push(' ');
+                        open.push(self.load(&rest, CDR)?);
+                        next = Some(self.load(&rest, CAR)?);
+                    }
+                    Some(_) => text += &format!(" . {})", self.show_atom(&rest)?),
+                }
             }
         }
+        Ok(text)
+    }
+
+    fn show_atom(&mut self, value: &Value<'r>) -> Result<String> {
+        Ok(match self.word(value)? {
+            None => "()".into(),
+            Some((Tag::Number, number)) => number.to_string(),
+            Some((Tag::Symbol, name)) => self.machine.name(name),
+            Some((Tag::String, _)) => read::quoted(&self.text_of(value)?),
+            Some(_) => "a closure".into(),
+        })
     }
 }

@@ -2,7 +2,7 @@
 
 use std::{env, fs, process};
 
-const SLOTS: u32 = 20_000;
+const SLOTS: u32 = 1_000_000;
 
 fn main() {
     let texts: Result<Vec<String>, _> = env::args().skip(1).map(fs::read_to_string).collect();

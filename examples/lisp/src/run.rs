@@ -1,70 +1,128 @@
 //! Runs a program on each node of a space, each in a thread. Channels carry the frames.
 
 use crate::{Fault, Lisp, Result};
-use markring::{Events, Node, Refusal, Roots};
-use std::cell::RefCell;
-use std::sync::atomic::{AtomicUsize, Ordering};
+use markring::{Events, Node, Refusal, Roots, Shape};
+use std::cell::{Cell, RefCell};
+use std::sync::atomic::{AtomicBool, AtomicUsize, Ordering};
 use std::sync::mpsc::{channel, Receiver, Sender};
 use std::sync::Mutex;
 use std::thread;
+use std::time::Duration;
 
-const REGISTERS: u16 = 256;
+const REGISTERS: u16 = 65_535;
+// The most places and bytes of an object: a frame has four places.
+const PLACES: u8 = 4;
+const BYTES: u32 = 1 << 20;
+// The most that a turn does for the collector: objects that it scans, slots that it sweeps.
+const SCANS: usize = 1_000;
+const SWEEPS: u32 = 4_000;
+// A cycle is due if there are twice as many objects as the last one left, and these.
+const SPARE: u32 = 1_000;
+const PAUSE: Duration = Duration::from_millis(1);
+
+/// The names that are built in, first those of special forms. Each is a symbol, whose number is its
+/// position here.
+pub(crate) const NAMES: &str =
+    "quote lambda define if + - * < eq null cons car cdr set-car set-cdr \
+    list send receive string? string-length string-append string=? number->string";
 
 // What the interpreters of a space share.
 struct Shared {
     nodes: u8,
     ended: AtomicUsize,
+    // Whether a node asks for a cycle.
+    due: AtomicBool,
     symbols: Mutex<Vec<String>>,
 }
 
-// A frame, and the node that sent it.
-type Packet = (u8, Vec<u8>);
+// What a node knows of another one.
+struct Peer {
+    channel: Sender<Vec<u8>>,
+    // The numbers of the last frame that was sent to it, and of the last of its frames that was
+    // acknowledged.
+    sent: u64,
+    acknowledged: u64,
+}
 
 /// A node with its channels.
 pub struct Machine<'s> {
     /// The node.
     pub node: Node,
     own: u8,
-    packets: Receiver<Packet>,
-    // For each node of the space, its channel, and the number of the last frame sent to it.
-    peers: RefCell<Vec<(Sender<Packet>, u64)>>,
+    frames: Receiver<Vec<u8>>,
+    peers: RefCell<Vec<Peer>>,
+    // How many objects there were after the last sweep.
+    left: Cell<u32>,
     shared: &'s Shared,
 }
 
 impl Machine<'_> {
-    /// One turn: receives, collects, saves and sends. The images aren't stored, since a program
-    /// that ends starts again from its text. No frame is sent twice, since channels lose none.
-    pub fn turn(&self) -> Result<()> {
-        let node = &self.node;
-        for (from, frame) in self.packets.try_iter() {
-            node.take(&frame)?;
-            while node.waiting(from)?.is_some() {
-                node.next(from)?;
-            }
+    /// One turn: receives, collects and sends. It returns whether anything happened. The node is
+    /// never saved, since a program that ends starts again from its text.
+    pub fn turn(&self) -> Result<bool> {
+        for frame in self.frames.try_iter() {
+            self.node.take(&frame)?;
         }
-        while node.scan().is_ok() {}
-        let begun = if self.own == 0 { node.begin().map(drop) } else { Ok(()) };
-        for outcome in [begun, node.pass().map(drop), node.sweep(256).map(drop)] {
+        self.collect()?;
+        let changed = self.node.unsaved()?;
+        if changed {
+            self.node.release()?;
+        }
+        self.send()?;
+        Ok(changed)
+    }
+
+    /// Waits for a frame, but not for long.
+    pub fn pause(&self) -> Result<()> {
+        if let Ok(frame) = self.frames.recv_timeout(PAUSE) {
+            self.node.take(&frame)?;
+        }
+        Ok(())
+    }
+
+    /// Asks node 0 for a cycle.
+    pub fn ask_for_cycle(&self) {
+        self.shared.due.store(true, Ordering::SeqCst);
+    }
+
+    // A few steps of the collector.
+    fn collect(&self) -> Result<()> {
+        let (node, state) = (&self.node, self.node.state()?);
+        if state.swept == state.cycle && state.live > 2 * self.left.get() + SPARE {
+            self.ask_for_cycle();
+        }
+        let begins = self.own == 0 && self.shared.due.swap(false, Ordering::SeqCst);
+        let swept = node.sweep(SWEEPS).map(|it| it.done);
+        for outcome in [
+            if begins { node.begin().map(drop) } else { Ok(()) },
+            (0..SCANS).try_for_each(|_| node.scan().map(drop)),
+            node.pass().map(drop),
+            swept.map(drop),
+        ] {
             match outcome {
                 Ok(()) | Err(Refusal::NothingToDo | Refusal::CycleRunning) => {}
                 Err(refusal) => return Err(refusal.into()),
             }
         }
-        let changed = node.unsaved()?;
-        if changed {
-            node.kept(node.image()?.mark)?;
-        } else {
-            thread::yield_now();
+        if swept == Ok(true) {
+            self.left.set(node.state()?.live);
         }
-        // A node that has ended hears nothing.
+        Ok(())
+    }
+
+    // Sends each other node what it hasn't been sent yet. A channel loses nothing and keeps the
+    // order, so nothing is sent twice. A node that has ended hears nothing.
+    fn send(&self) -> Result<()> {
         let mut peers = self.peers.borrow_mut();
-        for (to, (peer, last)) in (0..).zip(peers.iter_mut()).filter(|it| it.0 != self.own) {
-            for frame in node.frames(to, *last)? {
-                *last = frame.number;
-                let _ = peer.send((self.own, frame.bytes));
+        for (to, peer) in (0..).zip(peers.iter_mut()).filter(|it| it.0 != self.own) {
+            for frame in self.node.frames(to, peer.sent)? {
+                peer.sent = frame.number;
+                let _ = peer.channel.send(frame.bytes);
             }
-            if changed {
-                let _ = peer.send((self.own, node.ack_for(to)?));
+            let received = self.node.link(to)?.received_saved;
+            if received > peer.acknowledged {
+                peer.acknowledged = received;
+                let _ = peer.channel.send(self.node.ack_for(to)?);
             }
         }
         Ok(())
@@ -76,17 +134,17 @@ impl Machine<'_> {
     }
 
     /// The number of a symbol.
-    pub fn intern(&self, name: &str) -> u32 {
+    pub fn intern(&self, name: &str) -> i64 {
         let mut symbols = self.shared.symbols.lock().expect("no thread panicked");
         let known = symbols.iter().position(|it| it == name);
         if known.is_none() {
             symbols.push(name.into());
         }
-        known.unwrap_or(symbols.len() - 1) as u32
+        known.unwrap_or(symbols.len() - 1) as i64
     }
 
     /// The symbol with this number.
-    pub fn name(&self, number: u32) -> String {
+    pub fn name(&self, number: i64) -> String {
         self.shared.symbols.lock().expect("no thread panicked")[number as usize].clone()
     }
 }
@@ -96,7 +154,7 @@ impl Machine<'_> {
 pub struct Outcome {
     /// The last value of each node's program, or why it ended early.
     pub values: Vec<String>,
-    /// How many collection cycles ended.
+    /// How many collection cycles ended while the programs ran.
     pub cycles: u64,
     /// How many objects each node has once the programs have ended and their garbage is freed.
     pub live: Vec<u32>,
@@ -114,19 +172,25 @@ fn run_node(machine: &Machine<'_>, program: &str) -> String {
 
 // The nodes of a space, each with the channels of all.
 fn machines(shared: &Shared, slots: u32) -> Result<Vec<Machine<'_>>> {
+    let shape = Shape::wide(shared.nodes, REGISTERS, slots, PLACES, BYTES);
     let (senders, receivers): (Vec<_>, Vec<_>) = (0..shared.nodes).map(|_| channel()).unzip();
-    let machine = |(own, packets)| {
-        let node = Node::new(shared.nodes, REGISTERS, slots, own)?;
-        let peers = senders.iter().map(|it| (it.clone(), 0)).collect();
-        Ok(Machine { node, own, packets, peers: RefCell::new(peers), shared })
+    let peer = |it: &Sender<Vec<u8>>| Peer { channel: it.clone(), sent: 0, acknowledged: 0 };
+    let machine = |(own, frames)| {
+        let node = Node::with_shape(shape, own, 0)?;
+        let peers = RefCell::new(senders.iter().map(peer).collect());
+        Ok(Machine { node, own, frames, peers, left: Cell::new(0), shared })
     };
     (0..).zip(receivers).map(machine).collect()
 }
 
 /// Runs a program on each node, whose heap has this many objects.
 pub fn run(programs: &[&str], slots: u32) -> std::result::Result<Outcome, Fault> {
-    let nodes = programs.len() as u8;
-    let shared = &Shared { nodes, ended: AtomicUsize::new(0), symbols: Mutex::default() };
+    let shared = &Shared {
+        nodes: programs.len() as u8,
+        ended: AtomicUsize::new(0),
+        due: AtomicBool::new(false),
+        symbols: Mutex::new(NAMES.split(' ').map(String::from).collect()),
+    };
     let machines = machines(shared, slots)?;
     let (values, machines): (Vec<_>, Vec<_>) = thread::scope(|scope| {
         let mut threads = Vec::new();
@@ -135,11 +199,12 @@ pub fn run(programs: &[&str], slots: u32) -> std::result::Result<Outcome, Fault>
         }
         threads.into_iter().map(|it| it.join().expect("no interpreter panics")).unzip()
     });
+    let cycles = machines[0].node.state()?.ended;
     // Two more whole cycles, in one thread.
-    let last = machines[0].node.state()?.ended + 3;
-    while machines[0].node.state()?.ended < last {
-        machines.iter().try_for_each(Machine::turn)?;
+    while machines[0].node.state()?.ended < cycles + 3 {
+        shared.due.store(true, Ordering::SeqCst);
+        machines.iter().try_for_each(|it| it.turn().map(drop))?;
     }
     let live = machines.iter().map(|it| it.node.state().map(|state| state.live));
-    Ok(Outcome { values, cycles: last, live: live.collect::<markring::Result<_>>()? })
+    Ok(Outcome { values, cycles, live: live.collect::<markring::Result<_>>()? })
 }

@@ -2,21 +2,40 @@
 
 use lisp::run::{run, Outcome};
 
-fn on_one(program: &str) -> String {
-    let outcome = run(&[program, ""], 4_000).expect("a space opens");
+const SMALL: u32 = 4_000;
+const LARGE: u32 = 1_000_000;
+
+fn on_one_of(program: &str, slots: u32) -> Outcome {
+    let outcome = run(&[program, ""], slots).expect("a space opens");
     assert_eq!(outcome.live, [0, 0], "{program}");
-    outcome.values[0].clone()
+    outcome
+}
+
+fn on_one(program: &str) -> String {
+    on_one_of(program, SMALL).values[0].clone()
 }
 
 fn on_two(first: &str, second: &str) -> Outcome {
-    let outcome = run(&[first, second], 4_000).expect("a space opens");
+    let outcome = run(&[first, second], SMALL).expect("a space opens");
     assert_eq!(outcome.live, [0, 0]);
     outcome
 }
 
+fn have_values(expected: &[(&str, &str)]) {
+    for (program, value) in expected {
+        assert_eq!(on_one(program), *value, "{program}");
+    }
+}
+
+// The numbers from 1 on, as a list is shown.
+fn up_to(last: u32) -> String {
+    let numbers: Vec<String> = (1..=last).map(|it| it.to_string()).collect();
+    format!("({})", numbers.join(" "))
+}
+
 #[test]
 fn expressions_have_values() {
-    let expected = [
+    have_values(&[
         ("7", "7"),
         ("(+ 1 (- (* 2 3) 8))", "-1"),
         ("'(a (b c) () 3)", "(a (b c) () 3)"),
@@ -26,32 +45,115 @@ fn expressions_have_values() {
         ("(if (eq 'a 'b) 'yes 'no)", "no"),
         ("((lambda (x y) (- x y)) 9 4)", "5"),
         ("(define f (lambda (n) (if (< n 2) n (+ (f (- n 1)) (f (- n 2)))))) (f 12)", "144"),
+        ("(define x 1) (define f (lambda () x)) (define x 2) (f) ; the later one", "2"),
+        ("(define add (lambda (n) (lambda (m) (+ n m)))) ((add 3) 4)", "7"),
         ("(define p (cons 1 2)) (set-car p p) (set-cdr p ()) (eq p (car p))", "t"),
         ("(car 1)", "error: the value isn't a pair"),
         ("(nobody)", "error: nobody isn't bound"),
         ("(1 2)", "error: the value isn't a function"),
+        ("((lambda (x) x))", "error: an argument is missing"),
+        ("((lambda (x) x) 1 2)", "error: an argument is too much"),
+        ("((lambda (1) 2) 3)", "error: a name isn't a symbol"),
+        ("(null 1 2)", "error: null has other arguments"),
         ("(car (list 1)", "error: a ) is missing"),
-    ];
-    for (program, value) in expected {
-        assert_eq!(on_one(program), value, "{program}");
-    }
+        ("(list 1))", "error: a ) is too much"),
+        ("''a", "(quote a)"),
+        ("'(1 ('2))", "(1 ((quote 2)))"),
+        ("(list 'a')", "error: nothing follows '"),
+        ("'", "error: nothing follows '"),
+    ]);
 }
 
 #[test]
-fn a_deep_recursion_runs_out_of_registers() {
-    let program = "(define f (lambda (n) (if (eq n 0) 0 (+ 1 (f (- n 1)))))) (f 500)";
-    assert_eq!(on_one(program), "error: no register is left");
-    // A tail call takes none.
+fn numbers_have_61_bits() {
+    have_values(&[
+        ("1152921504606846975", "1152921504606846975"),
+        ("(- -1152921504606846974 1)", "-1152921504606846975"),
+        ("(* 1073741823 1073741825)", "1152921504606846975"),
+        ("(+ 1152921504606846975 1)", "error: the number is too large"),
+        ("(* 4294967296 4294967296)", "error: the number is too large"),
+        ("1152921504606846976", "error: the number is too large"),
+        ("99999999999999999999", "error: the number is too large"),
+    ]);
+}
+
+#[test]
+fn strings_have_values() {
+    have_values(&[
+        (r#""a b""#, r#""a b""#),
+        (r#""tab\t, line\n, quote\", backslash\\""#, r#""tab\t, line\n, quote\", backslash\\""#),
+        ("\"two\nlines\"", r#""two\nlines""#),
+        (r#"(list "a" 'b 3 "")"#, r#"("a" b 3 "")"#),
+        (r#"(string-length ";(b)'")"#, "5"),
+        (r#"(string-length "\"\n\\")"#, "3"),
+        (r#"(string-length "größer")"#, "6"),
+        (r#"(string-append "ab" "" "cd" "e")"#, r#""abcde""#),
+        ("(string-append)", r#""""#),
+        (r#"(string=? "abc" (string-append "a" "bc"))"#, "t"),
+        (r#"(string=? "abc" "abd")"#, "()"),
+        (r#"(define s "a") (list (eq s s) (eq s "a"))"#, "(t ())"),
+        (r#"(list (string? "") (string? 'a) (string? 1) (string? ()))"#, "(t () () ())"),
+        (r#"(string-append (number->string (- 2 44)) "!")"#, r#""-42!""#),
+    ]);
+}
+
+#[test]
+fn wrong_strings_are_errors() {
+    have_values(&[
+        ("(string-length 7)", "error: the value isn't a string"),
+        ("(string-length ())", "error: the value isn't a string"),
+        (r#"(string-append "a" 'b)"#, "error: the value isn't a string"),
+        (r#"(string=? "a" 1)"#, "error: the value isn't a string"),
+        (r#"(number->string "1")"#, "error: the value isn't a number"),
+        (r#"(+ 1 "1")"#, "error: the value isn't a number"),
+        (r#"(car "a")"#, "error: the value isn't a pair"),
+        ("(string-length)", "error: string-length has other arguments"),
+        (r#"(list "abc)"#, r#"error: a " is missing"#),
+        (r#""abc\"#, r#"error: a " is missing"#),
+        (r#""a\qb""#, r"error: \q isn't an escape"),
+    ]);
+    let program = r#"(define double (lambda (s) (double (string-append s s)))) (double "ab")"#;
+    assert_eq!(on_one(program), "error: the object would have too many bytes");
+}
+
+#[test]
+fn a_recursion_is_as_deep_as_the_heap_allows() {
+    // At the bottom a loop makes more objects than there are slots, while 10,000 calls wait.
+    let sum = "(define loop (lambda (n) (if (eq n 0) 0 (loop (- n 1)))))
+        (define f (lambda (n) (if (eq n 0) (loop 10000) (+ n (f (- n 1))))))";
+    let outcome = on_one_of(&format!("{sum} (f 10000)"), 80_000);
+    assert_eq!(outcome.values[0], "50005000");
+    assert!(outcome.cycles > 1, "{} cycles", outcome.cycles);
+    let outcome = on_one_of(&format!("{sum} (f 100000)"), LARGE);
+    assert_eq!(outcome.values[0], "5000050000");
+    let endless = "(define f (lambda (n) (+ n (f n)))) (f 1)";
+    assert_eq!(on_one(endless), "error: the node has no slot left");
+    // A call in last place takes no frame.
     let program = "(define f (lambda (n) (if (eq n 0) 'done (f (- n 1))))) (f 3000)";
     assert_eq!(on_one(program), "done");
 }
 
 #[test]
-fn a_long_list_is_shown() {
+fn a_list_of_100_000_elements_is_made_summed_and_shown() {
     let program = "(define up (lambda (n list) (if (eq n 0) list (up (- n 1) (cons n list)))))
-        (up 600 ())";
-    let numbers: Vec<String> = (1..=600).map(|it| it.to_string()).collect();
-    assert_eq!(on_one(program), format!("({})", numbers.join(" ")));
+        (define numbers (up 100000 ()))
+        (define add (lambda (list sum) (if (null list) sum (add (cdr list) (+ sum (car list))))))
+        (cons (add numbers 0) numbers)";
+    let outcome = on_one_of(program, LARGE);
+    assert_eq!(outcome.values[0], up_to(100_000).replacen('(', "(5000050000 ", 1));
+    assert!(outcome.cycles > 1, "{} cycles", outcome.cycles);
+}
+
+#[test]
+fn what_is_shown_is_read_again() {
+    let numbers = up_to(100_000);
+    assert_eq!(on_one_of(&format!("'{numbers}"), LARGE).values[0], numbers);
+    let nested = "(".repeat(10_000) + &")".repeat(10_000);
+    // (The brackets in the middle are (), which is shown as such.)
+    assert_eq!(on_one_of(&format!("'{nested}"), LARGE).values[0], nested);
+    // While a list in a list is shown, what follows it is in a register.
+    let too_deep = "(".repeat(70_000) + &" 1)".repeat(70_000);
+    assert_eq!(on_one_of(&format!("'{too_deep}"), LARGE).values[0], "error: no register is left");
 }
 
 #[test]
@@ -77,6 +179,19 @@ fn nodes_send_lists_to_each_other() {
     let sums = include_str!("../sum.lisp");
     let squares = include_str!("../squares.lisp");
     assert_eq!(on_two(sums, squares).values[1], "2870");
+}
+
+#[test]
+fn nodes_send_strings_to_each_other() {
+    // The second node reads the first one's string, and sends back one of its own, with 2,000
+    // characters: more than a window of letters carries.
+    let first = r#"(send 1 (list "größer" "")) (string-length (receive))"#;
+    let second = r#"(define texts (receive))
+        (define times (lambda (n s) (if (eq n 0) "" (string-append s (times (- n 1) s)))))
+        (send 0 (times 200 "0123456789"))
+        (list (string-append (car texts) "!") (string? (car (cdr texts))) texts)"#;
+    let outcome = on_two(first, second);
+    assert_eq!(outcome.values, ["2000", r#"("größer!" t ("größer" ""))"#]);
 }
 
 #[test]
