@@ -1,9 +1,8 @@
 """What tests/ends and tests/kills share: the disks of a space as docs/DISK.md and docs/FORMATS.md define them, what the
-nodes on them reach, and programs that act at random. And what other tests share: cases whose saves write events, and an image
-of an object with bytes."""
+nodes on them reach, and programs that act at random. And what tests/run and tests/memory share: cases whose saves write
+events."""
 import random
 import re
-import struct
 import subprocess
 from dataclasses import dataclass, field
 from pathlib import Path
@@ -34,17 +33,6 @@ IMAGE = re.compile(r"4D52([0-9A-F]{2})+")
 
 class Wrong(Exception):
     """What a space showed that it must not."""
-
-
-def image_with_bytes(data: bytes, word: int) -> bytes:
-    """The image of node 0 of two in a wide space whose objects have no places, and as many bytes as these at most. It has two
-    registers and four slots; register 0 has an object with this word and these bytes (docs/FORMATS.md, "Versions 4 and 5")."""
-    sizes = b"MR\4" + struct.pack(">BIBBHI", 0, len(data), 2, 0, 2, 4)
-    before = bytes(3 * 8 + 4) + bytes(1 + 8 + 8) + b"\0" + bytes(8)  # phases, ring, token, reports
-    registers = struct.pack(">BBIQB", 1, 0, 0, 1, 0)
-    slot = struct.pack(">BQQQI", 1, 1, 0, word, len(data)) + data + b"\0"
-    behind = bytes(4 * 4) + bytes(8 + 4 + 8)  # lists, and the link to node 1
-    return sizes + before + registers + struct.pack(">I", 1) + slot + behind
 
 
 class Ref(NamedTuple):
