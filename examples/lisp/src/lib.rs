@@ -257,8 +257,10 @@ impl<'r> Lisp<'r> {
 
     // Asks the owner of an object for its word or its bytes, which are this many.
     fn ask(&mut self, object: &Root<'r, Node>, what: u32, length: usize) -> Result<Vec<u8>> {
-        object.give(object.reference().node, ASKED | what)?;
         let mut bytes = Vec::new();
+        if length > 0 {
+            object.give(object.reference().node, ASKED | what)?;
+        }
         while bytes.len() < length {
             bytes.extend_from_slice(&self.wait(DATA)?.0.to_le_bytes()[..PART]);
         }
