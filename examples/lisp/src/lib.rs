@@ -106,9 +106,12 @@ impl<'r> Lisp<'r> {
 
     // A new object. If the node is full, two collection cycles come first.
     fn alloc(&mut self, places: u8) -> Result<Root<'r, Node>> {
-        let mut made = self.roots.alloc(places);
-        let last = self.roots.node().state()?.swept + 2;
-        while matches!(made, Err(Refusal::ArenaFull)) && self.roots.node().state()?.swept < last {
+        let (mut made, mut last) = (self.roots.alloc(places), None);
+        while matches!(made, Err(Refusal::ArenaFull)) {
+            let swept = self.roots.node().state()?.swept;
+            if swept >= *last.get_or_insert(swept + 2) {
+                break;
+            }
             self.machine.ask_for_cycle();
             self.wait_turn()?;
             made = self.roots.alloc(places);

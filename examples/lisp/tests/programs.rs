@@ -47,6 +47,8 @@ fn expressions_have_values() {
         ("(define f (lambda (n) (if (< n 2) n (+ (f (- n 1)) (f (- n 2)))))) (f 12)", "144"),
         ("(define x 1) (define f (lambda () x)) (define x 2) (f) ; the later one", "2"),
         ("(define add (lambda (n) (lambda (m) (+ n m)))) ((add 3) 4)", "7"),
+        ("((lambda (car) (car 1)) (lambda (n) (+ n 1)))", "2"),
+        ("(define + *) (+ 3 4)", "12"),
         ("(define p (cons 1 2)) (set-car p p) (set-cdr p ()) (eq p (car p))", "t"),
         ("(car 1)", "error: the value isn't a pair"),
         ("(nobody)", "error: nobody isn't bound"),
