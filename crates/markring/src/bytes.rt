@@ -38,7 +38,7 @@ pub(crate) fn write<R: Wait, D: Disk + Drop>(
     }
 }
 
-/// The text of a count of bytes of an object, from an offset on, or why there is none.
+/// The text of a count of bytes of an object, from an offset on, or why it can't be read.
 pub(crate) fn read<R: Wait, D: Disk + Drop>(
     rt: &R,
     space: &Space<D>,
