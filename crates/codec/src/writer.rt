@@ -149,18 +149,27 @@ impl Writer {
         count <= self.bytes.capacity() - self.bytes.len()
     }
 
-    // Appends bytes for which there is no room. The writer is moved out and in again, so that no
-    // call borrows it, and its parts stay in registers between the calls that inline this one.
+    /// Takes the writer out, and leaves one that has nothing. A call that isn't inlined can be given
+    /// the writer by value then, and gives it back. So no call borrows it, and its parts stay in
+    /// registers.
     #[inline(always)]
-    fn overflow(&mut self, part: &[u8])
-        ensures { Writes self.old self.new part.now ⊤ }
+    pub fn take(&mut self) -> Writer
+        ensures { result ≡ self.old }
     {
         let empty = Writer {
             bytes: Vec::new(*self.bytes.allocator()),
             limit: self.limit,
             kept: self.kept,
         };
-        *self = mem::replace(self, empty).grown(part);
+        mem::replace(self, empty)
+    }
+
+    // Appends bytes for which there is no room.
+    #[inline(always)]
+    fn overflow(&mut self, part: &[u8])
+        ensures { Writes self.old self.new part.now ⊤ }
+    {
+        *self = self.take().grown(part);
     }
 
     #[cold]

@@ -105,17 +105,27 @@ fn put_slot(out: &mut Writer, wide: bool, slot: Slot<&Object>)
     }
 }
 
-/// Appends how many slots there are, in four bytes, and the slots. The loop is there for each kind of
-/// space: so in that of plain spaces all calls are inlined.
+/// Appends how many slots there are, in four bytes, and the slots. The loop is there for each kind
+/// of space: so in that of plain spaces all calls are inlined.
 pub(crate) fn put_slot_list(out: &mut Writer, wide: bool, heap: &Heap)
     ensures { Puts (counted number4 (slot_format wide Second)) out.old out.new
         (map stored_slot heap.now.heap.slots) }
 {
     if wide {
-        put_each_slot(out, true, heap);
+        *out = put_wide_slots(out.take(), heap);
     } else {
         put_each_slot(out, false, heap);
     }
+}
+
+#[inline(never)]
+fn put_wide_slots(out: Writer, heap: &Heap) -> Writer
+    ensures { Puts (counted number4 (slot_format true Second)) out result
+        (map stored_slot heap.now.heap.slots) }
+{
+    let mut out = out;
+    put_each_slot(&mut out, true, heap);
+    out
 }
 
 #[tactic(auto, using(crate::proofs::Joins::unwritten))]

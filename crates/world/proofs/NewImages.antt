@@ -1,5 +1,5 @@
 -- The image of a new node is short.
-use Rattle.std.proofs.Common.{◌≡◌, ◌∙◌, ◌≢◌, ℕ, zero, suc, ◌+◌, ◌*◌, ◌<◌, ◌≤◌, ◌==◌, if◌then◌else◌, Bool, true, false, List, [], ◌∷◌, length, drop, replicate, None, refl, ap, arith}
+use Rattle.std.proofs.Common.{◌≡◌, ◌∙◌, ◌≢◌, ℕ, zero, suc, ◌+◌, ◌*◌, ◌≤◌, ◌==◌, if◌then◌else◌, Bool, true, false, List, [], ◌∷◌, length, drop, replicate, None, refl, ap, arith}
 use Rattle.std.specs.List.{flat_map, remove}
 use Rattle.codec.specs.Formats.{number2, number4, number8, signed8}
 use Rattle.std.proofs.lemmas.List.{length-append, length-drop, length-replicate}

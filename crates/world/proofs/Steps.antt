@@ -27,7 +27,6 @@ use Rattle.model.proofs.Refusals.{event-never, memory-or}
 use Rattle.node.specs.Invariant.{IsNode}
 use Rattle.node.specs.Summaries.{summary_of}
 use Rattle.model.specs.Heaps.{heap_bytes}
-use Rattle.model.specs.declared.summary.Summary.{Summary}
 use Rattle.world.specs.Sites.{SiteView, Saves, bases, bases_acked}
 use Rattle.world.specs.Shows.{SiteBases, ShowsWorld, SavesTooLarge, Stepped, Given, IsSim, no_site, site_at, site_bases, bases_of, bases_at, bases_after, summary_at, bytes_read}
 use Rattle.world.specs.Spaces.{outcome_by}
