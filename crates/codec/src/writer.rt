@@ -149,9 +149,9 @@ impl Writer {
         count <= self.bytes.capacity() - self.bytes.len()
     }
 
-    /// Takes the writer out, and leaves one that has nothing. A call that isn't inlined can be given
-    /// the writer by value then, and gives it back. So no call borrows it, and its parts stay in
-    /// registers.
+    /// Takes the writer out, and leaves one that has nothing. So a call that isn't inlined can be
+    /// given the writer by value, and give it back. It doesn't borrow it, and the writer's parts stay
+    /// in registers.
     #[inline(always)]
     pub fn take(&mut self) -> Writer
         ensures { result ≡ self.old }
