@@ -4,7 +4,9 @@
 //     trees DEPTH
 //
 // The space ends with its process, so nodes are released, without images. A collection cycle runs
-// whenever node 0 has no slot left.
+// whenever node 0 has no slot left. With RECLAIMS, the space is wide, and node 0 reclaims instead:
+// the young, whenever YOUNG objects were made; and all, when there are twice as many as the last
+// time left, and at least LEAST_LIVE.
 #define _POSIX_C_SOURCE 200809L
 #include <inttypes.h>
 #include <stdint.h>
@@ -17,14 +19,14 @@ enum { LEAST = 4, MOST = 20 };
 
 #include <markring.h>
 
-enum { SLOTS = 1048576, REGISTERS = 64, SWEPT = 1048576 };
+enum { SLOTS = 1048576, REGISTERS = 64, SWEPT = 1048576, YOUNG = 16384, LEAST_LIVE = 524288 };
 
 // The register of the long-lived tree, and the first of the others. A tree takes a register for
 // each level.
 enum { LONG_LIVED = 0, FIRST = 1 };
 
 static markring_node nodes[2];
-static unsigned long cycles;
+static unsigned long cycles, young_reclaims, reclaims, made, left;
 
 static void must(int status, const char *call)
 {
@@ -84,10 +86,42 @@ static void collect(void)
     } while (!is_swept());
 }
 
+#ifdef RECLAIMS
+
+static void make_room(void)
+{
+    markring_answer answer;
+    markring_state state;
+    if (++made < YOUNG) {
+        return;
+    }
+    MUST(markring_node_reclaim_young(&nodes[0], &answer));
+    MUST(markring_node_state(&nodes[0], &state));
+    young_reclaims++;
+    made = 0;
+    if (state.live >= LEAST_LIVE && state.live >= 2 * left) {
+        MUST(markring_node_reclaim(&nodes[0], &answer));
+        MUST(markring_node_state(&nodes[0], &state));
+        reclaims++;
+        left = state.live;
+    }
+    MUST(markring_node_release(&nodes[0]));
+}
+
+#else
+
+static void make_room(void)
+{
+    made++;
+}
+
+#endif
+
 // Makes a tree in the register. The registers above it are used too.
 static void make(uint16_t reg, int depth)
 {
     markring_answer answer;
+    make_room();
     int status = markring_node_alloc(&nodes[0], reg, 2, &answer);
     if (status == MARKRING_ARENA_FULL) {
         collect();
@@ -128,8 +162,14 @@ static void drop_from(uint16_t reg, int depth)
 
 static void begin(void)
 {
+#ifdef RECLAIMS
+    enum { WIDE = 1 };
+#else
+    enum { WIDE = 0 };
+#endif
+    markring_shape shape = {SLOTS, 0, REGISTERS, 2, 8, WIDE};
     for (uint8_t own = 0; own < 2; own++) {
-        MUST(markring_node_new(&nodes[own], 2, REGISTERS, SLOTS, own, 0));
+        MUST(markring_node_make(&nodes[own], &shape, own, 0));
     }
 }
 
@@ -154,7 +194,8 @@ static uint64_t check_long_lived(void)
 
 static void end(void)
 {
-    fprintf(stderr, "%lu cycles\n", cycles);
+    fprintf(stderr, "%lu cycles, %lu reclaims of the young, %lu of all\n", cycles, young_reclaims,
+        reclaims);
     MUST(markring_node_free(&nodes[0]));
     MUST(markring_node_free(&nodes[1]));
 }

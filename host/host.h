@@ -19,8 +19,6 @@
 #include "packets.h"
 #include "store.h"
 
-#define HOST_VERSION "1"
-
 enum {
     // A reply address is at most this long, with its final zero.
     HOST_REPLY = 128,
@@ -71,6 +69,10 @@ typedef struct host_options {
     // Node 0 begins a cycle when there are twice as many objects as after the last one, and at
     // least this many; 0 for never.
     uint32_t cycle_objects;
+    // The node reclaims the young when this many objects were made since the last time; and all,
+    // when it has twice as many as after the last time that it did so, and at least this many. It
+    // does both when a program finds it full. 0 for never.
+    uint32_t reclaim_objects;
     // While this many letters wait, the node takes no messages; 0 for LETTERS_MOST.
     uint64_t letters_most;
     // While the node's image has more bytes, events of programs that make it grow are refused; 0
@@ -112,7 +114,7 @@ typedef struct host_counts {
     // Frames that weren't taken because too many letters wait or the image is too large; what was
     // dropped for lack of memory.
     uint64_t full, dropped;
-    uint64_t freed; // objects
+    uint64_t freed, reclaimed; // objects, by cycles and without them
 } host_counts;
 
 typedef struct host host;

@@ -149,6 +149,10 @@ struct host {
     bool needs_cycle;
     uint64_t needed_in; // the cycle in which a program found the node full
     bool asked;         // for a cycle
+    // The objects that the last reclaim left, and the last one of all.
+    uint32_t objects_kept, objects_kept_by_all;
+    // How often the node has reclaimed in this turn because it was full.
+    int full_reclaims;
     uint64_t cycle_at, objects_after, saved_at, save_took, save_began;
     char stop_reply[HOST_REPLY];
     notes notes;
@@ -189,6 +193,8 @@ void begin_line(host *it);
 void forget_line(host *it);
 
 void collect(host *it, uint64_t now);
+// Frees private garbage of a node that is full. Returns whether it has slots again.
+bool reclaim_if_full(host *it);
 void send_packets(host *it, uint64_t now);
 // Sends the window to this node again, as soon as possible.
 void send_again(host *it, uint8_t to);

@@ -223,6 +223,9 @@ static int perform_event(
     }
     size_t gone = moves_of(kind).gone + replaced_by(it, event);
     int status = act(it, event, answer);
+    if (status == MARKRING_ARENA_FULL && reclaim_if_full(it)) {
+        status = act(it, event, answer);
+    }
     if (status == MARKRING_OK && kind != MARKRING_EVENT_WORD) {
         note_change(it, growth, gone);
     }

@@ -256,17 +256,75 @@ static int scan(host *it)
     return status;
 }
 
-// About how many bytes of the image are gone after a step of a sweep. Nobody counts the bytes of
-// objects, so after the last step the image is looked at, if objects may have some.
-static size_t freed_bytes(const host *it, const markring_answer *swept)
+// About how many bytes of the image are gone with these objects. Nobody counts the bytes of
+// objects, so after the last step of a sweep, and after a reclaim, the image is looked at, if
+// objects may have some.
+static size_t freed_bytes(const host *it, uint32_t count, bool is_last)
 {
-    size_t bytes = it->shape.bytes > 0 && swept->done ? it->measured : 0;
-    return OBJECT_BYTES * (size_t)swept->count + bytes;
+    size_t bytes = it->shape.bytes > 0 && is_last ? it->measured : 0;
+    return OBJECT_BYTES * (size_t)count + bytes;
+}
+
+static uint32_t least_of(uint32_t a, uint32_t b)
+{
+    return a < b ? a : b;
+}
+
+// Frees private garbage: all of it, or that of the young objects. Returns whether there was any.
+static bool reclaim(host *it, uint8_t kind)
+{
+    markring_event event = {.kind = kind};
+    markring_answer answer;
+    markring_state state;
+    bool any = markring_node_act(&it->node, &event, &answer) == MARKRING_OK && answer.count > 0;
+    if (any) {
+        note_change(it, 0, freed_bytes(it, answer.count, true));
+        it->counts.reclaimed += answer.count;
+    }
+    if (markring_node_state(&it->node, &state) == MARKRING_OK) {
+        bool is_all = kind == MARKRING_EVENT_RECLAIM;
+        it->objects_kept = state.live;
+        it->objects_kept_by_all = is_all ? state.live : least_of(state.live, it->objects_kept_by_all);
+    }
+    return any;
+}
+
+bool reclaim_if_full(host *it)
+{
+    static const uint8_t KINDS[] = {MARKRING_EVENT_RECLAIM_YOUNG, MARKRING_EVENT_RECLAIM};
+    bool any = false;
+    while (it->options.reclaim_objects > 0 && it->full_reclaims < 2 && !any) {
+        any = reclaim(it, KINDS[it->full_reclaims++]);
+    }
+    return any;
+}
+
+// Reclaims the young, if many objects were made since the last time. Then it reclaims all, if there
+// are twice as many as after the last time that it did.
+static void reclaim_if_due(host *it)
+{
+    markring_state state;
+    uint32_t least = it->options.reclaim_objects;
+    it->full_reclaims = 0;
+    if (least == 0 || markring_node_state(&it->node, &state) != MARKRING_OK) {
+        return;
+    }
+    // (a sweep may have freed more since)
+    it->objects_kept = least_of(state.live, it->objects_kept);
+    it->objects_kept_by_all = least_of(state.live, it->objects_kept_by_all);
+    if (state.live - it->objects_kept >= least) {
+        (void)reclaim(it, MARKRING_EVENT_RECLAIM_YOUNG);
+        state.live = it->objects_kept;
+    }
+    if (state.live >= least && state.live / 2 >= it->objects_kept_by_all) {
+        (void)reclaim(it, MARKRING_EVENT_RECLAIM);
+    }
 }
 
 void collect(host *it, uint64_t now)
 {
     markring_answer answer;
+    reclaim_if_due(it);
     bool is_late = begin_if_due(it, now);
     int scanned = scan(it), passed = markring_node_pass(&it->node, &answer);
     if (passed == MARKRING_OK) {
@@ -274,7 +332,7 @@ void collect(host *it, uint64_t now)
     }
     int swept = markring_node_sweep(&it->node, SWEEPS, &answer);
     if (swept == MARKRING_OK) {
-        note_change(it, MESSAGE_BYTES, freed_bytes(it, &answer));
+        note_change(it, MESSAGE_BYTES, freed_bytes(it, answer.count, answer.done));
         it->counts.freed += answer.count;
     }
     bool refused = is_late || scanned == MARKRING_IMAGE_TOO_LARGE || scanned == MARKRING_MEMORY

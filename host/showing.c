@@ -54,7 +54,9 @@ const host_number HOST_NUMBER[] = {
         "Frames that weren't taken because too many letters wait"),
     NUMBER("dropped", counts.dropped, "dropped_total",
         "Frames, requests and answers that were dropped for lack of memory or room"),
-    NUMBER("freed", counts.freed, "freed_objects_total", "Objects that the node has freed"),
+    NUMBER("freed", counts.freed, "freed_objects_total", "Objects that cycles have freed"),
+    NUMBER("reclaimed", counts.reclaimed, "reclaimed_objects_total",
+        "Private objects that the node has freed without a cycle"),
 };
 const size_t HOST_NUMBERS = sizeof HOST_NUMBER / sizeof *HOST_NUMBER;
 

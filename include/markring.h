@@ -1,5 +1,6 @@
 // markring as a C library: nodes of an object space, and spaces whose nodes are in threads of one
-// process. docs/RULES.md says what a space does; its words are used here. C11, or C++.
+// process. docs/RULES.md says what a space does; its words are used here. C11, or C++; markring.hpp
+// has classes for C++17.
 //
 // # Statuses
 //
@@ -57,6 +58,12 @@
 #ifdef __cplusplus
 extern "C" {
 #endif
+
+// The version of the library to which this header belongs: all of it, and its parts.
+#define MARKRING_VERSION "0.1.0"
+#define MARKRING_VERSION_MAJOR 0
+#define MARKRING_VERSION_MINOR 1
+#define MARKRING_VERSION_PATCH 0
 
 // The statuses. Those from 1 to 26 are the refusals of docs/RULES.md.
 enum markring_status {
@@ -137,6 +144,32 @@ enum markring_status {
     MARKRING_NO_LOG = 110
 };
 
+// The limits of docs/RULES.md and docs/FORMATS.md. The sizes of a space are those of markring_shape.
+enum markring_limit {
+    MARKRING_LEAST_NODES = 2,
+    MARKRING_MOST_NODES = 64,
+    MARKRING_PLAIN_REGISTERS = 256,
+    MARKRING_PLAIN_SLOTS = 1048576,
+    MARKRING_PLAIN_PLACES = 8,
+    MARKRING_WIDE_REGISTERS = 65535,
+    MARKRING_WIDE_SLOTS = 16777216,
+    MARKRING_WIDE_PLACES = 255,
+    MARKRING_WIDE_BYTES = 16777216,
+    // The bytes of an image of a plain space.
+    MARKRING_PLAIN_IMAGE = 67108864,
+    // How many messages markring_node_frames offers, and how many bytes it writes.
+    MARKRING_WINDOW = 32,
+    MARKRING_WINDOW_BYTES = 1856,
+    // The bytes of a frame at most, and those of an acknowledgement.
+    MARKRING_FRAME_BYTES = 48,
+    MARKRING_ACK_BYTES = 11,
+    // The bytes of a log of events.
+    MARKRING_LOG_BYTES = 1048576
+};
+
+// The last number of a message on a link, and of a cycle.
+#define MARKRING_LAST_NUMBER (UINT64_C(1) << 48)
+
 // The handles. Initialise them with {0}.
 typedef struct markring_node {
     void *at;
@@ -200,7 +233,9 @@ enum markring_answer_kind {
     MARKRING_ANSWER_REPEAT = 13,
     // A data frame: the message came before its turn. The node keeps it until then, unless its
     // position is occupied.
-    MARKRING_ANSWER_EARLY = 14
+    MARKRING_ANSWER_EARLY = 14,
+    // Reclaim. `count`: how many private objects were freed.
+    MARKRING_ANSWER_RECLAIMED = 15
 };
 
 // The answer to an event or to a frame.
@@ -234,7 +269,9 @@ enum markring_event_kind {
     MARKRING_EVENT_SCAN = 14,
     MARKRING_EVENT_PASS = 15,
     MARKRING_EVENT_SWEEP = 16,    // count
-    MARKRING_EVENT_NEXT = 17      // node: the sender
+    MARKRING_EVENT_NEXT = 17,     // node: the sender
+    MARKRING_EVENT_RECLAIM = 20,
+    MARKRING_EVENT_RECLAIM_YOUNG = 21
 };
 
 // An event as a value. `reg`, `source` and `object` are registers.
@@ -293,6 +330,24 @@ typedef struct markring_link {
     uint64_t received; // received from the peer
     uint64_t received_saved; // of these, held by a saved state
 } markring_link;
+
+// The ages of objects. A Reclaim makes all objects of its node old.
+enum markring_age {
+    MARKRING_OLD = 0, // it was there at the last Reclaim, or it was shared when it was made
+    MARKRING_YOUNG = 1, // it was made since then
+    MARKRING_REMEMBERED = 2 // it was made since then, and an old object may refer to it
+};
+
+// An object, except for its bytes and what its places hold.
+typedef struct markring_object {
+    markring_ref reference;
+    uint64_t word;
+    uint32_t bytes; // how many
+    uint8_t places; // how many
+    uint8_t marked; // 1 if it has the mark of the node's cycle, as every new object has; else 0
+    uint8_t shared; // 1 if other nodes may know it, else 0
+    uint8_t age; // an enum markring_age
+} markring_object;
 
 // # Nodes
 //
@@ -404,6 +459,22 @@ int markring_node_put(markring_node *node, uint16_t object, uint8_t place, uint1
 // MARKRING_CONGESTED; far place; MARKRING_LINK_SPENT.
 int markring_node_get(markring_node *node, uint16_t object, uint8_t place, uint32_t label,
     markring_answer *answer);
+
+// Frees the private objects that nothing needs any more, without the other nodes. An object of a
+// wide space is private until its node sends a reference to it; from then on only a cycle frees it.
+// Needed is what a register or a letter names, what is shared, and what the places of these lead
+// to. It takes time linear in the slots that were ever used. Answer: RECLAIMED.
+// MARKRING_NOTHING_TO_DO: the node has no private object, as always in a plain space.
+int markring_node_reclaim(markring_node *node, markring_answer *answer);
+
+// The same, but only of objects that were made since the last reclaim, of either kind. The older
+// ones count as needed, and so does what was stored into one of them since then; a later
+// markring_node_reclaim finds out about these. It takes time linear in the blocks of 64 slots that
+// have objects made since the last reclaim, in the registers and in the letters, and writes a byte
+// for each slot. Answer: RECLAIMED.
+// MARKRING_NOTHING_TO_DO: the node has no object that was made since then, as always in a plain
+// space.
+int markring_node_reclaim_young(markring_node *node, markring_answer *answer);
 
 // Begins the next cycle. Answer: BEGUN.
 // MARKRING_NOT_DIRECTOR; MARKRING_CYCLE_RUNNING; MARKRING_CYCLES_SPENT; MARKRING_LINK_SPENT.
@@ -576,6 +647,25 @@ int markring_node_bytes(markring_node *node, uint16_t object, uint32_t offset, u
 // Own place, without the place.
 int markring_node_bytes_length(markring_node *node, uint16_t object, uint32_t *length);
 
+// How many slots were ever used. All objects of the node are in the slots below `*slots`, also
+// those that no register refers to.
+int markring_node_slots(markring_node *node, uint32_t *slots);
+
+// The object in a slot.
+// MARKRING_NOTHING: the slot has no object, as one that was never used.
+int markring_node_object(markring_node *node, uint32_t slot, markring_object *object);
+
+// What a place of the object in a slot holds, a reference or nothing.
+// MARKRING_NOTHING: the slot has no object. MARKRING_NO_FIELD: the object has no such place.
+int markring_node_place(markring_node *node, uint32_t slot, uint8_t place,
+    markring_ref *reference);
+
+// Writes `count` bytes of the object in a slot, from `offset` on. `*needed` is `count` then.
+// MARKRING_NOTHING: the slot has no object. MARKRING_NO_BYTES: the object doesn't have all of these
+// bytes. MARKRING_SHORT_BUFFER. They are tested in this order.
+int markring_node_bytes_at(markring_node *node, uint32_t slot, uint32_t offset, uint32_t count,
+    uint8_t *buffer, size_t length, size_t *needed);
+
 // `*flag` is 1 if an event has changed the node since the image or batch that was kept last, or
 // since the last markring_node_release, or, if there was neither, since the handle was filled; else
 // 0. An acknowledgement, a repeat and an early message change nothing in this sense.
@@ -679,6 +769,8 @@ int markring_cell_put(markring_cell *cell, uint16_t object, uint8_t place, uint1
     markring_answer *answer);
 int markring_cell_get(markring_cell *cell, uint16_t object, uint8_t place, uint32_t label,
     markring_answer *answer);
+int markring_cell_reclaim(markring_cell *cell, markring_answer *answer);
+int markring_cell_reclaim_young(markring_cell *cell, markring_answer *answer);
 int markring_cell_begin(markring_cell *cell, markring_answer *answer);
 int markring_cell_scan(markring_cell *cell, markring_answer *answer);
 int markring_cell_pass(markring_cell *cell, markring_answer *answer);
@@ -762,6 +854,25 @@ int markring_cell_bytes(markring_cell *cell, uint16_t object, uint32_t offset, u
 // How many bytes that object has. It takes no memory.
 // Own place, without the place.
 int markring_cell_bytes_length(markring_cell *cell, uint16_t object, uint32_t *length);
+
+// How many slots were ever used. All objects of the node are in the slots below `*slots`, also
+// those that no register refers to.
+int markring_cell_slots(markring_cell *cell, uint32_t *slots);
+
+// The object in a slot.
+// MARKRING_NOTHING: the slot has no object, as one that was never used.
+int markring_cell_object(markring_cell *cell, uint32_t slot, markring_object *object);
+
+// What a place of the object in a slot holds, a reference or nothing.
+// MARKRING_NOTHING: the slot has no object. MARKRING_NO_FIELD: the object has no such place.
+int markring_cell_place(markring_cell *cell, uint32_t slot, uint8_t place,
+    markring_ref *reference);
+
+// Writes `count` bytes of the object in a slot, from `offset` on. `*needed` is `count` then.
+// MARKRING_NOTHING: the slot has no object. MARKRING_NO_BYTES: the object doesn't have all of these
+// bytes. MARKRING_SHORT_BUFFER. They are tested in this order.
+int markring_cell_bytes_at(markring_cell *cell, uint32_t slot, uint32_t offset, uint32_t count,
+    uint8_t *buffer, size_t length, size_t *needed);
 
 // `*flag` is 1 if an event has changed the node since the last save or reopening, or since the
 // space was opened; else 0.
@@ -874,6 +985,16 @@ static inline int markring_answer_freed(const markring_answer *answer, uint32_t 
     }
     *count = answer->count;
     *done = answer->done;
+    return 1;
+}
+
+// RECLAIMED: how many objects were freed.
+static inline int markring_answer_reclaimed(const markring_answer *answer, uint32_t *count)
+{
+    if (answer->kind != MARKRING_ANSWER_RECLAIMED) {
+        return 0;
+    }
+    *count = answer->count;
     return 1;
 }
 

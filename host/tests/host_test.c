@@ -1585,6 +1585,114 @@ static void test_wide_size(void)
     free(at.stored);
 }
 
+// A node of a wide space whose programs have made this many objects, each in place of the last one.
+static void fill_wide(station *at, uint32_t least, int objects)
+{
+    markring_event alloc = {.kind = MARKRING_EVENT_ALLOC, .reg = 1};
+    options.reclaim_objects = least;
+    wide_places = 8;
+    make_node(at, 0, 3, true);
+    wide_places = 0;
+    options.reclaim_objects = 0;
+    settle(at, STORE_OK);
+    HOLDS(open_apart(at, 3, 103, 1, 2) == VERDICT_DONE);
+    for (int i = 0; i < objects; i++) {
+        HOLDS(perform_one(at, 3, 103, alloc) == MARKRING_OK);
+    }
+}
+
+// A list of this many objects in register 1.
+static void make_list(station *at, int objects)
+{
+    static const markring_event LIST[] = {
+        {.kind = MARKRING_EVENT_ALLOC, .reg = 2, .place = 1},
+        {.kind = MARKRING_EVENT_STORE, .object = 2, .reg = 1},
+        {.kind = MARKRING_EVENT_COPY, .reg = 1, .source = 2},
+    };
+    for (int i = 0; i < objects; i++) {
+        for (int event = 0; event < 3; event++) {
+            int status = perform_one(at, 3, 103, LIST[event]);
+            bool has_none = i == 0 && event == 1;
+            HOLDS(status == (has_none ? MARKRING_EMPTY_REGISTER : MARKRING_OK));
+        }
+    }
+}
+
+// Drops the list.
+static void drop_list(station *at)
+{
+    for (uint16_t reg = 1; reg <= 2; reg++) {
+        markring_event drop_one = {.kind = MARKRING_EVENT_DROP, .reg = reg};
+        HOLDS(perform_one(at, 3, 103, drop_one) == MARKRING_OK);
+    }
+}
+
+// A node reclaims the young when a program finds it full, and when as many objects were made as the
+// option says; 0 for never.
+static void test_reclaims(void)
+{
+    enum { SLOTS = 64, LEAST = 20 };
+    station at;
+    markring_event alloc = {.kind = MARKRING_EVENT_ALLOC, .reg = 1};
+    fill_wide(&at, 0, SLOTS);
+    HOLDS(perform_one(&at, 3, 103, alloc) == MARKRING_ARENA_FULL);
+    HOLDS(number_of(&at, "reclaimed") == 0 && number_of(&at, "live") == SLOTS);
+    drop(&at);
+    free(at.stored);
+    fill_wide(&at, 1000, SLOTS);
+    HOLDS(number_of(&at, "reclaimed") == 0 && number_of(&at, "live") == SLOTS);
+    HOLDS(perform_one(&at, 3, 103, alloc) == MARKRING_OK);
+    HOLDS(number_of(&at, "reclaimed") == SLOTS - 1 && number_of(&at, "live") == 2);
+    drop(&at);
+    open_host(&at);
+    settle(&at, STORE_OK);
+    HOLDS(number_of(&at, "live") == 2 && read_one(&at, 3, 1) == MARKRING_OK);
+    drop(&at);
+    free(at.stored);
+    fill_wide(&at, LEAST, LEAST - 1);
+    HOLDS(number_of(&at, "reclaimed") == 0);
+    HOLDS(perform_one(&at, 3, 103, alloc) == MARKRING_OK);
+    settle(&at, STORE_OK);
+    HOLDS(number_of(&at, "reclaimed") == LEAST - 1 && number_of(&at, "live") == 1);
+    drop(&at);
+    free(at.stored);
+}
+
+// It reclaims all when that leaves it full, and when it has twice as many objects as the last time
+// that it did.
+static void test_old_reclaims(void)
+{
+    enum { SLOTS = 64, LEAST = 10 };
+    station at;
+    markring_event alloc = {.kind = MARKRING_EVENT_ALLOC, .reg = 1};
+    markring_event drop_first = {.kind = MARKRING_EVENT_DROP, .reg = 1};
+    fill_wide(&at, 1000, 0);
+    make_list(&at, SLOTS);
+    HOLDS(perform_one(&at, 3, 103, alloc) == MARKRING_ARENA_FULL);
+    drop_list(&at);
+    HOLDS(perform_one(&at, 3, 103, alloc) == MARKRING_OK);
+    HOLDS(number_of(&at, "reclaimed") == SLOTS && number_of(&at, "live") == 1);
+    HOLDS(perform_one(&at, 3, 103, drop_first) == MARKRING_OK);
+    make_list(&at, SLOTS);
+    HOLDS(number_of(&at, "reclaimed") == SLOTS + 1 && number_of(&at, "live") == SLOTS);
+    drop(&at);
+    free(at.stored);
+    fill_wide(&at, LEAST, 0);
+    make_list(&at, 2 * LEAST);
+    for (int i = 0; i < LEAST; i++) {
+        HOLDS(number_of(&at, "reclaimed") == 0);
+        HOLDS(perform_one(&at, 3, 103, alloc) == MARKRING_OK);
+    }
+    settle(&at, STORE_OK);
+    HOLDS(number_of(&at, "reclaimed") == LEAST - 1 && number_of(&at, "live") == 2 * LEAST + 1);
+    drop_list(&at);
+    make_list(&at, 2 * LEAST);
+    settle(&at, STORE_OK);
+    HOLDS(number_of(&at, "live") == 2 * LEAST);
+    drop(&at);
+    free(at.stored);
+}
+
 // The status says how many bytes the image has, and that stays so when events change none of them.
 static void test_image(void)
 {
@@ -2000,6 +2108,8 @@ int main(void)
     test_wide();
     test_wide_growth();
     test_wide_size();
+    test_reclaims();
+    test_old_reclaims();
     test_bytes();
     test_byte_refusals();
     test_byte_requests();

@@ -37,6 +37,10 @@ enum { REGISTERS = 4, SLOTS = 12 };
             return markring_##type##_put(at, it->object, it->place, it->reg, answer); \
         case MARKRING_EVENT_GET: \
             return markring_##type##_get(at, it->object, it->place, it->label, answer); \
+        case MARKRING_EVENT_RECLAIM: \
+            return markring_##type##_reclaim(at, answer); \
+        case MARKRING_EVENT_RECLAIM_YOUNG: \
+            return markring_##type##_reclaim_young(at, answer); \
         case MARKRING_EVENT_BEGIN: \
             return markring_##type##_begin(at, answer); \
         case MARKRING_EVENT_SCAN: \
@@ -57,13 +61,13 @@ static markring_node nodes[2][2];
 CALLS(cell)
 static markring_cell cells[2][2];
 enum { WAYS = 4 };
-static unsigned long seen[MARKRING_ANSWER_EARLY + 1], refusals[25];
+static unsigned long seen[MARKRING_ANSWER_RECLAIMED + 1], refusals[25];
 
 static markring_event draw_event(uint64_t *seed)
 {
     // More of those that fill registers than of those that empty them.
     static const uint8_t KINDS[] = {1, 1, 1, 1, 2, 3, 4, 4, 5, 5, 6, 7, 8, 9, 9, 10, 10, 11, 12, 13,
-        14, 14, 14, 15, 15, 16, 16, 17};
+        14, 14, 14, 15, 15, 16, 16, 17, MARKRING_EVENT_RECLAIM, MARKRING_EVENT_RECLAIM_YOUNG};
     markring_event event = {0};
     event.kind = KINDS[below(seed, sizeof KINDS)];
     event.node = (uint8_t)below(seed, 3);
@@ -87,7 +91,7 @@ static void look_at(const markring_answer *answer)
     uint8_t done = 77, colour = 77;
     markring_letter letter;
     markring_ref reference = {77, 77, 77};
-    HOLDS(it.kind <= MARKRING_ANSWER_EARLY);
+    HOLDS(it.kind <= MARKRING_ANSWER_RECLAIMED);
     seen[it.kind]++;
     HOLDS((it.reference.generation != 0) == markring_answer_ref(&it, &reference));
     HOLDS(same_ref(reference, it.reference) || (reference.node == 77 && reference.slot == 77));
@@ -98,6 +102,7 @@ static void look_at(const markring_answer *answer)
     HOLDS((it.kind == MARKRING_ANSWER_LETTER) == markring_answer_letter(&it, &letter));
     HOLDS((it.kind == MARKRING_ANSWER_PASSED) == markring_answer_token(&it, &colour, &sum));
     HOLDS((it.kind == MARKRING_ANSWER_FREED) == markring_answer_freed(&it, &freed, &done));
+    HOLDS((it.kind == MARKRING_ANSWER_RECLAIMED) == markring_answer_reclaimed(&it, &freed));
     switch (it.kind) {
     case MARKRING_ANSWER_NEW:
     case MARKRING_ANSWER_SCANNED:
@@ -130,6 +135,10 @@ static void look_at(const markring_answer *answer)
         HOLDS(freed == it.count && done == it.done && done <= 1);
         it.count = 0;
         it.done = 0;
+        break;
+    case MARKRING_ANSWER_RECLAIMED:
+        HOLDS(freed == it.count);
+        it.count = 0;
         break;
     default:
         break;
@@ -208,6 +217,23 @@ static void acknowledge_between_cells(int i, uint8_t from, uint8_t to)
     } while (sender.acknowledged != receiver.received_saved);
 }
 
+// The node and the cell have the same object in a slot, or none.
+static void compare_object(markring_node *node, markring_cell *cell, uint32_t slot)
+{
+    markring_object one = {0}, two = {0};
+    int status = markring_node_object(node, slot, &one);
+    IS(status, markring_cell_object(cell, slot, &two));
+    HOLDS(same_ref(one.reference, two.reference) && one.word == two.word);
+    HOLDS(one.places == two.places && one.marked == two.marked && one.shared == two.shared);
+    HOLDS(one.bytes == 0 && two.bytes == 0 && one.age == MARKRING_OLD && two.age == MARKRING_OLD);
+    for (uint8_t place = 0; place <= one.places; place++) {
+        markring_ref held = {0}, other = {0};
+        status = markring_node_place(node, slot, place, &held);
+        IS(status, markring_cell_place(cell, slot, place, &other));
+        HOLDS(same_ref(held, other));
+    }
+}
+
 // The cells show the same as the node.
 static void compare_cells(uint8_t own_number)
 {
@@ -223,6 +249,13 @@ static void compare_cells(uint8_t own_number)
             int status = markring_node_register(&nodes[0][own_number], reg, &one);
             IS(status, markring_cell_register(&cells[i][own_number], reg, &two));
             HOLDS(same_ref(one, two));
+        }
+        uint32_t slots = 0, others = 0;
+        OK(markring_node_slots(&nodes[0][own_number], &slots));
+        OK(markring_cell_slots(&cells[i][own_number], &others));
+        EQUAL(slots, others);
+        for (uint32_t slot = 0; slot <= slots; slot++) {
+            compare_object(&nodes[0][own_number], &cells[i][own_number], slot);
         }
     }
 }

@@ -1,75 +1,271 @@
-// The header in C++: nodes that free themselves, and a letter.
-#include "markring.h"
+// The classes of markring.hpp: letters, images, batches and cells, what is refused, what is moved.
+// Once more with the calls of markring.h that C++ programs use directly.
+#include "markring.hpp"
 
 #include <cstdio>
-#include <utility>
-#include <vector>
+#include <cstring>
+#include <string>
+#include <type_traits>
+
+using markring::Bytes;
+using markring::Cell;
+using markring::Error;
+using markring::Node;
+using markring::Space;
+using markring::Watch;
 
 namespace {
 
-class Node {
-public:
-    Node(uint8_t nodes, uint16_t registers, uint32_t slots, uint8_t own)
-    {
-        status_ = markring_node_new(&node_, nodes, registers, slots, own, 0);
-    }
-    Node(Node &&other) noexcept : status_(other.status_) { std::swap(node_, other.node_); }
-    Node(const Node &) = delete;
-    Node &operator=(const Node &) = delete;
-    Node &operator=(Node &&) = delete;
-    ~Node() { markring_node_free(&node_); }
+unsigned long passed, failed;
 
-    int status() const { return status_; }
-    markring_node *operator&() { return &node_; }
-
-private:
-    markring_node node_{};
-    int status_ = MARKRING_OK;
-};
-
-int passed, failed;
-
-void check(bool holds, const char *what)
+void check(bool holds, const char *what, int line)
 {
     passed += holds;
     failed += !holds;
     if (!holds) {
-        std::printf("FAILED: header.cc: %s\n", what);
+        std::printf("FAILED: header.cc:%d: %s\n", line, what);
     }
+}
+
+#define HOLDS(condition) check((condition), #condition, __LINE__)
+
+// The status with which a call ends.
+template <class Call> int status_of(Call call)
+{
+    try {
+        call();
+    } catch (const Error &error) {
+        HOLDS(std::strcmp(error.what(), markring_status_text(error.status())) == 0);
+        return error.status();
+    }
+    return MARKRING_OK;
+}
+
+#define REFUSED(status, call) HOLDS(status_of([&] { (void)(call); }) == (status))
+
+template <class Type> constexpr bool moves_only()
+{
+    return std::is_nothrow_move_constructible_v<Type> && std::is_nothrow_move_assignable_v<Type>
+        && !std::is_copy_constructible_v<Type> && !std::is_copy_assignable_v<Type>;
+}
+
+static_assert(moves_only<Node>() && moves_only<Space>(), "");
+static_assert(moves_only<Cell>() && moves_only<Watch>(), "");
+
+bool is(const markring_ref &it, int node, std::uint32_t slot, std::uint64_t generation)
+{
+    return it.node == node && it.slot == slot && it.generation == generation;
+}
+
+void flush(Node &from, std::uint8_t own, Node &to)
+{
+    from.kept(from.image().mark);
+    for (const auto &frame : from.frames(1 - own)) {
+        to.take(frame.bytes.data(), frame.bytes.size());
+    }
+    to.release();
+    const Bytes ack = to.ack_for(own);
+    HOLDS(from.take(ack.data(), ack.size()) == MARKRING_ANSWER_DONE);
+}
+
+void letters()
+{
+    Node zero(2, 4, 16, 0), one(2, 4, 16, 1);
+    HOLDS(is(zero.alloc(0, 1), 0, 0, 1));
+    zero.set_word(0, 77);
+    HOLDS(zero.give(1, 7, 0) == 1 && zero.frames(1).empty() && zero.unsaved());
+    HOLDS(!zero.frame_at(1, 0) && !zero.reference(3));
+    zero.release();
+    const auto frames = zero.frames(1);
+    HOLDS(frames.size() == 1 && frames[0].number == 1 && zero.frame_at(1, 0) == frames[0].bytes);
+    flush(zero, 0, one);
+    const markring_letter letter = one.accept(2);
+    HOLDS(letter.from == 0 && letter.label == 7 && is(letter.reference, 0, 0, 1));
+    REFUSED(MARKRING_REMOTE, one.word(2));
+    HOLDS(is(one.alloc(1, 0), 1, 0, 1) && one.put(2, 0, 1) == 1 && one.get_place(2, 0, 9) == 2);
+    flush(one, 1, zero);
+    const auto held = zero.load(1, 0, 0);
+    HOLDS(held && is(*held, 1, 0, 1) && zero.word(0) == 77);
+    flush(zero, 0, one);
+    HOLDS(one.accept(3).label == 9 && one.link(0).received == 2 && one.link(0).appended == 2);
+    zero.clear(0, 0);
+    HOLDS(!zero.load(1, 0, 0) && zero.state().live == 1 && zero.slots() == 1);
+    zero.copy(3, 0);
+    zero.store(3, 0, 0);
+    zero.drop(3);
+    const auto object = zero.object(0);
+    HOLDS(object && object->word == 77 && object->places == 1 && !zero.object(1));
+    HOLDS(zero.place(0, 0) && is(*zero.place(0, 0), 0, 0, 1));
+    REFUSED(MARKRING_NOTHING, zero.place(1, 0));
+    REFUSED(MARKRING_NO_FIELD, zero.place(0, 1));
+    HOLDS(zero.act({MARKRING_EVENT_WORD, 0, 0, 0, 0, 0, 0, 0, 0}).number == 77);
+}
+
+// A cycle frees what no program holds.
+void cycle()
+{
+    Node zero(2, 4, 16, 0), one(2, 4, 16, 1);
+    zero.alloc(0, 0);
+    zero.drop(0);
+    one.alloc(0, 0);
+    HOLDS(zero.begin() == 1);
+    REFUSED(MARKRING_CYCLE_RUNNING, zero.begin());
+    flush(zero, 0, one);
+    HOLDS(is(one.scan(), 1, 0, 1));
+    std::uint8_t colour = 9;
+    std::int64_t sum = 9;
+    const markring_answer passed_on = one.pass();
+    HOLDS(markring_answer_token(&passed_on, &colour, &sum) && colour == MARKRING_BLACK && sum == 0);
+    flush(one, 1, zero);
+    HOLDS(zero.pass().kind == MARKRING_ANSWER_PROBE_AGAIN);
+    flush(zero, 0, one);
+    one.pass();
+    flush(one, 1, zero);
+    const markring_answer ended = zero.pass();
+    HOLDS(ended.kind == MARKRING_ANSWER_ENDED && ended.number == 1);
+    const markring::Freed freed = zero.sweep(16);
+    HOLDS(freed.count == 1 && freed.done && zero.state().live == 0);
+    REFUSED(MARKRING_NOTHING_TO_DO, zero.sweep(16));
+    REFUSED(MARKRING_NOTHING_TO_DO, zero.scan());
+}
+
+void bytes()
+{
+    const markring_shape shape = {16, 10, 2, 2, 1, 1};
+    Node node(shape, 0);
+    node.alloc(0, 1);
+    HOLDS(node.bytes(0).empty() && node.bytes_length(0) == 0);
+    node.set_bytes(0, "0123456789", 10);
+    node.patch(0, 3, "ab", 2);
+    const Bytes all = node.bytes(0), some = node.bytes_at(0, 3, 2);
+    HOLDS(std::string(all.begin(), all.end()) == "012ab56789");
+    HOLDS(std::string(some.begin(), some.end()) == "ab" && node.bytes(0, 3, 2) == some);
+    REFUSED(MARKRING_NO_BYTES, node.bytes(0, 9, 2));
+    REFUSED(MARKRING_NO_BYTES, node.bytes_at(0, 0, UINT32_MAX));
+    REFUSED(MARKRING_NOTHING, node.bytes_at(1, 0, 0));
+    REFUSED(MARKRING_TOO_MANY_BYTES, node.set_bytes(0, "01234567890", 11));
+    node.set_bytes(0, nullptr, 0);
+    HOLDS(node.bytes(0).empty() && node.reclaim() == 0);
+    node.alloc(1, 0);
+    node.drop(1);
+    HOLDS(node.reclaim_young() == 1);
+}
+
+void images()
+{
+    Node node(2, 4, 16, 0);
+    REFUSED(MARKRING_NO_LOG, node.batch());
+    node.log();
+    const markring::Image image = node.image();
+    HOLDS(image.mark == 1 && image.bytes.size() == node.image_size());
+    node.kept(image.mark);
+    node.alloc(0, 0);
+    node.set_word(0, 5);
+    const markring::Image batch = node.batch();
+    HOLDS(batch.mark == 2);
+    REFUSED(MARKRING_WRONG_MARK, node.kept(1));
+    node.kept(2);
+    Node again = Node::from_batches(image.bytes.data(), image.bytes.size(), batch.bytes.data(),
+        batch.bytes.size());
+    HOLDS(again.word(0) == 5 && again.batch_size() == 8);
+    REFUSED(MARKRING_BAD_IMAGE, Node::from_image(image.bytes.data(), image.bytes.size()));
+    node.log(false);
+    const Bytes plain = node.image().bytes;
+    Node third = Node::from_image(plain.data(), plain.size(), 1);
+    HOLDS(third.word(0) == 5 && third.give(1, 0, 0) == 1);
+    REFUSED(MARKRING_CONGESTED, third.give(1, 0, 0));
+}
+
+void early()
+{
+    Node zero(2, 4, 16, 0), one(2, 4, 16, 1);
+    zero.give(1, 1, 0);
+    zero.give(1, 2, 0);
+    zero.release();
+    const auto frames = zero.frames(1);
+    HOLDS(frames.size() == 2 && zero.frames(1, 1).size() == 1 && !one.waiting(0));
+    HOLDS(one.take(frames[1].bytes.data(), frames[1].bytes.size()) == MARKRING_ANSWER_EARLY);
+    HOLDS(one.take(frames[0].bytes.data(), frames[0].bytes.size()) == MARKRING_ANSWER_RECEIVED);
+    HOLDS(one.waiting(0) && *one.waiting(0) == 2);
+    one.next(0);
+    HOLDS(one.take(frames[1].bytes.data(), frames[1].bytes.size()) == MARKRING_ANSWER_REPEAT);
+    REFUSED(MARKRING_BAD_FRAME, one.take(nullptr, 0));
+}
+
+void moves()
+{
+    Node first(2, 4, 16, 0);
+    first.alloc(0, 0);
+    Node second = std::move(first);
+    HOLDS(!first && second && second.state().live == 1);
+    REFUSED(MARKRING_NO_HANDLE, first.state());
+    first = Node(2, 4, 16, 1);
+    HOLDS(first && first.state().own == 1);
+    second = std::move(first);
+    HOLDS(second.state().own == 1 && second.state().live == 0);
+    second.close();
+    second.close();
+    REFUSED(MARKRING_NO_HANDLE, second.image());
+    REFUSED(MARKRING_BAD_ARGUMENT, Node(1, 4, 16, 0));
+    REFUSED(MARKRING_NO_NODE, Node(2, 4, 16, 2));
+    HOLDS(markring_node_new(second.get(), 2, 4, 16, 0, 0) == MARKRING_OK && second);
+}
+
+void cells()
+{
+    Space space(3, 4, 16, 1);
+    HOLDS(!space.cell(0) && !space.watch());
+    space.open();
+    REFUSED(MARKRING_IN_USE, space.open());
+    REFUSED(MARKRING_NO_NODE, space.cell(3));
+    auto zero = space.cell(0), one = space.cell(1), two = space.cell(2);
+    auto watch = space.watch();
+    HOLDS(zero && one && two && watch && !space.cell(0) && !space.watch());
+    space.close();
+    Bytes old[3] = {zero->image().bytes, one->image().bytes, two->image().bytes};
+    one->alloc(0, 0);
+    one->give(2, 7, 0);
+    REFUSED(MARKRING_WRONG_MARK, one->save(1));
+    one->save(one->image().mark);
+    HOLDS(one->send(2) && !one->send(2) && !two->receive(0));
+    const auto received = two->receive(1);
+    HOLDS(received && *received == MARKRING_ANSWER_RECEIVED && two->accept(1).label == 7);
+    HOLDS(zero->raise() == 0 && watch->look() == 0);
+    REFUSED(MARKRING_NOT_DIRECTOR, two->raise());
+    one->set_word(0, 5);
+    one->reopen();
+    HOLDS(one->word(0) == 0 && !one->unsaved());
+
+    // Node 2 has received a letter of node 1 that the image of node 1 hasn't sent.
+    const markring_shape shape = {16, 0, 4, 3, 8, 0};
+    Space later(shape);
+    later.disk(0, old[0]);
+    later.disk(1, old[1]);
+    later.disk(2, two->image().bytes);
+    try {
+        later.open();
+        HOLDS(false);
+    } catch (const markring::AgesError &error) {
+        HOLDS(error.sender == 1 && error.receiver == 2 && error.status() == MARKRING_AGES);
+    }
+    later.disk(2, Bytes());
+    REFUSED(MARKRING_BAD_IMAGE, later.open());
+    later.disk(2, old[2]);
+    later.open();
+    HOLDS(later.cell(2)->state().own == 2);
 }
 
 } // namespace
 
 int main()
 {
-    Node first(2, 4, 16, 0);
-    Node zero = std::move(first);
-    Node one(2, 4, 16, 1);
-    markring_answer answer{};
-    check(first.status() == MARKRING_OK, "a node is made");
-    check(markring_node_alloc(&first, 0, 1, &answer) == MARKRING_NO_HANDLE, "it was moved");
-    check(markring_node_alloc(&zero, 0, 1, &answer) == MARKRING_OK, "alloc");
-    markring_ref object{};
-    check(markring_answer_ref(&answer, &object) && object.generation == 1, "its reference");
-    check(markring_node_give(&zero, 1, 7, 0, &answer) == MARKRING_OK, "give");
-
-    size_t size = 0;
-    uint64_t mark = 0;
-    check(markring_node_image_size(&zero, &size) == MARKRING_OK, "image_size");
-    std::vector<uint8_t> image(size);
-    check(markring_node_image(&zero, image.data(), image.size(), &size, &mark) == MARKRING_OK,
-        "image");
-    check(markring_node_kept(&zero, mark) == MARKRING_OK, "kept");
-    uint8_t frame[48];
-    check(markring_node_frame_at(&zero, 1, 0, frame, sizeof frame, &size) == MARKRING_OK, "frame");
-    check(markring_node_take(&one, frame, size, &answer) == MARKRING_OK, "take");
-    check(markring_node_accept(&one, 2, &answer) == MARKRING_OK, "accept");
-    markring_letter letter{};
-    check(markring_answer_letter(&answer, &letter), "a letter");
-    check(letter.from == 0 && letter.label == 7 && letter.reference.generation == 1, "its parts");
-    const int refusal = markring_node_word(&one, 2, &answer);
-    check(refusal == MARKRING_REMOTE, markring_status_text(refusal));
-
-    std::printf("%d passed, %d failed\n", passed, failed);
-    return failed != 0;
+    letters();
+    cycle();
+    bytes();
+    images();
+    early();
+    moves();
+    cells();
+    std::printf("%lu passed, %lu failed\n", passed, failed);
+    return failed != 0 || passed == 0;
 }

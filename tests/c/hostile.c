@@ -42,6 +42,8 @@ static void blot_buffer(void)
     NONE(markring_##type##_accept(at, 0, answer)); \
     NONE(markring_##type##_put(at, 0, 0, 0, answer)); \
     NONE(markring_##type##_get(at, 0, 0, 0, answer)); \
+    NONE(markring_##type##_reclaim(at, answer)); \
+    NONE(markring_##type##_reclaim_young(at, answer)); \
     NONE(markring_##type##_begin(at, answer)); \
     NONE(markring_##type##_scan(at, answer)); \
     NONE(markring_##type##_pass(at, answer)); \
@@ -53,6 +55,10 @@ static void blot_buffer(void)
     NONE(markring_##type##_state(at, TO(markring_state))); \
     NONE(markring_##type##_link(at, 1, TO(markring_link))); \
     NONE(markring_##type##_register(at, 0, TO(markring_ref))); \
+    NONE(markring_##type##_slots(at, TO(uint32_t))); \
+    NONE(markring_##type##_object(at, 0, TO(markring_object))); \
+    NONE(markring_##type##_place(at, 0, 0, TO(markring_ref))); \
+    NONE(markring_##type##_bytes_at(at, 0, 0, 1, buffer, 512, TO(size_t))); \
     NONE(markring_##type##_unsaved(at, buffer))
 
 static void no_node(markring_node *at)
@@ -378,6 +384,79 @@ static void wide_images(void)
 BYTES_OF(node)
 BYTES_OF(cell)
 
+// A call about objects that is refused, and writes nothing.
+#define REFUSED(status, call) \
+    do { \
+        IS((status), (call)); \
+        HOLDS(memcmp(buffer, clean, sizeof buffer) == 0); \
+    } while (0)
+
+// Looks at the objects of that node or cell: one in slot 0, and no other slot was used. Its node
+// then begins a cycle, after one more object was made, to which nothing refers.
+#define OBJECTS_OF(type) \
+    static void objects_of_##type(markring_##type *at, int is_wide) \
+    { \
+        static const uint32_t UNUSED[] = {1, 3, 4, 5, UINT32_MAX}; \
+        const uint8_t *all = (const uint8_t *)"0101234567"; \
+        markring_object it = {0}; \
+        markring_ref held = {7, 7, 7}; \
+        markring_answer answer; \
+        uint32_t most = is_wide ? 10 : 0, slots = 77; \
+        size_t needed = 77; \
+        OK(markring_##type##_slots(at, &slots)); \
+        EQUAL(1, slots); \
+        OK(markring_##type##_set_word(at, 0, UINT64_MAX - 1, &answer)); \
+        OK(markring_##type##_object(at, 0, &it)); \
+        HOLDS(same_ref(it.reference, (markring_ref){0, 0, 1}) && it.word == UINT64_MAX - 1); \
+        HOLDS(it.bytes == most && it.places == 1 && it.marked == 1 && it.shared == !is_wide); \
+        EQUAL(is_wide ? MARKRING_YOUNG : MARKRING_OLD, it.age); \
+        OK(markring_##type##_place(at, 0, 0, &held)); \
+        HOLDS(same_ref(held, (markring_ref){0, 0, 0})); \
+        OK(markring_##type##_store(at, 0, 0, 2, &answer)); \
+        OK(markring_##type##_place(at, 0, 0, &held)); \
+        HOLDS(same_ref(held, (markring_ref){1, 0, 1})); \
+        blot_buffer(); \
+        OK(markring_##type##_bytes_at(at, 0, 0, most, buffer, most, &needed)); \
+        HOLDS(needed == most && memcmp(buffer, all, most) == 0); \
+        HOLDS(memcmp(buffer + most, clean, sizeof buffer - most) == 0); \
+        OK(markring_##type##_bytes_at(at, 0, most / 2, most / 5, buffer, 9, &needed)); \
+        HOLDS(needed == most / 5 && memcmp(buffer, all + most / 2, most / 5) == 0); \
+        blot_buffer(); \
+        needed = 77; \
+        for (int i = 0; i < 5; i++) { \
+            REFUSED(MARKRING_NOTHING, \
+                markring_##type##_object(at, UNUSED[i], TO(markring_object))); \
+            REFUSED(MARKRING_NOTHING, \
+                markring_##type##_place(at, UNUSED[i], 0, TO(markring_ref))); \
+            REFUSED(MARKRING_NOTHING, \
+                markring_##type##_bytes_at(at, UNUSED[i], 0, 0, buffer, 9, &needed)); \
+        } \
+        REFUSED(MARKRING_NO_FIELD, markring_##type##_place(at, 0, 1, TO(markring_ref))); \
+        REFUSED(MARKRING_NO_FIELD, markring_##type##_place(at, 0, 255, TO(markring_ref))); \
+        REFUSED(MARKRING_NO_BYTES, \
+            markring_##type##_bytes_at(at, 0, 1, most, buffer, 9, &needed)); \
+        REFUSED(MARKRING_NO_BYTES, \
+            markring_##type##_bytes_at(at, 0, UINT32_MAX, 2, buffer, 9, &needed)); \
+        EQUAL(77, needed); \
+        if (is_wide) { \
+            REFUSED(MARKRING_SHORT_BUFFER, \
+                markring_##type##_bytes_at(at, 0, 0, 10, buffer, 9, &needed)); \
+            EQUAL(10, needed); \
+        } \
+        OK(markring_##type##_alloc(at, 1, 0, &answer)); \
+        OK(markring_##type##_drop(at, 1, &answer)); \
+        OK(markring_##type##_begin(at, &answer)); \
+        OK(markring_##type##_slots(at, &slots)); \
+        EQUAL(2, slots); \
+        for (uint32_t slot = 0; slot < 2; slot++) { \
+            OK(markring_##type##_object(at, slot, &it)); \
+            HOLDS(it.reference.slot == slot && it.marked == (slot == 0)); \
+        } \
+    }
+
+OBJECTS_OF(node)
+OBJECTS_OF(cell)
+
 static void object_bytes(void)
 {
     for (uint8_t is_wide = 0; is_wide < 2; is_wide++) {
@@ -397,6 +476,7 @@ static void object_bytes(void)
         OK(markring_node_take(&node, LETTER, sizeof LETTER, &answer));
         OK(markring_node_accept(&node, 2, &answer));
         bytes_of_node(&node, is_wide);
+        objects_of_node(&node, is_wide);
         OK(markring_node_free(&node));
         OK(markring_space_make(&space, &shape, 0));
         OK(open_space(&space));
@@ -412,6 +492,7 @@ static void object_bytes(void)
         OK(markring_cell_receive(&cell, 1, &answer));
         OK(markring_cell_accept(&cell, 2, &answer));
         bytes_of_cell(&cell, is_wide);
+        objects_of_cell(&cell, is_wide);
         OK(markring_cell_free(&cell));
         OK(markring_cell_free(&other));
     }
@@ -465,7 +546,8 @@ static void events(void)
     make_busy(&node);
     bytes before = shown(&node);
     for (int kind = 0; kind < 256; kind++) {
-        if (kind >= MARKRING_EVENT_ALLOC && kind <= MARKRING_EVENT_NEXT) {
+        if ((kind >= MARKRING_EVENT_ALLOC && kind <= MARKRING_EVENT_NEXT)
+            || kind == MARKRING_EVENT_RECLAIM || kind == MARKRING_EVENT_RECLAIM_YOUNG) {
             continue;
         }
         memset(&event, 0, sizeof event);
@@ -474,10 +556,11 @@ static void events(void)
         IS(MARKRING_BAD_ARGUMENT, markring_node_act(&node, &event, &answer));
         HOLDS(is_blotted(&answer));
     }
-    for (int i = 0; i < 17 * 8 * 8 * 7 * 7; i++) {
-        int draw = i / 17;
+    for (int i = 0; i < 19 * 8 * 8 * 7 * 7; i++) {
+        // (no event has the kinds 18 and 19)
+        int draw = i / 19, kind = i % 19 + 1;
         memset(&event, 0, sizeof event);
-        event.kind = (uint8_t)(i % 17 + 1);
+        event.kind = (uint8_t)(kind > MARKRING_EVENT_NEXT ? kind + 2 : kind);
         event.reg = REGISTERS[draw % 8];
         event.source = event.object = REGISTERS[draw / 8 % 8];
         event.place = PLACES[draw / 64 % 7];

@@ -4,7 +4,7 @@
 enum { NODES = 3, SLOT_COUNT = 3 };
 
 typedef struct slot {
-    uint8_t kind; // 0 free, 1 an object, 2 without further generations
+    uint8_t kind; // 0 free, 2 without further generations, else an object
     uint64_t generation, mark, word;
     uint8_t places;
     markring_ref at[2]; // nothing, or a reference
@@ -124,7 +124,7 @@ static void add_slots(bytes *to, const image *it)
             continue;
         }
         add_number(to, one->generation, 8);
-        if (one->kind == 1) {
+        if (one->kind != 0) {
             add_number(to, one->mark, 8);
             add_number(to, one->word, 8);
             if (it->version >= 4) {
@@ -282,7 +282,9 @@ static void slots(void)
     GOOD(busy, it.all[1].generation = UINT64_MAX);
     BAD(busy, it.all[2].mark = 3);
     GOOD(busy, it.all[2].mark = 2);
-    BAD(busy, it.all[2].kind = 3);
+    for (uint8_t kind = 3; kind <= 8; kind++) {
+        BAD(busy, it.all[2].kind = kind);
+    }
     GOOD(busy, it.all[2].kind = 2);
     GOOD(busy, it.all[2].places = 8);
     BAD(busy, it.all[2].places = 9);
@@ -324,6 +326,11 @@ static void wide_sizes(void)
     GOOD(wide, it.slots = 1048577);
     GOOD(wide, it.slots = 16777216);
     BAD(wide, it.slots = 16777217);
+    for (uint8_t kind = 3; kind <= 7; kind++) {
+        GOOD(wide, it.all[2].kind = kind);
+    }
+    BAD(wide, it.all[2].kind = 8);
+    BAD(wide, it.all[2].kind = 255);
     GOOD(wide, it.all[2].places = 9);
     BAD(wide, it.all[2].places = 10);
     GOOD(wide, it.most_places = 2);

@@ -11,7 +11,8 @@ enum { EMPTY = 11 + 95, REFERENCE = 13, SIZES = 1 + 4, LENGTH = 4 };
 enum { OBJECT = 1 + 8 + 8 + 8 + 1, PLACE = 1, FULL_PLACE = 14 };
 // A Give that waits, with its reference.
 enum { MESSAGE = 8 + 1 + 4 + 14 };
-enum { GREATEST = 67108864 };
+enum { GREATEST = MARKRING_PLAIN_IMAGE };
+_Static_assert(GREATEST == 67108864, "as docs/FORMATS.md says");
 
 static const markring_shape PLAIN = {1048576, 0, 2, 2, 8, 0}, WIDE = {1048577, 0, 65535, 2, 255, 1};
 // Its node has a larger image once all slots are used.

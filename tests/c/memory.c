@@ -1,6 +1,8 @@
 // Refuses each allocation in turn. A call that is refused with MARKRING_MEMORY changed nothing, and
 // the same call again succeeds; the end is the same as with ample memory. A call that takes no
-// memory by its comment in the header allocates nothing.
+// memory by its comment in the header allocates nothing. With its first object, and when it is
+// read, a wide node asks for flags that it can do without: its young reclaims then search all
+// blocks of slots.
 #include "check.h"
 #include "refuse.h"
 
@@ -8,6 +10,10 @@
 static markring_node nodes[2];
 static markring_answer answer;
 static unsigned long refusals;
+// Whether a request of this call was refused, and how many such calls succeeded, except those
+// that lost their node's log.
+#define WAS_REFUSED(requested) ((requested) < refused_one && refused_one <= requests)
+static unsigned long spared;
 
 static markring_cell cells[2];
 
@@ -133,6 +139,7 @@ static int is_refusal(int status)
             within = 0; \
         } else { \
             HOLDS(!(spares) || requests == requested); \
+            spared += WAS_REFUSED(requested); \
         } \
         IS((status), outcome); \
         drop_bytes(&before); \
@@ -149,6 +156,8 @@ static uint8_t flag;
 static markring_state state;
 static markring_link link_;
 static markring_ref reference;
+static markring_object object;
+static uint32_t slots;
 
 static void save_and_send(int from)
 {
@@ -229,6 +238,9 @@ static bytes over_nodes(void)
     SPARES(markring_node_state(zero, &state));
     SPARES(markring_node_link(zero, 1, &link_));
     SPARES(markring_node_register(zero, 0, &reference));
+    SPARES(markring_node_slots(zero, &slots));
+    SPARES(markring_node_object(zero, 0, &object));
+    SPARES(markring_node_place(zero, 1, 0, &reference));
     SPARES(markring_node_unsaved(zero, &flag));
     // The frames come from the last one to the first, and then again.
     MAY(markring_node_image(zero, image, sizeof image, &needed, &mark));
@@ -296,6 +308,7 @@ static bytes with_bytes(void)
     SPARES(markring_node_bytes(zero, 1, 3, length_of - 3, found, sizeof found, &needed));
     MAKE(MARKRING_NO_BYTES, 1,
         markring_node_bytes(zero, 1, 0, length_of + 1, found, sizeof found, &needed));
+    SPARES(markring_node_bytes_at(zero, 0, 0, 1, found, sizeof found, &needed));
     MAKE(MARKRING_SHORT_BUFFER, 1, markring_node_bytes(zero, 1, 0, 2, found, 1, &needed));
     SPARES(markring_node_drop(zero, 2, &answer));
     MAY(markring_node_begin(zero, &answer));
@@ -328,6 +341,7 @@ static void store_batch(void)
     HOLDS(requests == requested);
     if (status == MARKRING_NO_LOG) {
         refusals++;
+        spared--;
         store_image();
         return;
     }
@@ -341,10 +355,12 @@ static void store_batch(void)
 // An event that needs memory for the log alone isn't refused.
 #define LOGS(call) \
     do { \
+        unsigned long requested = requests; \
         within = 1; \
         int outcome = (call); \
         within = 0; \
         IS(MARKRING_OK, outcome); \
+        spared += WAS_REFUSED(requested); \
     } while (0)
 
 // A scenario over nodes of which one is saved by batches. A log to which memory is refused is lost.
@@ -466,6 +482,7 @@ static void expect_closed(markring_cell *cell)
 // A reopening that is refused memory closes the cell, until another one succeeds.
 static void reopen(markring_cell *cell)
 {
+    unsigned long requested = requests;
     within = 1;
     int status = markring_cell_reopen(cell);
     within = 0;
@@ -473,6 +490,8 @@ static void reopen(markring_cell *cell)
         refusals++;
         expect_closed(cell);
         status = markring_cell_reopen(cell);
+    } else {
+        spared += WAS_REFUSED(requested);
     }
     IS(MARKRING_OK, status);
 }
@@ -550,6 +569,11 @@ static bytes in_cells(void)
     EQUAL(50, length_of);
     SPARES(markring_cell_bytes(&cells[0], 0, 0, 50, found, sizeof found, &needed));
     HOLDS(memcmp(found, given, 10) == 0 && memcmp(found + 10, given, 40) == 0);
+    SPARES(markring_cell_slots(&cells[0], &slots));
+    SPARES(markring_cell_object(&cells[0], 0, &object));
+    SPARES(markring_cell_place(&cells[0], 0, 1, &reference));
+    SPARES(markring_cell_bytes_at(&cells[0], 0, 0, 50, found, sizeof found, &needed));
+    HOLDS(memcmp(found, given, 10) == 0 && memcmp(found + 10, given, 40) == 0);
     MAY(markring_cell_image(&cells[0], image, sizeof image, &needed, &mark));
     bytes all = {0};
     add(&all, image, needed);
@@ -610,32 +634,35 @@ static void saves(void)
     printf("%lu allocations of a save refused\n", one - 1);
 }
 
-static void refuse_each(bytes (*scenario)(void))
+// `flags` is how many requests are for flags of wide nodes.
+static void refuse_each(bytes (*scenario)(void), unsigned long flags)
 {
-    refused_one = requests = refusals = 0;
+    refused_one = requests = refusals = spared = 0;
     bytes expected = scenario();
     unsigned long total = requests;
     HOLDS(total > 0);
     for (unsigned long one = 1; one <= total; one++) {
+        unsigned long before = spared;
         refused_one = one;
         requests = refusals = 0;
         bytes all = scenario();
         HOLDS(same_bytes(&expected, &all));
-        EQUAL(1, refusals);
+        EQUAL(1, refusals + (spared - before));
         drop_bytes(&all);
     }
+    EQUAL(flags, spared);
     printf("%lu allocations refused\n", total);
     drop_bytes(&expected);
 }
 
 int main(void)
 {
-    refuse_each(over_nodes);
-    refuse_each(with_bytes);
-    refuse_each(with_log);
-    refuse_each(with_logged_bytes);
-    refuse_each(over_cells);
-    refuse_each(in_cells);
+    refuse_each(over_nodes, 0);
+    refuse_each(with_bytes, 2);
+    refuse_each(with_log, 0);
+    refuse_each(with_logged_bytes, 2);
+    refuse_each(over_cells, 0);
+    refuse_each(in_cells, 2);
     saves();
     return report();
 }

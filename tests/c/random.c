@@ -3,7 +3,10 @@
 // stored image. Every answer is compared with a space without a collector (docs/PROOF.md), which is
 // written here from the rules. At checkpoints the programs stop, everything is received and saved,
 // and one whole cycle has to free the garbage: each node then has exactly the objects that the model
-// reaches. Half of the spaces are wide, and their objects have bytes.
+// reaches. Again and again, all objects in a node's slots are compared with the model, reachable or
+// not. Half of the spaces are wide, and their objects have bytes. There, nodes also reclaim: of the
+// private objects, those have to go that the model doesn't need, and no others; of the young ones,
+// if a reclaim is limited to them. The model knows the ages of objects, too.
 //
 //     random SEEDS STEPS [NODES]
 #include "check.h"
@@ -17,6 +20,8 @@ enum { BYTES = 60 };
 
 // ## The model
 
+typedef enum age { OLD, YOUNG, REMEMBERED } age;
+
 typedef struct object {
     markring_ref name;
     uint64_t word;
@@ -24,6 +29,8 @@ typedef struct object {
     markring_ref at[PLACES];
     uint32_t length;
     uint8_t bytes[BYTES];
+    int is_shared;
+    age age;
 } object;
 
 // A Give (tag 4), a Put (5) or a Get (6), as in frames.
@@ -123,7 +130,7 @@ static bytes tags[MOST][MOST];
 static unsigned long crashes, cycles, answers, lost;
 // Objects that the cycles of checkpoints freed, and those that were reached there.
 static unsigned long freed, kept;
-static unsigned long written, patched, read;
+static unsigned long written, patched, read, reclaimed, young, looked_at;
 
 static message *sent_by(model *it, uint8_t to, size_t index)
 {
@@ -170,8 +177,28 @@ static int is_congested(uint8_t own_number, uint8_t to)
     return link.appended - link.acknowledged >= limit;
 }
 
+// The object is shared from now on, if it is the node's own.
+static void share(uint8_t own_number, markring_ref it)
+{
+    object *own_object = it.node == own_number ? find(&sites[own_number].now, it) : NULL;
+    if (own_object != NULL) {
+        own_object->is_shared = 1;
+    }
+}
+
+// An old object is to name this one.
+static void remember(uint8_t own_number, markring_ref it)
+{
+    object *own_object = it.node == own_number ? find(&sites[own_number].now, it) : NULL;
+    if (own_object != NULL && own_object->age == YOUNG) {
+        own_object->age = REMEMBERED;
+    }
+}
+
 static void send_in_model(uint8_t own_number, uint8_t to, message it)
 {
+    share(own_number, it.about);
+    share(own_number, it.reference);
     add(&sites[own_number].now.sent[to], &it, sizeof it);
 }
 
@@ -203,6 +230,8 @@ static void alloc(uint8_t own_number, uint16_t reg, uint8_t places)
         object it = {0};
         it.name = answer.reference;
         it.places = places;
+        it.is_shared = !is_wide;
+        it.age = is_wide ? YOUNG : OLD;
         EQUAL(MARKRING_ANSWER_NEW, answer.kind);
         HOLDS(it.name.node == own_number && it.name.slot < SLOTS && it.name.generation > 0);
         HOLDS(find(now, it.name) == NULL);
@@ -287,6 +316,9 @@ static void read_and_write(uint8_t own_number, uint16_t object_reg, uint8_t plac
             && expected == MARKRING_OK) {
             expect(&answer, MARKRING_ANSWER_DONE, NOTHING);
             it->at[place] = now->registers[reg];
+            if (it->age == OLD) {
+                remember(own_number, now->registers[reg]);
+            }
         }
         break;
     case 2:
@@ -443,8 +475,13 @@ static void receive_in_model(uint8_t from, uint8_t to, uint64_t number)
     if (tag == 4) {
         letter came = {from, it.label, it.reference};
         add(&now->letters, &came, sizeof came);
-    } else if (tag == 5 && place != NULL) {
-        *place = it.reference;
+    } else if (tag == 5 && about != NULL) {
+        if (about->age == OLD) {
+            remember(to, it.reference);
+        }
+        if (place != NULL) {
+            *place = it.reference;
+        }
     } else if (tag == 6) {
         message answer = {4, 0, it.label, NOTHING, place != NULL ? *place : NOTHING};
         send_in_model(to, from, answer);
@@ -522,6 +559,167 @@ static void deliver_one(void)
     }
 }
 
+// ## Reclaiming
+
+enum { FREE = 0, RETIRED = 2 };
+
+// How a slot begins in an image.
+typedef struct slot {
+    uint8_t kind;
+    uint64_t generation;
+} slot;
+
+static int is_object(slot it)
+{
+    return it.kind != FREE && it.kind != RETIRED;
+}
+
+static int is_shared(slot it)
+{
+    return it.kind == 1 || it.kind == 6 || it.kind == 7;
+}
+
+static age age_of(slot it)
+{
+    return it.kind == 1 || it.kind == 3 ? OLD : it.kind == 4 || it.kind == 6 ? YOUNG : REMEMBERED;
+}
+
+static uint64_t number_at(const uint8_t **at, int width)
+{
+    uint64_t number = 0;
+    for (; width > 0; width--) {
+        number = number << 8 | *(*at)++;
+    }
+    return number;
+}
+
+static void skip_optional(const uint8_t **at)
+{
+    *at += **at == 0 ? 1 : 14;
+}
+
+// The slots of a node of a wide space, from its image (docs/FORMATS.md, "Images").
+static uint32_t read_slots(uint8_t own_number, slot to[SLOTS])
+{
+    static uint8_t image[IMAGE];
+    size_t needed = 0;
+    uint64_t mark = 0;
+    const uint8_t *at = image + 8 + 8 + 28 + 17;
+    OK(markring_node_image(&sites[own_number].node, image, IMAGE, &needed, &mark));
+    EQUAL(4, image[2]);
+    at += *at == 0 ? 1 : 10;
+    at += own_number == 0 ? 8 * (nodes - 1) : 0;
+    for (int reg = 0; reg < REGISTERS; reg++) {
+        skip_optional(&at);
+    }
+    uint32_t count = (uint32_t)number_at(&at, 4);
+    for (uint32_t i = 0; HOLDS(count <= SLOTS) && i < count; i++) {
+        to[i].kind = *at++;
+        to[i].generation = to[i].kind == RETIRED ? 0 : number_at(&at, 8);
+        if (is_object(to[i])) {
+            at += 16;
+            uint32_t length = (uint32_t)number_at(&at, 4);
+            at += length;
+            for (int places = *at++; places > 0; places--) {
+                skip_optional(&at);
+            }
+        }
+    }
+    return count;
+}
+
+// A node's slots, and which of them have an object that is needed. For a reclaim of the young, all
+// that isn't young is needed, and what an old object names isn't followed.
+typedef struct search {
+    uint8_t own;
+    int is_young;
+    uint32_t count;
+    slot slots[SLOTS];
+    uint8_t needed[SLOTS];
+} search;
+
+// The object is needed, and what its places lead to at this node.
+static void need(search *in, markring_ref it)
+{
+    int is_here = it.node == in->own && it.slot < in->count && is_object(in->slots[it.slot])
+        && in->slots[it.slot].generation == it.generation;
+    if (!is_here || in->needed[it.slot]) {
+        return;
+    }
+    slot at = in->slots[it.slot];
+    object *found = find(&sites[in->own].now, it);
+    in->needed[it.slot] = 1;
+    HOLDS(found != NULL && found->is_shared == is_shared(at) && found->age == age_of(at));
+    int is_end = found == NULL || (in->is_young && found->age == OLD);
+    for (int place = 0; !is_end && place < found->places; place++) {
+        need(in, found->at[place]);
+    }
+}
+
+// What is shared, or not young, and what registers and letters lead to.
+static void need_all(search *in)
+{
+    model *now = &sites[in->own].now;
+    for (uint32_t i = 0; i < in->count; i++) {
+        slot at = in->slots[i];
+        markring_ref it = {in->own, i, at.generation};
+        if (is_object(at) && (is_shared(at) || (in->is_young && age_of(at) != YOUNG))) {
+            need(in, it);
+        }
+    }
+    for (int reg = 0; reg < REGISTERS; reg++) {
+        need(in, now->registers[reg]);
+    }
+    for (size_t at = now->accepted; at < now->letters.length; at += sizeof(letter)) {
+        letter *it = (letter *)(void *)(now->letters.at + at);
+        need(in, it->reference);
+    }
+}
+
+// All objects of the node are old.
+static void grow_old(uint8_t own_number)
+{
+    bytes *objects = &sites[own_number].now.objects;
+    for (size_t at = 0; at < objects->length; at += sizeof(object)) {
+        ((object *)(void *)(objects->at + at))->age = OLD;
+    }
+}
+
+// (Only the mark of the last image can be kept, so none is taken while one waits for that.)
+static void reclaim(uint8_t own_number, int is_young)
+{
+    slot after[SLOTS];
+    search in = {.own = own_number, .is_young = is_young};
+    markring_answer answer;
+    markring_node *node = &sites[own_number].node;
+    uint32_t lost_here = 0, looked_at = 0;
+    in.count = is_wide ? read_slots(own_number, in.slots) : 0;
+    need_all(&in);
+    for (uint32_t i = 0; i < in.count; i++) {
+        slot at = in.slots[i];
+        lost_here += is_object(at) && !in.needed[i];
+        looked_at += is_object(at) && (is_young ? age_of(at) != OLD : !is_shared(at));
+    }
+    int status = is_young ? markring_node_reclaim_young(node, &answer)
+                          : markring_node_reclaim(node, &answer);
+    int expected = looked_at > 0 ? MARKRING_OK : MARKRING_NOTHING_TO_DO;
+    if (!IS(expected, status) || expected != MARKRING_OK) {
+        return;
+    }
+    expect(&answer, MARKRING_ANSWER_RECLAIMED, NOTHING);
+    EQUAL(lost_here, answer.count);
+    *(is_young ? &young : &reclaimed) += lost_here;
+    grow_old(own_number);
+    EQUAL(in.count, read_slots(own_number, after));
+    for (uint32_t i = 0; i < in.count; i++) {
+        slot at = in.slots[i];
+        int went = is_object(at) && !in.needed[i];
+        int stays = is_object(at) ? (is_shared(at) ? 1 : 3) : at.kind;
+        EQUAL(went ? FREE : stays, after[i].kind);
+        EQUAL(at.generation + (uint64_t)went, after[i].generation);
+    }
+}
+
 // ## Collecting, saving, crashing
 
 static void collect(uint8_t own_number)
@@ -529,7 +727,12 @@ static void collect(uint8_t own_number)
     markring_answer answer;
     markring_node *node = &sites[own_number].node;
     int status = MARKRING_OK;
-    switch (below(&seed, 5)) {
+    switch (below(&seed, 6)) {
+    case 5:
+        if (sites[own_number].mark == 0) {
+            reclaim(own_number, below(&seed, 3) != 0);
+        }
+        return;
     case 0:
         status = markring_node_begin(node, &answer);
         cycles += status == MARKRING_OK;
@@ -718,6 +921,55 @@ static void checkpoint(void)
     drop_bytes(&seen);
 }
 
+// ## Looking at objects
+
+// An object that the node shows is the model's, with its places and bytes.
+static void expect_object(markring_node *node, const object *it, const markring_object *shown)
+{
+    uint8_t found[BYTES];
+    size_t needed = 0;
+    uint32_t slot = shown->reference.slot;
+    markring_ref held;
+    HOLDS(shown->word == it->word && shown->places == it->places && shown->bytes == it->length);
+    HOLDS(shown->shared == it->is_shared && shown->age == it->age && shown->marked <= 1);
+    for (uint8_t place = 0; place < it->places; place++) {
+        OK(markring_node_place(node, slot, place, &held));
+        HOLDS(same_ref(held, it->at[place]));
+    }
+    IS(MARKRING_NO_FIELD, markring_node_place(node, slot, it->places, &held));
+    OK(markring_node_bytes_at(node, slot, 0, it->length, found, BYTES, &needed));
+    HOLDS(needed == it->length && memcmp(found, it->bytes, needed) == 0);
+    IS(MARKRING_NO_BYTES,
+        markring_node_bytes_at(node, slot, 1, it->length, found, BYTES, &needed));
+}
+
+// Looks at all slots of a node: each live object is there once, as the model has it.
+static void look(uint8_t own_number)
+{
+    markring_node *node = &sites[own_number].node;
+    markring_object shown;
+    markring_state state;
+    uint32_t slots = 0, live = 0;
+    OK(markring_node_slots(node, &slots));
+    for (uint32_t slot = 0; slot < slots; slot++) {
+        int status = markring_node_object(node, slot, &shown);
+        if (status == MARKRING_NOTHING) {
+            continue;
+        }
+        OK(status);
+        live++;
+        HOLDS(shown.reference.node == own_number && shown.reference.slot == slot);
+        object *it = find(&sites[own_number].now, shown.reference);
+        if (HOLDS(it != NULL)) {
+            expect_object(node, it, &shown);
+        }
+    }
+    IS(MARKRING_NOTHING, markring_node_object(node, slots, &shown));
+    OK(markring_node_state(node, &state));
+    EQUAL(state.live, live);
+    looked_at += live;
+}
+
 static void run(unsigned long steps, uint8_t size)
 {
     nodes = size != 0 ? size : (uint8_t)(2 + below(&seed, MOST - 1));
@@ -733,6 +985,9 @@ static void run(unsigned long steps, uint8_t size)
     // After a failure the model isn't the nodes' any more.
     for (unsigned long i = 1; i <= steps && failed == 0; i++) {
         step();
+        if (i % 50 == 0) {
+            look((uint8_t)(i / 50 % nodes));
+        }
         if (i % (steps / 3 + 1) == 0 || i == steps) {
             checkpoint();
         }
@@ -766,9 +1021,12 @@ int main(int length, char **given)
     HOLDS(crashes > 0 && cycles > 0 && lost > 0);
     // On average one in each program, or else too little happens.
     HOLDS(freed >= seeds && kept >= seeds);
-    HOLDS(written > 0 && patched > 0 && read > 0);
+    HOLDS(written > 0 && patched > 0 && read > 0 && reclaimed > 0 && young > 0);
+    HOLDS(looked_at >= seeds);
     printf("%lu events of programs, %lu crashes, %lu cycles, %lu frames lost, %lu objects freed, "
-           "%lu kept; bytes set %lu times, patched %lu times, read %lu times\n",
-        answers, crashes, cycles, lost, freed, kept, written, patched, read);
+           "%lu and %lu reclaimed, %lu kept, %lu looked at; bytes set %lu times, patched %lu "
+           "times, read %lu times\n",
+        answers, crashes, cycles, lost, freed, young, reclaimed, kept, looked_at, written, patched,
+        read);
     return report();
 }

@@ -32,6 +32,7 @@ static const struct {
     {"accept", MARKRING_EVENT_ACCEPT, "r"},
     {"put", MARKRING_EVENT_PUT, "opr"},
     {"get", MARKRING_EVENT_GET, "opl"},
+    {"reclaim", MARKRING_EVENT_RECLAIM, ""},
     {"begin", MARKRING_EVENT_BEGIN, ""},
     {"scan", MARKRING_EVENT_SCAN, ""},
     {"pass", MARKRING_EVENT_PASS, ""},
@@ -67,6 +68,9 @@ static int read_event(int place, markring_event *event)
             continue;
         }
         event->kind = EVENTS[i].kind;
+        if (place + 1 < count && strcmp(words[place + 1], "young") == 0) {
+            event->kind = MARKRING_EVENT_RECLAIM_YOUNG;
+        }
         for (const char *field = EVENTS[i].fields; *field != 0; field++) {
             uint64_t number = number_at(++place);
             switch (*field) {
@@ -166,6 +170,7 @@ static void print_answer(const markring_answer *it)
     case MARKRING_ANSWER_FREED:
         printf("freed %" PRIu32 " %s\n", it->count, it->done ? "done" : "more");
         break;
+    case MARKRING_ANSWER_RECLAIMED: printf("reclaimed %" PRIu32 "\n", it->count); break;
     case MARKRING_ANSWER_RECEIVED: puts("received"); break;
     case MARKRING_ANSWER_REPEAT: puts("repeat"); break;
     case MARKRING_ANSWER_EARLY: puts("early"); break;
@@ -444,7 +449,8 @@ static void debug_ref(markring_ref it, int optional)
 static void debug_answer(const markring_answer *it)
 {
     static const char *const NAMES[] = {"Done", "New(", "Value(", "Word", "Sent", "Letter", "Begun",
-        "Scanned(", "Passed", "ProbeAgain", "Ended", "Freed", "Received", "Repeat", "Early"};
+        "Scanned(", "Passed", "ProbeAgain", "Ended", "Freed", "Received", "Repeat", "Early",
+        "Reclaimed"};
     HOLDS(it->kind < sizeof NAMES / sizeof *NAMES);
     fputs(NAMES[it->kind], stdout);
     switch (it->kind) {
@@ -473,6 +479,7 @@ static void debug_answer(const markring_answer *it)
     case MARKRING_ANSWER_FREED:
         printf(" { count: %" PRIu32 ", done: %s }", it->count, it->done ? "true" : "false");
         break;
+    case MARKRING_ANSWER_RECLAIMED: printf("(%" PRIu32 ")", it->count); break;
     default: break;
     }
     putchar('\n');

@@ -3,17 +3,21 @@
 `Node` is one node, whose frames and images the caller moves and stores. `Space` makes cells, which are the nodes of one
 process, if the library exports them. A call that is refused raises a subclass of `Refusal`. docs/RULES.md of the repository has the rules.
 
-The library is the file that the variable MARKRING_LIBRARY names. Without that variable it is `libmarkring.so`, in the
-package, beside it, or in a folder in which the system looks for libraries.
+The library is the file that the variable MARKRING_LIBRARY names. Without that variable it is `libmarkring.so` in the
+package, beside it, or in the folder above that; or else the system's `libmarkring.so.1`.
 
 Calls keep the interpreter's lock, so any thread may use any of these objects.
 """
 from . import errors
-from ._space import Again, Batch, Cell, Ended, Freed, Image, Letter, Link, Node, Passed, Ref, Shape, Space, State, Taken, Watch
+from ._space import Again, Age, Batch, Cell, Ended, Freed, Image, Letter, Link, Node, Object, Passed, Ref, Shape, Space, State
+from ._space import Taken, Watch
 from .errors import Refusal
+
+__version__ = "0.1.0"
 
 __all__ = [
     "Again",
+    "Age",
     "Batch",
     "Cell",
     "Ended",
@@ -22,6 +26,7 @@ __all__ = [
     "Letter",
     "Link",
     "Node",
+    "Object",
     "Passed",
     "Ref",
     "Refusal",

@@ -7,6 +7,8 @@ from ctypes import POINTER, c_char_p, c_int, c_int64, c_size_t, c_uint8, c_uint1
 from pathlib import Path
 
 NAME = "libmarkring.so"
+# The number of the binary interface, in the names of the system's libraries.
+INTERFACE = 1
 
 
 class Handle(ctypes.Structure):
@@ -76,6 +78,18 @@ class RawLink(ctypes.Structure):
     ]
 
 
+class RawObject(ctypes.Structure):
+    _fields_ = [
+        ("reference", RawRef),
+        ("word", c_uint64),
+        ("bytes", c_uint32),
+        ("places", c_uint8),
+        ("marked", c_uint8),
+        ("shared", c_uint8),
+        ("age", c_uint8),
+    ]
+
+
 U8, U16, U32, U64, SIZE = c_uint8, c_uint16, c_uint32, c_uint64, c_size_t
 TO_SIZE, TO_NUMBER, TO_FLAG = POINTER(c_size_t), POINTER(c_uint64), POINTER(c_uint8)
 ANSWER, AT = POINTER(RawAnswer), POINTER(Handle)
@@ -96,6 +110,8 @@ EVENTS = {
     "accept": (U16,),
     "put": (U16, U8, U16),
     "get": (U16, U8, U32),
+    "reclaim": (),
+    "reclaim_young": (),
     "begin": (),
     "scan": (),
     "pass": (),
@@ -112,6 +128,10 @@ BOTH = {
     "register": (U16, POINTER(RawRef)),
     "bytes": (U16, U32, U32, c_char_p, SIZE, TO_SIZE),
     "bytes_length": (U16, POINTER(U32)),
+    "slots": (POINTER(U32),),
+    "object": (U32, POINTER(RawObject)),
+    "place": (U32, U8, POINTER(RawRef)),
+    "bytes_at": (U32, U32, U32, c_char_p, SIZE, TO_SIZE),
     "unsaved": (TO_FLAG,),
 }
 FUNCTIONS = {
@@ -156,30 +176,44 @@ CALLS: dict[str, dict[str, object]] = {}
 WIDTHS: dict[str, dict[str, tuple[int, ...]]] = {}
 
 
-def path() -> str:
-    """The file of the library: the variable MARKRING_LIBRARY, or a file beside the package or in it."""
-    named = os.environ.get("MARKRING_LIBRARY")
+def path(name: str, variable: str) -> str:
+    """The file of a library: the one that the variable names, or else one in the package, beside it, or in the folder above.
+    (In the last one a prefix has it.) The system's has the number of its interface in its name."""
+    named = os.environ.get(variable)
     if named:
         return named
     package = Path(__file__).resolve().parent
-    for folder in (package, package.parent):
-        if (folder / NAME).exists():
-            return str(folder / NAME)
-    return NAME
+    for folder in (package, package.parent, package.parent.parent):
+        if (folder / name).exists():
+            return str(folder / name)
+    return f"{name}.{INTERFACE}"
+
+
+def open_library(loader: type[ctypes.CDLL], name: str, variable: str, package: str) -> ctypes.CDLL:
+    """Loads a library, in which a name that it lacks is an ImportError too."""
+    try:
+        return loader(path(name, variable))
+    except OSError as error:
+        raise ImportError(f"{error}; install {package}, or set {variable} to the path of {name}") from error
+
+
+def function(library: ctypes.CDLL, name: str):
+    """A function of the library. An older library may lack it."""
+    try:
+        return getattr(library, name)
+    except AttributeError as error:
+        raise ImportError(f"{error}; the library is older than this package") from error
 
 
 def load() -> None:
     """Loads the library and declares its functions."""
-    try:
-        # Calls keep the interpreter's lock, so two threads are never in the library at the same time. No call waits.
-        library = ctypes.PyDLL(path())
-    except OSError as error:
-        raise ImportError(f"{error}; set MARKRING_LIBRARY to the path of {NAME}") from error
+    # Calls keep the interpreter's lock, so two threads are never in the library at the same time. No call waits.
+    library = open_library(ctypes.PyDLL, NAME, "MARKRING_LIBRARY", "libmarkring1")
     numbers = (U8, U16, U32, U64, SIZE)
     for kind, functions in FUNCTIONS.items():
         CALLS[kind], WIDTHS[kind] = {}, {}
         for name, words in functions.items():
-            call = getattr(library, f"markring_{kind}_{name}")
+            call = function(library, f"markring_{kind}_{name}")
             call.argtypes, call.restype = (AT, *words), c_int
             CALLS[kind][name] = call
             WIDTHS[kind][name] = tuple(8 * ctypes.sizeof(it) if it in numbers else 0 for it in words)

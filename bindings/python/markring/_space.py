@@ -4,13 +4,14 @@ from __future__ import annotations
 import ctypes
 from enum import Enum
 from types import TracebackType
-from typing import Any, NamedTuple, Optional, TypeVar, Union
+from typing import Any, Iterator, NamedTuple, NoReturn, Optional, TypeVar, Union
 
 from . import _library as c
-from .errors import Ages, BadArgument, check, found
+from .errors import Ages, BadArgument, NoField, check, found
 
 LENGTH, NUMBER = 2, 8
-FRAME, WINDOW = 48, 1_856
+FRAME = 48
+WINDOW = 1_856
 Own = TypeVar("Own", bound="_Handle")
 
 
@@ -148,12 +149,41 @@ class Link(NamedTuple):
     received_saved: int
 
 
+class Age(Enum):
+    """Whether an object was made since the last reclaim of its node. A shared one is made old."""
+
+    OLD = 0
+    YOUNG = 1
+    # young, and an old object may refer to it
+    REMEMBERED = 2
+
+
+class Object(NamedTuple):
+    """An object of a node, with how many places and bytes it has, and its age.
+
+    It is marked if it has the mark of the node's cycle, as every new object has, and shared if other nodes may know it.
+    """
+
+    reference: Ref
+    word: int
+    places: int
+    bytes: int
+    is_marked: bool
+    is_shared: bool
+    age: Age
+
+
 def _ref(raw: c.RawRef) -> Optional[Ref]:
     return Ref(raw.node, raw.slot, raw.generation) if raw.generation else None
 
 
 def _object(raw: c.RawRef) -> Ref:
     return Ref(raw.node, raw.slot, raw.generation)
+
+
+def _room(count: int, length: int) -> Any:
+    # A buffer for some of this many bytes: if more are asked for, the call is refused anyway.
+    return ctypes.create_string_buffer(max(min(count, length), 0))
 
 
 class _Handle:
@@ -178,6 +208,9 @@ class _Handle:
         """Frees it. What isn't saved is lost. Later calls raise `NoHandle`; closing again does nothing."""
         if self._at.at:
             self._call("free")
+
+    def __copy__(self) -> NoReturn:
+        raise TypeError("what owns something in the library can't be copied")
 
     def __enter__(self: Own) -> Own:
         return self
@@ -244,10 +277,10 @@ class _Events(_Handle):
 
     def read_bytes(self, object: int, offset: int = 0, count: Optional[int] = None) -> bytes:
         """The object's bytes from `offset` on: `count` of them, or all. Raises `NoBytes` if it hasn't that many."""
-        if count is None:
-            count = max(self.bytes_len(object) - offset, 0)
-        buffer, needed = ctypes.create_string_buffer(count), c.SIZE()
-        self._call("bytes", object, offset, count, buffer, count, needed)
+        length = self.bytes_len(object)
+        count = max(length - offset, 0) if count is None else count
+        buffer, needed = _room(count, length), c.SIZE()
+        self._call("bytes", object, offset, count, buffer, len(buffer), needed)
         return buffer.raw
 
     def set_bytes(self, object: int, data: bytes) -> None:
@@ -274,6 +307,22 @@ class _Events(_Handle):
     def get(self, object: int, place: int, label: int) -> int:
         """Asks the owner of another node's object for the content of the object's place. It comes in a letter."""
         return self._answer("get", object, place, label).number
+
+    def reclaim(self) -> int:
+        """Frees the private objects that nothing needs any more, without the other nodes.
+
+        Returns how many these were. An object of a wide space is private until its node sends a reference
+        to it. Raises `NothingToDo` if there is none, as always in a plain space.
+        """
+        return self._answer("reclaim").count
+
+    def reclaim_young(self) -> int:
+        """The same, but only of objects that were made since the last reclaim, of either kind.
+
+        Older objects count as needed, and so does what was stored into one of them since then. Raises
+        `NothingToDo` if no object was made since then, as always in a plain space.
+        """
+        return self._answer("reclaim_young").count
 
     def begin(self) -> int:
         """Begins the next cycle, and returns its number."""
@@ -316,6 +365,56 @@ class _Events(_Handle):
         """The reference in a register, if any."""
         raw = c.RawRef()
         return _ref(raw) if found(self._status("register", register, raw)) else None
+
+    def slots(self) -> int:
+        """How many slots were ever used. All objects of the node are in the slots below that."""
+        slots = c.U32()
+        self._call("slots", slots)
+        return slots.value
+
+    def object(self, slot: int) -> Optional[Object]:
+        """The object in a slot, if there is one, also if no register refers to it."""
+        raw = c.RawObject()
+        if not found(self._status("object", slot, raw)):
+            return None
+        flags = bool(raw.marked), bool(raw.shared)
+        return Object(_object(raw.reference), raw.word, raw.places, raw.bytes, *flags, Age(raw.age))
+
+    def objects(self) -> Iterator[Object]:
+        """The objects of the node, in the order of their slots, also those that no register refers to.
+
+        An object that an event makes meanwhile may be left out.
+        """
+        for slot in range(self.slots()):
+            it = self.object(slot)
+            if it is not None:
+                yield it
+
+    def _of_object(self, name: str, slot: int, *words: Any) -> None:
+        # Asks about the object in a slot.
+        if not found(self._status(name, slot, *words)):
+            raise NoField()
+
+    def places(self, slot: int) -> list[Optional[Ref]]:
+        """What the places of the object in a slot hold. Raises `NoField` if there is no object."""
+        raw, held = c.RawObject(), []
+        self._of_object("object", slot, raw)
+        for place in range(raw.places):
+            self._of_object("place", slot, place, raw.reference)
+            held.append(_ref(raw.reference))
+        return held
+
+    def read_bytes_at(self, slot: int, offset: int = 0, count: Optional[int] = None) -> bytes:
+        """Bytes of the object in a slot, from `offset` on: `count` of them, or all.
+
+        Raises `NoField` if there is no object, and `NoBytes` if it hasn't that many.
+        """
+        raw, needed = c.RawObject(), c.SIZE()
+        self._of_object("object", slot, raw)
+        count = max(raw.bytes - offset, 0) if count is None else count
+        buffer = _room(count, raw.bytes)
+        self._of_object("bytes_at", slot, offset, count, buffer, len(buffer), needed)
+        return buffer.raw
 
     def unsaved(self) -> bool:
         """Whether an event has changed the node since it was last saved."""

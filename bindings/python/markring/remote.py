@@ -10,22 +10,20 @@ A node has up to 64 programs. A program sends its node requests, one after anoth
 shows is stored, so nothing takes it back. docs/PROCESSES.md has more.
 
 The client is the file that the variable MARKRING_REMOTE_LIBRARY names. Without that variable it is
-`libmarkring-remote.so`, in the package, beside it, or in a folder in which the system looks for libraries. Each space
+`libmarkring-remote.so`, found as the package finds `libmarkring.so`. Each space
 has a lock, so any thread may use it; calls wait without the interpreter's lock. Times are in seconds.
 """
 from __future__ import annotations
 
 import ctypes
 import json
-import os
 import threading
 from ctypes import POINTER, byref, c_char_p, c_int, c_int64, c_size_t, c_uint8, c_uint16, c_uint32, c_uint64, c_void_p
-from pathlib import Path
 from types import TracebackType
 from typing import Any, NamedTuple, Optional
 
 from . import errors
-from ._library import RawAnswer
+from ._library import RawAnswer, function, open_library
 from ._space import Letter, Ref
 
 NAME = "libmarkring-remote.so"
@@ -293,22 +291,8 @@ def _results(raw: Any, count: int) -> list[Result]:
     return [Result(it.status, _value(it.answer) if it.status == 0 else None) for it in raw[:count]]
 
 
-def _path() -> str:
-    named = os.environ.get("MARKRING_REMOTE_LIBRARY")
-    if named:
-        return named
-    package = Path(__file__).resolve().parent
-    for folder in (package, package.parent):
-        if (folder / NAME).exists():
-            return str(folder / NAME)
-    return NAME
-
-
 def _load() -> ctypes.CDLL:
-    try:
-        library = ctypes.CDLL(_path())
-    except OSError as error:
-        raise ImportError(f"{error}; set MARKRING_REMOTE_LIBRARY to the path of {NAME}") from error
+    library = open_library(ctypes.CDLL, NAME, "MARKRING_REMOTE_LIBRARY", "markring-node")
     at, numbers, to_size = c_void_p, POINTER(c_uint16), POINTER(c_size_t)
     results = POINTER(RawResult)
     calls = {
@@ -324,10 +308,10 @@ def _load() -> ctypes.CDLL:
         "ask": (at, c_uint8, c_char_p, c_char_p, c_size_t, c_int64),
     }
     for name, words in calls.items():
-        call = getattr(library, f"markring_remote_{name}")
+        call = function(library, f"markring_remote_{name}")
         call.argtypes, call.restype = words, c_int
     for name in ("disconnect", "close"):
-        call = getattr(library, f"markring_remote_{name}")
+        call = function(library, f"markring_remote_{name}")
         call.argtypes, call.restype = (at,), None
     return library
 

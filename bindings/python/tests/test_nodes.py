@@ -1,7 +1,7 @@
 """Events, frames and images of nodes. What is expected comes from docs/RULES.md and docs/FORMATS.md."""
 import unittest
 
-from markring import Again, Ended, Freed, Letter, Link, Node, Passed, Ref, Refusal, Shape, Taken, errors
+from markring import Again, Age, Ended, Freed, Letter, Link, Node, Object, Passed, Ref, Refusal, Shape, Taken, errors
 
 
 def deliver(giver: Node, own: int, receiver: Node) -> list[Taken]:
@@ -111,6 +111,40 @@ class Nodes(unittest.TestCase):
         self.zero.alloc(0, 0)
         self.assertRaises(errors.TooManyBytes, lambda: self.zero.set_bytes(0, b""))
         self.assertRaises(errors.NoBytes, lambda: self.zero.patch(0, 0, b""))
+
+    def test_all_objects_can_be_looked_at(self) -> None:
+        node = Node.with_shape(Shape.wide(2, 2, 16, 3, 10), 0)
+        self.addCleanup(node.close)
+        self.assertEqual((node.slots(), list(node.objects())), (0, []))
+        old = node.alloc(0, 1)
+        node.alloc(1, 3)
+        self.assertEqual(node.reclaim(), 0)
+        node.drop(1)
+        young = node.alloc(1, 0)
+        node.set_bytes(1, b"any bytes")
+        node.set_word(1, 77)
+        node.store(0, 0, 1)
+        node.give(1, 7, 0)
+        # The second object is garbage now. The third one is young, and an old one refers to it.
+        expected = [
+            Object(old, 0, 1, 0, True, True, Age.OLD),
+            Object(Ref(0, 1, 1), 0, 3, 0, True, False, Age.OLD),
+            Object(young, 77, 0, 9, True, False, Age.REMEMBERED),
+        ]
+        self.assertEqual(list(node.objects()), expected)
+        self.assertEqual([node.object(slot) for slot in range(4)], [*expected, None])
+        self.assertEqual([node.places(slot) for slot in range(3)], [[young], [None] * 3, []])
+        self.assertEqual((node.read_bytes_at(2), node.read_bytes_at(2, 4, 3)), (b"any bytes", b"byt"))
+        for kind, call in (
+            (errors.NoField, lambda: node.places(3)),
+            (errors.NoField, lambda: node.read_bytes_at(3)),
+            (errors.NoBytes, lambda: node.read_bytes_at(2, 4, 6)),
+            (errors.BadArgument, lambda: node.object(-1)),
+        ):
+            self.assertRaises(kind, call)
+        self.assertEqual(node.reclaim(), 1)
+        self.assertEqual([it.reference for it in node.objects()], [old, young])
+        self.assertEqual(node.slots(), 3)
 
     def test_wide_nodes_have_more_registers_and_places(self) -> None:
         shape = Shape.wide(2, 65_535, 16_777_216, 255, 16_777_216)

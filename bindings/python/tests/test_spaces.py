@@ -39,6 +39,10 @@ class Spaces(unittest.TestCase):
             for node, image in enumerate(images):
                 space.disk(node, image)
             again = space.open()
+        self.assertEqual([it.reference for it in again[0].objects()], [Ref(0, 0, 1)])
+        self.assertEqual((again[0].slots(), again[1].slots()), (1, 0))
+        self.assertEqual((again[0].places(0), again[0].read_bytes_at(0)), ([None] * 19 + [Ref(0, 0, 1)], b""))
+        self.assertRaises(errors.NoField, again[1].places, 0)
         self.assertEqual(again[0].load(0, 299, 19), Ref(0, 0, 1))
         self.assertEqual((again[1].state().places, again[1].state().is_wide), (20, True))
         with Space.with_shape(shape._replace(places=21)) as space:

@@ -1,7 +1,7 @@
 //! What nodes and cells have in common: their events, and calls that read them.
 
 use crate::node::filled;
-use crate::{Answer, Event, Freed, Letter, Link, Passed, Ref, Result, State};
+use crate::{Answer, Event, Freed, Letter, Link, Object, Objects, Passed, Ref, Result, State};
 use alloc::vec::Vec;
 
 /// The events of a node, and calls that read it. [`Node`](crate::Node) has them, and
@@ -137,6 +137,25 @@ pub trait Events {
     /// `Congested`, `NoRegister`, `EmptyRegister`, `Local`, `NoField`, `LinkSpent`, `Memory`.
     fn get(&self, object: u16, place: u8, label: u32) -> Result<u64>;
 
+    /// Frees the private objects that nothing needs any more, without the other nodes, and returns
+    /// how many these were. An object of a wide space is private until its node sends a reference to
+    /// it; from then on only a cycle frees it. It takes time linear in the slots ever used.
+    ///
+    /// # Errors
+    ///
+    /// `NothingToDo` if the node has no private object, as always in a plain space; `Memory`.
+    fn reclaim(&self) -> Result<u32>;
+
+    /// The same, but only of objects that were made since the last reclaim, of either kind. The
+    /// older ones count as needed, and so does what was stored into one of them since then. It takes
+    /// time linear in the blocks of 64 slots that have objects made since the last reclaim, in the
+    /// registers and in the letters, and writes a byte for each slot.
+    ///
+    /// # Errors
+    ///
+    /// `NothingToDo` if no object was made since then, as always in a plain space; `Memory`.
+    fn reclaim_young(&self) -> Result<u32>;
+
     /// Begins the next cycle, and returns its number.
     ///
     /// # Errors
@@ -201,6 +220,61 @@ pub trait Events {
     /// `NoRegister`.
     fn register(&self, register: u16) -> Result<Option<Ref>>;
 
+    /// How many slots were ever used. All objects of the node are in the slots below that.
+    ///
+    /// # Errors
+    ///
+    /// None today.
+    fn slots(&self) -> Result<u32>;
+
+    /// The object in a slot, if there is one, also if no register refers to it.
+    ///
+    /// # Errors
+    ///
+    /// None today.
+    fn object(&self, slot: u32) -> Result<Option<Object>>;
+
+    /// The objects of the node, in the order of their slots, also those that no register refers to.
+    /// An object that an event makes meanwhile may be left out.
+    ///
+    /// ```
+    /// use markring::{Events, Node};
+    ///
+    /// # fn main() -> markring::Result<()> {
+    /// let node = Node::new(2, 4, 16, 0)?;
+    /// let lost = node.alloc(0, 1)?;
+    /// node.drop_register(0)?;
+    /// let object = node.objects()?.next().expect("it isn't freed yet")?;
+    /// assert_eq!(object.reference, lost);
+    /// # Ok(())
+    /// # }
+    /// ```
+    ///
+    /// # Errors
+    ///
+    /// None today.
+    fn objects(&self) -> Result<Objects<'_, Self>>
+    where
+        Self: Sized,
+    {
+        Ok(Objects::new(self, self.slots()?))
+    }
+
+    /// What a place of the object in a slot holds, a reference or nothing.
+    ///
+    /// # Errors
+    ///
+    /// `NoField` if the slot has no object, or the object has no such place.
+    fn place(&self, slot: u32, place: u8) -> Result<Option<Ref>>;
+
+    /// Fills the buffer with bytes of the object in a slot, from `offset` on.
+    ///
+    /// # Errors
+    ///
+    /// `NoField` if the slot has no object; `NoBytes` if the object has fewer bytes. The buffer is
+    /// then as it was.
+    fn read_bytes_at(&self, slot: u32, offset: u32, buffer: &mut [u8]) -> Result<()>;
+
     /// Whether an event has changed the node since it was last saved.
     ///
     /// # Errors
@@ -220,8 +294,9 @@ pub trait Events {
 macro_rules! events {
     ($type:ty {
         $alloc:ident $copy:ident $drop:ident $load:ident $store:ident $clear:ident $word:ident
-        $set_word:ident $bytes_length:ident $bytes:ident $set_bytes:ident $patch:ident $give:ident $accept:ident $put:ident $get:ident $begin:ident $scan:ident
+        $set_word:ident $bytes_length:ident $bytes:ident $set_bytes:ident $patch:ident $give:ident $accept:ident $put:ident $get:ident $reclaim:ident $reclaim_young:ident $begin:ident $scan:ident
         $pass:ident $sweep:ident $next:ident $act:ident $state:ident $link:ident $register:ident
+        $slots:ident $object:ident $place:ident $bytes_at:ident
         $unsaved:ident $image_size:ident $image:ident
     }) => {
         impl $type {
@@ -360,6 +435,16 @@ macro_rules! events {
                     .map(|it| it.number)
             }
 
+            fn reclaim(&self) -> Result<u32> {
+                self.answer(|at, answer| unsafe { ffi::$reclaim(at, answer) })
+                    .map(|it| it.count)
+            }
+
+            fn reclaim_young(&self) -> Result<u32> {
+                self.answer(|at, answer| unsafe { ffi::$reclaim_young(at, answer) })
+                    .map(|it| it.count)
+            }
+
             fn begin(&self) -> Result<u64> {
                 self.answer(|at, answer| unsafe { ffi::$begin(at, answer) })
                     .map(|it| it.number)
@@ -407,6 +492,34 @@ macro_rules! events {
                 let mut reference = ffi::RawRef::default();
                 let status = unsafe { ffi::$register(self.at.get(), register, &mut reference) };
                 Ok(found(status)?.then(|| Ref::from_raw(reference)).flatten())
+            }
+
+            fn slots(&self) -> Result<u32> {
+                let mut slots = 0;
+                checked(unsafe { ffi::$slots(self.at.get(), &mut slots) })?;
+                Ok(slots)
+            }
+
+            fn object(&self, slot: u32) -> Result<Option<Object>> {
+                let mut object = ffi::RawObject::default();
+                let found = found(unsafe { ffi::$object(self.at.get(), slot, &mut object) })?;
+                Ok(found.then(|| Object::from_raw(&object)))
+            }
+
+            fn place(&self, slot: u32, place: u8) -> Result<Option<Ref>> {
+                let mut reference = ffi::RawRef::default();
+                let status = unsafe { ffi::$place(self.at.get(), slot, place, &mut reference) };
+                there(status)?;
+                Ok(Ref::from_raw(reference))
+            }
+
+            fn read_bytes_at(&self, slot: u32, offset: u32, buffer: &mut [u8]) -> Result<()> {
+                // (A count that doesn't fit is more than any object has.)
+                let count = u32::try_from(buffer.len()).unwrap_or(u32::MAX);
+                let (to, length, mut needed) = (buffer.as_mut_ptr(), buffer.len(), 0);
+                there(unsafe {
+                    ffi::$bytes_at(self.at.get(), slot, offset, count, to, length, &mut needed)
+                })
             }
 
             fn unsaved(&self) -> Result<bool> {

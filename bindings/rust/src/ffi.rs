@@ -96,6 +96,18 @@ pub(crate) struct RawLink {
     pub(crate) received_saved: u64,
 }
 
+#[repr(C)]
+#[derive(Clone, Copy, Default)]
+pub(crate) struct RawObject {
+    pub(crate) reference: RawRef,
+    pub(crate) word: u64,
+    pub(crate) bytes: u32,
+    pub(crate) places: u8,
+    pub(crate) marked: u8,
+    pub(crate) shared: u8,
+    pub(crate) age: u8,
+}
+
 type Place = *mut Handle;
 type Reply = *mut RawAnswer;
 
@@ -235,6 +247,8 @@ both! {
     markring_node_accept markring_cell_accept (reg: u16, answer: Reply);
     markring_node_put markring_cell_put (object: u16, place: u8, reg: u16, answer: Reply);
     markring_node_get markring_cell_get (object: u16, place: u8, label: u32, answer: Reply);
+    markring_node_reclaim markring_cell_reclaim (answer: Reply);
+    markring_node_reclaim_young markring_cell_reclaim_young (answer: Reply);
     markring_node_begin markring_cell_begin (answer: Reply);
     markring_node_scan markring_cell_scan (answer: Reply);
     markring_node_pass markring_cell_pass (answer: Reply);
@@ -250,5 +264,10 @@ both! {
     markring_node_bytes markring_cell_bytes
         (object: u16, offset: u32, count: u32, buffer: *mut u8, length: usize, needed: *mut usize);
     markring_node_bytes_length markring_cell_bytes_length (object: u16, length: *mut u32);
+    markring_node_slots markring_cell_slots (slots: *mut u32);
+    markring_node_object markring_cell_object (slot: u32, object: *mut RawObject);
+    markring_node_place markring_cell_place (slot: u32, place: u8, reference: *mut RawRef);
+    markring_node_bytes_at markring_cell_bytes_at
+        (slot: u32, offset: u32, count: u32, buffer: *mut u8, length: usize, needed: *mut usize);
     markring_node_unsaved markring_cell_unsaved (flag: *mut u8);
 }

@@ -13,8 +13,7 @@
 //!   one process, which move frames in shared memory.
 //!
 //! The crate needs `libmarkring.a` or `libmarkring.so`. Its build script looks for them in the
-//! folder that the variable `MARKRING_LIB_DIR` names. Without that variable, it has `tools/library`
-//! of the repository build them.
+//! folder that the variable `MARKRING_LIB_DIR` names. Without that variable, it asks pkg-config.
 //!
 //! # A ring over two nodes
 //!
@@ -88,6 +87,6 @@ pub use root::{Accepted, Root, Roots};
 #[cfg(feature = "spaces")]
 pub use space::{Cell, Space, Watch};
 pub use value::{
-    Answer, Batch, Colour, Event, Frame, Freed, Image, Letter, Link, Passed, Ref, Shape, State,
-    Taken,
+    Age, Answer, Batch, Colour, Event, Frame, Freed, Image, Letter, Link, Object, Objects, Passed,
+    Ref, Shape, State, Taken,
 };

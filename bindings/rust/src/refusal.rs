@@ -160,3 +160,12 @@ pub(crate) fn found(status: c_int) -> Result<bool> {
     }
     checked(status).map(|()| true)
 }
+
+// Turns a status into a result, for what an object has: if there is no object, it hasn't it.
+pub(crate) fn there(status: c_int) -> Result<()> {
+    if found(status)? {
+        Ok(())
+    } else {
+        Err(Refusal::NoField)
+    }
+}

@@ -3,10 +3,10 @@
 use crate::events::events;
 use crate::ffi;
 use crate::node::filled;
-use crate::refusal::{checked, found};
+use crate::refusal::{checked, found, there};
 use crate::{
-    Answer, Event, Events, Freed, Image, Letter, Link, Passed, Ref, Refusal, Result, Shape, State,
-    Taken,
+    Answer, Event, Events, Freed, Image, Letter, Link, Object, Passed, Ref, Refusal, Result, Shape,
+    State, Taken,
 };
 use alloc::vec::Vec;
 use core::cell::UnsafeCell;
@@ -182,9 +182,11 @@ events! {
         markring_cell_store markring_cell_clear markring_cell_word markring_cell_set_word
         markring_cell_bytes_length markring_cell_bytes markring_cell_set_bytes markring_cell_patch
         markring_cell_give markring_cell_accept markring_cell_put markring_cell_get
-        markring_cell_begin markring_cell_scan markring_cell_pass markring_cell_sweep
+        markring_cell_reclaim markring_cell_reclaim_young markring_cell_begin markring_cell_scan
+        markring_cell_pass markring_cell_sweep
         markring_cell_next markring_cell_act markring_cell_state markring_cell_link
-        markring_cell_register markring_cell_unsaved markring_cell_image_size markring_cell_image
+        markring_cell_register markring_cell_slots markring_cell_object markring_cell_place
+        markring_cell_bytes_at markring_cell_unsaved markring_cell_image_size markring_cell_image
     }
 }
 
@@ -194,7 +196,7 @@ impl Cell {
     ///
     /// # Errors
     ///
-    /// `Closed`, `NoNode`, `AckBeyond`. With `WrongNode`, `OutOfOrder`, `LinkSpent` and `Memory`
+    /// `Closed`, `NoNode`. With `WrongNode`, `OutOfOrder`, `LinkSpent` and `Memory`
     /// a frame in the mailbox is lost; its sender offers it again.
     pub fn receive(&self, from: u8) -> Result<Option<Taken>> {
         let mut answer = ffi::RawAnswer::default();

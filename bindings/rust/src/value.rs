@@ -1,7 +1,9 @@
-//! Plain values: references, events, answers, and a node in numbers.
+//! Plain values: references, events, answers, objects, and a node in numbers.
 
-use crate::ffi::{RawAnswer, RawEvent, RawLink, RawRef, RawShape, RawState};
+use crate::ffi::{RawAnswer, RawEvent, RawLink, RawObject, RawRef, RawShape, RawState};
+use crate::{Events, Result};
 use core::fmt;
+use core::ops::Range;
 
 /// A reference `node.slot.generation`. It names one object, forever.
 ///
@@ -25,11 +27,7 @@ impl fmt::Display for Ref {
 impl Ref {
     // Generation 0 means nothing.
     pub(crate) fn from_raw(raw: RawRef) -> Option<Self> {
-        (raw.generation != 0).then_some(Ref {
-            node: raw.node,
-            slot: raw.slot,
-            generation: raw.generation,
-        })
+        (raw.generation != 0).then(|| raw.named())
     }
 }
 
@@ -143,6 +141,10 @@ pub enum Event {
     },
     /// See [`Events::get`](crate::Events::get).
     Get { object: u16, place: u8, label: u32 },
+    /// See [`Events::reclaim`](crate::Events::reclaim).
+    Reclaim,
+    /// See [`Events::reclaim_young`](crate::Events::reclaim_young).
+    ReclaimYoung,
     /// See [`Events::begin`](crate::Events::begin).
     Begin,
     /// See [`Events::scan`](crate::Events::scan).
@@ -183,6 +185,8 @@ impl Event {
                 RawEvent { object, place, reg: register, ..kind(11) }
             }
             Event::Get { object, place, label } => RawEvent { object, place, label, ..kind(12) },
+            Event::Reclaim => kind(20),
+            Event::ReclaimYoung => kind(21),
             Event::Begin => kind(13),
             Event::Scan => kind(14),
             Event::Pass => kind(15),
@@ -217,6 +221,8 @@ pub enum Answer {
     Freed(Freed),
     /// What became of the frame.
     Taken(Taken),
+    /// How many private objects were freed.
+    Reclaimed(u32),
 }
 
 impl Answer {
@@ -235,7 +241,19 @@ impl Answer {
             8..=10 => Answer::Passed(raw.passed()),
             11 => Answer::Freed(raw.freed()),
             12..=14 => Answer::Taken(raw.taken()),
+            15 => Answer::Reclaimed(raw.count),
             kind => panic!("the library gave an answer of the unknown kind {kind}"),
+        }
+    }
+}
+
+impl RawRef {
+    // The reference, which isn't nothing.
+    fn named(self) -> Ref {
+        Ref {
+            node: self.node,
+            slot: self.slot,
+            generation: self.generation,
         }
     }
 }
@@ -243,11 +261,7 @@ impl Answer {
 impl RawAnswer {
     // The reference of an answer that has one.
     pub(crate) fn object(&self) -> Ref {
-        Ref {
-            node: self.reference.node,
-            slot: self.reference.slot,
-            generation: self.reference.generation,
-        }
+        self.reference.named()
     }
 
     pub(crate) fn letter(&self) -> Letter {
@@ -429,6 +443,80 @@ impl Link {
             received: raw.received,
             received_saved: raw.received_saved,
         }
+    }
+}
+
+/// Whether an object was made since the last reclaim of its node.
+#[derive(Clone, Copy, Debug, PartialEq, Eq, Hash)]
+pub enum Age {
+    /// It was there then, or it was shared when it was made.
+    Old,
+    /// It was made since then.
+    Young,
+    /// It was made since then, and an old object may refer to it.
+    Remembered,
+}
+
+/// An object of a node, except for its bytes and what its places hold.
+#[derive(Clone, Copy, Debug, PartialEq, Eq, Hash)]
+#[non_exhaustive]
+pub struct Object {
+    /// The reference to it, which also says its slot.
+    pub reference: Ref,
+    /// Its word.
+    pub word: u64,
+    /// How many places it has.
+    pub places: u8,
+    /// How many bytes it has.
+    pub bytes: u32,
+    /// Whether it has the mark of the node's cycle, as every new object has.
+    pub is_marked: bool,
+    /// Whether other nodes may know it.
+    pub is_shared: bool,
+    /// Its age.
+    pub age: Age,
+}
+
+impl Object {
+    pub(crate) fn from_raw(raw: &RawObject) -> Self {
+        Object {
+            reference: raw.reference.named(),
+            word: raw.word,
+            places: raw.places,
+            bytes: raw.bytes,
+            is_marked: raw.marked != 0,
+            is_shared: raw.shared != 0,
+            age: match raw.age {
+                0 => Age::Old,
+                1 => Age::Young,
+                _ => Age::Remembered,
+            },
+        }
+    }
+}
+
+/// The objects of a node; see [`Events::objects`].
+#[derive(Debug)]
+pub struct Objects<'a, T> {
+    node: &'a T,
+    slots: Range<u32>,
+}
+
+impl<'a, T> Objects<'a, T> {
+    pub(crate) fn new(node: &'a T, slots: u32) -> Self {
+        Objects {
+            node,
+            slots: 0..slots,
+        }
+    }
+}
+
+impl<T: Events> Iterator for Objects<'_, T> {
+    type Item = Result<Object>;
+
+    fn next(&mut self) -> Option<Result<Object>> {
+        let node = self.node;
+        self.slots.find_map(|slot| node.object(slot).transpose())
     }
 }
 

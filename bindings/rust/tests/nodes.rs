@@ -1,7 +1,7 @@
 //! Events, frames and images of nodes. What is expected comes from docs/RULES.md and
 //! docs/FORMATS.md of the repository.
 
-use markring::{Answer, Colour, Event, Events, Frame, Freed, Letter, Link, Node, Passed, Ref};
+use markring::{Age, Answer, Colour, Event, Events, Frame, Freed, Letter, Link, Node, Passed, Ref};
 use markring::{Refusal, Result, Shape, Taken};
 
 fn reference(node: u8, slot: u32, generation: u64) -> Ref {
@@ -175,6 +175,57 @@ fn wide_nodes_have_more_registers_and_places() -> Result<()> {
     assert_eq!(again.state()?, zero.state()?);
     let plain = plain.state()?;
     assert_eq!((plain.places, plain.is_wide), (8, false));
+    Ok(())
+}
+
+#[test]
+fn all_objects_can_be_looked_at() -> Result<()> {
+    let node = Node::with_shape(Shape::wide(2, 2, 16, 3, 10), 0, 0)?;
+    assert_eq!((node.slots()?, node.objects()?.count()), (0, 0));
+    let old = node.alloc(0, 1)?;
+    node.alloc(1, 3)?;
+    assert_eq!(node.reclaim()?, 0);
+    node.drop_register(1)?;
+    let young = node.alloc(1, 0)?;
+    node.set_bytes(1, b"any bytes")?;
+    node.set_word(1, 77)?;
+    node.store(0, 0, 1)?;
+    node.give(1, 7, 0)?;
+    // The second object is garbage now. The third one is young, and an old one refers to it.
+    let all = node.objects()?.collect::<Result<Vec<_>>>()?;
+    let names: Vec<Ref> = all.iter().map(|it| it.reference).collect();
+    assert_eq!(names, [old, reference(0, 1, 1), young]);
+    assert_eq!((all[0].places, all[1].places, all[2].places), (1, 3, 0));
+    assert_eq!((all[0].word, all[2].word, all[2].bytes), (0, 77, 9));
+    let ages: Vec<Age> = all.iter().map(|it| it.age).collect();
+    assert_eq!(ages, [Age::Old, Age::Old, Age::Remembered]);
+    let shared: Vec<bool> = all.iter().map(|it| it.is_shared).collect();
+    assert_eq!(shared, [true, false, false]);
+    assert!(all.iter().all(|it| it.is_marked));
+
+    assert_eq!(node.place(0, 0)?, Some(young));
+    assert_eq!(node.place(1, 2)?, None);
+    assert_eq!(node.place(1, 3), Err(Refusal::NoField));
+    assert_eq!(node.place(3, 0), Err(Refusal::NoField));
+    let mut bytes = [0; 5];
+    node.read_bytes_at(2, 4, &mut bytes)?;
+    assert_eq!(&bytes, b"bytes");
+    let refused = |slot, offset| node.read_bytes_at(slot, offset, &mut [0; 5]).err();
+    assert_eq!(refused(2, 5), Some(Refusal::NoBytes));
+    assert_eq!(refused(3, 0), Some(Refusal::NoField));
+    assert_eq!(node.object(3)?, None);
+
+    assert_eq!(node.reclaim()?, 1);
+    assert_eq!((node.slots()?, node.object(1)?), (3, None));
+    assert_eq!(node.objects()?.count(), 2);
+    // A cycle marks what registers hold, what is made, and what a scan finds.
+    node.drop_register(1)?;
+    node.begin()?;
+    node.alloc(1, 0)?;
+    let marked = || -> Result<Vec<bool>> { node.objects()?.map(|it| Ok(it?.is_marked)).collect() };
+    assert_eq!(marked()?, [true, true, false]);
+    node.scan()?;
+    assert_eq!(marked()?, [true, true, true]);
     Ok(())
 }
 

@@ -1,6 +1,6 @@
 //! Roots: registers that are emptied automatically.
 
-use markring::{Events, Node, Refusal, Result, Roots};
+use markring::{Events, Node, Refusal, Result, Roots, Shape};
 
 #[test]
 fn a_dropped_root_empties_its_register() -> Result<()> {
@@ -66,18 +66,47 @@ fn roots_reach_objects_of_other_nodes() -> Result<()> {
     let mine = there.alloc(0)?;
     far.put(0, Some(&mine))?;
     far.put(1, Some(&mine))?;
-    far.put(1, None)?;
+    assert_eq!(there.free(), 2);
+    assert_eq!(far.put(1, None)?, 3);
+    assert_eq!(there.free(), 2);
+    assert_eq!(far.get(1, 6)?, 4);
     far.get(0, 8)?;
     flush(1, 0)?;
     let stored = object.load(0)?.expect("node 1 put a reference there");
     assert_eq!(stored.reference(), mine.reference());
     assert!(object.load(1)?.is_none());
     flush(0, 1)?;
+    let empty = there.accept()?.expect("the answer to the first Get");
+    assert_eq!((empty.label, empty.root.is_none()), (6, true));
     let answer = there.accept()?.expect("the answer to the Get");
     assert_eq!(answer.label, 8);
     assert_eq!(
         answer.root.map(|root| root.reference()),
         Some(mine.reference())
     );
+    Ok(())
+}
+
+#[test]
+fn a_root_uses_its_own_register() -> Result<()> {
+    let shape = Shape::wide(2, 8, 16, 2, 10);
+    let node = Node::with_shape(shape, 0, 0)?;
+    let roots = Roots::new(&node, 0..8);
+    let (_first, root) = (roots.alloc(2)?, roots.alloc(2)?);
+    root.set_word(77)?;
+    root.set_bytes(b"0123")?;
+    root.patch(2, b"x")?;
+    assert_eq!((root.word()?, root.bytes()?), (77, b"01x3".to_vec()));
+    assert_eq!((node.word(0)?, node.bytes(0)?), (0, Vec::new()));
+    assert_eq!((node.word(1)?, node.bytes(1)?), (77, b"01x3".to_vec()));
+    root.store(1, &root)?;
+    assert_eq!(
+        (node.place(1, 1)?, node.place(1, 0)?),
+        (node.register(1)?, None)
+    );
+    assert_eq!(roots.give_nothing(1, 7)?, 1);
+    assert!(root.load(0)?.is_none());
+    assert_eq!(roots.free(), 6);
+    assert_eq!(roots.node().state()?, node.state()?);
     Ok(())
 }

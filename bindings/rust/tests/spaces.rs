@@ -177,6 +177,15 @@ fn a_wide_space_opens_on_its_images() -> Result<()> {
         space.cells()
     };
     let again = opened(shape)?;
+    let objects = again[0].objects()?.collect::<Result<Vec<_>>>()?;
+    assert_eq!((objects.len(), objects[0].reference), (1, object));
+    assert_eq!((again[0].slots()?, again[1].slots()?), (1, 0));
+    assert_eq!(again[0].place(0, 19)?, Some(object));
+    assert_eq!(again[0].place(0, 20), Err(Refusal::NoField));
+    assert_eq!(
+        again[0].read_bytes_at(0, 0, &mut [0]),
+        Err(Refusal::NoBytes)
+    );
     assert_eq!(again[0].load(0, 299, 19)?, Some(object));
     let state = again[1].state()?;
     assert_eq!((state.places, state.is_wide), (20, true));

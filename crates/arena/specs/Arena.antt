@@ -2,7 +2,7 @@
 use Rattle.std.specs.Prelude.{◌≡◌, ◌⊎◌, ℕ, ◌+◌, ◌^◌, ◌<◌, ◌≤◌, List, [], ◌∷◌, ◌++◌, length}
 use Rattle.std.specs.Prelude.{Bool, true, false, ◌==◌, ◌&&◌, nat_le, if◌then◌else◌, ⊤}
 use Rattle.std.specs.Prelude.{Option, Some, None, count_by, slice_index_or, slice_set}
-use Rattle.arena_slot.specs.Slot.{IsFree, IsBorn, is_occupied, value_of, generation_in, slot_generation}
+use Rattle.arena_slot.specs.Slot.{IsFree, IsBorn, is_occupied, value_in, value_of, generation_in, slot_generation}
 use Rattle.arena_slot.specs.Slot.{generation_of}
 use Rattle.arena_slot.specs.declared.Slot.{Slot}
 use Rattle.arena_slot.specs.declared.Slot.TheVariants.{Free, Occupied, Retired}
@@ -55,6 +55,10 @@ module _ {T : Type 0} where
   -- the number of values
   abbrev pub occupied_count : Arena T → ℕ
   occupied_count a = count_by is_occupied a.slots
+
+  -- the value in a slot, whatever its generation
+  abbrev pub value_at : Arena T → ℕ → Option T
+  value_at a slot = value_in (slot_at a slot)
 
   -- the value under a key
   abbrev pub get : Arena T → Key → Option T
@@ -126,10 +130,10 @@ module _ {T : Type 0} where
   abbrev pub vacated : Arena T → Key → Arena T
   vacated a key = if key.generation == GREATEST_GENERATION then retired a key else freed a key
 
-  abbrev pub without : Option T → Arena T → Key → Arena T
-  without None a key = a
-  without (Some x) a key = vacated a key
+  abbrev pub emptied : Option Key → Arena T → Arena T
+  emptied None a = a
+  emptied (Some key) a = vacated a key
 
-  -- the arena without the value of this key, if it has one
-  abbrev pub removed : Arena T → Key → Arena T
-  removed a key = without (get a key) a key
+  -- the arena without the value in this slot, if there is one
+  abbrev pub discarded : Arena T → ℕ → Arena T
+  discarded a slot = emptied (key_at a slot) a

@@ -34,11 +34,12 @@
 #![tactic(auto)]
 
 ghost use Rattle.std.specs.Prelude.{◌≡◌, ◌<◌, ◌==◌, [], length, option_copied};
-ghost use Rattle.std.specs.Prelude.{IsSome, IsOk, OnOk, OnErr, IfOk, IfErr, Some};
+ghost use Rattle.std.specs.Prelude.{is_some, IsSome, IsOk, OnOk, OnErr, IfOk, IfErr, Some};
 ghost use Rattle.std.specs.Option.{option_copied_mut};
 ghost use Rattle.std.specs.Borrow.{sem};
-ghost use Rattle.arena.specs.Arena.{IsSound, IsErrorOf, IsKey, get, key_at, generation_at, next_key};
-ghost use Rattle.arena.specs.Arena.{inserted, removed, occupied_count, is_full, slot_at, plain};
+ghost use Rattle.arena.specs.Arena.{IsSound, IsErrorOf, IsKey, get, value_at, key_at};
+ghost use Rattle.arena.specs.Arena.{generation_at, next_key};
+ghost use Rattle.arena.specs.Arena.{inserted, discarded, occupied_count, is_full, slot_at, plain};
 ghost use Rattle.arena_slot.specs.Slot.{slot_read};
 ghost use Rattle.arena.specs.declared.ArenaError.TheVariants.{Shape};
 
@@ -211,15 +212,26 @@ impl<T> Arena<T> {
     }
 
     /// The value under `key` for writing, if it is still there.
+    #[inline(always)]
     pub fn get_mut(&mut self, key: Key) -> Option<&mut T>
         ensures* writes_back { sem 𝓛 (lends_value T.row self.entry key result) }
         ensures value { option_copied_mut result ≡ get self.old key }
     {
-        if self.get(key).is_some() {
+        if self.has(key) {
             Some(self.value_mut(key))
         } else {
             None
         }
+    }
+
+    /// The value that is now in `slot`, if there is one.
+    pub fn value_at(&self, slot: u32) -> Option<&T>
+        ensures { option_copied result ≡ value_at self.now slot }
+    {
+        if slot as usize >= self.entries.len() {
+            return None;
+        }
+        self.entries.get(slot as usize).held()
     }
 
     /// The key of the value that is now in `slot`, if there is one.
@@ -298,18 +310,19 @@ impl<T> Arena<T> {
         }
     }
 
-    /// Removes and returns the value under `key`, if it is still there. It allocates nothing.
+    /// Drops the value in `slot`, if there is one, and returns whether there was. It allocates
+    /// nothing.
     ///
     /// The slot is then the next to be used, under the next generation. A slot of
     /// [`GREATEST_GENERATION`] is retired.
-    pub fn remove(&mut self, key: Key) -> Option<T>
-        ensures value { result ≡ get self.old key }
-        ensures done { self.new ≡ removed self.old key }
+    #[inline(always)]
+    pub fn discard(&mut self, slot: u32) -> bool
+    where
+        T: Drop,
+        ensures there { result ≡ is_some (key_at self.old slot) }
+        ensures done { self.new ≡ discarded self.old slot }
     {
-        if key.slot as usize >= self.entries.len() {
-            return None;
-        }
-        self.take(key)
+        (slot as usize) < self.entries.len() && self.empty(slot)
     }
 
     // Stores a value in the free slot that is used next.
@@ -327,27 +340,41 @@ impl<T> Arena<T> {
         Key { slot, generation }
     }
 
-    // Takes the value under a key out of a slot that was used.
-    fn take(&mut self, key: Key) -> Option<T>
-        requires { key.slot < length self.old.slots }
-        ensures value { result ≡ get self.old key }
-        ensures done { self.new ≡ removed self.old key }
+    // Drops the value in a slot that was used, if there is one, and returns whether there was.
+    #[inline(always)]
+    fn empty(&mut self, slot: u32) -> bool
+    where
+        T: Drop,
+        requires { slot < length self.old.slots }
+        ensures there { result ≡ is_some (key_at self.old slot) }
+        ensures done { self.new ≡ discarded self.old slot }
     {
-        let entry = self.entries.get_mut(key.slot as usize);
-        if entry.value(key.generation).is_none() {
-            return None;
-        }
+        let entry = self.entries.get_mut(slot as usize);
+        let Some(generation) = entry.generation() else {
+            return false;
+        };
         self.len -= 1;
-        if key.generation == GREATEST_GENERATION {
-            return Some(entry.retire());
+        if generation == GREATEST_GENERATION {
+            entry.retire();
+            return true;
         }
-        let value = entry.free(self.first);
-        self.first = key.slot;
+        entry.free(self.first);
+        self.first = slot;
         self.vacant += 1;
-        Some(value)
+        true
+    }
+
+    // Whether there is a value under a key.
+    #[inline(always)]
+    fn has(&self, key: Key) -> bool
+        ensures { result ≡ is_some (get self.now key) }
+    {
+        let slot = key.slot as usize;
+        slot < self.entries.len() && self.entries.get(slot).value(key.generation).is_some()
     }
 
     // The value under a key, which has to be there, for writing.
+    #[inline(always)]
     fn value_mut(&mut self, key: Key) -> &mut T
         requires { IsSome (get self.old key) }
         ensures* writes_back { sem 𝓛 (lends_occupied T.row self.entry key result) }

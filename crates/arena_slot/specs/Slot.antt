@@ -23,6 +23,12 @@ module _ {T : Type 0} where
   is_occupied (Occupied g x) = true
   is_occupied Retired = false
 
+  -- the value in a slot, whatever its generation
+  abbrev pub value_in : Slot T → Option T
+  value_in (Free g) = None
+  value_in (Occupied g x) = Some x
+  value_in Retired = None
+
   -- the value in a slot, if it has this generation
   abbrev pub value_of : Slot T → ℕ → Option T
   value_of (Free g) generation = None

@@ -8,7 +8,7 @@
 
 ghost use Rattle.std.specs.Prelude.{◌≡◌, ◌+◌, ◌<◌, IsSome, Some, option_copied};
 ghost use Rattle.std.specs.Borrow.{Lends, sem};
-ghost use Rattle.arena_slot.specs.Slot.{IsFree, value_of, generation_of, generation_in};
+ghost use Rattle.arena_slot.specs.Slot.{IsFree, value_in, value_of, generation_of, generation_in};
 ghost use Rattle.arena_slot.specs.Slot.{slot_generation, slot_read};
 ghost use Rattle.arena_slot.specs.Entry.{slot_of, held_by, next_of, occupied_by};
 ghost use Rattle.arena_slot.specs.Entry.{unlinked_of, is_unlinked, linked_to};
@@ -57,6 +57,16 @@ impl<T> Entry<T> {
                     None
                 }
             }
+            _ => None,
+        }
+    }
+
+    /// The value, whatever its generation, if there is one.
+    pub fn held(&self) -> Option<&T>
+        ensures { option_copied result ≡ value_in (slot_of self.now) }
+    {
+        match self {
+            Entry::Occupied(_, value) => Some(value),
             _ => None,
         }
     }
@@ -158,28 +168,29 @@ impl<T> Entry<T> {
         }
     }
 
-    /// Takes the value out of a slot, which must have one, and not of the last generation. The slot
-    /// is then free, under the next generation, and names the free slot that is used after it.
-    pub fn free(&mut self, next: u32) -> T
+    /// Drops the value of a slot, which must have one, and not of the last generation. The slot is
+    /// then free, under the next generation, and names the free slot that is used after it.
+    pub fn free(&mut self, next: u32)
+    where
+        T: Drop,
         requires held { IsSome (held_by self.old) }
         requires more { generation_of (slot_of self.old) < GREATEST_GENERATION }
-        ensures value { held_by self.old ≡ Some result }
-        ensures done { self.new ≡ Entry.Free (generation_of (slot_of self.old) + 1) next }
+        ensures { self.new ≡ Entry.Free (generation_of (slot_of self.old) + 1) next }
     {
         let generation = match self {
             Entry::Occupied(generation, _) => *generation,
             _ => unreachable!(),
         };
-        mem::replace(self, Entry::Free(generation + 1, next)).into_value()
+        *self = Entry::Free(generation + 1, next);
     }
 
-    /// Takes the value out of a slot, which must have one. The slot is never used again.
-    pub fn retire(&mut self) -> T
-        requires { IsSome (held_by self.old) }
-        ensures value { held_by self.old ≡ Some result }
-        ensures done { self.new ≡ Entry.Retired }
+    /// Drops the value of a slot, if it has one. The slot is never used again.
+    pub fn retire(&mut self)
+    where
+        T: Drop,
+        ensures { self.new ≡ Entry.Retired }
     {
-        mem::replace(self, Entry::Retired).into_value()
+        *self = Entry::Retired;
     }
 
     /// Puts a value into a free slot, under the generation that the slot has for it. It returns

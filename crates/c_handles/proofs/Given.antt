@@ -1,6 +1,6 @@
 -- Spaces that are opened on images: what the disks of these images have, and what follows of the
 -- cells.
-use Rattle.std.proofs.Common.{inl, ◌≡◌, ℕ, ◌≤◌, ◌+◌, zero, suc, Bool, List, [], ◌++◌, false, Some, None, length, map, drop, refl, sym, arith, ap, ◌∙◌, subst}
+use Rattle.std.proofs.Common.{inl, ◌≡◌, ℕ, ◌≤◌, Bool, List, [], false, Some, None, length, map, refl, sym, arith, ap, ◌∙◌, subst}
 use Rattle.std.specs.Prelude.{slice_get}
 use Rattle.std.proofs.lemmas.List.{append-nil, length-map}
 use Rattle.std.proofs.lemmas.Option.{slice_get_within}

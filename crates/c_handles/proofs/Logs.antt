@@ -5,19 +5,18 @@ use Rattle.std.proofs.Common.{length-append}
 use Rattle.std.proofs.Math.ListN.{get_or-map}
 use Rattle.model.specs.declared.event.Event.{Event}
 use Rattle.model.specs.declared.event.Answer.{Answer}
-use Rattle.model.specs.declared.event.Answer.TheVariants as answer
 use Rattle.model.specs.declared.event.Event.TheVariants as events
 use Rattle.msg.specs.declared.frame.Ack.{Ack}
 use Rattle.model.specs.Effects.{is_change}
 use Rattle.model.proofs.Shown.{ack-answer}
 use Rattle.std.proofs.Common.{Result, Err, OnOk, replicate, drop, take}
-use Rattle.std.specs.Prelude.{nat_le, ◌||◌, ◌&&◌, ◌-◌}
-use Rattle.std.proofs.lemmas.Bool.{false≢true, true≢false}
+use Rattle.std.specs.Prelude.{◌||◌, ◌&&◌, ◌-◌}
+use Rattle.std.proofs.lemmas.Bool.{true≢false}
 use Rattle.std.proofs.lemmas.List.{take_all}
 use Rattle.node_store.proofs.Stores.{image_plain}
 use Rattle.image.specs.Logged.{IsEither}
 use Rattle.image.specs.Wholes.{IsWholeOf}
-use Rattle.model.specs.View.{NodeView, all_kept, kept_of, kept_view, let_go, link_to, no_link, used, view_act}
+use Rattle.model.specs.View.{NodeView, all_kept, kept_of, kept_view, link_to, no_link, used, view_act}
 use Rattle.node.specs.Invariant.{IsNode}
 use Rattle.node.specs.Keeping.{WholeNode}
 use Rattle.node_store.specs.Logs.{IsDone, Logged}

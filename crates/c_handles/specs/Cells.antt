@@ -1,5 +1,5 @@
 -- A cell with its wire, as C uses it: what the calls do.
-use Rattle.std.specs.Prelude.{◌≡◌, ◌≢◌, ◌↔◌, ◌⊎◌, ℕ, ◌+◌, ◌<◌, ◌%◌, ◌^◌, ◌++◌, [], ◌∷◌, Bool, true, false, cond, ◌==◌, ◌&&◌, List, length, Option, Some, None, Result, Ok, Err, IfErr, IfOk, IsErrOf, IsTrue, OnErr, OnOk, replicate, slice_index_or}
+use Rattle.std.specs.Prelude.{◌≡◌, ◌≢◌, ◌↔◌, ◌⊎◌, ℕ, ◌+◌, ◌%◌, ◌^◌, ◌++◌, [], ◌∷◌, Bool, true, false, cond, ◌==◌, ◌&&◌, List, Option, Some, None, Result, Ok, Err, IfErr, IfOk, IsErrOf, IsTrue, OnErr, OnOk, replicate, slice_index_or}
 use Rattle.circular_buffer.specs.Buffer.{keep_last}
 use Rattle.ids.specs.declared.limits.TheConstants.{GREATEST_NODES, TRACE_EVENTS}
 use Rattle.ids.specs.declared.refusal.Refusal.{Refusal}

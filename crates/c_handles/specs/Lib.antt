@@ -4,6 +4,7 @@ pub mod Holds
 pub mod Images
 pub mod Logs
 pub mod Lone
+pub mod Objects
 pub mod Reads
 pub mod Cells
 pub mod Opening

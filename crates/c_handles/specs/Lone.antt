@@ -13,7 +13,6 @@ use Rattle.model.specs.Effects.{is_change}
 use Rattle.model.specs.State.{LocalState}
 use Rattle.model.specs.View.{NodeView, link_to}
 use Rattle.model.specs.declared.event.Answer.{Answer}
-use Rattle.model.specs.declared.event.Answer.TheVariants as answer
 use Rattle.model.specs.declared.event.Event.{Event}
 use Rattle.model.specs.declared.event.Event.TheVariants as event
 use Rattle.node.specs.Keeping.{WholeNode, alone, new_whole}

@@ -12,6 +12,8 @@ ghost use Rattle.node.specs.Summaries.{summary_of};
 ghost use Rattle.c_handles.specs.Cells.{CellActs, HandleImaged, Raised, Received, Reopened, Saved};
 ghost use Rattle.c_handles.specs.Cells.{Sent, SizedSame};
 
+mod objects;
+
 use crate::Marked;
 use crate::held::Held;
 use crate::seated::SeatedCell;
@@ -244,8 +246,8 @@ impl CellHandle {
     ) -> Result<(), Fault>
         ensures same { self.new.held ≡ self.old.held }
         ensures wrote { WroteIf
-            (read (λ c. object_bytes c.cell.node.core.local object offset count) self.old.held) result
-            buffer.old buffer.new needed.old needed.new }
+            (read (λ c. object_bytes c.cell.node.core.local object offset count) self.old.held)
+            result buffer.old buffer.new needed.old needed.new }
     {
         let Some(cell) = self.take(alloc) else {
             return Err(Fault::NoHandle);
@@ -258,7 +260,8 @@ impl CellHandle {
     /// How many bytes an object has; see [`SeatedCell::bytes_len`].
     pub fn bytes_len(&mut self, alloc: Global, object: u16) -> Result<u32, Fault>
         ensures same { self.new.held ≡ self.old.held }
-        ensures value { result ≡ read (λ c. object_len c.cell.node.core.local object) self.old.held }
+        ensures value { result
+            ≡ read (λ c. object_len c.cell.node.core.local object) self.old.held }
     {
         let Some(cell) = self.take(alloc) else {
             return Err(Fault::NoHandle);

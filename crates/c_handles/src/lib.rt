@@ -20,6 +20,7 @@ mod cell_handle;
 mod held;
 mod lone;
 mod nodes;
+mod objects;
 mod opening;
 mod packing;
 mod seated;

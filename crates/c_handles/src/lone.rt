@@ -9,6 +9,7 @@ ghost use Rattle.c_handles.specs.Lone.{lone, receiver_of, unacknowledged};
 mod batches;
 mod images;
 mod logging;
+mod objects;
 pub(crate) mod reading;
 pub(crate) mod reopening;
 mod sending;
@@ -173,7 +174,7 @@ impl LoneNode {
 
         ensures { Given false self.old self.new event.entry result }
     {
-        let answer = self.node.act(event)?;
+        let answer = self.node.act(&event)?;
         if answer.is_change() {
             self.is_changed = true;
             self.is_unsaved = true;
@@ -191,7 +192,7 @@ impl LoneNode {
         if self.logs {
             return self.acknowledge_noting(ack);
         }
-        let answer = self.node.act(Event::Ack(ack))?;
+        let answer = self.node.act(&Event::Ack(ack))?;
         Ok(answer)
     }
 

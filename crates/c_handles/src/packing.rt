@@ -2,13 +2,13 @@
 //! its number.
 ghost use Rattle.std.specs.Prelude.{◌≡◌, ◌+◌, ◌<◌, ◌≤◌, ◌^◌, List, ℕ, length};
 ghost use Rattle.std.specs.Option.{option_map};
-ghost use Rattle.msg.specs.Frames.{plain};
+ghost use Rattle.msg.specs.Frames.{plain_ref};
 ghost use Rattle.frames.specs.Grammar.{spelling};
 ghost use Rattle.c_handles.specs.Frames.{Holds, Packed, number_of, pack, pack_above, packed};
 
 use codec::Piece;
 use frames::writing::add_frame;
-use msg::Frame;
+use msg::FrameRef;
 
 /// How many parts are in a buffer, and how many bytes all parts would take.
 #[derive(Drop)]
@@ -18,8 +18,8 @@ pub(crate) struct Packing {
 }
 
 /// The bytes of a frame.
-pub(crate) fn spelled(frame: &Frame) -> Piece
-    ensures { result ≡ spelling (plain frame.now) }
+pub(crate) fn spelled(frame: &FrameRef) -> Piece
+    ensures { result ≡ spelling (plain_ref frame.now) }
 {
     let mut piece = Piece::new();
     add_frame(&mut piece, frame);
@@ -27,19 +27,19 @@ pub(crate) fn spelled(frame: &Frame) -> Piece
 }
 
 // The number of a frame.
-fn number_of(frame: &Frame) -> u64
-    ensures { result ≡ number_of (plain frame.now) }
+fn number_of(frame: &FrameRef) -> u64
+    ensures { result ≡ number_of (plain_ref frame.now) }
 {
     match frame {
-        Frame::Data(data) => data.number,
-        Frame::Ack(ack) => ack.number,
+        FrameRef::Data(data) => data.number,
+        FrameRef::Ack(ack) => ack.number,
     }
 }
 
 // The bytes of a frame after their number and the frame's.
 #[tactic(auto, using(crate::proofs::Short::frame_short))]
-fn packed(frame: &Frame) -> Piece
-    ensures { result ≡ packed (plain frame.now) }
+fn packed(frame: &FrameRef) -> Piece
+    ensures { result ≡ packed (plain_ref frame.now) }
 {
     let bytes = spelled(frame);
     let len = bytes.as_slice().len();
@@ -72,12 +72,12 @@ impl Packing {
     /// Puts a frame into the buffer after its length and its number, if its number is above this
     /// one and it fits.
     #[tactic(auto, using(crate::proofs::Short::packed_short))]
-    pub(crate) fn add_above(&mut self, after: u64, frame: Option<Frame>, buffer: &mut [u8])
+    pub(crate) fn add_above(&mut self, after: u64, frame: Option<FrameRef>, buffer: &mut [u8])
         requires room { self.old.needed < 2 ^ 32 }
         requires few { self.old.count < 2 ^ 32 }
         ensures added { (whole : List ℕ) (p : Packed) → Holds whole p self.old buffer.old
-            → Holds whole (pack_above (length whole) after p (option_map plain frame)) self.new
-            buffer.new }
+            → Holds whole (pack_above (length whole) after p (option_map plain_ref frame.entry))
+            self.new buffer.new }
         ensures needed { self.new.needed ≤ self.old.needed + 58 }
         ensures count { self.new.count ≤ self.old.count + 1 }
     {

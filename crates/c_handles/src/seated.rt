@@ -9,6 +9,8 @@ ghost use Rattle.c_handles.specs.Images.{Sized};
 ghost use Rattle.c_handles.specs.Reads.{link_of, object_bytes, object_len, register_of};
 ghost use Rattle.c_values.specs.Bytes.{WroteIf};
 
+mod objects;
+
 use crate::Marked;
 use crate::lone::reading::{bytes_len_of, bytes_of, link_of, register_of};
 use c_values::{CLink, Fault, put};
@@ -69,7 +71,7 @@ impl SeatedCell {
         requires own { is_own event ≡ true }
         ensures { CellActs event.entry self.old self.new result }
     {
-        let answer = self.cell.act(&self.wire, event)?;
+        let answer = self.cell.act(&self.wire, &event)?;
         self.is_fresh = false;
         Ok(answer)
     }

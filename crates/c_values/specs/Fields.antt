@@ -6,6 +6,9 @@ use Rattle.ids.specs.declared.names.Ref.{Ref}
 use Rattle.msg.specs.declared.body.Colour.{Colour}
 use Rattle.msg.specs.declared.body.Colour.TheVariants.{White, Black}
 use Rattle.msg.specs.declared.body.Token.{Token}
+use Rattle.model.specs.declared.age.Age.{Age}
+use Rattle.model.specs.declared.age.Age.TheVariants.{Old, Young, Remembered}
+use Rattle.model.specs.declared.age.Scope.TheVariants as scope
 use Rattle.model.specs.declared.event.Answer.{Answer}
 use Rattle.model.specs.declared.event.Answer.TheVariants as answer
 use Rattle.model.specs.declared.event.Event.{Event}
@@ -25,6 +28,11 @@ bit true = 1
 abbrev pub colour_number : Colour → ℕ
 colour_number White = 0
 colour_number Black = 1
+
+abbrev pub age_number : Age → ℕ
+age_number Old = 0
+age_number Young = 1
+age_number Remembered = 2
 
 -- ---- References
 
@@ -86,6 +94,7 @@ answer_fields (answer.Passed t) = token_fields t
 answer_fields answer.ProbeAgain = record no_answer { kind = 9 }
 answer_fields (answer.Ended cycle) = numbered 10 cycle
 answer_fields (answer.Freed count done) = freed_fields count done
+answer_fields (answer.Reclaimed count) = record no_answer { kind = 15; count = count }
 answer_fields answer.Received = record no_answer { kind = 12 }
 answer_fields answer.Repeat = record no_answer { kind = 13 }
 answer_fields answer.Early = record no_answer { kind = 14 }
@@ -111,7 +120,9 @@ event_of c =
     (cond (c.kind == 14) (Some event.Scan)
     (cond (c.kind == 15) (Some event.Pass)
     (cond (c.kind == 16) (Some (event.Sweep c.count))
-    (cond (c.kind == 17) (Some (event.Next c.node)) None))))))))))))))))
+    (cond (c.kind == 17) (Some (event.Next c.node))
+    (cond (c.kind == 20) (Some (event.Reclaim scope.All))
+    (cond (c.kind == 21) (Some (event.Reclaim scope.Young)) None))))))))))))))))))
 
 -- ---- Sizes of spaces
 

@@ -1,14 +1,14 @@
-//! Answers, events and numbers of nodes as structs of plain numbers, which is how C sees them. The
-//! header `include/markring.h` has the same structs.
+//! Answers, events, objects and numbers of nodes as structs of plain numbers, which is how C sees
+//! them. The header `include/markring.h` has the same structs.
 ghost use Rattle.std.specs.Prelude.{◌≡◌, ◌↔◌, IfSome, IsSome, Some, true};
 ghost use Rattle.model.specs.Steps.{is_own};
-ghost use Rattle.c_values.specs.Fields.{answer_fields, colour_number, event_of, freed_fields};
-ghost use Rattle.c_values.specs.Fields.{letter_fields, no_answer, optional_fields};
+ghost use Rattle.c_values.specs.Fields.{age_number, answer_fields, colour_number, event_of};
+ghost use Rattle.c_values.specs.Fields.{freed_fields, letter_fields, no_answer, optional_fields};
 ghost use Rattle.c_values.specs.Fields.{described, plain_fields, reference_fields, state_fields};
 ghost use Rattle.c_values.specs.Fields.{IsDescribed, token_fields};
 
 use ids::{PLAIN_PLACES, Ref, Shape};
-use model::{Answer, Event, Letter, Summary};
+use model::{Age, Answer, Event, Letter, Scope, Summary};
 use msg::{Colour, Token};
 
 /// A reference, or zeros for nothing: no reference has generation 0.
@@ -97,6 +97,19 @@ pub struct CLink {
     pub received_saved: u64,
 }
 
+/// An object, except for its bytes and what its places hold. A flag is 1 or 0.
+#[repr(C)]
+#[derive(Clone, Copy)]
+pub struct CObject {
+    pub reference: CRef,
+    pub word: u64,
+    pub bytes: u32,
+    pub places: u8,
+    pub marked: u8,
+    pub shared: u8,
+    pub age: u8,
+}
+
 const NO_REFERENCE: CRef = CRef {
     node: 0,
     slot: 0,
@@ -149,6 +162,17 @@ fn colour_number(colour: Colour) -> u8
     match colour {
         Colour::White => 0,
         Colour::Black => 1,
+    }
+}
+
+/// The number of an age.
+pub fn age_number(age: Age) -> u8
+    ensures { result ≡ age_number age }
+{
+    match age {
+        Age::Old => 0,
+        Age::Young => 1,
+        Age::Remembered => 2,
     }
 }
 
@@ -214,6 +238,16 @@ fn of_freed(count: u32, done: bool) -> CAnswer
     }
 }
 
+fn of_reclaimed(count: u32) -> CAnswer
+    ensures { result ≡ record no_answer { kind = 15; count = count } }
+{
+    CAnswer {
+        kind: 15,
+        count,
+        ..NO_ANSWER
+    }
+}
+
 impl CAnswer {
     /// The fields of an answer.
     #[inline(always)]
@@ -233,6 +267,7 @@ impl CAnswer {
             Answer::ProbeAgain => of_kind(9),
             Answer::Ended(cycle) => numbered(10, cycle),
             Answer::Freed { count, done } => of_freed(count, done),
+            Answer::Reclaimed(count) => of_reclaimed(count),
             Answer::Received => of_kind(12),
             Answer::Repeat => of_kind(13),
             Answer::Early => of_kind(14),
@@ -298,6 +333,10 @@ impl CEvent {
             15 => Event::Pass,
             16 => Event::Sweep { count },
             17 => Event::Next { from: node },
+            20 => Event::Reclaim { scope: Scope::All },
+            21 => Event::Reclaim {
+                scope: Scope::Young,
+            },
             _ => return None,
         };
         Some(event)

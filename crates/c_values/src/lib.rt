@@ -1,5 +1,6 @@
-//! What crosses to C by value: answers, events, numbers of nodes, why a call did nothing, and how
-//! results are written to the places that C gave; what C holds by a pointer is in `c_handles`.
+//! What crosses to C by value: answers, events, objects, numbers of nodes, why a call did nothing,
+//! and how results are written to the places that C gave; what C holds by a pointer is in
+//! `c_handles`.
 //!
 //! It is below the crates of nodes, and is proved beside them.
 #![tactic(auto)]
@@ -11,5 +12,5 @@ mod results;
 
 pub use bytes::put;
 pub use fault::{Fault, OK};
-pub use fields::{CAnswer, CEvent, CLink, CRef, CShape, CState};
+pub use fields::{CAnswer, CEvent, CLink, CObject, CRef, CShape, CState, age_number};
 pub use results::{answered, flagged, status, written};

@@ -1,90 +1,154 @@
 -- The theorems on lists of steps, applied to what cells do.
 use Rattle.std.proofs.Common.{◌≡◌, ℕ, true, List, map, length, Ok, Err, refl, sym, ap, ◌∙◌, subst}
+use Rattle.ids.specs.declared.names.Ref.{Ref}
 use Rattle.ids.specs.declared.refusal.Refusal.{Refusal}
 use Rattle.msg.specs.Frames.{plain, plain_data}
 use Rattle.msg.specs.declared.body.Message.{Message}
 use Rattle.msg.specs.declared.frame.Data.{Data}
 use Rattle.msg.specs.declared.frame.Frame.{Frame}
 use Rattle.msg.specs.declared.frame.Frame.TheVariants as frame
+use Rattle.model.specs.declared.age.Scope.{Scope}
+use Rattle.model.specs.declared.event.Event.{Event}
 use Rattle.model.specs.declared.event.Event.TheVariants as event
 use Rattle.model.specs.declared.event.Answer.{Answer}
-use Rattle.model.specs.State.{LocalState, NodeState, node_at, slot_at}
+use Rattle.model.specs.State.{LocalState, NodeState, Object, node_at, slot_at}
+use Rattle.model.specs.Reclaiming.{aging}
 use Rattle.model.specs.Steps.{act, made, receive}
 use Rattle.model.specs.Collecting.{swept_slots}
 use Rattle.model.specs.World.{World, acknowledged, run, IsInNet}
+use Rattle.model.specs.Cuts.{Cut}
 use Rattle.model.proofs.Refusals.{refused-as}
 use Rattle.laws.proofs.StepFacts.{act-ok}
 use Rattle.laws.proofs.Live as laws
+use Rattle.laws.proofs.Privacy as privacy
+use Rattle.laws.proofs.Reclaims.{private-garbage-goes, young-garbage-goes}
 use Rattle.laws.proofs.Deliveries as deliveries
 use Rattle.wire.specs.Rule.{receiver}
 use Rattle.wire.specs.Views.{Pair}
 use Rattle.model.specs.Effects.{is_change}
 use Rattle.wire.specs.Sending.{emptied}
 use Rattle.cell.specs.Events.{Handled}
-use Rattle.laws.specs.Statements.{IsSpentOrEarly, NoneRefusedInTurn, SweepsFreeNoneReachable}
-use Rattle.cell.specs.Laws.{CellsFreeNoneReachable, CellsRefuseNoneInTurn}
+use Rattle.laws.specs.Privacy.{IsPrivate, Knows}
+use Rattle.laws.specs.Statements.{IsSpentOrEarly, KeepsReachable, NoneRefusedInTurn, OfEveryRun}
+use Rattle.cell.specs.Laws.{CellsFreeNoneReachable, CellsReclaimGarbage, CellsReclaimNoneReachable, CellsReclaimYoung, CellsRefuseNoneInTurn, FreesNoneReachable, PrivateIsHidden}
 use Rattle.cell.specs.Theorems.{OfEveryReached}
 use Rattle.cell.proofs.Alike.{act-like, other-answer, other-refusal}
-use Rattle.cell.proofs.AlikeCuts.{reached-too}
+use Rattle.cell.proofs.AlikeCuts.{CutsAlike, flies-too, reached-too}
 use Rattle.cell.proofs.AlikeRuns.{AreReleased, also-released, given-like}
 use Rattle.cell.proofs.Applied.{cuts-end}
 use Rattle.cell.proofs.Reaches.{end_of, heard-end, stays-reached}
 
--- ---- Sweeps
+-- ---- Sweeps and reclaims
 
-swept-in : OfEveryReached SweepsFreeNoneReachable
-swept-in w reached i count s a answered choice r current reach own =
+-- whoever does this event frees nothing reachable
+abbrev FreesNone : Event → (Object → Object) → World → Type 0
+FreesNone e makes w =
+    (i : ℕ) (s : NodeState) (a : Answer) → act (node_at w.current i) e ≡ Ok (s, a)
+    → KeepsReachable makes w i (node_at w.current i).local.heap s.local.heap
+
+none-in : (e : Event) (makes : Object → Object) → OfEveryRun (FreesNone e makes)
+    → OfEveryReached (FreesNone e makes)
+none-in e makes law w reached i s a answered choice r current reach own =
     let end : World = end_of reached in
     let like = reached.by.current.each i in
     let given =
-    act-like (acknowledged end i) (node_at w.current i) (node_at end.current i) (event.Sweep count)
-    like in
+    act-like (acknowledged end i) (node_at w.current i) (node_at end.current i) e like in
     let other = other-answer (acknowledged end i) _ _ s a given answered in
     let kept =
-    laws.sweeps-free-none-reachable reached.shape reached.limits reached.steps i count other.0 a
-    other.1 choice r current (reached-too (cuts-end w choice reached) reach) own in (
+    law reached.shape reached.limits reached.steps i other.0 a other.1 choice r current
+    (reached-too (cuts-end w choice reached) reach) own in (
       kept.0,
       ap (λ (p : LocalState). slot_at p.heap r.slot) like.local ∙ kept.1,
       ap (λ (p : LocalState). slot_at p.heap r.slot) other.2.local ∙ kept.2,
     )
 
-sweep-answer : (p : LocalState) (counts : List ℕ) (count : ℕ)
-    → is_change (made p counts (event.Sweep count)).answer ≡ true
+-- the event is always one of the space
+abbrev Changes : Event → Type 0
+Changes e = (p : LocalState) (counts : List ℕ) → is_change (made p counts e).answer ≡ true
+
+sweep-changes : (count : ℕ) → Changes (event.Sweep count)
 unfolding swept_slots
-sweep-answer p counts count = refl
+sweep-changes count p counts = refl
 
--- each sweep is an event
-sweep-counts : (s t : NodeState) (count : ℕ) (a : Answer) → act s (event.Sweep count) ≡ Ok (t, a)
+reclaim-changes : (scope : Scope) → Changes (event.Reclaim scope)
+reclaim-changes scope p counts = refl
+
+done-counts : (e : Event) → Changes e → (s t : NodeState) (a : Answer) → act s e ≡ Ok (t, a)
     → is_change a ≡ true
-sweep-counts s t count a answered =
-    subst (λ (x : Answer). is_change x ≡ true)
-    (sym (act-ok s (event.Sweep count) t a answered).answer)
-    (sweep-answer s.local (map length s.sent) count)
+done-counts e changes s t a answered =
+    subst (λ (x : Answer). is_change x ≡ true) (sym (act-ok s e t a answered).answer)
+    (changes s.local (map length s.sent))
 
-pub cells-free-none-reachable : CellsFreeNoneReachable
-cells-free-none-reachable count old new v w reached shows swept =
-    let a = swept.answer in
-    let acted = swept.given.acted in
+cells-free-none : (e : Event) (makes : Object → Object) → OfEveryRun (FreesNone e makes)
+    → Changes e → FreesNoneReachable e makes
+cells-free-none e makes law changes old new v w reached shows done =
+    let a = done.answer in
+    let acted = done.given.acted in
     let s : NodeState = acted.states.0 in
-    let answered : act v.pair.current (event.Sweep count) ≡ Ok (s, a) = acted.states.1 in
-    let e = (acted.entered (sweep-counts v.pair.current s count a answered)).1 in
-    let here : node_at (run v.opening e.log).current v.me ≡ v.pair.current =
-    ap (λ (p : Pair). p.current) e.before in (
-      e.log,
-      e.events,
-      e.before,
-      e.after,
+    let answered : act v.pair.current e ≡ Ok (s, a) = acted.states.1 in
+    let entered = (acted.entered (done-counts e changes v.pair.current s a answered)).1 in
+    let here : node_at (run v.opening entered.log).current v.me ≡ v.pair.current =
+    ap (λ (p : Pair). p.current) entered.before in (
+      entered.log,
+      entered.events,
+      entered.before,
+      entered.after,
       λ choice r current reach own.
-          (let now = stays-reached v.opening e.log reached in
-          let kept = swept-in (run v.opening e.log) now v.me count s a
-          (ap (λ (t : NodeState). act t (event.Sweep count)) here ∙ answered) choice r current
-          reach own in (
+          (let now = stays-reached v.opening entered.log reached in
+          let kept = none-in e makes law (run v.opening entered.log) now v.me s a
+          (ap (λ (t : NodeState). act t e) here ∙ answered) choice r current reach own in (
             kept.0,
             ap (λ (p : LocalState). slot_at p.heap r.slot)
                 (shows.local ∙ ap (λ (t : NodeState). t.local) (sym here)) ∙ kept.1,
             ap (λ (p : LocalState). slot_at p.heap r.slot) acted.states.2.local ∙ kept.2,
           )),
     )
+
+pub cells-free-none-reachable : CellsFreeNoneReachable
+cells-free-none-reachable count =
+    cells-free-none (event.Sweep count) (λ o. o)
+    (λ shape limits steps i s a.
+    laws.sweeps-free-none-reachable shape limits steps i count s a)
+    (sweep-changes count)
+
+pub cells-reclaim-none-reachable : CellsReclaimNoneReachable
+cells-reclaim-none-reachable scope =
+    cells-free-none (event.Reclaim scope) aging
+    (λ shape limits steps i s a.
+    privacy.reclaims-free-none-reachable shape limits steps i scope s a)
+    (reclaim-changes scope)
+
+pub cells-reclaim-garbage : CellsReclaimGarbage
+cells-reclaim-garbage old new v w done =
+    let states = done.given.acted.states in
+    (states.0, private-garbage-goes v.pair.current states.0 done.answer states.1, states.2)
+
+pub cells-reclaim-young : CellsReclaimYoung
+cells-reclaim-young old new v w done =
+    let states = done.given.acted.states in
+    (states.0, young-garbage-goes v.pair.current states.0 done.answer states.1, states.2)
+
+-- ---- Private objects
+
+private-too : {c d : Cut} {r : Ref} → CutsAlike c d → IsPrivate c r → IsPrivate d r
+private-too {r = r} h is = record {
+  object = is.object;
+  there = ap (λ (p : LocalState). slot_at p.heap r.slot) (sym (h.locals r.node)) ∙ is.there;
+  private = is.private;
+}
+
+pub private-is-hidden : OfEveryReached PrivateIsHidden
+private-is-hidden w reached choice r private =
+    let cuts = cuts-end w choice reached in
+    let unknown =
+    privacy.private-is-unknown reached.shape reached.limits reached.steps choice r
+    (private-too cuts private) in
+    record {
+      nodes = λ i other knows.
+          unknown.nodes i other (subst (λ (p : LocalState). Knows p r) (cuts.locals i) knows);
+      flights = λ from to place x fly.
+          unknown.messages from to place x (flies-too from to place x cuts fly).there;
+    }
 
 -- ---- Messages
 

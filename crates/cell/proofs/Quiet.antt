@@ -9,6 +9,7 @@ use Rattle.model.specs.declared.event.Event.{Event}
 use Rattle.model.specs.declared.event.Event.TheVariants as event
 use Rattle.model.specs.declared.event.Answer.{Answer}
 use Rattle.model.specs.declared.event.Answer.TheVariants as answer
+use Rattle.model.specs.declared.step.Step.{Step}
 use Rattle.model.specs.declared.step.Step.TheVariants as step
 use Rattle.model.specs.declared.step.Outcome.{Outcome}
 use Rattle.model.specs.declared.step.Outcome.TheVariants as outcome
@@ -77,6 +78,11 @@ own-may v e i me own = record {
   happens = λ t a answered counts. (me, own, refl, (a, answered, counts));
   quiet = λ t a answered quiet. quiet-own v.pair.current e t a own answered quiet;
 }
+
+-- which step the receipt of a message is
+abbrev pub delivered-by : ℕ → Event → Step
+delivered-by me (event.Data d) = step.Deliver d.from me d.number
+delivered-by me e = step.Act me e
 
 -- a message whose frame was taken from another node
 pub data-may : (v : Known) (d : Data) → IsTaken v.taken d → d.to ≡ v.me → d.from < v.nodes

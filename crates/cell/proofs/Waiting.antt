@@ -14,13 +14,13 @@ use Rattle.model.specs.State.{LocalState, got_from}
 use Rattle.model.specs.Steps.{is_own}
 use Rattle.model.proofs.Lookups.{get_or-replicate_any}
 use Rattle.laws.proofs.Lookups.{slice_get-append}
-use Rattle.node.specs.Keeping.{AreKeptIn, Rings, WholeNode, early_after, met, no_rings, own_step, waiting}
+use Rattle.node.specs.Keeping.{AreKeptIn, Rings, WholeNode, early_after, met, next_event, next_step, no_rings, own_step, waiting}
 use Rattle.node.proofs.Kept.{after-all, of-none}
 use Rattle.wire.specs.Plays.{IsSupplied}
 use Rattle.wire.specs.Views.{Known}
 use Rattle.cell.specs.Desks.{AreTaken, IsTaken}
 use Rattle.cell.specs.Events.{IsDue, MayAct}
-use Rattle.cell.proofs.Quiet.{data-may}
+use Rattle.cell.proofs.Quiet.{data-may, own-may}
 
 -- ---- What is kept was taken
 
@@ -106,11 +106,32 @@ pub none-due : (v : Known) (p : LocalState) (from : ℕ) (d : Data)
     → event.Next from ≡ event.Data d → IsDue v p d
 none-due v p from d never = absurd cc
 
--- any event except `Next` is the same to the core
-pub same-met : (es : Rings) (own : ℕ) (e : Event) → ((from : ℕ) → e ≡ event.Next from → ⊥)
-    → (e ≡ met es e) × (step.Act own e ≡ own_step es own e)
-same-met es own (event.Next from) never = absurd (never from refl)
-same-met es own e never = (refl, refl)
+-- an event of the node's own is what it is to the core, which is this step
+pub own-met-may : (v : Known) (n : WholeNode) → SitsAt v n → (e : Event) → is_own e ≡ true
+    → MayAct v (met n.early e) (own_step n.early v.me e)
+own-met-may v n h (event.Next from) own =
+    by (waiting n.early from) refl
+  where
+    by : (o : Option Data) → waiting n.early from ≡ o
+        → MayAct v (next_event from o) (next_step v.me from o)
+    by None is = own-may v (event.Next from) v.me refl own
+    by (Some d) is = waiting-may v n from d h is
+own-met-may v n h e own = own-may v e v.me refl own
+
+-- a message that `Next` is to the core is due
+pub own-met-due : {v : Known} {n : WholeNode} → SitsAt v n → IsSupplied v → (e : Event)
+    → (from : ℕ) (d : Data) → e ≡ event.Next from → met n.early e ≡ event.Data d
+    → IsDue v n.core.local d
+own-met-due {v} {n} h supplied e from d next is =
+    by (waiting n.early from) refl
+    (subst (λ (x : Event). met n.early x ≡ event.Data d) next is)
+  where
+    by : (o : Option Data) → waiting n.early from ≡ o → next_event from o ≡ event.Data d
+        → IsDue v n.core.local d
+    by None is same = none-due v n.core.local from d same
+    by (Some x) is same =
+        subst (IsDue v n.core.local) (let told : x ≡ d = cc in told)
+        (waiting-due v n from x h supplied is)
 
 -- an event of the node's own brings no frame
 pub own-brings : (taken : List Plain) (e : Event) → is_own e ≡ true

@@ -2,20 +2,29 @@
 -- that the node shows the seat's state (as each cell guarantees), and that a run reaches the world
 -- in which the wire was made, except perhaps for messages that are acknowledged (`IsReached`). In
 -- that world the nodes were new, or as a run had saved them.
-use Rattle.std.specs.Prelude.{◌≡◌, ◌≢◌, ℕ, List, [], ◌∷◌, ◌++◌, length, slice_get, Some, Ok, Err}
+use Rattle.std.specs.Prelude.{◌≡◌, ◌≢◌, ℕ, Bool, List, [], ◌∷◌, ◌++◌, length, slice_get, Some, Ok, Err}
 use Rattle.ids.specs.Limits.{Shaped}
 use Rattle.ids.specs.declared.refusal.Refusal.{Refusal}
 use Rattle.ids.specs.declared.refusal.Refusal.TheVariants.{LinkSpent, Memory}
+use Rattle.ids.specs.declared.names.Ref.{Ref}
+use Rattle.msg.specs.declared.body.Message.{Message}
 use Rattle.msg.specs.declared.frame.Ack.{Ack}
 use Rattle.msg.specs.declared.frame.Data.{Data}
 use Rattle.msg.specs.declared.frame.Frame.TheVariants as frame
+use Rattle.model.specs.declared.age.Scope.{Scope}
+use Rattle.model.specs.declared.age.Scope.TheVariants as scope
+use Rattle.model.specs.declared.event.Event.{Event}
 use Rattle.model.specs.declared.event.Event.TheVariants as event
 use Rattle.model.specs.declared.event.Answer.{Answer}
 use Rattle.model.specs.declared.step.Step.{Step}
 use Rattle.model.specs.declared.step.Step.TheVariants as step
-use Rattle.model.specs.State.{NodeState, node_at}
+use Rattle.model.specs.State.{NodeState, Object, node_at}
+use Rattle.model.specs.Reclaiming.{aging}
 use Rattle.model.specs.View.{NodeView, Shows}
 use Rattle.model.specs.World.{World, new_world, run}
+use Rattle.model.specs.Cuts.{Among, Cut, IsInFlight, cut}
+use Rattle.model.specs.Steps.{mentioned}
+use Rattle.laws.specs.Privacy.{IsPrivate, IsReclaimed, IsYoungReclaimed, Knows}
 use Rattle.laws.specs.Statements.{IsSpentOrEarly, KeepsReachable}
 use Rattle.cell.specs.declared.trace.TraceLine.{TraceLine}
 use Rattle.node.specs.Keeping.{WholeNode}
@@ -60,24 +69,53 @@ BlankIsNew =
     × IsReadFrom shape k c n)
     → world_of (cores nodes) ≡ new_world shape
 
--- a cell's call in which its node swept
-pub record HasSwept (count : ℕ) (old new : WholeNode) (v w : Known) : Type 0 where
+-- a cell's call in which its node answered this event
+pub record HasDone (e : Event) (old new : WholeNode) (v w : Known) : Type 0 where
   pub answer : Answer
-  pub given : Given (event.Sweep count) (event.Sweep count) (step.Act v.me (event.Sweep count))
-      (Ok answer) old new v w
+  pub given : Given e e (step.Act v.me e) (Ok answer) old new v w
 
--- A cell's sweep frees nothing that is reachable. Some list of events that ends with the sweep
--- leads to what the seat knows. What is reachable just before the sweep is in its slot before and
--- after it.
-abbrev pub CellsFreeNoneReachable : Type 0
-CellsFreeNoneReachable =
-    (count : ℕ) (old new : WholeNode) (v w : Known) → IsReached v.opening
-    → Shows old.core v.pair.current → HasSwept count old new v w
+-- An event of a cell frees nothing that is reachable. Some list of events that ends with it leads
+-- to what the seat knows. What is reachable just before the event is in its slot before it, and so
+-- is what `makes` makes of it after it.
+abbrev pub FreesNoneReachable : Event → (Object → Object) → Type 0
+FreesNoneReachable e makes =
+    (old new : WholeNode) (v w : Known) → IsReached v.opening
+    → Shows old.core v.pair.current → HasDone e old new v w
     → (log : List Step)
-    × AreEvents v.opening (log ++ step.Act v.me (event.Sweep count) ∷ [])
+    × AreEvents v.opening (log ++ step.Act v.me e ∷ [])
     × (pair_at (run v.opening log) v.me ≡ v.pair)
-    × (pair_at (run v.opening (log ++ step.Act v.me (event.Sweep count) ∷ [])) v.me ≡ w.pair)
-    × KeepsReachable (run v.opening log) v.me old.core.local.heap new.core.local.heap
+    × (pair_at (run v.opening (log ++ step.Act v.me e ∷ [])) v.me ≡ w.pair)
+    × KeepsReachable makes (run v.opening log) v.me old.core.local.heap new.core.local.heap
+
+-- no sweep does, nor any reclaim
+abbrev pub CellsFreeNoneReachable : Type 0
+CellsFreeNoneReachable = (count : ℕ) → FreesNoneReachable (event.Sweep count) (λ o. o)
+
+abbrev pub CellsReclaimNoneReachable : Type 0
+CellsReclaimNoneReachable = (scope : Scope) → FreesNoneReachable (event.Reclaim scope) aging
+
+-- After a reclaim of all, a cell's node has exactly the objects that it needed.
+abbrev pub CellsReclaimGarbage : Type 0
+CellsReclaimGarbage =
+    (old new : WholeNode) (v w : Known) (done : HasDone (event.Reclaim scope.All) old new v w)
+    → (s : NodeState) × IsReclaimed v.pair.current s done.answer × Shows new.core s
+
+-- After a reclaim of the young, it has its old objects, and of the others those that it needed.
+abbrev pub CellsReclaimYoung : Type 0
+CellsReclaimYoung =
+    (old new : WholeNode) (v w : Known) (done : HasDone (event.Reclaim scope.Young) old new v w)
+    → (s : NodeState) × IsYoungReclaimed v.pair.current s done.answer × Shows new.core s
+
+-- no other node has the reference, and nothing in flight mentions it
+pub record IsHidden (c : Cut) (r : Ref) : Type 0 where
+  pub nodes : (i : ℕ) → i ≢ r.node → Knows (c i).local r → ⊥
+  pub flights : (from to place : ℕ) (x : Message) → IsInFlight c from to place x
+      → Among r (mentioned x.body) → ⊥
+
+-- A private object is unknown outside its node, in every cut.
+abbrev pub PrivateIsHidden : World → Type 0
+PrivateIsHidden w =
+    (choice : ℕ → Bool) (r : Ref) → IsPrivate (cut w choice) r → IsHidden (cut w choice) r
 
 -- a cell's call in which a message that it took from the wire was refused
 pub record HasRefused (d : Data) (e : Refusal) (old : WholeNode) (v : Known) : Type 0 where

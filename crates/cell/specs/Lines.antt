@@ -1,10 +1,11 @@
 -- The texts of a trace ("Traces" in docs/FORMATS.md).
 use Rattle.std.specs.Prelude.{ℕ, List, ◌++◌, codes, decimal}
 use Rattle.ids.specs.Refusals.{number_of}
+use Rattle.model.specs.declared.age.Scope.TheVariants as scope
 use Rattle.model.specs.declared.event.Event.{Event}
 use Rattle.model.specs.declared.event.Event.TheVariants as event
 use Rattle.cell.specs.declared.call.Call.{Call}
-use Rattle.cell.specs.declared.call.Call.TheVariants.{Alloc, Copy, Drop, Load, Store, Clear, Word, SetWord, SetBytes, Patch, Give, Accept, Put, Get, Begin, Scan, Pass, Sweep, Next, Data, Ack, Save, Reopen}
+use Rattle.cell.specs.declared.call.Call.TheVariants.{Alloc, Copy, Drop, Load, Store, Clear, Word, SetWord, SetBytes, Patch, Give, Accept, Put, Get, Reclaim, ReclaimYoung, Begin, Scan, Pass, Sweep, Next, Data, Ack, Save, Reopen}
 use Rattle.cell.specs.declared.call.CallOutcome.{CallOutcome}
 use Rattle.cell.specs.declared.call.CallOutcome.TheVariants.{Done, Repeat, Early, Refused}
 use Rattle.cell.specs.declared.trace.TraceLine.{TraceLine}
@@ -24,6 +25,8 @@ call_of (event.Give to label register) = Give
 call_of (event.Accept register) = Accept
 call_of (event.Put object place register) = Put
 call_of (event.Get object place label) = Get
+call_of (event.Reclaim scope.All) = Reclaim
+call_of (event.Reclaim scope.Young) = ReclaimYoung
 call_of event.Begin = Begin
 call_of event.Scan = Scan
 call_of event.Pass = Pass
@@ -47,6 +50,8 @@ word_of Give = codes "give"
 word_of Accept = codes "accept"
 word_of Put = codes "put"
 word_of Get = codes "get"
+word_of Reclaim = codes "reclaim"
+word_of ReclaimYoung = codes "reclaim young"
 word_of Begin = codes "begin"
 word_of Scan = codes "scan"
 word_of Pass = codes "pass"

@@ -4,7 +4,7 @@ ghost use Rattle.std.specs.Prelude.{◌≡◌, Some};
 ghost use Rattle.cell.specs.Lines.{call_of, outcome_text, word_of};
 
 use ids::Refusal;
-use model::Event;
+use model::{Event, Scope};
 use std::fmt;
 
 /// What a node's thread was asked to do: an event of its node, a save, or a reopening of its disk.
@@ -24,6 +24,8 @@ pub enum Call {
     Accept,
     Put,
     Get,
+    Reclaim,
+    ReclaimYoung,
     Begin,
     Scan,
     Pass,
@@ -55,6 +57,10 @@ impl Call {
             Event::Accept { .. } => Call::Accept,
             Event::Put { .. } => Call::Put,
             Event::Get { .. } => Call::Get,
+            Event::Reclaim { scope: Scope::All } => Call::Reclaim,
+            Event::Reclaim {
+                scope: Scope::Young,
+            } => Call::ReclaimYoung,
             Event::Begin => Call::Begin,
             Event::Scan => Call::Scan,
             Event::Pass => Call::Pass,
@@ -65,7 +71,7 @@ impl Call {
         }
     }
 
-    /// The call's word, as in scripts; `reopen` for a reopening.
+    /// The call's word or words, as in scripts; `reopen` for a reopening.
     pub fn word(self) -> &'static str
         ensures { result.now ≡ word_of self }
     {
@@ -84,6 +90,8 @@ impl Call {
             Call::Accept => "accept",
             Call::Put => "put",
             Call::Get => "get",
+            Call::Reclaim => "reclaim",
+            Call::ReclaimYoung => "reclaim young",
             Call::Begin => "begin",
             Call::Scan => "scan",
             Call::Pass => "pass",

@@ -36,8 +36,8 @@ use std::snapshot::Snapshot;
 /// reopening succeeds.
 ///
 /// Every event enters the history of the space once: an event of the node's own, a message that is
-/// received, a save, a reopening. A refused call enters nothing; neither do reading a word or bytes,
-/// a repeat, an early message, an acknowledgement or moving a frame.
+/// received, a save, a reopening. A refused call enters nothing; neither do reading a word or
+/// bytes, a repeat, an early message, an acknowledgement or moving a frame.
 ///
 /// Each message that the node keeps until its turn is one that the seat took from the wire. No save
 /// holds it, and a reopening loses it.

@@ -9,10 +9,14 @@ ghost use Rattle.cell.specs.Laws.{
   restarted,
   BlankIsNew,
   CellsFreeNoneReachable,
+  CellsReclaimGarbage,
+  CellsReclaimYoung,
+  CellsReclaimNoneReachable,
   CellsRefuseNoAck,
   CellsRefuseNoneInTurn,
   LeftIsOpened,
   NextIsTakenIn,
+  PrivateIsHidden,
 };
 ghost use Rattle.cell.specs.Reached.{AlikeGoOn, AlikeReach, IsReached, WorldOfIsReached};
 ghost use Rattle.cell.specs.Theorems.{
@@ -60,6 +64,17 @@ pub fn laws()
     // A sweep frees nothing reachable: each reachable object of the node is the same before and
     // after.
     ensures frees_none_reachable { CellsFreeNoneReachable }
+    // A reclaim frees nothing reachable either. What it leaves is old, and otherwise the same.
+    ensures reclaims_free_none_reachable { CellsReclaimNoneReachable }
+    // After one of all, the node has exactly the objects that it needed: those that are shared,
+    // those that its registers and letters name, and those that the places of these lead to.
+    ensures private_garbage { CellsReclaimGarbage }
+    // After one of the young, it has its old objects, and of the others exactly those that it
+    // needed: also those that old ones may name, and not what is in places of old ones.
+    ensures young_garbage { CellsReclaimYoung }
+    // In each cut of a reached world, no other node has a reference to a private object, and
+    // nothing in flight mentions one.
+    ensures private { OfEveryReached PrivateIsHidden }
     // No message that came over the wire fails with `WrongNode`. It is refused only if it is so
     // early that the node has no place for it, if a message that it makes the node send would need
     // a number above the greatest, or if memory runs out.
@@ -138,7 +153,7 @@ pub fn laws_at_once<D: Disk>()
     // acknowledged, if that held of the nodes with which the cells were made.
     ensures closed { ClosedIsReached D.may_leave }
     // A kill at any moment, also within saves, leaves the nodes of that moment, after the saves
-    // that the disks hold already. Each of them still has what isn't acknowledged, if that held of the
-    // nodes with which the cells were made. So an opening continues from there.
+    // that the disks hold already. Each of them still has what isn't acknowledged, if that held of
+    // the nodes with which the cells were made. So an opening continues from there.
     ensures killed { KilledIsLeft D.may_leave }
 {}

@@ -39,7 +39,7 @@ ghost use Rattle.cell.specs.Events.{event_of, Handled, IsMarked};
 use crate::desk::Desk;
 use frames::encode;
 use ids::Refusal;
-use model::{Answer, Event, Step};
+use model::{Answer, Event};
 use msg::Frame;
 use std::alloc::Global;
 use wire::{Raised, Wire, due};
@@ -127,15 +127,7 @@ impl Desk {
         ensures stays { GoesOnAt self.old self.new }
     {
         match frame {
-            Frame::Data(data) => {
-                let step = Step::Deliver {
-                    from: data.from,
-                    to: data.to,
-                    number: data.number,
-                };
-                let event = Event::Data(data);
-                self.perform(wire, event, &event, step)
-            }
+            Frame::Data(data) => self.perform(wire, &Event::Data(data)),
             Frame::Ack(ack) => self.acknowledge(ack),
         }
     }

@@ -43,7 +43,7 @@ use std::marker::{Brand, PhantomData};
 use std::snapshot::Snapshot;
 use std::sync::{Arc, Mutex, Wait};
 use wire::{Inbound, Outbound, Raised, Wire};
-use workers::Station;
+use workers::{Look, Station};
 
 /// Names a wire in proofs, so that a watch of the same wire can use what was raised through a
 /// shared cell, and so that cells which are given back are known to be of one wire.
@@ -251,9 +251,9 @@ impl<D: Disk, W: Naming> SharedOn<D, W> {
 
     /// Gives the node an event of its own; see [`Cell::act`]. The answer is that of the node as it
     /// was when this call had locked the cell.
-    pub fn act<R: Wait>(&self, rt: &R, event: Event) -> Result<Answer, Refusal>
-        requires own { is_own event ≡ true }
-        ensures answered { WasAnswered D.may_leave W.wire event.entry result }
+    pub fn act<R: Wait>(&self, rt: &R, event: &Event) -> Result<Answer, Refusal>
+        requires own { is_own event.now ≡ true }
+        ensures answered { WasAnswered D.may_leave W.wire event.now result }
     {
         let mut held = self.held.lock(rt);
         let Held { cell, wire, .. } = &mut *held;
@@ -340,6 +340,16 @@ impl<D: Disk, W: Naming> SharedOn<D, W> {
         self.held.lock(rt).cell.unsaved()
     }
 
+    /// How many objects the node has, and whether an event happened since the last save or
+    /// reopening.
+    pub fn look<R: Wait>(&self, rt: &R) -> Look {
+        let held = self.held.lock(rt);
+        Look {
+            live: held.cell.node().state().live,
+            unsaved: held.cell.unsaved(),
+        }
+    }
+
     /// The cell's last calls as text, oldest first, even while the cell is closed; see
     /// [`Cell::trace_lines`]. Fails with `Memory` if an allocation fails.
     pub fn trace_lines<R: Wait>(&self, rt: &R) -> Result<Vec<String>, Refusal>
@@ -355,12 +365,12 @@ impl<D: Disk, W: Naming> Station for SharedOn<D, W> {
         SharedOn::pump_in(self, rt, from)
     }
 
-    fn act<R: Wait>(&self, rt: &R, event: Event) -> Result<Answer, Refusal> {
+    fn act<R: Wait>(&self, rt: &R, event: &Event) -> Result<Answer, Refusal> {
         SharedOn::act(self, rt, event)
     }
 
-    fn unsaved<R: Wait>(&self, rt: &R) -> bool {
-        SharedOn::unsaved(self, rt)
+    fn look<R: Wait>(&self, rt: &R) -> Look {
+        SharedOn::look(self, rt)
     }
 
     fn save<R: Wait>(&self, rt: &R) -> Result<(), Refusal> {

@@ -20,6 +20,7 @@ fn answer_outcome(answer: &Answer) -> CallOutcome
         | Answer::Sent(_)
         | Answer::Letter(_)
         | Answer::Begun(_)
+        | Answer::Reclaimed(_)
         | Answer::Scanned(_)
         | Answer::Passed(_)
         | Answer::ProbeAgain

@@ -150,8 +150,8 @@ impl Writer {
     }
 
     /// Takes the writer out, and leaves one that has nothing. So a call that isn't inlined can be
-    /// given the writer by value, and give it back. It doesn't borrow it, and the writer's parts stay
-    /// in registers.
+    /// given the writer by value, and give it back. It doesn't borrow it, and the writer's parts
+    /// stay in registers.
     #[inline(always)]
     pub fn take(&mut self) -> Writer
         ensures { result ≡ self.old }

@@ -2,6 +2,7 @@
 use Rattle.std.proofs.Common.{◌≡◌, ◌∙◌, ℕ, true, false, List, [], ◌∷◌, ◌++◌, Result, Ok, Err, Option, Some, None, is_some, OnOk, IfOk, refl, ap, inl, subst, sym}
 use Rattle.std.specs.Io.KnownBytes.{Appends}
 use Rattle.script.specs.declared.line.Line.{Line}
+use Rattle.script.specs.Grammar.{plain}
 use Rattle.script.specs.Operands.{read}
 use Rattle.std.specs.Borrow.{Bor}
 use Rattle.std.proofs.lemmas.Bool.{false≢true}
@@ -10,7 +11,10 @@ use Rattle.commands.specs.declared.simulation.Reply.{Reply}
 use Rattle.ids.specs.Limits.{Shaped}
 use Rattle.ids.specs.declared.refusal.Refusal.{Refusal}
 use Rattle.model.specs.World.{World, new_world, take_step}
+use Rattle.model.specs.declared.age.Scope.{Scope}
+use Rattle.model.specs.declared.event.Event.TheVariants as event
 use Rattle.model.specs.declared.step.Step.{Step}
+use Rattle.model.specs.declared.step.Step.TheVariants as step
 use Rattle.model.specs.declared.step.Outcome.{Outcome}
 use Rattle.model.specs.declared.step.Outcome.TheVariants as outcome
 use Rattle.commands.specs.declared.simulation.Reply.TheVariants as reply
@@ -22,7 +26,7 @@ use Rattle.commands.specs.declared.freed.Freed.{Freed}
 use Rattle.commands.specs.Freed.{KeepsSums, freed_after, freed_in, freed_with, sweeper}
 use Rattle.commands.specs.declared.simulation.State.{State}
 use Rattle.commands.proofs.Sizes.{refused_too_large}
-use Rattle.commands.specs.Script.{Held, PrintsReply, IsRead, RefusesStep, StepDone, StepRefused, StepTaken, awaited, denied, there, ShowsHeld, TakesBytes, TakesRead, TakesSpace, TakesStep, TakesWrite, hex_bytes, is_wide, none_kept}
+use Rattle.commands.specs.Script.{Held, PrintsReply, IsRead, RefusesStep, StepDone, StepRefused, StepTaken, awaited, denied, there, ShowsHeld, TakesBytes, TakesRead, TakesReclaim, TakesSpace, TakesStep, TakesWrite, hex_bytes, is_wide, none_kept}
 
 -- what holds of the text that was printed, with its status
 pub printed_as : {A E : Type 0} {Q P : ℕ → Type 0} (r : Result ℕ E) → OnOk r A
@@ -32,7 +36,7 @@ printed_as (Err e) text is follows = tt
 
 -- a line that was read is the one that was built
 pub read_some : {X : Type 0} (done : Option X) (l : Line) (said : Option Line)
-    → read done l ≡ said → is_some done ≡ true → Some l ≡ said
+    → read done l ≡ said → is_some done ≡ true → Some (plain l) ≡ said
 read_some None l said e done = absurd cc
 read_some (Some d) l said e done = e
 
@@ -184,6 +188,27 @@ wide_writes s r word f wide inner (there w all sums) shown =
       t.2,
     )
 
+-- the same for a reclaim
+pub wide_reclaims : {x y : SpaceView} (node : ℕ) (scope : Scope) (r : Reply) (f : Freed)
+    → ((w : World) → ShowsSpace x w → is_wide w ≡ true)
+    → ((g : Freed) (h : Held) → ShowsHeld (state.Open x g) h
+    → (k : Held) × TakesStep h (step.Act node (event.Reclaim scope)) r k
+    × ShowsHeld (state.Open y g) k)
+    → (h : Held) → ShowsHeld (state.Open x f) h
+    → (k : Held) × TakesReclaim h node scope r k × ShowsHeld (state.Open y f) k
+wide_reclaims node scope r f wide inner awaited shown = absurd shown
+wide_reclaims node scope r f wide inner denied shown = absurd shown
+wide_reclaims node scope r f wide inner (there w all sums) shown =
+    let t = inner f (there w all sums) shown in (
+      t.0,
+      record {
+        wide = λ _. t.1;
+        plain = λ narrow. absurd (false≢true (sym narrow ∙ wide w shown.0));
+      },
+      t.2,
+    )
+
+-- and for reading
 pub wide_reads : {x : SpaceView} (read : World → Result (List ℕ) Refusal) (r : Reply) (f : Freed)
     → ((w : World) → ShowsSpace x w → is_wide w ≡ true)
     → ((w : World) → ShowsSpace x w → IsRead (read w) r)

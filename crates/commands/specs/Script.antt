@@ -1,5 +1,5 @@
 -- What a script prints, and its exit status.
-use Rattle.std.specs.Prelude.{◌≡◌, ◌≢◌, ℕ, ◌+◌, ◌<◌, true, length, max, List, [], ◌∷◌, ◌++◌, ◌⊎◌, Option, Some, None, Result, Ok, Err, OnOk, IfErr, codes, decimal, replicate, cond, Bool, false, string_bytes}
+use Rattle.std.specs.Prelude.{◌≡◌, ◌≢◌, ℕ, ◌+◌, true, max, List, [], ◌∷◌, ◌++◌, ◌⊎◌, Option, Some, None, Result, Ok, Err, OnOk, IfErr, codes, decimal, replicate, cond, Bool, false, string_bytes}
 use Rattle.std.specs.Io.KnownBytes.{Appends}
 use Rattle.std.specs.Str.Lines.{lines}
 use Rattle.std.specs.Borrow.{Bor}
@@ -9,6 +9,7 @@ use Rattle.hex.specs.declared.error.FromHexError.{FromHexError}
 use Rattle.ids.specs.Limits.{Shaped, IsShape, plain_shape, wide_shape}
 use Rattle.ids.specs.declared.refusal.Refusal.{Refusal}
 use Rattle.ids.specs.declared.refusal.Refusal.TheVariants.{Memory, NoNode, ImageTooLarge}
+use Rattle.model.specs.declared.age.Scope.{Scope}
 use Rattle.model.specs.declared.event.Event.{Event}
 use Rattle.model.specs.declared.event.Event.TheVariants as event
 use Rattle.commands.specs.declared.bytes.Writing.{Writing}
@@ -31,7 +32,6 @@ use Rattle.commands.specs.declared.simulation.State.{State}
 use Rattle.commands.specs.declared.simulation.State.TheVariants as state
 use Rattle.commands.specs.Freed.{KeepsSums, freed_after}
 use Rattle.script.specs.Grammar.{line_of, words_of}
-use Rattle.script.specs.Words.{last_of}
 use Rattle.world.specs.Shows.{ShowsNode, summary_at, bytes_read}
 use Rattle.world.specs.Spaces.{KeepsAfter, ShowsSpace, step_met}
 use Rattle.script.specs.Text.{outcome_text, refused_text, report_text, summary_text}
@@ -179,6 +179,13 @@ abbrev pub TakesBytes : Held → Result (List ℕ) FromHexError → (Bor (List �
 TakesBytes h spelled s r later =
     WritesBytes h spelled s r later ⊎ ((r ≡ reply.Refused Memory) × (later ≡ h))
 
+abbrev pub TakesReclaim : Held → ℕ → Scope → Reply → Held → Type 0
+TakesReclaim awaited node scope r later = (r ≡ reply.NoCommand) × (later ≡ awaited)
+TakesReclaim denied node scope r later = (r ≡ reply.Refused Memory) × (later ≡ denied)
+TakesReclaim (there w all sums) node scope r later =
+    OnlyInWide w (there w all sums)
+    (TakesStep (there w all sums) (step.Act node (event.Reclaim scope))) r later
+
 abbrev pub TakesWrite : Held → List ℕ → (Bor (List ℕ) → Step) → Reply → Held → Type 0
 TakesWrite awaited word s r later = (r ≡ reply.NoCommand) × (later ≡ awaited)
 TakesWrite denied word s r later = (r ≡ reply.Refused Memory) × (later ≡ denied)
@@ -223,28 +230,28 @@ pub record AsksSpace (h : Held) (sizes : Shaped) (r : Reply) (later : Held) : Ty
   pub within : IsShape sizes → TakesSpace h sizes r later
   pub outside : (IsShape sizes → ⊥) → (r ≡ reply.NoCommand) × (later ≡ h)
 
--- what is printed for a line that says this and ends in this word, and the space afterwards
-abbrev pub TakesLine : Held → Option Line → List ℕ → Reply → Held → Type 0
-TakesLine h None word r later = (r ≡ reply.NoCommand) × (later ≡ h)
-TakesLine h (Some line.Blank) word r later = (r ≡ reply.Nothing) × (later ≡ h)
-TakesLine h (Some (line.Space nodes registers slots)) word r later =
+-- what is printed for a line that says this, and the space afterwards
+abbrev pub TakesLine : Held → Option Line → Reply → Held → Type 0
+TakesLine h None r later = (r ≡ reply.NoCommand) × (later ≡ h)
+TakesLine h (Some line.Blank) r later = (r ≡ reply.Nothing) × (later ≡ h)
+TakesLine h (Some (line.Space nodes registers slots)) r later =
     AsksSpace h (plain_shape nodes registers slots) r later
-TakesLine h (Some (line.Wide nodes registers slots places bytes)) word r later =
+TakesLine h (Some (line.Wide nodes registers slots places bytes)) r later =
     AsksSpace h (wide_shape nodes registers slots places bytes) r later
-TakesLine h (Some (line.Step step)) word r later = TakesStep h step r later
-TakesLine h (Some (line.SetBytes node object)) word r later =
-    TakesWrite h word (λ b. step.Act node (writes (writing.All object) b)) r later
-TakesLine h (Some (line.Patch node object offset)) word r later =
-    TakesWrite h word (λ b. step.Act node (writes (writing.Part object offset) b)) r later
-TakesLine h (Some (line.Bytes node object offset count)) word r later =
+TakesLine h (Some (line.Step step)) r later = TakesStep h step r later
+TakesLine h (Some (line.SetBytes node object hex)) r later =
+    TakesWrite h hex.now (λ b. step.Act node (writes (writing.All object) b)) r later
+TakesLine h (Some (line.Patch node object offset hex)) r later =
+    TakesWrite h hex.now (λ b. step.Act node (writes (writing.Part object offset) b)) r later
+TakesLine h (Some (line.Bytes node object offset count)) r later =
     TakesRead h (λ w. bytes_read w node object offset count) r later
-TakesLine h (Some (line.State node)) word r later = TakesState h node r later
-TakesLine h (Some line.Report) word r later = TakesReport h r later
+TakesLine h (Some (line.Reclaim node scope)) r later = TakesReclaim h node scope r later
+TakesLine h (Some (line.State node)) r later = TakesState h node r later
+TakesLine h (Some line.Report) r later = TakesReport h r later
 
 -- the same for the text of a line
 abbrev pub TakesText : Held → List ℕ → Reply → Held → Type 0
-TakesText h text r later =
-    TakesLine h (line_of (words_of text)) (last_of (words_of text) []) r later
+TakesText h text r later = TakesLine h (line_of (words_of text)) r later
 
 -- what is printed for the reply to the line of this number
 abbrev pub reply_text : ℕ → Reply → List ℕ

@@ -35,7 +35,7 @@ fn print_spelled<W: Write>(out: &mut W, bytes: &[u8]) -> Result<u8, Lost>
     ensures small { IfOk result (λ status. status ≤ 2) }
 {
     match frames::decode(bytes) {
-        Ok(frame) => print_frame(out, frame),
+        Ok(frame) => print_frame(out, &frame),
         Err(refusal) => print_refusal(out, refusal),
     }
 }

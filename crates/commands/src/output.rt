@@ -83,9 +83,9 @@ pub(crate) fn put_report<W: Write>(out: &mut W, sums: &[u64]) -> Result<(), Lost
 }
 
 /// Prints a frame, and returns the status.
-pub(crate) fn print_frame<W: Write>(out: &mut W, frame: Frame) -> Result<u8, Lost>
+pub(crate) fn print_frame<W: Write>(out: &mut W, frame: &Frame) -> Result<u8, Lost>
     ensures text { OnOk result (Appends (W.contents out.old) (W.contents out.new)
-        (frame_text (plain frame) ++ 10 ∷ [])) }
+        (frame_text (plain frame.now) ++ 10 ∷ [])) }
     ensures status { IfOk result (λ status. status ≡ 0) }
 {
     match writeln!(out, "{}", FrameText(frame)) {

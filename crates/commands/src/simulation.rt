@@ -3,19 +3,19 @@
 ghost use Rattle.std.specs.Prelude.{◌≡◌, ◌≤◌, ℕ, List, Some, IfOk, OnOk, IfErr, IsTrue, ◌≢◌, ◌⊎◌, Ok, Err, ◌++◌, ◌∷◌, [], string_bytes};
 ghost use Rattle.std.specs.Io.KnownBytes.{Appends};
 ghost use Rattle.model.specs.declared.event.Event.{Event};
+ghost use Rattle.model.specs.declared.event.Event.TheVariants as event;
 ghost use Rattle.model.specs.declared.step.Step.{Step};
 ghost use Rattle.model.specs.declared.step.Step.TheVariants as steps;
 ghost use Rattle.model.specs.Steps.{is_own};
 ghost use Rattle.model.specs.World.{World, is_own_step};
 ghost use Rattle.world.specs.Spaces.{ShowsSpace};
 ghost use Rattle.commands.specs.Freed.{KeepsSums, freed_with};
-ghost use Rattle.script.specs.Grammar.{words_of};
-ghost use Rattle.script.specs.Words.{last_of};
+ghost use Rattle.script.specs.Grammar.{plain};
 ghost use Rattle.world.specs.Shows.{bytes_read};
 ghost use Rattle.commands.specs.Script.{Moves, PrintsReplies};
 ghost use Rattle.commands.specs.Script.{PrintsUnread, TakesLine, TakesText, TakesReport, TakesSpace};
 ghost use Rattle.commands.specs.Script.{IsRead, TakesBytes, TakesRead, TakesWrite, hex_bytes, is_wide, writes};
-ghost use Rattle.commands.specs.Script.{TakesState, TakesStep, reply_text, status_after};
+ghost use Rattle.commands.specs.Script.{TakesReclaim, TakesState, TakesStep, reply_text, status_after};
 ghost use Rattle.commands.specs.Script.{PrintsReply, StepDone};
 ghost use Rattle.commands.specs.declared.freed.Freed.{Freed};
 ghost use Rattle.script.specs.Text.{outcome_text};
@@ -34,9 +34,9 @@ use crate::reading::Unread;
 use crate::splitting::first_line;
 use hex::FromHexError;
 use ids::{Refusal, Shape};
-use model::{Answer, Event, Outcome, Step};
+use model::{Answer, Event, Outcome, Scope, Step};
 use node::Summary;
-use script::{Line, Printer, last_word};
+use script::{Line, Printer};
 use std::alloc::Global;
 use std::io::Write;
 use words::{DONE, UNREADABLE};
@@ -129,13 +129,13 @@ pub fn sim<W: Write>(
 /// fails if the output does. The line is read into a value that all lines share, because a new one
 /// would be zeroed first.
 #[inline(always)]
-fn run_line<W: Write>(
+fn run_line<'a, W: Write>(
     alloc: Global,
     state: &mut State,
-    said: &mut Line,
+    said: &mut Line<'a>,
     printer: &mut Printer,
     number: usize,
-    text: &str,
+    text: &'a str,
     out: &mut W,
 ) -> Result<u8, Lost>
     ensures { IfOk result (PrintsReply
@@ -146,7 +146,7 @@ fn run_line<W: Write>(
         return print_no_command(out, number);
     }
     let Line::Step(step) = &*said else {
-        return run_other(alloc, state, number, said, text, out);
+        return run_other(alloc, state, number, said, out);
     };
     match state {
         State::Unopened => print_no_command(out, number),
@@ -154,7 +154,7 @@ fn run_line<W: Write>(
         State::Open { space, freed } => match step {
             Step::Act(node, event) => {
                 let swept = sweeper(*node, event);
-                match &space.act(*node, *event) {
+                match &space.act(*node, event) {
                     Ok(answer) => {
                         note(space, freed, swept, freed_by(answer));
                         printer.put_answer(answer);
@@ -218,7 +218,7 @@ fn restart(space: &mut Sim, printer: &mut Printer, node: u8) -> Result<(), Refus
     ensures { (f : Freed) → StepDone (steps.Restart node) result
         (state.Open space.old f) (state.Open space.new f) printer.new }
 {
-    match &space.step(Step::Restart(node)) {
+    match &space.step(&Step::Restart(node)) {
         Ok(outcome) => {
             printer.put_outcome(outcome);
             Ok(())
@@ -293,12 +293,11 @@ fn run_other<W: Write>(
     state: &mut State,
     number: usize,
     said: &Line,
-    text: &str,
     out: &mut W,
 ) -> Result<u8, Lost>
     requires { (step : Step) → said.now ≢ line.Step step }
     ensures { IfOk result (PrintsReply
-        (λ h r later. TakesLine h (Some said.now) (last_of (words_of text.now) []) r later) number
+        (λ h r later. TakesLine h (Some (plain said.now)) r later) number
         state.old state.new (W.contents out.old) (W.contents out.new)) }
 {
     let reply = match *said {
@@ -316,24 +315,22 @@ fn run_other<W: Write>(
             places,
             bytes,
         } => take_wide(alloc, state, nodes, registers, slots, places, bytes),
-        Line::SetBytes { node, object } => {
-            let writing = Writing::All { object };
-            write(alloc, state, node, writing, last_word(text))
+        Line::SetBytes { node, object, hex } => {
+            write(alloc, state, node, Writing::All { object }, hex)
         }
         Line::Patch {
             node,
             object,
             offset,
-        } => {
-            let writing = Writing::Part { object, offset };
-            write(alloc, state, node, writing, last_word(text))
-        }
+            hex,
+        } => write(alloc, state, node, Writing::Part { object, offset }, hex),
         Line::Bytes {
             node,
             object,
             offset,
             count,
         } => read(alloc, state, node, object, offset, count),
+        Line::Reclaim { node, scope } => reclaim(state, node, scope),
         Line::State(node) => show_state(state, node),
         Line::Report => report(alloc, state),
     };
@@ -362,8 +359,8 @@ fn print_reply<W: Write>(out: &mut W, number: usize, reply: &Reply) -> Result<u8
 /// Creates the space of these sizes, if no line asked for one before and they are within the
 /// limits.
 fn take_space(alloc: Global, state: &mut State, nodes: u8, registers: u16, slots: u32) -> Reply
-    ensures { (word : List ℕ) → Moves
-        (λ h later. TakesLine h (Some (line.Space nodes registers slots)) word result later)
+    ensures { Moves
+        (λ h later. TakesLine h (Some (line.Space nodes registers slots)) result later)
         state.old state.new }
 {
     match Shape::new(nodes, registers, slots) {
@@ -383,8 +380,8 @@ fn take_wide(
     places: u8,
     bytes: u32,
 ) -> Reply
-    ensures { (word : List ℕ) → Moves (λ h later.
-        TakesLine h (Some (line.Wide nodes registers slots places bytes)) word result later)
+    ensures { Moves (λ h later.
+        TakesLine h (Some (line.Wide nodes registers slots places bytes)) result later)
         state.old state.new }
 {
     match Shape::wide(nodes, registers, slots, places, bytes) {
@@ -451,12 +448,41 @@ fn write_in(alloc: Global, space: &mut Sim, node: u8, writing: Writing, word: &s
         (state.Open space.old f) (state.Open space.new f) }
 {
     match bytes_spelled(alloc, word) {
-        Ok(bytes) => match space.act(node, writing.event(bytes.as_slice())) {
+        Ok(bytes) => match space.act(node, &writing.event(bytes.as_slice())) {
             Ok(answer) => Reply::Outcome(Outcome::Answer(answer)),
             Err(refusal) => Reply::Refused(refusal),
         },
         Err(FromHexError::OutOfMemory) => Reply::Refused(Refusal::Memory),
         Err(_) => Reply::NoCommand,
+    }
+}
+
+/// Asks a node to reclaim, if a line has asked for a wide space.
+fn reclaim(state: &mut State, node: u8, scope: Scope) -> Reply
+    ensures { Moves (λ h later. TakesReclaim h node scope result later) state.old state.new }
+{
+    match state {
+        State::Unopened => Reply::NoCommand,
+        State::Refused(refusal) => Reply::Refused(*refusal),
+        State::Open { space, .. } => {
+            if is_wide(space) {
+                reclaim_in(space, node, scope)
+            } else {
+                Reply::NoCommand
+            }
+        }
+    }
+}
+
+/// The same in a wide space.
+fn reclaim_in(space: &mut Sim, node: u8, scope: Scope) -> Reply
+    ensures { (f : Freed) → Moves
+        (λ h later. TakesStep h (steps.Act node (event.Reclaim scope)) result later)
+        (state.Open space.old f) (state.Open space.new f) }
+{
+    match space.act(node, &Event::Reclaim { scope }) {
+        Ok(answer) => Reply::Outcome(Outcome::Answer(answer)),
+        Err(refusal) => Reply::Refused(refusal),
     }
 }
 

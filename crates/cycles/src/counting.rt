@@ -15,10 +15,10 @@ use msg::Body;
 /// The balance in which a message counts at a node of this cycle, whether the node sends or
 /// receives it. Marks count in the present cycle. References count in it if their stamp is of an
 /// earlier cycle, and otherwise in the next one. All other messages count in neither.
-pub fn balance_of(cycle: u64, stamp: u64, body: Body) -> Option<Balance>
-    ensures { result ≡ balance_of cycle stamp body }
+pub fn balance_of(cycle: u64, stamp: u64, body: &Body) -> Option<Balance>
+    ensures { result ≡ balance_of cycle stamp body.now }
 {
-    match body {
+    match *body {
         Body::Mark { .. } => Some(Balance::Earlier),
         Body::Give { .. } | Body::Put { .. } | Body::Get { .. } => {
             if stamp < cycle {

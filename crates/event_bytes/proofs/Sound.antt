@@ -5,12 +5,13 @@ use Rattle.codec.specs.Reading.{IsSound}
 use Rattle.codec.proofs.Laws.{nothing_sound, ◌⊗◌, made_again, ◌⊕◌, found, tagged_takes}
 use Rattle.codec.proofs.Numbers.{byte_sound, number2_sound, number4_sound, number8_sound}
 use Rattle.codec.proofs.Runs.{bytes4_sound}
+use Rattle.model.specs.declared.age.Scope.TheVariants as scope
 use Rattle.frames.specs.Formats.{sent, known}
 use Rattle.msg.specs.Frames.{Plain, data_frame, ack_frame}
 use Rattle.frames.proofs.Formats.{sent_sound, known_sound}
 use Rattle.event_bytes.specs.Entries.{Entry, alloc, copy, dropped, load, store, clear, word, set_word}
-use Rattle.event_bytes.specs.Entries.{set_bytes, patch, give, accept, put, get, begin, scan, pass}
-use Rattle.event_bytes.specs.Entries.{sweep, next, received, acknowledged, one, two, placed, loaded}
+use Rattle.event_bytes.specs.Entries.{set_bytes, patch, give, accept, put, get, reclaim, begin, scan}
+use Rattle.event_bytes.specs.Entries.{pass, sweep, next, received, acknowledged, one, two, placed, loaded}
 use Rattle.event_bytes.specs.Entries.{stored, worded, filled, patched, given, asked, alloc_at}
 use Rattle.event_bytes.specs.Entries.{copy_at, load_at, store_at, clear_at, set_word_at}
 use Rattle.event_bytes.specs.Entries.{set_bytes_at, patch_at, give_at, put_at, get_at, received_at}
@@ -81,6 +82,8 @@ entry_again (put o p r) rest fits =
 entry_again (get o p l) rest fits =
     made_again asked (λ x. get x.0 x.1.0 x.1.1) asked_sound (o, (p, l)) rest fits.wide
     fits.within
+entry_again (reclaim scope.All) rest fits = refl
+entry_again (reclaim scope.Young) rest fits = refl
 entry_again begin rest fits = refl
 entry_again scan rest fits = refl
 entry_again pass rest fits = refl
@@ -126,6 +129,10 @@ entry_sound = record {
       ⊕ found filled entry 18 (λ x. set_bytes x.0 x.1) filled_sound
       (λ _. refl) (λ _ w. w) (λ _ w. w)
       ⊕ found patched entry 19 (λ x. patch x.0 x.1.0 x.1.1) patched_sound
+      (λ _. refl) (λ _ w. w) (λ _ w. w)
+      ⊕ found nothing entry 20 (λ _. reclaim scope.All) nothing_sound
+      (λ _. refl) (λ _ w. w) (λ _ w. w)
+      ⊕ found nothing entry 21 (λ _. reclaim scope.Young) nothing_sound
       (λ _. refl) (λ _ w. w) (λ _ w. w)
       ⊕ found known entry 0x42 (λ x. acknowledged x.0 x.1.0 x.1.1) known_sound
       (λ _. refl) (λ _ w. w) (λ _ w. w)

@@ -5,6 +5,7 @@ use Rattle.codec.specs.Formats.{number2, number4, number8, bytes4}
 use Rattle.frames.specs.declared.version.Version.TheVariants.{Second}
 use Rattle.frames.specs.Formats.{sent, known, head}
 use Rattle.frames.proofs.Written.{any_body}
+use Rattle.model.specs.declared.age.Scope.TheVariants as scope
 use Rattle.model.specs.declared.event.Event.{Event}
 use Rattle.model.specs.declared.event.Event.TheVariants as event
 use Rattle.event_bytes.specs.Entries.{entry}
@@ -26,6 +27,8 @@ entry_within (event.Patch object offset bytes) = (tt, (tt, (tt, refl)))
 entry_within (event.Give to label register) = (tt, (tt, tt))
 entry_within (event.Put object place register) = (tt, (tt, tt))
 entry_within (event.Get object place label) = (tt, (tt, tt))
+entry_within (event.Reclaim scope.All) = tt
+entry_within (event.Reclaim scope.Young) = tt
 entry_within e = tt
 
 pub event_fits : (e : Event) → entry.IsWide (entry_of e) → Fits entry (entry_of e)

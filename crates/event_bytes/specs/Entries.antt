@@ -3,6 +3,8 @@ use Rattle.std.specs.Prelude.{ℕ, List, [], ◌∷◌}
 use Rattle.codec.specs.Formats.{Format, Reader, Behind, byte, number2, number4, number8, nothing}
 use Rattle.codec.specs.Formats.{bytes4, ◌&◌, tag, tagged, made_at}
 use Rattle.msg.specs.declared.body.Body.{Body}
+use Rattle.model.specs.declared.age.Scope.{Scope}
+use Rattle.model.specs.declared.age.Scope.TheVariants as scope
 use Rattle.frames.specs.Formats.{sent, known}
 
 -- an event without the proof that its message is within the limits
@@ -35,6 +37,8 @@ pub data Entry : Type 0 where
   put : ℕ → ℕ → ℕ → Entry
   -- object, place and label
   get : ℕ → ℕ → ℕ → Entry
+  -- scope
+  reclaim : Scope → Entry
   begin : Entry
   scan : Entry
   pass : Entry
@@ -94,6 +98,8 @@ entry_tag (give to label register) = tag 9 given (to, (label, register))
 entry_tag (accept register) = tag 10 one register
 entry_tag (put object place register) = tag 11 stored (object, (place, register))
 entry_tag (get object place label) = tag 12 asked (object, (place, label))
+entry_tag (reclaim scope.All) = tag 20 nothing tt
+entry_tag (reclaim scope.Young) = tag 21 nothing tt
 entry_tag begin = tag 13 nothing tt
 entry_tag scan = tag 14 nothing tt
 entry_tag pass = tag 15 nothing tt
@@ -163,6 +169,8 @@ entries =
     ∷ (17, made_at byte next)
     ∷ (18, set_bytes_at)
     ∷ (19, patch_at)
+    ∷ (20, made_at nothing (λ _. reclaim scope.All))
+    ∷ (21, made_at nothing (λ _. reclaim scope.Young))
     ∷ (0x42, acknowledged_at)
     ∷ (0x45, received_at)
     ∷ []

@@ -6,8 +6,8 @@ use Rattle.msg.specs.declared.frame.Data.{Data}
 use Rattle.model.specs.declared.event.Event.{Event}
 use Rattle.model.specs.declared.event.Event.TheVariants as event
 use Rattle.event_bytes.specs.Entries.{Entry, alloc, copy, dropped, load, store, clear, word, set_word}
-use Rattle.event_bytes.specs.Entries.{set_bytes, patch, give, accept, put, get, begin, scan, pass}
-use Rattle.event_bytes.specs.Entries.{sweep, next, received, acknowledged, entry, entry_tag}
+use Rattle.event_bytes.specs.Entries.{set_bytes, patch, give, accept, put, get, reclaim, begin, scan}
+use Rattle.event_bytes.specs.Entries.{pass, sweep, next, received, acknowledged, entry, entry_tag}
 
 abbrev pub received_of : Data → Entry
 received_of d = received d.from d.to d.number d.stamp d.body
@@ -30,6 +30,7 @@ entry_of (event.Give to label register) = give to label register
 entry_of (event.Accept register) = accept register
 entry_of (event.Put object place register) = put object place register
 entry_of (event.Get object place label) = get object place label
+entry_of (event.Reclaim scope) = reclaim scope
 entry_of event.Begin = begin
 entry_of event.Scan = scan
 entry_of event.Pass = pass

@@ -12,12 +12,12 @@ ghost use Rattle.event_bytes.specs.Events.{acknowledged_of, entry_of, received_o
 
 use crate::tags::{
     ACCEPT, ACK, ALLOC, BEGIN, CLEAR, COPY, DATA, DROP, GET, GIVE, LOAD, NEXT, PASS, PATCH, PUT,
-    SCAN, SET_BYTES, SET_WORD, STORE, SWEEP, WORD,
+    RECLAIM, RECLAIM_YOUNG, SCAN, SET_BYTES, SET_WORD, STORE, SWEEP, WORD,
 };
 use codec::Reader;
 use frames::Version;
 use frames::reading::read_body;
-use model::Event;
+use model::{Event, Scope};
 use msg::{Ack, Data};
 
 /// No spelling of an event is a prefix of another one, and what is read has that spelling. The
@@ -218,6 +218,10 @@ pub fn read_event<'a>(reader: &mut Reader<'a>) -> Option<Event<'a>>
         NEXT => Some(Event::Next { from: reader.u8() }),
         SET_BYTES => Some(read_set_bytes(reader)),
         PATCH => Some(read_patch(reader)),
+        RECLAIM => Some(Event::Reclaim { scope: Scope::All }),
+        RECLAIM_YOUNG => Some(Event::Reclaim {
+            scope: Scope::Young,
+        }),
         DATA => match read_data(reader) {
             Some(message) => Some(Event::Data(message)),
             None => None,

@@ -38,6 +38,10 @@ pub(crate) const SET_BYTES: u8 = 18;
 
 pub(crate) const PATCH: u8 = 19;
 
+pub(crate) const RECLAIM: u8 = 20;
+
+pub(crate) const RECLAIM_YOUNG: u8 = 21;
+
 pub(crate) const ACK: u8 = 0x42;
 
 pub(crate) const DATA: u8 = 0x45;

@@ -11,11 +11,11 @@ ghost use Rattle.event_bytes.specs.Events.{AddsStart, tail_of};
 
 use crate::tags::{
     ACCEPT, ACK, ALLOC, BEGIN, CLEAR, COPY, DATA, DROP, GET, GIVE, LOAD, NEXT, PASS, PATCH, PUT,
-    SCAN, SET_BYTES, SET_WORD, STORE, SWEEP, WORD,
+    RECLAIM, RECLAIM_YOUNG, SCAN, SET_BYTES, SET_WORD, STORE, SWEEP, WORD,
 };
 use codec::Piece;
 use frames::writing::add_body;
-use model::Event;
+use model::{Event, Scope};
 use msg::{Ack, Data};
 
 // ---- a tag and numbers
@@ -164,7 +164,7 @@ fn add_data(piece: &mut Piece, message: &Data)
     piece.u8(DATA);
     add_head(piece, message.from, message.to, message.number);
     piece.u64(message.stamp);
-    add_body(piece, message.body);
+    add_body(piece, &message.body);
 }
 
 #[tactic(auto, unfolding(crate::specs::Entries::entry, frames::specs::Formats::known), using(crate::proofs::Joins::gained))]
@@ -222,6 +222,10 @@ fn add_start(piece: &mut Piece, event: &Event)
             place,
             label,
         } => add_asked(piece, GET, object, place, label),
+        Event::Reclaim { scope: Scope::All } => piece.u8(RECLAIM),
+        Event::Reclaim {
+            scope: Scope::Young,
+        } => piece.u8(RECLAIM_YOUNG),
         Event::Begin => piece.u8(BEGIN),
         Event::Scan => piece.u8(SCAN),
         Event::Pass => piece.u8(PASS),
@@ -233,7 +237,7 @@ fn add_start(piece: &mut Piece, event: &Event)
             piece.u8(NEXT);
             piece.u8(from);
         }
-        Event::Data(message) => add_data(piece, &message),
+        Event::Data(ref message) => add_data(piece, message),
         Event::Ack(ack) => add_ack(piece, &ack),
     }
 }

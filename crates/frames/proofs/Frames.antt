@@ -1,11 +1,11 @@
 -- What is read has that spelling, what has a spelling is read, and no spelling is a prefix of
 -- another.
-use Rattle.std.proofs.Common.{◌≡◌, ℕ, Bool, true, false, List, [], ◌∷◌, ◌++◌, Option, Some, None}
+use Rattle.std.proofs.Common.{◌≡◌, ℕ, Bool, true, false, List, [], ◌∷◌, ◌++◌, Some, Result, Ok, Err}
 use Rattle.std.proofs.Common.{refl, sym, ap, subst, ◌∙◌}
 use Rattle.std.proofs.lemmas.Bool.{and_parts, not-true}
 use Rattle.std.specs.Prelude.{IfOk, IsTrue, ◌&&◌, not}
-use Rattle.std.specs.Option.{option_map, ok_or}
-use Rattle.std.specs.Result.{IsOkAnd}
+use Rattle.std.specs.Option.{option_map}
+use Rattle.std.specs.Result.{IsOkAnd, result_ok}
 use Rattle.ids.specs.declared.refusal.Refusal.{Refusal}
 use Rattle.codec.specs.Formats.{whole_at}
 use Rattle.codec.specs.Reading.{IsBytes, IsSound}
@@ -90,24 +90,24 @@ frame_sound = record {
 
 -- ---- what the code reads
 
-pub is_found : (bytes : List ℕ) (o : Option Frame) (e : Refusal) → IsBytes bytes
-    → whole_at frame.read bytes ≡ option_map plain o
-    → IfOk (ok_or o e) (λ f. Fits (plain f) × (bytes ≡ spelling (plain f)))
+pub is_found : (bytes : List ℕ) (r : Result Frame Refusal) → IsBytes bytes
+    → whole_at frame.read bytes ≡ option_map plain (result_ok r)
+    → IfOk r (λ f. Fits (plain f) × (bytes ≡ spelling (plain f)))
 unfolding spelling
-is_found bytes None e are read = tt
-is_found bytes (Some f) e are read = whole_takes frame frame_sound bytes (plain f) are read
+is_found bytes (Err e) are read = tt
+is_found bytes (Ok f) are read = whole_takes frame frame_sound bytes (plain f) are read
 
-pub is_read : (bytes : List ℕ) (o : Option Frame) (e : Refusal) (f : Plain)
-    → whole_at frame.read bytes ≡ option_map plain o → Fits f → bytes ≡ spelling f
-    → IsOkAnd (ok_or o e) (λ x. plain x ≡ f)
+pub is_read : (bytes : List ℕ) (r : Result Frame Refusal) (f : Plain)
+    → whole_at frame.read bytes ≡ option_map plain (result_ok r) → Fits f → bytes ≡ spelling f
+    → IsOkAnd r (λ x. plain x ≡ f)
 unfolding spelling
-is_read bytes o e f read fits same =
-    read_is o (sym read ∙ ap (whole_at frame.read) same ∙ whole_again frame frame_sound f fits)
+is_read bytes r f read fits same =
+    read_is r (sym read ∙ ap (whole_at frame.read) same ∙ whole_again frame frame_sound f fits)
   where
-    read_is : (p : Option Frame) → option_map plain p ≡ Some f
-        → IsOkAnd (ok_or p e) (λ x. plain x ≡ f)
-    read_is None h = absurd cc
-    read_is (Some x) h = cc
+    read_is : (p : Result Frame Refusal) → option_map plain (result_ok p) ≡ Some f
+        → IsOkAnd p (λ x. plain x ≡ f)
+    read_is (Err e) h = absurd cc
+    read_is (Ok x) h = cc
 
 -- ---- the law
 

@@ -9,12 +9,12 @@ use Rattle.msg.specs.declared.body.Body.TheVariants as body
 use Rattle.msg.specs.declared.body.Colour.{Colour}
 use Rattle.msg.specs.declared.body.Colour.TheVariants.{White, Black}
 use Rattle.msg.specs.declared.body.Token.{Token}
-use Rattle.msg.specs.declared.frame.Frame.{Frame}
-use Rattle.msg.specs.declared.frame.Frame.TheVariants as frame
+use Rattle.msg.specs.declared.frame.FrameRef.{FrameRef}
+use Rattle.msg.specs.declared.frame.FrameRef.TheVariants as frame
 use Rattle.frames.specs.Formats.{generation, reference, optional, colour, token, body_format}
 use Rattle.frames.specs.Formats.{head, Sent, framed, known}
 use Rattle.msg.specs.Limits.{data_fits, is_plain_body}
-use Rattle.msg.specs.Frames.{plain}
+use Rattle.msg.specs.Frames.{plain_ref}
 use Rattle.frames.specs.declared.version.Version.{Version}
 use Rattle.frames.specs.declared.version.Version.TheVariants.{First, Second}
 use Rattle.frames.specs.Grammar.{Fits, spelling}
@@ -64,11 +64,12 @@ data_within true x is fits =
 data_within false x is fits =
     (((tt, (tt, tt)), (tt, any_body Second x.1.1)), and_from _ _ fits (not_from_false _ is))
 
-pub frame_fits : (f : Frame) → grammar.frame.IsWide (plain f) → Fits (plain f)
+pub frame_fits : (f : FrameRef) → grammar.frame.IsWide (plain_ref f) → Fits (plain_ref f)
 unfolding grammar.frame known head number8
 frame_fits (frame.Data d) wide = record {
   wide = wide;
-  within = data_within (is_plain_body d.body) ((d.from, (d.to, d.number)), (d.stamp, d.body)) refl
+  within = data_within (is_plain_body d.body.now)
+      ((d.from, (d.to, d.number)), (d.stamp, d.body.now)) refl
       d.fits;
 }
 frame_fits (frame.Ack a) wide = record { wide = wide; within = ((tt, (tt, tt)), a.fits) }

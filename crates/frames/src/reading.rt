@@ -2,7 +2,7 @@
 //! there don't spell one, the reader fails, or the call returns no value.
 ghost use Rattle.std.specs.Prelude.{◌≡◌, Some, IfOk, IfErr, true, false};
 ghost use Rattle.std.specs.Option.{option_map};
-ghost use Rattle.std.specs.Result.{IsOkAnd};
+ghost use Rattle.std.specs.Result.{IsOkAnd, result_ok};
 ghost use Rattle.ids.specs.declared.refusal.Refusal.TheVariants.{BadFrame};
 ghost use Rattle.frames.specs.Formats.{generation, reference, optional, colour, token};
 ghost use Rattle.frames.specs.Formats.{give_at, put_at, get_at, body_format, head, is_framed};
@@ -243,14 +243,22 @@ fn read_frame(reader: &mut Reader) -> Option<Frame>
     }
 }
 
+// The frame that all of the bytes spell.
 #[inline(always)]
 #[tactic(auto, using(crate::proofs::Joins::whole_taken))]
-fn whole(bytes: &[u8]) -> Option<Frame>
-    ensures { whole_at frame.read bytes.now ≡ option_map plain result }
+fn whole(bytes: &[u8]) -> Result<Frame, Refusal>
+    ensures value { whole_at frame.read bytes.now ≡ option_map plain (result_ok result) }
+    ensures refused { IfErr result (λ e. e ≡ BadFrame) }
 {
     let mut reader = Reader::new(bytes);
     let frame = read_frame(&mut reader);
-    if reader.finish() { frame } else { None }
+    if !reader.finish() {
+        return Err(Refusal::BadFrame);
+    }
+    match frame {
+        Some(frame) => Ok(frame),
+        None => Err(Refusal::BadFrame),
+    }
 }
 
 /// The frame that the bytes spell, all of them. Allocates nothing.
@@ -268,5 +276,5 @@ pub fn decode(bytes: &[u8]) -> Result<Frame, Refusal>
         → IsOkAnd result (λ x. plain x ≡ f) }
     ensures refused { IfErr result (λ e. e ≡ BadFrame) }
 {
-    whole(bytes).ok_or(Refusal::BadFrame)
+    whole(bytes)
 }

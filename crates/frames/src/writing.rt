@@ -9,7 +9,7 @@ ghost use Rattle.codec.specs.declared.piece.TheConstants.{GREATEST_PIECE};
 ghost use Rattle.frames.specs.Formats.{reference, optional, colour, token, body_format, head};
 ghost use Rattle.frames.specs.declared.version.Version.TheVariants.{Second};
 ghost use Rattle.frames.specs.Grammar.{Fits, spelling, frame};
-ghost use Rattle.msg.specs.Frames.{plain, plain_data, plain_ack};
+ghost use Rattle.msg.specs.Frames.{plain_ack, plain_data_ref, plain_ref};
 
 use crate::tags::{
     ABSENT, ACK, BEGIN, BLACK, DATA, ENDED, GET, GIVE, MARK, PRESENT, PUT, SWEPT, TOKEN, WHITE,
@@ -18,7 +18,7 @@ use crate::tags::{
 use byteorder::{BigEndian, ByteOrder};
 use codec::{Piece, Writer};
 use ids::{Ref, Refusal};
-use msg::{Ack, Body, Colour, Data, Frame, Token, is_plain_body};
+use msg::{Ack, Body, Colour, DataRef, FrameRef, Token, is_plain_body};
 use std::alloc::Global;
 
 // A reference after a tag.
@@ -129,10 +129,10 @@ fn put_token(out: &mut Writer, t: Token)
 /// Appends a tag and what the message says.
 #[tactic(auto, unfolding(crate::specs::Formats::body_format), using(crate::proofs::Joins::behind, crate::proofs::Joins::both, crate::proofs::Joins::first))]
 #[inline(always)]
-pub fn put_body(out: &mut Writer, body: Body)
-    ensures { Puts (body_format Second) out.old out.new body }
+pub fn put_body(out: &mut Writer, body: &Body)
+    ensures { Puts (body_format Second) out.old out.new body.now }
 {
-    match body {
+    match *body {
         Body::Begin => out.u8(BEGIN),
         Body::Token(token) => {
             out.u8(TOKEN);
@@ -170,11 +170,11 @@ pub fn put_body(out: &mut Writer, body: Body)
 /// Appends a tag and what the message says to the piece, which must have room for them.
 #[tactic(auto, unfolding(crate::specs::Formats::body_format), using(crate::proofs::Joins::gained))]
 #[inline(always)]
-pub fn add_body(piece: &mut Piece, body: Body)
+pub fn add_body(piece: &mut Piece, body: &Body)
     requires { length piece.old + 29 ≤ GREATEST_PIECE }
-    ensures { Adds (body_format Second) 29 piece.old piece.new body }
+    ensures { Adds (body_format Second) 29 piece.old piece.new body.now }
 {
-    match body {
+    match *body {
         Body::Begin => piece.u8(BEGIN),
         Body::Token(token) => {
             piece.u8(TOKEN);
@@ -226,11 +226,12 @@ fn add_head(piece: &mut Piece, from: u8, to: u8, number: u64)
 }
 
 #[tactic(auto, unfolding(crate::specs::Grammar::frame, crate::specs::Formats::framed), using(crate::proofs::Joins::gained))]
-fn add_data(piece: &mut Piece, message: &Data)
+#[inline(always)]
+fn add_data(piece: &mut Piece, message: &DataRef)
     requires { length piece.old + 48 ≤ GREATEST_PIECE }
-    ensures { Adds frame 48 piece.old piece.new (plain_data message.now) }
+    ensures { Adds frame 48 piece.old piece.new (plain_data_ref message.now) }
 {
-    piece.u8(if is_plain_body(&message.body) {
+    piece.u8(if is_plain_body(message.body) {
         DATA
     } else {
         WIDE_DATA
@@ -251,14 +252,15 @@ fn add_ack(piece: &mut Piece, ack: &Ack)
 
 /// Appends the bytes that spell the frame to the piece, which must have room for them.
 #[tactic(auto, unfolding(crate::specs::Grammar::spelling), using(crate::proofs::Written::frame_fits))]
-pub fn add_frame(piece: &mut Piece, f: &Frame)
+#[inline(always)]
+pub fn add_frame(piece: &mut Piece, f: &FrameRef)
     requires { length piece.old + 48 ≤ GREATEST_PIECE }
-    ensures spelled { piece.new ≡ piece.old ++ spelling (plain f.now) }
-    ensures fits { Fits (plain f.now) }
+    ensures spelled { piece.new ≡ piece.old ++ spelling (plain_ref f.now) }
+    ensures fits { Fits (plain_ref f.now) }
 {
     match f {
-        Frame::Data(message) => add_data(piece, message),
-        Frame::Ack(ack) => add_ack(piece, ack),
+        FrameRef::Data(message) => add_data(piece, message),
+        FrameRef::Ack(ack) => add_ack(piece, ack),
     }
 }
 
@@ -267,9 +269,9 @@ pub fn add_frame(piece: &mut Piece, f: &Frame)
 /// # Errors
 ///
 /// [`Refusal::Memory`] if an allocation fails; there are no other errors.
-pub fn encode(alloc: Global, f: &Frame) -> Result<Vec<u8>, Refusal>
+pub fn encode(alloc: Global, f: &FrameRef) -> Result<Vec<u8>, Refusal>
     ensures spelled { IfOk result
-        (λ v. Fits (plain f.now) × (v.items ≡ spelling (plain f.now))) }
+        (λ v. Fits (plain_ref f.now) × (v.items ≡ spelling (plain_ref f.now))) }
     ensures refused { IfErr result (λ e. e ≡ Memory) }
 {
     let mut piece = Piece::new();

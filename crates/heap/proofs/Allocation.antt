@@ -1,11 +1,12 @@
 -- The heap after an insertion into the arena of its objects.
-use Rattle.std.proofs.Common.{◌≡◌, ◌==◌, ℕ, ◌<◌, ◌≤◌, true, false, ◌&&◌, ◌||◌, nat_lt, nat_le}
+use Rattle.std.proofs.Common.{◌≡◌, ◌==◌, ℕ, ◌<◌, ◌≤◌, true, false, ◌&&◌, ◌||◌, not, nat_lt, nat_le}
 use Rattle.std.proofs.Common.{List, [], ◌∷◌, length, map, drop, Some, Ok, set, get_or}
 use Rattle.std.proofs.Common.{refl, sym, ap, ◌∙◌, arith}
 use Rattle.std.proofs.lemmas.Bool.{lt-ltb, le-leb}
 use Rattle.std.proofs.lemmas.Bool.Decides.{nat_tests}
 use Rattle.std.proofs.lemmas.List.{map_push, map-set, length-map}
 use Rattle.std.proofs.Math.ListN.{get_or-map}
+use Rattle.ids.specs.Limits.{Shaped}
 use Rattle.ids.specs.declared.names.Ref.{Ref}
 use Rattle.arena.specs.Arena.{Arena, plain, next_key, inserted, is_full}
 use Rattle.arena_slot.specs.Slot.{generation_of}
@@ -53,13 +54,13 @@ generation-stored (Occupied g o) = refl
 generation-stored Retired = refl
 
 -- one object goes into the arena
-record Inserts (a : Arena Object) (o : Object) : Type 0 where
-  slots : map slot_of (inserted a o).slots ≡ slots_with a.free (map slot_of a.slots) o
-  free : (inserted a o).free ≡ drop 1 a.free
-  slot : (next_key a).slot ≡ next_slot a.free (map slot_of a.slots)
-  generation : (next_key a).generation ≡ generation_for a.free (map slot_of a.slots)
+pub record Inserts (a : Arena Object) (o : Object) : Type 0 where
+  pub slots : map slot_of (inserted a o).slots ≡ slots_with a.free (map slot_of a.slots) o
+  pub free : (inserted a o).free ≡ drop 1 a.free
+  pub slot : (next_key a).slot ≡ next_slot a.free (map slot_of a.slots)
+  pub generation : (next_key a).generation ≡ generation_for a.free (map slot_of a.slots)
 
-inserts : (slots : List (Slot Object)) (free : List ℕ) (limit : ℕ) (o : Object)
+pub inserts : (slots : List (Slot Object)) (free : List ℕ) (limit : ℕ) (o : Object)
     → Inserts (plain slots free limit) o
 inserts slots [] limit o =
     record {
@@ -82,17 +83,27 @@ inserts slots (k ∷ ks) limit o =
       generation = same;
     }
 
+-- an object with these places can be made for this register
+pub record CanAlloc (h : Inside) (shape : Shaped) (register places : ℕ) : Type 0 where
+  pub there : register < length h.registers.items
+  pub few : places ≤ shape.places
+  pub room : is_full h.objects ≡ false
+
 -- the insertion, if there is room, has the effect of Alloc
-pub heap_alloc-stored : (h : Inside) (most own cycle register places : ℕ)
-    → register < length h.registers.items → places ≤ most → is_full h.objects ≡ false
-    → heap_alloc h.objects.limit most own cycle (view_of h).heap register places
-    ≡ Ok
-    (heap_with h (new_object cycle places) register (next_reference own h), next_reference own h)
+pub heap_alloc-stored : (h : Inside) (shape : Shaped) (own cycle register places : ℕ)
+    → CanAlloc h shape register places
+    → heap_alloc (record shape { slots = h.objects.limit }) own cycle (view_of h).heap register
+    places
+    ≡ Ok (
+      heap_with h (new_object (not shape.wide) cycle places) register (next_reference own h),
+      next_reference own h,
+    )
 unfolding heap_alloc
-heap_alloc-stored h most own cycle register places there few room =
+heap_alloc-stored h shape own cycle register places can =
     let a : Arena Object = h.objects in
-    let i = inserts a.slots a.free a.limit (new_object cycle places) in
-    let passed : AllPass (alloc_tests a.limit most (view_of h).heap register places) =
-    (lt-ltb _ _ there, (le-leb _ _ few, (has_slot-stored h room, tt))) in
-    guarded-pass (alloc_tests a.limit most (view_of h).heap register places) _ passed
+    let i = inserts a.slots a.free a.limit (new_object (not shape.wide) cycle places) in
+    let has : has_slot a.limit (view_of h).heap ≡ true = has_slot-stored h can.room in
+    let passed : AllPass (alloc_tests a.limit shape.places (view_of h).heap register places) =
+    (lt-ltb _ _ can.there, (le-leb _ _ can.few, (has, tt))) in
+    guarded-pass (alloc_tests a.limit shape.places (view_of h).heap register places) _ passed
     ∙ rw (i.slots, i.free, i.slot, i.generation)

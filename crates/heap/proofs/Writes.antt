@@ -1,10 +1,11 @@
 -- The heap after a write to an object through the arena.
 use Rattle.std.proofs.Common.{◌≡◌, ℕ, List, [], ◌∷◌, length, map, set, get_or, Option, Some, None}
 use Rattle.std.proofs.Common.{OnErr, Bool, true, false, nat_lt, refl, sym, ap, ◌∙◌, inl, inr}
-use Rattle.std.proofs.lemmas.Bool.{eq-eqb}
+use Rattle.std.proofs.lemmas.Bool.{eq-eqb, ltb-false}
 use Rattle.std.proofs.lemmas.Bool.Decides.{eqb_tells}
 use Rattle.std.proofs.lemmas.List.{map-set}
 use Rattle.std.proofs.Math.ListN.{get_or-map}
+use Rattle.std.proofs.Math.Seq.{set_out}
 use Rattle.ids.specs.declared.names.Ref.{Ref}
 use Rattle.ids.specs.declared.refusal.Refusal.{Refusal}
 use Rattle.ids.specs.declared.refusal.Refusal.TheVariants.{NoField}
@@ -16,8 +17,8 @@ use Rattle.arena_slot.specs.declared.Slot.TheVariants.{Free, Occupied, Retired}
 use Rattle.model.specs.Checks.{guarded}
 use Rattle.model.specs.State.{Object, Heap, slot_at}
 use Rattle.model.specs.State as state
-use Rattle.model.specs.Heaps.{object_of, object_at, rewritten, with_rewritten, with_place}
-use Rattle.model.proofs.IdleWrites.{with_rewritten-kept, with_place-kept}
+use Rattle.model.specs.Heaps.{object_of, object_at, rewritten, with_rewritten, placing}
+use Rattle.model.proofs.IdleWrites.{with_rewritten-kept}
 use Rattle.heap.specs.Heap.{HeapView}
 use Rattle.heap.specs.Heap.{slot_of}
 use Rattle.heap.specs.Stored.{view_of}
@@ -27,7 +28,7 @@ use Rattle.heap.specs.declared.heap.Heap.TheInside.{Inside}
 abbrev pub key_of : Ref → Key
 key_of r = record { slot = r.slot; generation = r.generation }
 
-found : (s : Slot Object) (g : ℕ) (o : Object) → value_of s g ≡ Some o → s ≡ Occupied g o
+pub found : (s : Slot Object) (g : ℕ) (o : Object) → value_of s g ≡ Some o → s ≡ Occupied g o
 found (Free own) g o h = absurd cc
 found Retired g o h = absurd cc
 found (Occupied own x) g o h =
@@ -96,10 +97,15 @@ on_refused false e P p = p refl
 pub placeless-stored : (h : Inside) (r : Ref) (key : Key) (o : Object) (place : ℕ) (v : Option Ref)
     → IsStored h r key o
     → OnErr (guarded {A = Unit {0}} ((nat_lt place (length o.places), NoField) ∷ []) tt)
-    (record (view_of h) { heap = with_place (view_of h).heap r place v } ≡ view_of h)
+    (record (view_of h) { heap = with_rewritten (view_of h).heap r (placing place v) }
+    ≡ view_of h)
 placeless-stored h r key o place v stored =
     let there = object_at-stored h r key stored.name ∙ sym stored.there in
     let is : object_at (view_of h).heap r ≡ Some o = there in
     on_refused (nat_lt place (length o.places)) NoField _ (λ past.
-    let kept = with_place-kept (view_of h).heap r place v (rw is past) in
+    let kept = with_rewritten-kept (view_of h).heap r (placing place v) (λ x at.
+    let same : o ≡ x = cc in
+    rw (← same)
+    (ap (λ (vs : List (Option Ref)). record o { places = vs })
+    (set_out o.places place v (ltb-false place (length o.places) past)))) in
     ap (λ heap. record (view_of h) { heap = heap }) kept)

@@ -1,12 +1,16 @@
 -- The view of a `Heap` that contracts use.
-use Rattle.std.specs.Prelude.{◌≡◌, ℕ, ◌+◌, ◌≤◌, Bool, true, false, length, ⊤}
+use Rattle.std.specs.Prelude.{◌≡◌, ℕ, ◌+◌, ◌≤◌, Bool, false, List, length, Result, slice_index_or, slice_set, ⊤}
 pub use Rattle.arena.specs.Arena.{Has, Once}
-use Rattle.ids.specs.declared.names.Ref.{Ref}
 use Rattle.arena_slot.specs.declared.Slot as stored
 use Rattle.arena_slot.specs.declared.Slot.TheVariants as variant
 use Rattle.ids.specs.Limits.{Shaped}
+use Rattle.ids.specs.declared.refusal.Refusal.{Refusal}
+use Rattle.model.specs.declared.age.Scope.{Scope}
 use Rattle.model.specs.State.{Object, Slot, Free, Occupied, Retired, Heap, slot_at}
-use Rattle.model.specs.Collecting.{Sweeping, generation_in, sweep_some}
+use Rattle.model.specs.Collecting.{Sweeping, free_some, sweep_some}
+use Rattle.model.specs.Checks.{guarded}
+use Rattle.model.specs.Reclaiming.{slot_aged, reclaim_tests, reclaiming, reclaimed}
+use Rattle.model.specs.Searching.{is_missed}
 
 -- the heap as plain data, how many slots there may be, and how much can be added without allocating
 pub record HeapView : Type 0 where
@@ -39,11 +43,6 @@ pub record Became (before after : HeapView) (h : Heap) (most : ℕ) : Type 0 whe
   pub room : before.room ≤ after.room + most
   pub letter_room : after.letter_room ≡ before.letter_room
 
-abbrev pub is_occupied : Slot → Bool
-is_occupied (Free g) = false
-is_occupied (Occupied g o) = true
-is_occupied Retired = false
-
 abbrev pub IsFree : Slot → Type 0
 IsFree (Free g) = ⊤
 IsFree (Occupied g o) = ⊥
@@ -75,11 +74,22 @@ slot_of (variant.Free g) = Free g
 slot_of (variant.Occupied g o) = Occupied g o
 slot_of variant.Retired = Retired
 
--- a node's reference to what is in a slot, by the generation that the slot has
-abbrev pub reference_in : ℕ → Heap → ℕ → Ref
-reference_in own h slot =
-    record { node = own; slot = slot; generation = generation_in (slot_at h slot) }
-
 -- a heap after `count` slots are swept, from slot `cursor` on, and how many objects that frees
 abbrev pub swept : ℕ → ℕ → ℕ → Heap → Sweeping
 swept cycle cursor count h = sweep_some cycle cursor count (record { heap = h; freed = 0 })
+
+-- a heap after all objects within the scope are freed but those that the list says are needed, and
+-- how many that frees
+abbrev pub freed_unless : Scope → List Bool → Heap → Sweeping
+freed_unless scope needed h =
+    free_some (is_missed scope (λ k. slice_index_or needed k false)) 0 (length h.slots)
+    (record { heap = h; freed = 0 })
+
+-- the heap after the object in a slot, if there is one, becomes old
+abbrev pub aged_at : Heap → ℕ → Heap
+aged_at h k = record h { slots = slice_set h.slots k (slot_aged (slot_at h k)) }
+
+-- the event that reclaims: the heap and how many objects it frees, or the refusal
+abbrev pub heap_reclaim : Scope → ℕ → Heap → Result (Heap × ℕ) Refusal
+heap_reclaim scope own h =
+    guarded (reclaim_tests scope h) (reclaimed scope own h, (reclaiming scope own h).freed)

@@ -1,3 +1,5 @@
+pub mod Blocks
+pub mod Growing
 pub mod Heap
 pub mod Parts
 pub mod Objects

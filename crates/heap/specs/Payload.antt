@@ -1,18 +1,24 @@
--- What the places of an object hold, and its bytes, however they are stored.
+-- What the places of an object hold, its bytes, and its status, however they are stored.
 use Rattle.std.specs.Prelude.{ℕ, List, [], Option, None, replicate}
 use Rattle.ids.specs.declared.names.Ref.{Ref}
 use Rattle.heap.specs.declared.payload.Payload.{Payload}
+use Rattle.heap.specs.declared.payload.Status.{Status}
 use Rattle.heap.specs.declared.payload.Payload.TheVariants.{One, Two, Any}
 
 abbrev pub held_in : Payload → List (Option Ref)
-held_in (One held) = held
-held_in (Two held) = held
-held_in (Any held bytes) = held.items
+held_in (One status held) = held
+held_in (Two status held) = held
+held_in (Any status held bytes) = held.items
 
 abbrev pub bytes_in : Payload → List ℕ
-bytes_in (One held) = []
-bytes_in (Two held) = []
-bytes_in (Any held bytes) = bytes.items
+bytes_in (One status held) = []
+bytes_in (Two status held) = []
+bytes_in (Any status held bytes) = bytes.items
+
+abbrev pub status_in : Payload → Status
+status_in (One status held) = status
+status_in (Two status held) = status
+status_in (Any status held bytes) = status
 
 abbrev pub all_empty : ℕ → List (Option Ref)
 all_empty count = replicate count None

@@ -7,6 +7,8 @@ use Rattle.arena.specs.Arena.{Arena}
 use Rattle.model.specs.declared.event.Letter.{Letter}
 use Rattle.model.specs.State.{Object, Free, Occupied, Retired, Heap}
 use Rattle.model.specs.State as state
+use Rattle.model.specs.Reclaiming.{is_shared, is_recent}
+use Rattle.heap.specs.Blocks.{Covers}
 use Rattle.heap.specs.Heap.{HeapView, slot_of}
 use Rattle.heap.specs.declared.heap.Heap.TheInside.{Inside}
 
@@ -36,8 +38,11 @@ object_in (Free g) = None
 object_in (Occupied g o) = Some o
 object_in Retired = None
 
--- the limit of the slots and the number of registers are within the limits
+-- The limit of the slots and the number of registers are within the limits. The blocks with shared
+-- objects are flagged, and those with objects that aren't old.
 pub record IsHeap (h : Inside) : Type 0 where
   pub limit : h.objects.limit ≤ GREATEST_SLOTS
   -- a register's number has two bytes
   pub registers : length h.registers.items < 2 ^ 16
+  pub shared : Covers is_shared h.shared (map slot_of h.objects.slots)
+  pub recent : Covers is_recent h.recent (map slot_of h.objects.slots)

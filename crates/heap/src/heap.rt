@@ -5,13 +5,18 @@ ghost use Rattle.std.specs.Prelude.{◌≡◌, IfOk, IfErr};
 ghost use Rattle.ids.specs.declared.refusal.Refusal.TheVariants.{Memory};
 ghost use Rattle.model.specs.State.{new_heap};
 
+mod aging;
 mod letters;
 mod marking;
 mod objects;
 mod parts;
+mod reclaiming;
 mod registers;
+mod seeking;
+mod sharing;
 mod sweeping;
 
+use crate::blocks::Blocks;
 use crate::object::Object;
 use arena::Arena;
 use ids::{Ref, Refusal, Shape};
@@ -25,6 +30,10 @@ use std::marker::Model;
 /// letters that wait for the program, and the marked objects that are still to be scanned.
 pub struct Heap {
     objects: Arena<Object>,
+    // The blocks of slots that may have shared objects.
+    shared: Blocks,
+    // Those that may have objects which aren't old.
+    recent: Blocks,
     registers: Vec<Option<Ref>>,
     // Oldest first.
     letters: VecDeque<Letter>,
@@ -37,6 +46,8 @@ impl Drop for Heap {
     fn drop(self) {
         let Heap {
             objects: _,
+            shared: _,
+            recent: _,
             registers: _,
             letters: _,
             grey: _,
@@ -67,8 +78,15 @@ impl Heap {
         ensures made { IfOk result (λ h. Holds h (new_heap shape) shape.slots) }
         ensures refused { IfErr result (λ e. e ≡ Memory) }
     {
+        let shared = if shape.is_wide() {
+            Blocks::none(alloc)
+        } else {
+            Blocks::All
+        };
         Ok(Heap {
             objects: Arena::with_limit(alloc, shape.slots()),
+            shared,
+            recent: Blocks::none(alloc),
             registers: vec![in alloc; None; shape.registers() as usize]?,
             letters: VecDeque::new(alloc),
             grey: Vec::new(alloc),

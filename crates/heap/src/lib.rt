@@ -3,9 +3,11 @@
 //! one that is refused leaves everything as it was.
 #![tactic(auto)]
 
+mod blocks;
 mod heap;
 mod object;
 mod payload;
+mod search;
 
 pub use arena::{FreeSlots, Slot, Slots};
 pub use heap::{Heap, HeapParts};

@@ -1,22 +1,26 @@
-//! An object: the program's word, its bytes, its places, and the cycle that marked it. The mark is a
-//! cycle's number, so a new cycle makes all objects white without touching any.
+//! An object: the program's word, its bytes, its places, the cycle that marked it, whether it is
+//! shared, and its age. The mark is a cycle's number, so a new cycle makes all objects white
+//! without touching any.
 ghost use Rattle.std.specs.Prelude.{◌≡◌, ℕ, ◌≤◌, ◌==◌, not, [], ◌∷◌, nat_lt, length};
 ghost use Rattle.std.specs.Prelude.{slice_index_or, slice_set};
 ghost use Rattle.std.specs.Prelude.{OnOk, OnErr, IfOk, IfErr, None, IsSome, IfSome, ◌↔◌};
 ghost use Rattle.ids.specs.declared.limits.TheConstants.{GREATEST_BYTES, GREATEST_PLACES};
 ghost use Rattle.ids.specs.declared.refusal.Refusal.TheVariants.{Memory, NoField};
 ghost use Rattle.model.specs.Checks.{guarded};
-ghost use Rattle.model.specs.Heaps.{new_object, filling, patching};
+ghost use Rattle.model.specs.Heaps.{new_object, filling, patching, sharing, is_old, remembering};
+ghost use Rattle.model.specs.Reclaiming.{aging, is_young};
 ghost use Rattle.model.specs.Shading.{with_mark};
 ghost use Rattle.heap.specs.Objects.{IsBounded};
 
-use crate::payload::Payload;
+use crate::payload::{Payload, Status};
 use ids::{GREATEST_BYTES, GREATEST_PLACES, Ref, Refusal};
+use model::Age;
 use std::alloc::Global;
 use std::marker::Model;
 
-/// An object: the program's word, its bytes, at most [`GREATEST_BYTES`] of them, its places, at most
-/// [`GREATEST_PLACES`] of them, and the cycle that marked it.
+/// An object: the program's word, its bytes, at most [`GREATEST_BYTES`] of them, its places, at
+/// most [`GREATEST_PLACES`] of them, the cycle that marked it, whether other nodes may know it, and
+/// its age.
 #[derive(Drop)]
 pub struct Object {
     word: u64,
@@ -26,7 +30,7 @@ pub struct Object {
 
 impl Model for Object {
     ghost use Rattle.model.specs.State.{Object};
-    ghost use Rattle.heap.specs.Payload.{held_in, bytes_in};
+    ghost use Rattle.heap.specs.Payload.{held_in, bytes_in, status_in};
 
     ghost Value = { Object };
 
@@ -35,6 +39,8 @@ impl Model for Object {
       bytes = bytes_in o.payload;
       places = held_in o.payload;
       mark = o.mark;
+      shared = (status_in o.payload).shared;
+      age = (status_in o.payload).age;
     } };
 
     ghost use Rattle.heap.specs.Objects.{IsBounded};
@@ -43,15 +49,17 @@ impl Model for Object {
 }
 
 impl Object {
-    /// Makes the object of these parts: its word, its bytes, the cycle that marked it, and what its
-    /// places hold. `None` if there are more than [`GREATEST_BYTES`] bytes or [`GREATEST_PLACES`]
-    /// places; the parts are then dropped.
+    /// Makes the object of these parts: its word, its bytes, the cycle that marked it, what its
+    /// places hold, whether other nodes may know it, and its age. `None` if there are more than
+    /// [`GREATEST_BYTES`] bytes or [`GREATEST_PLACES`] places; the parts are then dropped.
     #[inline(always)]
     pub fn from_parts(
         word: u64,
         bytes: Vec<u8>,
         mark: u64,
         places: Vec<Option<Ref>>,
+        shared: bool,
+        age: Age,
     ) -> Option<Object>
         ensures few { IsSome result ↔ IsBounded bytes.items places.items }
         ensures made { IfSome result (λ o. o ≡ record {
@@ -59,13 +67,15 @@ impl Object {
           bytes = bytes.items;
           places = places.items;
           mark = mark;
+          shared = shared;
+          age = age;
         }) }
     {
         let places_fit = places.len() <= usize::from(GREATEST_PLACES);
         if places_fit && bytes.len() <= GREATEST_BYTES as usize {
             Some(Object {
                 word,
-                payload: Payload::of(places, bytes),
+                payload: Payload::of(Status { shared, age }, places, bytes),
                 mark,
             })
         } else {
@@ -73,15 +83,22 @@ impl Object {
         }
     }
 
-    /// Makes a new object with this many empty places and no bytes, marked by this cycle.
-    pub(crate) fn new(alloc: Global, cycle: u64, places: u8) -> Result<Object, Refusal>
+    /// Makes a new object with this many empty places and no bytes, marked by this cycle. It is
+    /// shared, and then old, or private to its node, and then young.
+    pub(crate) fn new(
+        alloc: Global,
+        shared: bool,
+        cycle: u64,
+        places: u8,
+    ) -> Result<Object, Refusal>
         requires { places ≤ GREATEST_PLACES }
-        ensures made { IfOk result (λ o. o ≡ new_object cycle places) }
+        ensures made { IfOk result (λ o. o ≡ new_object shared cycle places) }
         ensures refused { IfErr result (λ e. e ≡ Memory) }
     {
+        let age = if shared { Age::Old } else { Age::Young };
         Ok(Object {
             word: 0,
-            payload: Payload::empty(alloc, places)?,
+            payload: Payload::empty(alloc, Status { shared, age }, places)?,
             mark: cycle,
         })
     }
@@ -99,6 +116,57 @@ impl Object {
         ensures { result ≡ self.now.mark }
     {
         self.mark
+    }
+
+    /// Whether other nodes may know it.
+    pub fn is_shared(&self) -> bool
+        ensures { result ≡ self.now.shared }
+    {
+        self.payload.status().shared
+    }
+
+    /// It becomes shared.
+    pub(crate) fn share(&mut self)
+        ensures { self.new ≡ sharing self.old }
+    {
+        self.payload.share();
+    }
+
+    /// Whether it was made since the last Reclaim.
+    pub fn age(&self) -> Age
+        ensures { result ≡ self.now.age }
+    {
+        self.payload.status().age
+    }
+
+    /// Whether it is old.
+    pub(crate) fn is_old(&self) -> bool
+        ensures { result ≡ is_old self.now.age }
+    {
+        matches!(self.age(), Age::Old)
+    }
+
+    /// Whether it is young.
+    pub(crate) fn is_young(&self) -> bool
+        ensures { result ≡ is_young self.now.age }
+    {
+        matches!(self.age(), Age::Young)
+    }
+
+    /// It is remembered, if it was young.
+    pub(crate) fn remember(&mut self)
+        ensures { self.new ≡ remembering self.old }
+    {
+        if self.is_young() {
+            self.payload.set_age(Age::Remembered);
+        }
+    }
+
+    /// It becomes old.
+    pub(crate) fn grow_old(&mut self)
+        ensures { self.new ≡ aging self.old }
+    {
+        self.payload.set_age(Age::Old);
     }
 
     /// The program's word.
@@ -174,6 +242,7 @@ impl Object {
     /// Sets the place.
     ///
     /// It fails with [`Refusal::NoField`] if there is no such place. The object is then as it was.
+    #[inline(always)]
     pub(crate) fn set_place(&mut self, place: u8, value: Option<Ref>) -> Result<(), Refusal>
         ensures done { self.new
             ≡ record self.old { places = slice_set self.old.places place value } }

@@ -10,10 +10,11 @@ use crate::limits::{
 use std::marker::Model;
 
 /// How large a space is: its nodes, the registers and slots of each, and the places and bytes that
-/// an object may have. It is fixed for the life of the space, and always within the limits of its kind.
+/// an object may have. It is fixed for the life of the space, and always within the limits of its
+/// kind.
 ///
-/// A space is *plain* or *wide*. Wide spaces may have more registers, slots and places, their objects
-/// may have bytes, and their nodes are saved in a version of images of their own.
+/// A space is *plain* or *wide*. Wide spaces may have more registers, slots and places, their
+/// objects may have bytes, and their nodes are saved in a version of images of their own.
 #[derive(Clone, Copy, Debug, PartialEq, Eq)]
 pub struct Shape {
     nodes: u8,

@@ -1,17 +1,19 @@
 -- A new node: how its image is spelled, and that the spelling says this node. An object: how it is
 -- spelled in spaces of both kinds.
-use Rattle.std.proofs.Common.{◌≡◌, ℕ, List, [], ◌∷◌, ◌++◌, None, true, false, replicate, refl}
+use Rattle.std.proofs.Common.{◌≡◌, ℕ, Bool, List, [], ◌∷◌, ◌++◌, None, true, false, replicate, refl}
 use Rattle.ids.specs.Limits.{plain_shape, wide_shape}
 use Rattle.model.specs.View.{NodeView, new_view}
 use Rattle.image_parts.specs.declared.layout.Layout.TheVariants as layout
 use Rattle.model.specs.State.{Object, Occupied}
+use Rattle.model.specs.declared.age.Age.{Age}
+use Rattle.model.specs.declared.age.Age.TheVariants.{Young, Old}
 use Rattle.codec.specs.Formats.{number2, number4, number8, signed8, bytes4}
 use Rattle.frames.specs.Formats.{colour, token, optional}
 use Rattle.frames.specs.declared.version.Version.TheVariants.{Second}
 use Rattle.image_parts.specs.Grammar.{spelling, layout_format, start_format, nodes_format, head_format}
 use Rattle.image_parts.specs.Grammar.{phases_format, held_format, ring_format, link_format, front_format}
 use Rattle.image_parts.specs.Grammar.{told_format, slots_format, others_format, lists_format}
-use Rattle.image_parts.specs.Grammar.{slot_format, object_format, places_format, width_format}
+use Rattle.image_parts.specs.Grammar.{slot_format, parts_format, places_format, width_format}
 use Rattle.image_parts.specs.Grammar.{stored_format, image_format}
 use Rattle.image_parts.specs.Stored.{stored_slot}
 use Rattle.image.specs.Images.{image_of, stored_by}
@@ -43,19 +45,36 @@ unfolding spelling image_format stored_format layout_format front_format head_fo
 is_spelled_wide = refl
 
 -- an object with one place, in a slot of its first generation
-abbrev object : List ℕ → Object
-object bytes = record { word = 5; bytes = bytes; places = None ∷ []; mark = 3 }
+abbrev object : Bool → Age → List ℕ → Object
+object shared age bytes =
+    record { word = 5; bytes = bytes; places = None ∷ []; mark = 3; shared = shared; age = age }
 
 -- in a wide space its bytes follow the word, behind their number
-is_object : (slot_format true Second).spell (stored_slot (Occupied 1 (object (0xA ∷ 0xB ∷ []))))
+is_object : (slot_format true Second).spell
+    (stored_slot (Occupied 1 (object true Old (0xA ∷ 0xB ∷ []))))
     ≡ 1 ∷ 0 ∷ 0 ∷ 0 ∷ 0 ∷ 0 ∷ 0 ∷ 0 ∷ 1 ∷ 0 ∷ 0 ∷ 0 ∷ 0 ∷ 0 ∷ 0 ∷ 0 ∷ 3
     ∷ 0 ∷ 0 ∷ 0 ∷ 0 ∷ 0 ∷ 0 ∷ 0 ∷ 5 ∷ 0 ∷ 0 ∷ 0 ∷ 2 ∷ 0xA ∷ 0xB ∷ 1 ∷ 0 ∷ []
-unfolding slot_format object_format places_format width_format optional bytes4 number4 number8
+unfolding slot_format parts_format places_format width_format optional bytes4 number4 number8
 is_object = refl
 
+-- a private object begins with another byte
+is_private_object : (slot_format true Second).spell (stored_slot (Occupied 1 (object false Old [])))
+    ≡ 3 ∷ 0 ∷ 0 ∷ 0 ∷ 0 ∷ 0 ∷ 0 ∷ 0 ∷ 1 ∷ 0 ∷ 0 ∷ 0 ∷ 0 ∷ 0 ∷ 0 ∷ 0 ∷ 3
+    ∷ 0 ∷ 0 ∷ 0 ∷ 0 ∷ 0 ∷ 0 ∷ 0 ∷ 5 ∷ 0 ∷ 0 ∷ 0 ∷ 0 ∷ 1 ∷ 0 ∷ []
+unfolding slot_format parts_format places_format width_format optional bytes4 number4 number8
+is_private_object = refl
+
+-- so does a young one
+is_young_object : (slot_format true Second).spell
+    (stored_slot (Occupied 1 (object false Young [])))
+    ≡ 4 ∷ 0 ∷ 0 ∷ 0 ∷ 0 ∷ 0 ∷ 0 ∷ 0 ∷ 1 ∷ 0 ∷ 0 ∷ 0 ∷ 0 ∷ 0 ∷ 0 ∷ 0 ∷ 3
+    ∷ 0 ∷ 0 ∷ 0 ∷ 0 ∷ 0 ∷ 0 ∷ 0 ∷ 5 ∷ 0 ∷ 0 ∷ 0 ∷ 0 ∷ 1 ∷ 0 ∷ []
+unfolding slot_format parts_format places_format width_format optional bytes4 number4 number8
+is_young_object = refl
+
 -- and in a plain one it has none
-is_plain_object : (slot_format false Second).spell (stored_slot (Occupied 1 (object [])))
+is_plain_object : (slot_format false Second).spell (stored_slot (Occupied 1 (object true Old [])))
     ≡ 1 ∷ 0 ∷ 0 ∷ 0 ∷ 0 ∷ 0 ∷ 0 ∷ 0 ∷ 1 ∷ 0 ∷ 0 ∷ 0 ∷ 0 ∷ 0 ∷ 0 ∷ 0 ∷ 3
     ∷ 0 ∷ 0 ∷ 0 ∷ 0 ∷ 0 ∷ 0 ∷ 0 ∷ 5 ∷ 1 ∷ 0 ∷ []
-unfolding slot_format object_format places_format width_format optional number8
+unfolding slot_format parts_format places_format width_format optional number8
 is_plain_object = refl

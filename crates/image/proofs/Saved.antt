@@ -14,7 +14,7 @@ use Rattle.std.proofs.lemmas.Slice.Zip.{length-zip, get_or-zip, firsts-zip, seco
 use Rattle.ids.specs.Limits.{Shaped, IsShape, reference_fits}
 use Rattle.ids.specs.declared.names.Ref.{Ref}
 use Rattle.ids.specs.declared.limits.TheConstants.{GREATEST_NODES, GREATEST_SLOTS, GREATEST_PLACES}
-use Rattle.ids.specs.declared.limits.TheConstants.{GREATEST_BYTES, GREATEST_IMAGE, PLAIN_PLACES}
+use Rattle.ids.specs.declared.limits.TheConstants.{GREATEST_BYTES, PLAIN_PLACES}
 use Rattle.ids.specs.declared.refusal.Refusal.{Refusal}
 use Rattle.heap.specs.Heap.{slot_of}
 use Rattle.model.proofs.Lookups.{get_or-replicate_any}
@@ -37,7 +37,7 @@ use Rattle.frames.proofs.Written.{any_colour, any_token, any_reference, any_opti
 use Rattle.codec.proofs.Growing.{each}
 use Rattle.codec.specs.Formats.{number2, number4, number8, signed8, bytes4}
 use Rattle.image_parts.specs.Grammar.{Fits, near, near_optional, letter_format, slot_format}
-use Rattle.image_parts.specs.Grammar.{bytes_format, object_format, places_format, width_format}
+use Rattle.image_parts.specs.Grammar.{bytes_format, parts_format, parts_of, places_format, width_format}
 use Rattle.image_parts.specs.Grammar.{message_format}
 use Rattle.image_parts.specs.Grammar.{link_format, held_format, nodes_format, head_format}
 use Rattle.image_parts.specs.Grammar.{phases_format, ring_format, front_format, told_format, slots_format}
@@ -52,6 +52,7 @@ use Rattle.image.specs.Images.{IsTooLarge, stored_by, image_of}
 use Rattle.image.proofs.Spelled.{wide_for, wide_within}
 use Rattle.image.specs.Nodes.{link_of, received_of, node_of, IsImageOf}
 use Rattle.image.proofs.Conditions.{standing_saved}
+use Rattle.image_parts.proofs.Tagged.{object_within}
 use Rattle.image_parts.proofs.Kept.{count_stored, stored_there}
 use Rattle.image.proofs.Elements.{every, all_from, all_remove, put_back}
 
@@ -87,10 +88,11 @@ module _ (shape : Shaped) (sizes : IsShape shape) where
       → ((g : ℕ) (o : Object) (j : ℕ) → s ≡ Occupied g o
       → IfAny (IsWithin shape) (get_or o.places j None))
       → (slot_format shape.wide Second).IsWithin (stored_slot s)
-  unfolding slot_format object_format places_format width_format number4 number8
+  unfolding slot_format parts_format places_format width_format number4 number8
   one_slot cycle (Free g) is places = tt
   one_slot cycle (Occupied g o) is places =
-      let each = optionals o.places (λ j. places g o j refl) in (
+      let each = optionals o.places (λ j. places g o j refl) in
+      object_within shape.wide o.shared o.age (g, parts_of o) is.shared is.age (
         tt,
         (
           tt,

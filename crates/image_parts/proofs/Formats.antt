@@ -1,7 +1,7 @@
 -- The formats of the parts of an image are sound. What the first version spells of a part, the
 -- second one spells too.
 use Rattle.std.proofs.Common.{zero-le, suc-le-suc}
-use Rattle.std.proofs.Common.{◌≡◌, ℕ, List, [], ◌++◌, Some, true, false, refl, sym, ap, subst, ◌∙◌}
+use Rattle.std.proofs.Common.{◌≡◌, ◌<◌, ℕ, List, [], ◌∷◌, ◌++◌, length, Some, true, false, refl, sym, ap, subst, ◌∙◌}
 use Rattle.std.proofs.Common.{arith}
 use Rattle.std.proofs.lemmas.Option.{same_Some}
 use Rattle.std.proofs.lemmas.Bool.{and_parts, and_from, eqb-true, le-leb, leb-true}
@@ -10,7 +10,7 @@ use Rattle.codec.specs.Formats.{Format, Fits, byte, number4, number8, nothing, c
 use Rattle.codec.specs.Lengths.{number4_long, number8_long}
 use Rattle.codec.specs.Reading.{IsBytes, IsSound, IsLong, Took}
 use Rattle.codec.proofs.Laws.{nothing_sound, mapped_sound, joined_sound, ◌⊗◌, kept_sound, ◌⊕◌, found}
-use Rattle.codec.proofs.Laws.{tagged_takes, made_again, option_sound, many_sound, counted_sound}
+use Rattle.codec.proofs.Laws.{tagged_takes, IsFound, made_again, option_sound, many_sound, counted_sound}
 use Rattle.codec.proofs.Numbers.{byte_sound, number2_sound, number4_sound, number8_sound}
 use Rattle.codec.proofs.Numbers.{signed8_sound}
 use Rattle.codec.proofs.Runs.{bytes4_sound}
@@ -24,7 +24,8 @@ use Rattle.frames.proofs.Formats.{any, generation_grows, reference_grows, option
 use Rattle.frames.proofs.Formats.{body_grows, colour_sound, token_sound}
 use Rattle.frames.specs.Lengths.{reference_long, optional_long}
 use Rattle.arena_slot.specs.declared.Slot.TheVariants as slot
-use Rattle.model.specs.State.{Object}
+use Rattle.model.specs.declared.age.Age.{Age}
+use Rattle.model.specs.declared.age.Age.TheVariants.{Young, Remembered, Old}
 use Rattle.image_parts.specs.Links.{StoredSlot}
 use Rattle.image_parts.specs.Layouts.{widths, is_wide}
 use Rattle.image_parts.specs.declared.layout.Layout.{Layout}
@@ -33,7 +34,8 @@ use Rattle.image_parts.specs.Grammar.{layouts, layout_format, Start, is_start, s
 use Rattle.image_parts.specs.Grammar.{nodes_format, head_format}
 use Rattle.image_parts.specs.Grammar.{phases_format, held_format, ring_format, near, near_optional}
 use Rattle.image_parts.specs.Grammar.{near_body, width_format, places_format, no_bytes, bytes_format}
-use Rattle.image_parts.specs.Grammar.{object_format, occupied}
+use Rattle.image_parts.specs.Grammar.{Parts, parts_of, object_of, parts_format, occupied, only_wide_at}
+use Rattle.image_parts.specs.Grammar.{kind_tag, object_tag}
 use Rattle.image_parts.specs.Grammar.{occupied_at, slots_at, slot_format, letter_format, message_format}
 use Rattle.image_parts.specs.Grammar.{link_format, reports_told, links_told, Front, front_format}
 use Rattle.image_parts.specs.Grammar.{told_format, slots_format, others_format, lists_format, stored}
@@ -79,10 +81,16 @@ start_sound =
 
 -- ---- each value of a list has at least one byte
 
+object_long : (wide shared : Bool) (age : Age) (v : Version) (x : ℕ × Parts)
+    → 0 < length (object_tag wide shared age v x).bytes
+object_long true shared age v x = suc-le-suc zero-le
+object_long false shared age v x = suc-le-suc zero-le
+
 pub slot_long : (wide : Bool) (v : Version) → IsLong (slot_format wide v)
 unfolding slot_format
 slot_long wide v (slot.Free generation) = suc-le-suc zero-le
-slot_long wide v (slot.Occupied generation object) = suc-le-suc zero-le
+slot_long wide v (slot.Occupied generation object) =
+    object_long wide object.shared object.age v (generation, parts_of object)
 slot_long wide v slot.Retired = suc-le-suc zero-le
 
 pub letter_long : (v : Version) → IsLong (letter_format v)
@@ -124,18 +132,76 @@ bytes_sound false = record {
 -- ---- slots, of a wide space or a plain one
 
 module _ (wide : Bool) where
-  object_grows : Grows (object_format wide First) (object_format wide Second)
-  unfolding object_format places_format width_format
-  object_grows =
-      mapped_grows _ _
-      (same number8_sound ⊛ same number8_sound ⊛ same (bytes_sound wide)
+  parts_grows : Grows (parts_format wide First) (parts_format wide Second)
+  unfolding parts_format places_format width_format
+  parts_grows =
+      same number8_sound ⊛ same number8_sound ⊛ same (bytes_sound wide)
       ⊛ counted_grows near_optional_grows (optional_long First) (optional_long Second) _
-      (kept_sound _ _ byte_sound))
-      (λ _. refl) (λ _. refl)
+      (kept_sound _ _ byte_sound)
 
   occupied_grows : Grows (occupied wide First) (occupied wide Second)
-  occupied_grows = generation_grows ⊛ object_grows
+  occupied_grows = generation_grows ⊛ parts_grows
 
+  occupied_sound : (v : Version) → IsSound (occupied wide v)
+  occupied_sound v = any (occupied wide) occupied_grows v
+
+abbrev object_slot : Bool → Age → ℕ × Parts → StoredSlot
+object_slot shared age x = slot.Occupied x.0 (object_of shared age x.1)
+
+-- in a wide space: the reader of an object of this kind is found by its tag
+wide_again : (shared : Bool) (age : Age) (v : Version) (rest : List ℕ)
+    → (slot_format true v).read (kind_tag shared age ∷ rest)
+    ≡ occupied_at true v shared age rest
+unfolding slot_format
+wide_again true Old v rest = refl
+wide_again false Old v rest = refl
+wide_again false Young v rest = refl
+wide_again false Remembered v rest = refl
+wide_again true Young v rest = refl
+wide_again true Remembered v rest = refl
+
+object_again : (wide shared : Bool) (age : Age) (v : Version) (x : ℕ × Parts) (rest : List ℕ)
+    → Fits (slot_format wide v) (object_slot shared age x)
+    → (slot_format wide v).read ((slot_format wide v).spell (object_slot shared age x) ++ rest)
+    ≡ Some (object_slot shared age x, rest)
+unfolding slot_format occupied_at
+object_again true shared age v x rest fits =
+    wide_again shared age v ((occupied true v).spell x ++ rest)
+    ∙ made_again (occupied true v) (object_slot shared age) (occupied_sound true v) x rest
+    fits.wide fits.within
+object_again false true Old v x rest fits =
+    made_again (occupied false v) (object_slot true Old) (occupied_sound false v) x rest
+    fits.wide fits.within.1
+object_again false true Young v x rest fits = absurd fits.within.0
+object_again false true Remembered v x rest fits = absurd fits.within.0
+object_again false false age v x rest fits = absurd fits.within.0
+
+old_found : (wide : Bool) (v : Version)
+    → IsFound (slot_format wide v) (1, occupied_at wide v true Old)
+unfolding slot_format occupied_at
+old_found true v =
+    found (occupied true v) (slot_format true v) 1 (object_slot true Old) (occupied_sound true v)
+    (λ _. refl) (λ _ w. w) (λ _ w. w)
+old_found false v =
+    found (occupied false v) (slot_format false v) 1 (object_slot true Old)
+    (occupied_sound false v) (λ _. refl) (λ _ w. w) (λ _ w. (tt, w))
+
+wide_found : (wide shared : Bool) (age : Age) (v : Version)
+    → IsFound (slot_format wide v) (kind_tag shared age, only_wide_at wide v shared age)
+unfolding slot_format occupied_at
+wide_found true shared age v =
+    found (occupied true v) (slot_format true v) (kind_tag shared age) (object_slot shared age)
+    (occupied_sound true v) (λ _. refl) (λ _ w. w) (λ _ w. w)
+wide_found false shared age v = λ bytes x are e. absurd cc
+
+object_later : (wide shared : Bool) (age : Age) (x : ℕ × Parts)
+    → Later (slot_format wide First) (slot_format wide Second) (object_slot shared age x)
+unfolding slot_format
+object_later true shared age x = (occupied_grows true).later x
+object_later false shared age x =
+    let later = (occupied_grows false).later x in (later.0, λ w. (w.0, later.1 w.1))
+
+module _ (wide : Bool) where
   slot_again : (v : Version) (x : StoredSlot) (rest : List ℕ) → Fits (slot_format wide v) x
       → (slot_format wide v).read ((slot_format wide v).spell x ++ rest) ≡ Some (x, rest)
   unfolding slot_format occupied_at
@@ -143,22 +209,24 @@ module _ (wide : Bool) where
       made_again (generation v) slot.Free (any generation generation_grows v) g rest fits.wide
       fits.within
   slot_again v (slot.Occupied g o) rest fits =
-      made_again (occupied wide v) (λ x. slot.Occupied x.0 x.1)
-      (any (occupied wide) occupied_grows v) (g, o) rest fits.wide fits.within
+      object_again wide o.shared o.age v (g, parts_of o) rest fits
   slot_again v slot.Retired rest fits = refl
 
   slot_sound : (v : Version) → IsSound (slot_format wide v)
   unfolding slot_format occupied_at
   slot_sound v =
       let F = slot_format wide v in
-      let occupied_slot = λ (x : ℕ × Object). slot.Occupied x.0 x.1 in
       record {
         takes = tagged_takes F (slots_at wide v) (
             found (generation v) F 0 slot.Free (any generation generation_grows v)
             (λ _. refl) (λ _ w. w) (λ _ w. w)
-            ⊕ found (occupied wide v) F 1 occupied_slot (any (occupied wide) occupied_grows v)
-            (λ _. refl) (λ _ w. w) (λ _ w. w)
+            ⊕ old_found wide v
             ⊕ found nothing F 2 (λ _. slot.Retired) nothing_sound (λ _. refl) (λ _ w. w) (λ _ w. w)
+            ⊕ wide_found wide false Old v
+            ⊕ wide_found wide false Young v
+            ⊕ wide_found wide false Remembered v
+            ⊕ wide_found wide true Young v
+            ⊕ wide_found wide true Remembered v
             ⊕ tt
             );
         again = slot_again v;
@@ -167,7 +235,7 @@ module _ (wide : Bool) where
   slot_later : (x : StoredSlot) → Later (slot_format wide First) (slot_format wide Second) x
   unfolding slot_format
   slot_later (slot.Free g) = generation_grows.later g
-  slot_later (slot.Occupied g o) = occupied_grows.later (g, o)
+  slot_later (slot.Occupied g o) = object_later wide o.shared o.age (g, parts_of o)
   slot_later slot.Retired = (λ is. is, λ is. is)
 
   slot_grows : Grows (slot_format wide First) (slot_format wide Second)

@@ -1,4 +1,5 @@
 pub mod Formats
+pub mod Tagged
 pub mod Joins
 pub mod Kept
 pub mod Readings

@@ -6,7 +6,7 @@ use Rattle.std.proofs.lemmas.Bool.{and_parts, eqb-true, false≢true, or_cases}
 use Rattle.codec.specs.Formats.{behind, whole_at, ◌>>=◌}
 use Rattle.image_parts.specs.Grammar.{Stored, behind_format, image_format, start_format, rest_format}
 use Rattle.image_parts.specs.Grammar.{Start, is_start, layout_format, layouts}
-use Rattle.image_parts.specs.Layouts.{says_wide, widths}
+use Rattle.image_parts.specs.Layouts.{says_wide}
 use Rattle.image_parts.specs.declared.layout.Layout.{Layout}
 use Rattle.image_parts.specs.Logs.{begins_logged, logged_at, unlogged}
 use Rattle.image_parts.proofs.Readings.{read}

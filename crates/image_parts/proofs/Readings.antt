@@ -1,6 +1,6 @@
 -- What is read has that spelling, and what has a spelling is read. No spelling is a prefix of
 -- another.
-use Rattle.std.proofs.Common.{◌≡◌, ◌≤◌, ◌<◌, ◌++◌, ℕ, List, [], length, Option, Some, refl, ap, subst, ◌∙◌}
+use Rattle.std.proofs.Common.{◌≡◌, ◌<◌, ◌++◌, ℕ, List, [], length, Option, Some, refl, ap, subst, ◌∙◌}
 use Rattle.std.proofs.lemmas.Bool.{and_parts, ltb-true}
 use Rattle.codec.specs.Formats as codec
 use Rattle.std.specs.Prelude.{Bool}

@@ -1,8 +1,8 @@
 -- What an image says, and its one spelling.
-use Rattle.std.specs.Prelude.{ℕ, ◌-◌, ◌≤◌, ◌≡◌, ◌==◌, ◌&&◌, if◌then◌else◌, List, [], ◌∷◌, length, Bool, true, false, Option, Some, nat_lt, nat_le, ⊤}
+use Rattle.std.specs.Prelude.{ℕ, ◌-◌, ◌≡◌, ◌==◌, ◌&&◌, if◌then◌else◌, List, [], ◌∷◌, length, Bool, true, false, Option, Some, None, nat_lt, nat_le, ⊤}
 use Rattle.ids.specs.Limits.{reference_fits}
 use Rattle.ids.specs.declared.names.Ref.{Ref}
-use Rattle.ids.specs.declared.limits.TheConstants.{FIRST_VERSION_NODES, GREATEST_NODES, GREATEST_BYTES, GREATEST_IMAGE, GREATEST_PLACES}
+use Rattle.ids.specs.declared.limits.TheConstants.{FIRST_VERSION_NODES, GREATEST_NODES, GREATEST_BYTES, GREATEST_PLACES}
 use Rattle.codec.specs.Formats as codec
 use Rattle.codec.specs.Formats.{Format, Reader, Behind, byte, number2, number4, number8, signed8}
 use Rattle.codec.specs.Formats.{nothing, mapped, joined, ◌&◌, kept, tag, tagged, behind, made_at}
@@ -15,6 +15,8 @@ use Rattle.frames.specs.declared.version.Version.TheVariants.{First, Second}
 use Rattle.frames.specs.Formats.{generation, reference, optional, colour, token, body_format}
 use Rattle.msg.specs.Limits.{optional_fits, body_fits}
 use Rattle.model.specs.State.{Object, Ring}
+use Rattle.model.specs.declared.age.Age.{Age}
+use Rattle.model.specs.declared.age.Age.TheVariants.{Young, Remembered, Old}
 use Rattle.model.specs.declared.event.Letter.{Letter}
 use Rattle.image_parts.specs.declared.parts.Head.{Head}
 use Rattle.image_parts.specs.declared.parts.PhasesParts.{PhasesParts}
@@ -139,29 +141,78 @@ abbrev pub bytes_format : Bool → Format (List ℕ)
 bytes_format true = kept bytes4 (λ bytes. nat_le (length bytes) GREATEST_BYTES)
 bytes_format false = no_bytes
 
-unfoldable pub object_format : Bool → Version → Format Object
-object_format wide v =
-    mapped (number8 & number8 & bytes_format wide & places_format v)
-    (λ x. record { word = x.1.0; bytes = x.1.1.0; places = x.1.1.1; mark = x.0 })
-    (λ o. (o.mark, (o.word, (o.bytes, o.places))))
+-- what is spelled of an object besides whether it is shared, and its age: its mark, its word, its
+-- bytes and its places
+abbrev pub Parts : Type 0
+Parts = ℕ × (ℕ × (List ℕ × List (Option Ref)))
 
-abbrev pub occupied : Bool → Version → Format (ℕ × Object)
-occupied wide v = generation v & object_format wide v
+abbrev pub parts_of : Object → Parts
+parts_of o = (o.mark, (o.word, (o.bytes, o.places)))
 
-unfoldable pub occupied_at : Bool → Version → Reader StoredSlot
-occupied_at wide v bytes = made_at (occupied wide v) (λ x. slot.Occupied x.0 x.1) bytes
+abbrev pub object_of : Bool → Age → Parts → Object
+object_of shared age x = record {
+  word = x.1.0;
+  bytes = x.1.1.0;
+  places = x.1.1.1;
+  mark = x.0;
+  shared = shared;
+  age = age;
+}
+
+unfoldable pub parts_format : Bool → Version → Format Parts
+parts_format wide v = number8 & number8 & bytes_format wide & places_format v
+
+abbrev pub occupied : Bool → Version → Format (ℕ × Parts)
+occupied wide v = generation v & parts_format wide v
+
+unfoldable pub occupied_at : Bool → Version → Bool → Age → Reader StoredSlot
+occupied_at wide v shared age bytes =
+    made_at (occupied wide v) (λ x. slot.Occupied x.0 (object_of shared age x.1)) bytes
+
+-- only in wide spaces are there objects that aren't both shared and old
+abbrev pub only_wide_at : Bool → Version → Bool → Age → Reader StoredSlot
+only_wide_at true v shared age = occupied_at true v shared age
+only_wide_at false v shared age = λ _. None
+
+abbrev pub IsPlain : Bool → Age → Type 0
+IsPlain true Old = ⊤
+IsPlain true Young = ⊥
+IsPlain true Remembered = ⊥
+IsPlain false age = ⊥
+
+-- what the first byte of a slot with an object says: whether it is shared, and its age
+abbrev pub kind_tag : Bool → Age → ℕ
+kind_tag true Old = 1
+kind_tag false Old = 3
+kind_tag false Young = 4
+kind_tag false Remembered = 5
+kind_tag true Young = 6
+kind_tag true Remembered = 7
+
+-- that byte, and what follows it
+abbrev pub object_tag : Bool → Bool → Age → Version → ℕ × Parts → Behind
+object_tag true shared age v x = tag (kind_tag shared age) (occupied true v) x
+object_tag false shared age v x = record (tag 1 (occupied false v) x) {
+  is_within = IsPlain shared age × (occupied false v).IsWithin x;
+}
 
 -- a tag and what the slot holds
 abbrev pub slot_tag : Bool → Version → StoredSlot → Behind
 slot_tag wide v (slot.Free next) = tag 0 (generation v) next
-slot_tag wide v (slot.Occupied own object) = tag 1 (occupied wide v) (own, object)
+slot_tag wide v (slot.Occupied own object) =
+    object_tag wide object.shared object.age v (own, parts_of object)
 slot_tag wide v slot.Retired = tag 2 nothing tt
 
 abbrev pub slots_at : Bool → Version → List (ℕ × Reader StoredSlot)
 slots_at wide v =
     (0, made_at (generation v) slot.Free)
-    ∷ (1, occupied_at wide v)
+    ∷ (1, occupied_at wide v true Old)
     ∷ (2, made_at nothing (λ _. slot.Retired))
+    ∷ (3, only_wide_at wide v false Old)
+    ∷ (4, only_wide_at wide v false Young)
+    ∷ (5, only_wide_at wide v false Remembered)
+    ∷ (6, only_wide_at wide v true Young)
+    ∷ (7, only_wide_at wide v true Remembered)
     ∷ []
 
 unfoldable pub slot_format : Bool → Version → Format StoredSlot

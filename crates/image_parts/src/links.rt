@@ -27,11 +27,12 @@ fn message_count(links: &Links, to: u8) -> u64
 }
 
 // The kept message to the node in this place; the oldest is in place 0.
-fn message_at(links: &Links, to: u8, place: u64) -> Message
+fn message_at(links: &Links, to: u8, place: u64) -> &Message
     requires there { to < length links.now.links }
     requires sound { IsLinks links.now }
     requires kept { place < length (link_at links.now to).unacknowledged }
-    ensures { result ≡ slice_index_or (link_at links.now to).unacknowledged place result }
+    ensures { result.now
+        ≡ slice_index_or (link_at links.now to).unacknowledged place result.now }
 {
     match links.message(to, links.base(to) + 1 + place) {
         Some(message) => message,
@@ -41,11 +42,11 @@ fn message_at(links: &Links, to: u8, place: u64) -> Message
 
 #[tactic(auto, unfolding(crate::specs::Grammar::message_format), using(crate::proofs::Joins::both))]
 #[inline(always)]
-fn put_message(out: &mut Writer, message: Message)
-    ensures { Puts (message_format Second) out.old out.new message }
+fn put_message(out: &mut Writer, message: &Message)
+    ensures { Puts (message_format Second) out.old out.new message.now }
 {
     out.u64(message.stamp);
-    put_body(out, message.body);
+    put_body(out, &message.body);
 }
 
 // Appends how many messages to the node are kept, in four bytes, and the messages.

@@ -10,7 +10,7 @@ ghost use Rattle.image_parts.specs.Grammar.{reports_told, layouts, layout_format
 ghost use Rattle.image_parts.specs.Grammar.{nodes_fit, nodes_format};
 ghost use Rattle.image_parts.specs.Grammar.{head_format, phases_format, held_format, ring_format, near};
 ghost use Rattle.image_parts.specs.Grammar.{near_optional, width_format, places_format, bytes_format};
-ghost use Rattle.image_parts.specs.Grammar.{object_format};
+ghost use Rattle.image_parts.specs.Grammar.{only_wide_at, parts_format, parts_of};
 ghost use Rattle.image_parts.specs.Grammar.{occupied_at, slot_format, letter_format, message_format};
 ghost use Rattle.image_parts.specs.Grammar.{link_format, front_format, told_format, slots_format};
 ghost use Rattle.image_parts.specs.Grammar.{others_format, stored_format, image_format};
@@ -22,7 +22,8 @@ use crate::layout::Layout;
 use crate::lists::{Readable, counted, many};
 use crate::parts::{Head, PhasesParts, StoredLink, StoredNode};
 use crate::tags::{
-    ABSENT, FIRST, FREE, LOGGED, OCCUPIED, PRESENT, RETIRED, SECOND, START, WIDE, WIDE_LOGGED,
+    ABSENT, FIRST, FREE, LOGGED, OCCUPIED, PRESENT, PRIVATE, REMEMBERED, RETIRED, SECOND,
+    SHARED_REMEMBERED, SHARED_YOUNG, START, WIDE, WIDE_LOGGED, YOUNG,
 };
 use codec::Reader;
 use cycles::Ring;
@@ -35,7 +36,7 @@ use ids::{
     FIRST_VERSION_NODES, GREATEST_BYTES, GREATEST_IMAGE, GREATEST_NODES, GREATEST_PLACES, Ref,
     Refusal,
 };
-use model::Letter;
+use model::{Age, Letter};
 use msg::{Message, Token, body_fits, optional_fits};
 use std::alloc::Global;
 use std::collections::VecDeque;
@@ -248,22 +249,26 @@ fn read_bytes(alloc: Global, wide: bool, reader: &mut Reader) -> Result<Vec<u8>,
     Ok(Vec::from_slice(alloc, read_run(reader))?)
 }
 
-#[tactic(auto, unfolding(crate::specs::Grammar::object_format), using(crate::proofs::Joins::both_read, crate::proofs::Joins::made))]
+#[tactic(auto, unfolding(crate::specs::Grammar::parts_format), using(crate::proofs::Joins::both_read))]
 #[inline(always)]
 fn read_object(
     alloc: Global,
     wide: bool,
     version: Version,
+    shared: bool,
+    age: Age,
     reader: &mut Reader,
 ) -> Result<Object, Refusal>
-    ensures value { IfOk result (Reads (object_format wide version) reader.old reader.new) }
+    ensures value { IfOk result (λ o.
+        Reads (parts_format wide version) reader.old reader.new (parts_of o)) }
+    ensures kind { IfOk result (λ o. (o.shared ≡ shared) × (o.age ≡ age)) }
     ensures refused { IfErr result (λ e. e ≡ Memory) }
 {
     let mark = reader.u64();
     let word = reader.u64();
     let bytes = read_bytes(alloc, wide, reader)?;
     let places = read_places(alloc, version, reader)?;
-    match Object::from_parts(word, bytes, mark, places) {
+    match Object::from_parts(word, bytes, mark, places, shared, age) {
         Some(object) => Ok(object),
         None => unreachable!(),
     }
@@ -275,15 +280,55 @@ fn read_occupied(
     alloc: Global,
     wide: bool,
     version: Version,
+    shared: bool,
+    age: Age,
     reader: &mut Reader,
 ) -> Result<Slot<Object>, Refusal>
     ensures value { IfOk result
-        (λ s. Takes (occupied_at wide version) reader.old reader.new (Some s)) }
+        (λ s. Takes (occupied_at wide version shared age) reader.old reader.new (Some s)) }
     ensures refused { IfErr result (λ e. e ≡ Memory) }
 {
     let generation = read_generation(reader, version);
-    let object = read_object(alloc, wide, version, reader)?;
+    let object = read_object(alloc, wide, version, shared, age, reader)?;
     Ok(Slot::Occupied(generation, object))
+}
+
+// A slot with an object that isn't both shared and old. Only wide spaces have such slots.
+#[inline(always)]
+fn read_only_wide(
+    alloc: Global,
+    wide: bool,
+    version: Version,
+    shared: bool,
+    age: Age,
+    reader: &mut Reader,
+) -> Result<Slot<Object>, Refusal>
+    ensures value { IfOk result
+        (λ s. Takes (only_wide_at wide version shared age) reader.old reader.new (Some s)) }
+    ensures refused { IfErr result (λ e. e ≡ Memory) }
+{
+    if wide {
+        return read_occupied(alloc, true, version, shared, age, reader);
+    }
+    reader.fail();
+    Ok(Slot::Retired)
+}
+
+// The same. It isn't inlined, since most objects are old.
+#[inline(never)]
+fn read_recent(
+    alloc: Global,
+    wide: bool,
+    version: Version,
+    shared: bool,
+    age: Age,
+    reader: &mut Reader,
+) -> Result<Slot<Object>, Refusal>
+    ensures value { IfOk result
+        (λ s. Takes (only_wide_at wide version shared age) reader.old reader.new (Some s)) }
+    ensures refused { IfErr result (λ e. e ≡ Memory) }
+{
+    read_only_wide(alloc, wide, version, shared, age, reader)
 }
 
 #[tactic(auto, unfolding(crate::specs::Grammar::slot_format), using(crate::proofs::Joins::tags))]
@@ -299,8 +344,13 @@ fn read_slot(
 {
     match reader.u8() {
         FREE => Ok(Slot::Free(read_generation(reader, version))),
-        OCCUPIED => read_occupied(alloc, wide, version, reader),
+        OCCUPIED => read_occupied(alloc, wide, version, true, Age::Old, reader),
         RETIRED => Ok(Slot::Retired),
+        PRIVATE => read_only_wide(alloc, wide, version, false, Age::Old, reader),
+        YOUNG => read_recent(alloc, wide, version, false, Age::Young, reader),
+        REMEMBERED => read_recent(alloc, wide, version, false, Age::Remembered, reader),
+        SHARED_YOUNG => read_recent(alloc, wide, version, true, Age::Young, reader),
+        SHARED_REMEMBERED => read_recent(alloc, wide, version, true, Age::Remembered, reader),
         _ => {
             reader.fail();
             Ok(Slot::Retired)
@@ -349,7 +399,7 @@ impl Readable for Message {
     fn read(_alloc: Global, version: Version, reader: &mut Reader) -> Result<Message, Refusal> {
         let stamp = reader.u64();
         let body = read_body(reader, version);
-        reader.check(body_fits(body));
+        reader.check(body_fits(&body));
         Ok(Message { stamp, body })
     }
 }

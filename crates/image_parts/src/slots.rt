@@ -7,17 +7,19 @@ ghost use Rattle.arena_slot.specs.declared.Slot.TheVariants.{Free, Occupied};
 ghost use Rattle.codec.specs.Formats.{number4, number8, counted};
 ghost use Rattle.codec.specs.Writing.{Puts};
 ghost use Rattle.frames.specs.declared.version.Version.TheVariants.{Second};
-ghost use Rattle.image_parts.specs.Grammar.{slot_format, letter_format};
+ghost use Rattle.image_parts.specs.Grammar.{kind_tag, slot_format, letter_format};
 ghost use Rattle.image_parts.specs.Stored.{stored_slot};
 
 use crate::lists::put_all;
-use crate::tags::{FREE, OCCUPIED, RETIRED};
+use crate::tags::{
+    FREE, OCCUPIED, PRIVATE, REMEMBERED, RETIRED, SHARED_REMEMBERED, SHARED_YOUNG, YOUNG,
+};
 use byteorder::{BigEndian, ByteOrder};
 use codec::{Piece, Writer};
 use frames::writing::add_optional;
 use heap::{Heap, Object, Slot};
 use ids::Generation;
-use model::Letter;
+use model::{Age, Letter};
 
 // ---- slots
 
@@ -36,14 +38,28 @@ fn occupied_head(generation: Generation, mark: u64, word: u64, places: u8) -> [u
     part
 }
 
+// The first byte of a slot with an object in a wide space.
+fn tag(shared: bool, age: Age) -> u8
+    ensures { result ≡ kind_tag shared age }
+{
+    match (shared, age) {
+        (true, Age::Old) => OCCUPIED,
+        (false, Age::Old) => PRIVATE,
+        (false, Age::Young) => YOUNG,
+        (false, Age::Remembered) => REMEMBERED,
+        (true, Age::Young) => SHARED_YOUNG,
+        (true, Age::Remembered) => SHARED_REMEMBERED,
+    }
+}
+
 // What comes before an object's bytes in a wide space.
 #[tactic(auto, unfolding(crate::specs::Numbers::number8))]
-fn wide_head(generation: Generation, mark: u64, word: u64) -> [u8; 25]
-    ensures { result ≡ 1 ∷ (number8.spell generation
+fn wide_head(tag: u8, generation: Generation, mark: u64, word: u64) -> [u8; 25]
+    ensures { result ≡ tag ∷ (number8.spell generation
         ++ (number8.spell mark ++ number8.spell word)) }
 {
     let mut part = [0; 25];
-    part[0] = OCCUPIED;
+    part[0] = tag;
     BigEndian::write_u64(&mut part[1..], generation);
     BigEndian::write_u64(&mut part[9..], mark);
     BigEndian::write_u64(&mut part[17..], word);
@@ -56,7 +72,8 @@ fn put_wide(out: &mut Writer, generation: Generation, object: &Object)
 {
     let (bytes, places) = (object.bytes(), object.contents());
     let (mark, word) = (object.marked_by(), object.word());
-    out.array(wide_head(generation, mark, word));
+    let (shared, age) = (object.is_shared(), object.age());
+    out.array(wide_head(tag(shared, age), generation, mark, word));
     out.bytes(bytes);
     out.u8(places.len() as u8);
     put_all(out, places);

@@ -27,8 +27,23 @@ pub const PRESENT: u8 = 1;
 /// Before a free slot.
 pub const FREE: u8 = 0;
 
-/// Before a slot with an object.
+/// Before a slot with an object that is shared and old, as all objects of plain spaces are.
 pub const OCCUPIED: u8 = 1;
 
 /// In place of a slot that has run out of generations.
 pub const RETIRED: u8 = 2;
+
+/// Before a slot with an object that is private and old.
+pub const PRIVATE: u8 = 3;
+
+/// Before a slot with an object that is private and young.
+pub const YOUNG: u8 = 4;
+
+/// Before a slot with an object that is private and remembered.
+pub const REMEMBERED: u8 = 5;
+
+/// Before a slot with an object that is shared and young.
+pub const SHARED_YOUNG: u8 = 6;
+
+/// Before a slot with an object that is shared and remembered.
+pub const SHARED_REMEMBERED: u8 = 7;

@@ -36,6 +36,7 @@ inside-where {shape = shape} i P base has none = ⊎_elim {C = i < shape.nodes}
 
 -- the default node past the end of a list refuses every event, and receives nothing
 pub no-node-refuses : (e : Event) → is_own e ≡ true → AllPass (tests no_node.local e) → ⊥
+no-node-refuses (event.Reclaim scope) own passed = let never = passed.0 in absurd cc
 no-node-refuses event.Begin own passed = let never = passed.0 in absurd cc
 no-node-refuses event.Scan own passed = let never = passed.0 in absurd cc
 no-node-refuses event.Pass own passed = let never = passed.0 in absurd cc

@@ -36,7 +36,7 @@ pub current-chosen : (w : World) (choice : ℕ → Bool) (i : ℕ) → choice i 
 current-chosen w choice i chosen = cond-false (choice i) _ _ chosen
 
 -- what a node's saved state sent is the first part of what the node in a cut sent
-cut-sent : (w : World) (choice : ℕ → Bool) (i j : ℕ) → KeepsSent w
+pub cut-sent : (w : World) (choice : ℕ → Bool) (i j : ℕ) → KeepsSent w
     → Grows (sent_to (node_at w.saved i) j) (sent_to (cut w choice i) j)
 cut-sent w choice i j h =
     cond_both (choice i) (node_at w.saved i) (node_at w.current i)

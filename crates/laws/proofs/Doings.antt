@@ -1,6 +1,6 @@
 -- What a node does, compared with a space without a collector, for each event of a program and the
 -- receipt of each message.
-use Rattle.std.proofs.Common.{◌≡◌, ◌≢◌, ℕ, Bool, true, cond, ◌==◌, ◌&&◌, List, [], ◌∷◌, ◌++◌, ◌⊎◌, set, Option, None, Some, option_to_list, refl, sym, ap, ◌∙◌, subst, ⊎_elim, inl, inr, append-nil}
+use Rattle.std.proofs.Common.{◌≡◌, ◌≢◌, ℕ, Bool, true, not, cond, ◌==◌, ◌&&◌, List, [], ◌∷◌, ◌++◌, ◌⊎◌, set, Option, None, Some, option_to_list, refl, sym, ap, ◌∙◌, subst, ⊎_elim, inl, inr, append-nil}
 use Rattle.std.specs.Prelude.{is_some, option_map}
 use Rattle.std.proofs.lemmas.Bool.{cases_eq, cond_both, cond-true, cond-false, eq-eqb, ne_eqb, eqb-true, and_from, false_from_ne_true}
 use Rattle.ids.specs.declared.names.Ref.{Ref}
@@ -11,22 +11,23 @@ use Rattle.model.specs.declared.event.Event.{Event}
 use Rattle.model.specs.declared.event.Event.TheVariants as event
 use Rattle.model.specs.Checks.{AllPass}
 use Rattle.model.specs.State.{Object, Occupied, Heap, LocalState, register_at, slot_at}
-use Rattle.model.specs.Heaps.{alloc_heap, with_object, new_reference, new_object, named, object_at, has_place, place_of, word_of, overwritten, with_register, register_copied, letter_taken, with_letter, with_rewritten, place_loaded, next_slot, generation_for, oldest_letter}
+use Rattle.model.specs.Heaps.{alloc_heap, with_object, new_reference, new_object, named, object_at, has_place, place_of, word_of, overwritten, with_register, register_copied, letter_taken, with_letter, with_rewritten, placing, place_loaded, next_slot, generation_for, oldest_letter}
 use Rattle.model.specs.Effects.{Work}
-use Rattle.model.specs.Counting.{is_reference, append}
+use Rattle.model.specs.Counting.{is_reference, append, stamped}
 use Rattle.model.specs.Shading.{is_same, see_to}
 use Rattle.model.specs.declared.event.Answer.TheVariants as answer
-use Rattle.model.specs.Steps.{tests, made, take_body, target_of}
+use Rattle.model.specs.Steps.{tests, made, take_body, target_of, carried, share}
 use Rattle.laws.specs.Objects.{Thing, Space, object_in, has_that, content_of, word_in, with_desk, with_thing, rewriting, posted, is_program, new_thing, IsAnswer, does, follows, with_place, with_word, with_bytes, with_patch}
 use Rattle.laws.specs.Sights.{thing_of, programs}
 use Rattle.model.proofs.Slots.{found-object}
+use Rattle.model.proofs.Ages.{noted_for, noted-keeps}
 use Rattle.laws.proofs.Slots.{object-where, object-placed}
 use Rattle.laws.proofs.Invariant.{FreeSlots}
 use Rattle.laws.proofs.Past.{PastAt, occupied-past, new-not_past}
 use Rattle.laws.proofs.GoodHeaps.{own_reference}
-use Rattle.laws.proofs.Meets.{same-is, is-same}
-use Rattle.laws.proofs.Things.{desk_of, Kept, kept-desk, LivesIn, lives-rewritten, rewriting-back, posts, posts-append, IsQuiet, quiet-posts, quiet-append}
-use Rattle.laws.proofs.Unseen.{none-quiet, calm-collects}
+use Rattle.model.proofs.Naming.{same-is, is-same}
+use Rattle.laws.proofs.Things.{desk_of, Kept, kept-same, kept-desk, still-remembering, LivesIn, lives-rewritten, rewriting-back, posts, posts-append, IsQuiet, quiet-posts, quiet-append}
+use Rattle.laws.proofs.Unseen.{none-quiet, calm-collects, calm-shares}
 
 -- Node i of a space without a collector has this heap's registers and letters, and its objects.
 pub record Here (s : Space) (i : ℕ) (h : Heap) : Type 0 where
@@ -121,6 +122,18 @@ effects-rewritten {s = s} {i = i} {h = h} r f f' own same x = record {
   others = λ from to other. refl;
 }
 
+-- a place of an object of the node is written, and what it is to name may be remembered
+effects-placed : {s : Space} {i : ℕ} {h : Heap} (own : ℕ) (r : Ref) (place : ℕ) (v : Option Ref)
+    → r.node ≡ i → Here s i h
+    → Effects s (with_place s r place v) i
+    (with_rewritten (noted_for own h r v) r (placing place v)) []
+effects-placed {s = s} {i = i} {h = h} own r place v here x =
+    effects-rewritten r (placing place v) (λ o. record o { places = set o.places place v }) here
+    (λ _. refl)
+    (here-kept x
+    (noted-keeps (Kept h) own h r v (λ z. (still-remembering h z).kept)
+    (kept-same refl refl refl)))
+
 -- a message of a program is sent
 pub effects-posted : {s : Space} {i : ℕ} {h : Heap} (to stamp : ℕ) (b : Body)
     → is_reference b ≡ true → Here s i h
@@ -154,6 +167,15 @@ effects-posted {s = s} {i = i} to stamp b is here = record {
   where
     x : Message
     x = record { stamp = stamp; body = b }
+
+-- and what it carries becomes shared
+effects-shared : {s : Space} {i : ℕ} (p : LocalState) (to : ℕ) (b : Body) → is_reference b ≡ true
+    → Here s i p.heap
+    → Effects s (posted s i to b) i (share (carried b) p).local.heap
+    ((to, stamped p b) ∷ [])
+effects-shared p to b is here =
+    effects-posted to p.phases.cycle b is
+    (here-kept here (calm-shares p (carried b)).still.kept)
 
 -- ---- what the node has is what was made
 
@@ -226,15 +248,16 @@ own-allocates : {s : Space} (p : LocalState) (register places : ℕ)
     → Effects s
     (with_desk (with_thing s (new_reference p.own p.heap) (Some (new_thing places))) p.own
     (with_register (s.desk p.own) register (Some (new_reference p.own p.heap))))
-    p.own (alloc_heap p.own p.phases.cycle p.heap register places) []
+    p.own (alloc_heap p.own (not p.shape.wide) p.phases.cycle p.heap register places) []
 own-allocates {s = s} p register places d =
     let h : Heap = p.heap in
     let r : Ref = new_reference p.own h in
-    let o : Object = new_object p.phases.cycle places in
+    let shared : Bool = not p.shape.wide in
+    let o : Object = new_object shared p.phases.cycle places in
     let t : Space = with_thing s r (Some (new_thing places)) in
     let there : slot_at (with_object h o) r.slot ≡ Occupied r.generation o =
     object-placed h.free h.slots o d.free in
-    let lives : LivesIn t p.own (alloc_heap p.own p.phases.cycle h register places) =
+    let lives : LivesIn t p.own (alloc_heap p.own shared p.phases.cycle h register places) =
     λ k g y at.
     ⊎_elim {C = t.objects (own_reference p.own k g) ≡ Some (thing_of y)}
     (λ before.
@@ -255,7 +278,7 @@ own-allocates {s = s} p register places d =
     ∙ ap (λ (z : Object). Some (thing_of z)) (sym new.2))
     (object-where h.free h.slots o d.free k g y at) in
     let placed =
-    effects-desk {s = t} {i = p.own} {h = alloc_heap p.own p.phases.cycle h register places}
+    effects-desk {s = t} {i = p.own} {h = alloc_heap p.own shared p.phases.cycle h register places}
     {ms = []} (with_register (s.desk p.own) register (Some r))
     (ap (λ (z : Heap). with_register z register (Some r)) d.here.desk) lives none-quiet in
     record {
@@ -270,7 +293,7 @@ own-allocates {s = s} p register places d =
           (s.objects (own_reference p.own k g))
           (λ (z : Option Thing). (x : Thing) × (z ≡ Some x)
           → IsMade s (own_reference p.own k g)
-          ⊎ PastAt (alloc_heap p.own p.phases.cycle h register places) k g)
+          ⊎ PastAt (alloc_heap p.own shared p.phases.cycle h register places) k g)
           (λ is _.
           let same : r ≡ own_reference p.own k g =
           sym (same-is (own_reference p.own k g) r is) in
@@ -334,14 +357,12 @@ own-does {s = s} p counts (event.Store object place register) is d =
     subst (λ (z : Heap).
     Effects s (with_place s (named z object) place (register_at z register)) p.own
     (made p counts (event.Store object place register)).local.heap []) (sym d.here.desk)
-    (effects-rewritten (named p.heap object) _ (λ o. record o { places = set o.places place v })
-    (eqb-true _ _ d.passed.1.1.1.1.0) (λ _. refl) d.here)
+    (effects-placed p.own (named p.heap object) place v (eqb-true _ _ d.passed.1.1.1.1.0) d.here)
 own-does {s = s} p counts (event.Clear object place) is d =
     subst (λ (z : Heap).
     Effects s (with_place s (named z object) place None) p.own
     (made p counts (event.Clear object place)).local.heap []) (sym d.here.desk)
-    (effects-rewritten (named p.heap object) _ (λ o. record o { places = set o.places place None })
-    (eqb-true _ _ d.passed.1.1.0) (λ _. refl) d.here)
+    (effects-placed p.own (named p.heap object) place None (eqb-true _ _ d.passed.1.1.0) d.here)
 own-does p counts (event.Word object) is d = effects-none d.here none-quiet
 own-does {s = s} p counts (event.SetWord object word) is d =
     subst (λ (z : Heap).
@@ -364,9 +385,10 @@ own-does {s = s} p counts (event.Patch object offset bytes) is d =
     (eqb-true _ _ d.passed.1.1.0) (λ _. refl) d.here)
 own-does {s = s} p counts (event.Give to label register) is d =
     subst (λ (z : Heap).
-    Effects s (posted s p.own to (body.Give label (register_at z register))) p.own p.heap
+    Effects s (posted s p.own to (body.Give label (register_at z register))) p.own
+    (made p counts (event.Give to label register)).local.heap
     (made p counts (event.Give to label register)).sends) (sym d.here.desk)
-    (effects-posted to p.phases.cycle (body.Give label (register_at p.heap register)) refl d.here)
+    (effects-shared p to (body.Give label (register_at p.heap register)) refl d.here)
 own-does p counts (event.Accept register) is d =
     effects-desk _ (ap (λ (z : Heap). letter_taken z register) d.here.desk) d.here.lives none-quiet
 own-does {s = s} p counts (event.Put object place register) is d =
@@ -374,15 +396,17 @@ own-does {s = s} p counts (event.Put object place register) is d =
     Effects s
     (posted s p.own (named z object).node
     (body.Put (named z object) place (register_at z register)))
-    p.own p.heap (made p counts (event.Put object place register)).sends) (sym d.here.desk)
-    (effects-posted (named p.heap object).node p.phases.cycle
+    p.own (made p counts (event.Put object place register)).local.heap
+    (made p counts (event.Put object place register)).sends) (sym d.here.desk)
+    (effects-shared p (named p.heap object).node
     (body.Put (named p.heap object) place (register_at p.heap register)) refl d.here)
 own-does {s = s} p counts (event.Get object place label) is d =
     subst (λ (z : Heap).
     Effects s (posted s p.own (named z object).node (body.Get (named z object) place label)) p.own
-    p.heap (made p counts (event.Get object place label)).sends) (sym d.here.desk)
-    (effects-posted (named p.heap object).node p.phases.cycle
-    (body.Get (named p.heap object) place label) refl d.here)
+    (made p counts (event.Get object place label)).local.heap
+    (made p counts (event.Get object place label)).sends) (sym d.here.desk)
+    (effects-shared p (named p.heap object).node (body.Get (named p.heap object) place label) refl
+    d.here)
 own-does p counts e never d = absurd cc
 
 -- and its answer is one that it may get there
@@ -403,6 +427,7 @@ own-answers p counts (event.Accept register) is d =
     ap (λ (z : Heap). answer.Letter (oldest_letter z)) (sym d.here.desk)
 own-answers p counts (event.Put object place register) is d = (_, refl)
 own-answers p counts (event.Get object place label) is d = (_, refl)
+own-answers p counts (event.Reclaim scope) never d = absurd cc
 own-answers p counts event.Begin never d = absurd cc
 own-answers p counts event.Scan never d = absurd cc
 own-answers p counts event.Pass never d = absurd cc
@@ -432,8 +457,7 @@ body-does from stamp (body.Give label reference) p is f =
     with_letter z (record { from = from; label = label; reference = reference })) f.here.desk)
     f.here.lives none-quiet
 body-does from stamp (body.Put target place reference) p is f =
-    effects-rewritten target _ (λ o. record o { places = set o.places place reference })
-    (f.own target refl) (λ _. refl) f.here
+    effects-placed p.own target place reference (f.own target refl) f.here
 body-does {s = s} {i = i} from stamp (body.Get target place label) p is f =
     let found : Option Object = object_at p.heap target in
     let v : Option Ref = place_of found place in
@@ -443,10 +467,11 @@ body-does {s = s} {i = i} from stamp (body.Get target place label) p is f =
     ap (λ (z : Option Thing). content_of z place)
     (found-same target f.here (f.own target refl) (f.there target place label refl))
     ∙ thing-place found place in
-    subst (λ (z : Option Ref). Effects s (posted s i from (body.Give label z)) i w.local.heap
-    (w.sends ++ (from, record { stamp = w.local.phases.cycle; body = body.Give label v }) ∷ []))
+    subst (λ (z : Option Ref). Effects s (posted s i from (body.Give label z)) i
+    (share (option_to_list v) w.local).local.heap
+    (w.sends ++ (from, stamped w.local (body.Give label v)) ∷ []))
     (sym same)
     (effects-behind w.sends calm.quiet
-    (effects-posted from w.local.phases.cycle (body.Give label v) refl
+    (effects-shared w.local from (body.Give label v) refl
     (here-kept f.here calm.still.kept)))
 body-does from stamp b p never f = absurd cc

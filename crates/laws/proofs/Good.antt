@@ -7,16 +7,17 @@ use Rattle.msg.specs.declared.body.Body.{Body}
 use Rattle.msg.specs.declared.body.Body.TheVariants as body
 use Rattle.msg.specs.declared.body.Message.{Message}
 use Rattle.model.specs.State.{Heap, Ring, LocalState}
-use Rattle.model.specs.Counting.{append, announce, stamped}
+use Rattle.model.specs.Counting.{is_idle, append, announce, stamped}
 use Rattle.model.specs.Shading.{is_in, is_open, filled, roots, enter, join, make_all_grey, unasked, mark_for, seen, see_to}
-use Rattle.model.specs.Steps.{carried}
+use Rattle.model.specs.Heaps.{share_all}
+use Rattle.model.specs.Steps.{carried, share, post}
 use Rattle.model.specs.Cuts.{Among}
 use Rattle.laws.proofs.Lookups.{among-append}
 use Rattle.laws.proofs.Meets.{in-append, unasked-from, marks-from}
 use Rattle.laws.proofs.Dressing.{roots-all}
-use Rattle.laws.proofs.Light.{is_idle, idle-carries}
+use Rattle.laws.proofs.Light.{idle-carries}
 use Rattle.laws.proofs.PhaseSteps.{others-are}
-use Rattle.laws.proofs.GoodHeaps.{GoodHeap, heap-greyed, heap-entered}
+use Rattle.laws.proofs.GoodHeaps.{GoodHeap, heap-shared, heap-greyed, heap-entered}
 
 pub record GoodPart (G : Ref → Type 0) (since : ℕ) (p : LocalState) : Type 0 where
   pub heap : GoodHeap G since p.own p.phases.cycle p.phases.swept p.heap
@@ -82,6 +83,15 @@ append-good {G = G} {since = since} to b p message good = record {
       subst (GoodMessage G since) (sym (ap (λ (z : ℕ × Message). z.1) e)) message)
       (λ never. absurd never) a;
 }
+
+-- it shares what it carries
+pub post-good : {G : Ref → Type 0} {since : ℕ} (to : ℕ) (b : Body) (p : LocalState)
+    → GoodMessage G since (stamped p b) → GoodPart G since p
+    → GoodDone G since (post to b p).local (post to b p).sends
+post-good to b p message good =
+    append-good to b (share (carried b) p).local message
+    (part-with (share_all p.own p.heap (carried b)) good
+    (heap-shared p.own (carried b) good.heap))
 
 pub announce-good : {G : Ref → Type 0} {since : ℕ} (b : Body) (p : LocalState) → is_idle b ≡ true
     → GoodPart G since p → GoodDone G since (announce b p).local (announce b p).sends

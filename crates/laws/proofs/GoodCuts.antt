@@ -2,7 +2,7 @@
 use Rattle.std.proofs.Common.{◌≡◌, ℕ, ◌+◌, ◌<◌, ◌≤◌, leb-true, true, List, [], length, map, refl, sym, ◌∙◌, subst, ⊎_elim, inl, arith}
 use Rattle.std.proofs.lemmas.Bool.{and_parts, or_cases}
 use Rattle.std.proofs.Math.Path.{fun_ext}
-use Rattle.ids.specs.Limits.{Shaped, IsShape}
+use Rattle.ids.specs.Limits.{Shaped}
 use Rattle.ids.specs.declared.names.Ref.{Ref}
 use Rattle.msg.specs.declared.body.Body.{Body}
 use Rattle.msg.specs.declared.body.Body.TheVariants as body
@@ -12,7 +12,7 @@ use Rattle.model.specs.State.{LocalState, NodeState}
 use Rattle.model.specs.Heaps.{new_reference}
 use Rattle.model.specs.Effects.{Effect}
 use Rattle.model.specs.Steps.{tests, made, may_reach, may_take, taken_in, is_addressed}
-use Rattle.model.specs.Cuts.{Cut, taken, IsInFlight, Becomes, PlainStep, acts, delivers, PlainRun, still, further}
+use Rattle.model.specs.Cuts.{Cut, taken, IsInFlight, Becomes, PlainStep, acts, delivers}
 use Rattle.model.proofs.Leaving.{own-stands, taken-stands}
 use Rattle.laws.proofs.StepFacts.{act-ok, Receipt, repeated, next, receipt-cases}
 use Rattle.laws.proofs.Turns.{Turn, at_becomes, at_turn, flew}
@@ -20,7 +20,6 @@ use Rattle.laws.proofs.Invariant.{phases_of, BodyFits, Inv}
 use Rattle.laws.proofs.Base.{inside-where, no-node-refuses, no-node-takes_nothing, first_in_flight, own-heard, taken-heard}
 use Rattle.laws.proofs.Inner.{resting-joined, sweeping-resting}
 use Rattle.laws.proofs.Acting.{latest}
-use Rattle.laws.proofs.Live.{Whole, run-whole}
 use Rattle.laws.proofs.Past.{PastAt, new-not_past, Ages, ages-own, ages-taken}
 use Rattle.laws.proofs.Good.{GoodPart, GoodMessage, GoodDone}
 use Rattle.laws.proofs.GoodEvents.{Ready, swept-calm, own-good, IsFor, Receiving, taken-good}
@@ -54,26 +53,28 @@ turn-good {G = G} {since = since} {c = c} t done ages good = record {
 
 -- ---- a node's own event
 
-ready : {shape : Shaped} {G : Ref → Type 0} {since : ℕ} {c : Cut} {i : ℕ} → Inv shape c
-    → i < shape.nodes → GoodCut G since c → Ready G (c i).local
-ready {c = c} {i = i} inv inside good =
+pub ready : {shape : Shaped} {c : Cut} {i : ℕ} → Inv shape c → i < shape.nodes → Ready (c i).local
+ready {c = c} {i = i} inv inside = record {
+  tidy = inv.tidy i;
+  swept = inv.phased.swept i;
+  ended = inv.phased.ended i;
+  behind = λ sweeps k g o there below.
+      (let resting = sweeping-resting inv inside sweeps in
+      inv.rested.behind i k g o resting there (inl below)
+      ∙ sym (resting-joined inv resting inside));
+}
+
+-- the next new object's reference wasn't given out yet
+unmade-good : {shape : Shaped} {G : Ref → Type 0} {since : ℕ} {c : Cut} {i : ℕ} → Inv shape c
+    → i < shape.nodes → GoodCut G since c → G (new_reference (c i).local.own (c i).local.heap)
+unmade-good {c = c} {i = i} inv inside good =
     let p : LocalState = (c i).local in
     let r : Ref = new_reference p.own p.heap in
-    record {
-      tidy = inv.tidy i;
-      swept = inv.phased.swept i;
-      ended = inv.phased.ended i;
-      new =
-          good.new r (λ past.
-          let here : PastAt p.heap r.slot r.generation =
-          subst (λ (z : ℕ). PastAt (c z).local.heap r.slot r.generation)
-          (inv.base.own i inside) past in
-          new-not_past p.heap.free p.heap.slots (inv.tidy i).free here.used here.past);
-      behind = λ sweeps k g o there below.
-          (let resting = sweeping-resting inv inside sweeps in
-          inv.rested.behind i k g o resting there (inl below)
-          ∙ sym (resting-joined inv resting inside));
-    }
+    good.new r (λ past.
+    let here : PastAt p.heap r.slot r.generation =
+    subst (λ (z : ℕ). PastAt (c z).local.heap r.slot r.generation)
+    (inv.base.own i inside) past in
+    new-not_past p.heap.free p.heap.slots (inv.tidy i).free here.used here.past)
 
 -- ---- a message is received
 
@@ -102,18 +103,19 @@ module _ {shape : Shaped} {c : Cut} {from to : ℕ} {x : Message}
     is-for (body.Get target place label) fits = fits.0 ∙ sym (inv.base.own to inside)
     is-for b fits = tt
 
-    receiving : {G : Ref → Type 0} {since : ℕ} → may_take (c to).local from x.stamp x.body ≡ true
-        → GoodCut G since c → Receiving G since (c to).local x
-    receiving may good = record {
-      good = good.part to;
+    pub receiving : {G : Ref → Type 0} {since : ℕ}
+        → may_take (c to).local from x.stamp x.body ≡ true
+        → GoodPart G since (c to).local → GoodMessage G since x → Receiving G since (c to).local x
+    receiving may good message = record {
+      good = good;
       calm = reached-calm may;
-      message = good.messages from to (taken c from to) x flight;
+      message = message;
       fits = is-for x.body (inv.messages.fits from to (taken c from to) x flight);
     }
 
--- ---- plain steps and runs
+-- ---- plain steps
 
-plain-good : {shape : Shaped} {G : Ref → Type 0} {since : ℕ} {c d : Cut} → Inv shape c
+pub plain-good : {shape : Shaped} {G : Ref → Type 0} {since : ℕ} {c d : Cut} → Inv shape c
     → PlainStep c d → GoodCut G since c → GoodCut G since d
 plain-good {c = c} {d = d} inv (acts i e s a own answered becomes) good =
     let p : LocalState = (c i).local in
@@ -127,7 +129,8 @@ plain-good {c = c} {d = d} inv (acts i e s a own answered becomes) good =
       heard = own-heard (own-stands p counts e own);
     } in
     turn-good turn
-    (own-good p counts e own found.passed (ready inv inside good) (good.part i))
+    (own-good p counts e own found.passed (ready inv inside) (λ _. unmade-good inv inside good)
+    (good.part i))
     (ages-own p counts e own (inv.tidy i).free) good
 plain-good {shape = shape} {G = G} {since = since} {c = c} {d = d} inv
     (delivers from to x s a flight answered becomes) good =
@@ -149,12 +152,7 @@ plain-good {shape = shape} {G = G} {since = since} {c = c} {d = d} inv
           heard = taken-heard p from number (taken-stands p from number x.stamp x.body)
               (omega arith);
         } in
-        turn-good t (taken-good p from number x (receiving inv inside flight may good))
+        turn-good t (taken-good p from number x
+        (receiving inv inside flight may (good.part to)
+        (good.messages from to (taken c from to) x flight)))
         (ages-taken p from number x.stamp x.body) good
-
-pub run-good : {shape : Shaped} {G : Ref → Type 0} {since : ℕ} {c d : Cut} → IsShape shape
-    → PlainRun c d → Whole shape c → GoodCut G since c → GoodCut G since d
-run-good {G = G} {since = since} limits (still same) whole good =
-    subst (λ (z : Cut). GoodCut G since z) (sym (fun_ext same)) good
-run-good limits (further before s) whole good =
-    plain-good (run-whole limits before whole).inv s (run-good limits before whole good)

@@ -1,5 +1,5 @@
 -- A node's own events keep what is good, and so does a message that it receives.
-use Rattle.std.proofs.Common.{◌≡◌, ℕ, suc, ◌+◌, ◌-◌, ◌<◌, ◌≤◌, ◌==◌, ltb, ltb-true, true, false, cond, List, [], ◌∷◌, length, take, Option, None, Some, option_to_list, refl, sym, ap, ◌∙◌, subst, ⊎_elim, inl, inr, arith, le_refl}
+use Rattle.std.proofs.Common.{◌≡◌, ℕ, suc, ◌+◌, ◌-◌, ◌<◌, ◌≤◌, ◌==◌, ltb, ltb-true, true, false, not, cond, List, [], ◌∷◌, length, take, Option, None, Some, option_to_list, refl, sym, ap, ◌∙◌, subst, ⊎_elim, inl, inr, arith, le_refl}
 use Rattle.std.proofs.lemmas.Bool.{cases_lt, cond_both, eqb-true, eq-eqb, not-true, not_from_true, and_parts}
 use Rattle.ids.specs.declared.names.Ref.{Ref}
 use Rattle.msg.specs.declared.body.Body.{Body}
@@ -17,6 +17,7 @@ use Rattle.model.specs.Effects.{Work, at_rest, Effect, answers}
 use Rattle.model.specs.Counting.{stamped}
 use Rattle.model.specs.Shading.{filled, join, joined, last_grey, without_last_grey, see_to}
 use Rattle.model.specs.Collecting.{without_token, whitened, is_concluded, new_token, forwarded, probe, begun, places_in, scan, scanned, conclude, judged, handed_on, passed, looked_at, sweeps_last, reports_sweep, sweeping, swept_slots}
+use Rattle.model.specs.Reclaiming.{reclaimed}
 use Rattle.model.specs.Steps.{is_own, tests, made, carried, taken_in, settled, take_carried, take_body, count_in}
 use Rattle.model.specs.Cuts.{Among}
 use Rattle.model.proofs.Lookups.{at_set, at_push}
@@ -28,18 +29,16 @@ use Rattle.model.proofs.Walk.{joined-walks, carried-walks}
 use Rattle.laws.proofs.Lookups.{any-list, any-there, all-among}
 use Rattle.laws.proofs.Invariant.{Tidy}
 use Rattle.laws.proofs.Dressing.{option-holds}
-use Rattle.laws.proofs.Sweeps.{SweptHeap, swept-some}
+use Rattle.laws.proofs.Sweeps.{SweptHeap, swept-some, Lessens, swept-lessens, reclaimed-lessens}
 use Rattle.laws.proofs.OwnEvents.{letters-dropped}
-use Rattle.laws.proofs.GoodHeaps.{read-good, last-among, fewer-among, grey-good, heap-rooted, heap-registered, heap-fewer_grey, heap-rewritten, place-good, word-good, bytes-good, heap-object, heap-swept}
-use Rattle.laws.proofs.Good.{GoodPart, GoodMessage, GoodDone, done-quiet, done-through, part-with, part-ringed, idle-good, append-good, announce-good, join-good, see-good}
+use Rattle.laws.proofs.GoodHeaps.{read-good, last-among, fewer-among, grey-good, heap-rooted, heap-registered, heap-fewer_grey, heap-rewritten, heap-placed, word-good, bytes-good, heap-object, heap-less}
+use Rattle.laws.proofs.Good.{GoodPart, GoodMessage, GoodDone, done-quiet, done-through, part-with, part-ringed, idle-good, append-good, post-good, announce-good, join-good, see-good}
 
 -- what a node's own event also relies on
-pub record Ready (G : Ref → Type 0) (p : LocalState) : Type 0 where
+pub record Ready (p : LocalState) : Type 0 where
   pub tidy : Tidy p
   pub swept : p.phases.swept ≤ p.phases.ended
   pub ended : p.phases.ended ≤ p.phases.cycle
-  -- the next new object's reference is good
-  pub new : G (new_reference p.own p.heap)
   -- while the node sweeps, everything behind its cursor is marked
   pub behind : p.phases.swept < p.phases.ended → (k g : ℕ) (o : Object)
       → slot_at p.heap k ≡ Occupied g o → k < p.phases.cursor → o.mark ≡ p.phases.cycle
@@ -144,12 +143,12 @@ passed-good {G = G} {since = since} p good =
     (part-ringed (whitened (without_token p.ring)) good))
 
 swept-good : {G : Ref → Type 0} {since : ℕ} (p : LocalState) (count : ℕ)
-    → p.phases.swept < p.phases.ended → Ready G p → GoodPart G since p
+    → p.phases.swept < p.phases.ended → Ready p → GoodPart G since p
     → GoodDone G since (swept_slots p count).local (swept_slots p count).sends
 unfolding swept_slots
 swept-good {G = G} {since = since} p count ready r good = record {
   part = record {
-    heap = heap-swept now heap kept good.heap;
+    heap = heap-less now (swept-lessens heap) kept good.heap;
     asked = good.asked;
     phase =
         cond_both (sweeps_last p count) p.phases.cycle p.phases.swept (λ z. z ≤ p.phases.cycle)
@@ -197,21 +196,28 @@ swept-good {G = G} {since = since} p count ready r good = record {
 
 -- ---- a node's own events
 
+abbrev pub IsAlloc : Event → Type 0
+IsAlloc (event.Alloc register places) = Unit {0}
+IsAlloc e = ⊥
+
+-- if the reference of an object that is made is good
 pub own-good : {G : Ref → Type 0} {since : ℕ} (p : LocalState) (counts : List ℕ) (e : Event)
-    → is_own e ≡ true → AllPass (tests p e) → Ready G p → GoodPart G since p
+    → is_own e ≡ true → AllPass (tests p e) → Ready p
+    → (IsAlloc e → G (new_reference p.own p.heap)) → GoodPart G since p
     → GoodDone G since (made p counts e).local (made p counts e).sends
 unfolding scanned
-own-good p counts (event.Alloc register places) own passes r good =
+own-good p counts (event.Alloc register places) own passes r new good =
     done-quiet (part-with _ good
     (heap-registered register (Some (new_reference p.own p.heap))
-    (heap-object places r.tidy.free good.phase r.new good.heap) r.new))
-own-good p counts (event.Copy register source) own passes r good =
+    (heap-object (not p.shape.wide) places r.tidy.free good.phase (new tt) good.heap)
+    (new tt)))
+own-good p counts (event.Copy register source) own passes r new good =
     done-quiet (part-with _ good
     (heap-registered register (register_at p.heap source) good.heap
     (good.heap.roots.registers source)))
-own-good p counts (event.Drop register) own passes r good =
+own-good p counts (event.Drop register) own passes r new good =
     done-quiet (part-with _ good (heap-registered register None good.heap tt))
-own-good {G = G} p counts (event.Load register object place) own passes r good =
+own-good {G = G} p counts (event.Load register object place) own passes r new good =
     let v : Option Ref = place_loaded p.heap object place in
     let is : IfAny G v =
     read-good (named p.heap object) place good.heap
@@ -221,30 +227,29 @@ own-good {G = G} p counts (event.Load register object place) own passes r good =
     let first = see-good true (option_to_list v) p good (λ _. option-good G v is) in
     done-through first
     (done-quiet (part-with _ first.part (heap-registered register v first.part.heap is)))
-own-good p counts (event.Store object place register) own passes r good =
+own-good p counts (event.Store object place register) own passes r new good =
     done-quiet (part-with _ good
-    (heap-rewritten (named p.heap object) _
-    (place-good place (register_at p.heap register) (good.heap.roots.registers register))
-    good.heap))
-own-good p counts (event.Clear object place) own passes r good =
+    (heap-placed p.own (named p.heap object) place (register_at p.heap register)
+    (good.heap.roots.registers register) good.heap))
+own-good p counts (event.Clear object place) own passes r new good =
     done-quiet (part-with _ good
-    (heap-rewritten (named p.heap object) _ (place-good place None tt) good.heap))
-own-good p counts (event.Word object) own passes r good = done-quiet good
-own-good p counts (event.SetWord object word) own passes r good =
+    (heap-placed p.own (named p.heap object) place None tt good.heap))
+own-good p counts (event.Word object) own passes r new good = done-quiet good
+own-good p counts (event.SetWord object word) own passes r new good =
     done-quiet (part-with _ good
     (heap-rewritten (named p.heap object) _ (word-good word) good.heap))
-own-good p counts (event.SetBytes object bytes) own passes r good =
+own-good p counts (event.SetBytes object bytes) own passes r new good =
     done-quiet (part-with _ good
     (heap-rewritten (named p.heap object) _ (bytes-good (λ _. bytes.now)) good.heap))
-own-good p counts (event.Patch object offset bytes) own passes r good =
+own-good p counts (event.Patch object offset bytes) own passes r new good =
     done-quiet (part-with _ good
     (heap-rewritten (named p.heap object) _
     (bytes-good (λ old. overwritten old offset bytes.now)) good.heap))
-own-good p counts (event.Give to label register) own passes r good =
-    append-good to (body.Give label (register_at p.heap register)) p
+own-good p counts (event.Give to label register) own passes r new good =
+    post-good to (body.Give label (register_at p.heap register)) p
     (give-good p.phases.cycle label (register_at p.heap register)
     (good.heap.roots.registers register)) good
-own-good {G = G} p counts (event.Accept register) own passes r good =
+own-good {G = G} p counts (event.Accept register) own passes r new good =
     done-quiet (part-with _ good
     (heap-rooted (letter_taken p.heap register) refl refl
     (record {
@@ -256,30 +261,42 @@ own-good {G = G} p counts (event.Accept register) own passes r good =
           (good.heap.roots.letters (suc k));
     })
     good.heap))
-own-good {G = G} p counts (event.Put object place register) own passes r good =
-    append-good (named p.heap object).node
+own-good {G = G} p counts (event.Put object place register) own passes r new good =
+    post-good (named p.heap object).node
     (body.Put (named p.heap object) place (register_at p.heap register)) p
     (put-good p.phases.cycle (named p.heap object) place (register_at p.heap register)
     (any-there G (register_at p.heap object) no_reference passes.1.1.0
     (good.heap.roots.registers object))
     (good.heap.roots.registers register)) good
-own-good {G = G} p counts (event.Get object place label) own passes r good =
-    append-good (named p.heap object).node (body.Get (named p.heap object) place label) p
+own-good {G = G} p counts (event.Get object place label) own passes r new good =
+    post-good (named p.heap object).node (body.Get (named p.heap object) place label) p
     (get-good p.phases.cycle (named p.heap object) place label
     (any-there G (register_at p.heap object) no_reference passes.1.0
     (good.heap.roots.registers object))) good
-own-good p counts event.Begin own passes r good =
+own-good p counts event.Begin own passes r new good =
     let swept : p.phases.swept ≡ p.phases.cycle =
     eqb-true p.phases.swept p.phases.cycle
     (and_parts (p.phases.swept == p.phases.cycle) _ passes.1.0).0 in
     begun-good p (swept-calm p r.tidy r.swept r.ended (omega (arith, swept))) good
-own-good p counts event.Scan own passes r good = scan-good p (not-true _ passes.0) good
-own-good p counts event.Pass own passes r good = passed-good p good
-own-good p counts (event.Sweep count) own passes r good =
+own-good p counts event.Scan own passes r new good = scan-good p (not-true _ passes.0) good
+own-good p counts event.Pass own passes r new good = passed-good p good
+own-good p counts (event.Sweep count) own passes r new good =
     swept-good p count (ltb-true p.phases.swept p.phases.ended passes.0) r good
-own-good p counts (event.Next from) own passes r good = done-quiet good
-own-good p counts (event.Data d) own passes r good = absurd cc
-own-good p counts (event.Ack a) own passes r good = absurd cc
+own-good p counts (event.Reclaim scope) own passes r new good =
+    done-quiet (part-with (reclaimed scope p.own p.heap) good
+    (heap-less p.phases.swept less kept good.heap))
+  where
+    less : Lessens p.heap (reclaimed scope p.own p.heap)
+    less = reclaimed-lessens scope p.own p.heap
+
+    kept : (k e : ℕ) (y : Object) → slot_at (reclaimed scope p.own p.heap) k ≡ Occupied e y
+        → p.phases.swept ≤ y.mark
+    kept k e y there =
+        let x = less.left k e y there in
+        subst (λ (z : Object). p.phases.swept ≤ z.mark) (sym x.2) (good.heap.kept k e x.0 x.1)
+own-good p counts (event.Next from) own passes r new good = done-quiet good
+own-good p counts (event.Data d) own passes r new good = absurd cc
+own-good p counts (event.Ack a) own passes r new good = absurd cc
 
 -- ---- a message is received
 
@@ -347,9 +364,8 @@ body-good {G = G} p from stamp (body.Give label reference) message fits good =
     good.heap))
 body-good {G = G} p from stamp (body.Put target place reference) message fits good =
     done-quiet (part-with _ good
-    (heap-rewritten target _
-    (place-good place reference
-    (option-holds G reference (λ r e. message.carries r (inr (in-option reference r e)))))
+    (heap-placed p.own target place reference
+    (option-holds G reference (λ r e. message.carries r (inr (in-option reference r e))))
     good.heap))
 body-good {G = G} p from stamp (body.Get target place label) message fits good =
     let v : Option Ref = place_of (object_at p.heap target) place in
@@ -357,7 +373,7 @@ body-good {G = G} p from stamp (body.Get target place label) message fits good =
     read-good target place good.heap fits (message.carries target (inl refl)) in
     let first = see-good true (option_to_list v) p good (λ _. option-good G v is) in
     done-through first
-    (append-good from (body.Give label v) (see_to true (option_to_list v) p).local
+    (post-good from (body.Give label v) (see_to true (option_to_list v) p).local
     (give-good _ label v is) first.part)
 body-good p from stamp body.Ended message fits good =
     done-quiet (record { heap = good.heap; asked = good.asked; phase = good.phase })

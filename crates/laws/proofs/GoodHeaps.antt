@@ -1,15 +1,16 @@
 -- Some references are fixed once and for all as good, and so is a cycle `since`, from which on more
 -- is required of them. What is good in a node's heap, and that each change of a heap keeps it.
-use Rattle.std.proofs.Common.{◌≡◌, ◌≢◌, ℕ, ◌-◌, ◌≤◌, ◌⊎◌, ◌==◌, cond, false, List, [], ◌∷◌, ◌++◌, length, take, get_or, set, Option, None, refl, sym, ap, ◌∙◌, subst, ⊎_elim, inl, inr, arith, get_or-set_same, get_or-set_other}
+use Rattle.std.proofs.Common.{◌≡◌, ◌≢◌, ℕ, ◌-◌, ◌≤◌, ◌⊎◌, ◌==◌, cond, Bool, false, List, [], ◌∷◌, ◌++◌, length, take, get_or, set, Option, None, refl, sym, ap, ◌∙◌, subst, ⊎_elim, inl, inr, arith, get_or-set_same, get_or-set_other}
 use Rattle.std.proofs.lemmas.Bool.{cases_eq, cond_both, cond-true, eq-eqb}
 use Rattle.ids.specs.declared.names.Ref.{Ref}
 use Rattle.model.specs.State.{Object, Slot, Free, Occupied, Retired, Heap, slot_at}
-use Rattle.model.specs.Heaps.{no_letter, with_register, with_object, new_object, new_reference, rewritten, with_rewritten, object_at, place_of, next_slot, generation_for}
+use Rattle.model.specs.Heaps.{with_register, with_object, new_object, new_reference, rewritten, with_rewritten, with_place, placing, remembering, object_at, place_of, next_slot, generation_for, sharing, share_all}
 use Rattle.model.specs.References.{IfAny}
 use Rattle.model.specs.Shading.{is_calm, is_unmarked, with_mark, make_grey, make_all_grey, filled, last_grey}
 use Rattle.model.specs.Collecting.{places_in}
 use Rattle.model.specs.Cuts.{Among}
 use Rattle.model.proofs.Lookups.{at_set}
+use Rattle.model.proofs.Ages.{noted-keeps}
 use Rattle.model.proofs.Slots.{found-object, occupied-within, unmarked-there}
 use Rattle.laws.proofs.Lookups.{among-append_left, among-append_right, among-append}
 use Rattle.laws.proofs.Invariant.{FreeSlots, RootsAll, PlacesAll}
@@ -17,7 +18,7 @@ use Rattle.laws.proofs.Slots.{object-where, no-places, rewritten-back}
 use Rattle.laws.proofs.Greys.{Greys, greys-all, Turned, as_was, turned}
 use Rattle.laws.proofs.Dressing.{filled-all, option-holds}
 use Rattle.laws.proofs.OwnEvents.{place-there}
-use Rattle.laws.proofs.Sweeps.{SweptHeap}
+use Rattle.laws.proofs.Sweeps.{roots-kept, Lessens}
 use Rattle.laws.proofs.Cycles.{split-last}
 
 -- the reference of a node's object in a slot
@@ -169,7 +170,7 @@ heap-rewritten {G = G} {since = since} {own = own} {cycle = cycle} {done = done}
     mark y x (inr now) = ap (λ (z : Object). z.mark) now ∙ writes.mark x
 
 -- a place gets a good reference, or nothing
-pub place-good : {G : Ref → Type 0} (place : ℕ) (v : Option Ref) → IfAny G v
+place-good : {G : Ref → Type 0} (place : ℕ) (v : Option Ref) → IfAny G v
     → GoodRewriting G (λ o. record o { places = set o.places place v })
 place-good {G = G} place v is = record {
   mark = λ o. refl;
@@ -183,13 +184,37 @@ pub bytes-good : {G : Ref → Type 0} (f : List ℕ → List ℕ)
     → GoodRewriting G (λ o. record o { bytes = f o.bytes })
 bytes-good f = record { mark = λ o. refl; places = λ o all. all }
 
+-- a place of an object is written
+pub heap-placed : {G : Ref → Type 0} {since own cycle done : ℕ} {h : Heap} (node : ℕ) (r : Ref)
+    (place : ℕ) (v : Option Ref) → IfAny G v → GoodHeap G since own cycle done h
+    → GoodHeap G since own cycle done (with_place node h r place v)
+heap-placed {G = G} {since = since} {own = own} {cycle = cycle} {done = done} {h = h} node r place v
+    is good =
+    heap-rewritten r (placing place v) (place-good place v is)
+    (noted-keeps (GoodHeap G since own cycle done) node h r v
+    (λ z.
+    heap-rewritten z remembering (record { mark = λ o. refl; places = λ o all. all }) good)
+    good)
+
+-- objects become shared
+pub heap-shared : {G : Ref → Type 0} {since own cycle done : ℕ} (node : ℕ) (rs : List Ref)
+    {h : Heap} → GoodHeap G since own cycle done h
+    → GoodHeap G since own cycle done (share_all node h rs)
+heap-shared node [] good = good
+heap-shared {G = G} {since = since} {own = own} {cycle = cycle} {done = done} node (r ∷ rs) {h = h}
+    good =
+    heap-shared node rs
+    (cond_both (r.node == node) (with_rewritten h r sharing) h (GoodHeap G since own cycle done)
+    (λ _. heap-rewritten r sharing (record { mark = λ o. refl; places = λ o all. all }) good)
+    (λ _. good))
+
 -- a new object, whose reference is good
-pub heap-object : {G : Ref → Type 0} {since own cycle done : ℕ} {h : Heap} (places : ℕ)
-    → FreeSlots h.slots h.free → done ≤ cycle → G (new_reference own h)
+pub heap-object : {G : Ref → Type 0} {since own cycle done : ℕ} {h : Heap} (shared : Bool)
+    (places : ℕ) → FreeSlots h.slots h.free → done ≤ cycle → G (new_reference own h)
     → GoodHeap G since own cycle done h
-    → GoodHeap G since own cycle done (with_object h (new_object cycle places))
-heap-object {G = G} {since = since} {own = own} {cycle = cycle} {done = done} {h = h} places f older
-    new good =
+    → GoodHeap G since own cycle done (with_object h (new_object shared cycle places))
+heap-object {G = G} {since = since} {own = own} {cycle = cycle} {done = done} {h = h} shared places
+    f older new good =
     record {
       roots = record { registers = good.roots.registers; letters = good.roots.letters };
       places = λ k e y there is.
@@ -219,11 +244,11 @@ heap-object {G = G} {since = since} {own = own} {cycle = cycle} {done = done} {h
     }
   where
     from : (k e : ℕ) (y : Object)
-        → slot_at (with_object h (new_object cycle places)) k ≡ Occupied e y
+        → slot_at (with_object h (new_object shared cycle places)) k ≡ Occupied e y
         → (slot_at h k ≡ Occupied e y)
         ⊎ ((k ≡ next_slot h.free h.slots) × (e ≡ generation_for h.free h.slots)
-        × (y ≡ new_object cycle places))
-    from k e y there = object-where h.free h.slots (new_object cycle places) f k e y there
+        × (y ≡ new_object shared cycle places))
+    from k e y there = object-where h.free h.slots (new_object shared cycle places) f k e y there
 
 -- ---- objects turn grey
 
@@ -284,14 +309,7 @@ heap-greyed {G = G} {since = since} {own = own} {cycle = cycle} {done = done} {h
     let greys : Greys (λ r. Among r rs) own cycle h (make_all_grey own cycle h rs) =
     greys-all (λ r. Among r rs) own cycle h rs (λ r a. a) in
     record {
-      roots = record {
-        registers =
-            subst (λ (z : List (Option Ref)). (k : ℕ) → IfAny G (get_or z k None))
-            (sym greys.registers) good.roots.registers;
-        letters =
-            subst (λ z. (k : ℕ) → IfAny G (get_or z k no_letter).reference)
-            (sym greys.letters) good.roots.letters;
-      };
+      roots = roots-kept G greys.registers greys.letters good.roots;
       places = λ k e y there. places k e y (greys.back k e y there);
       marks = λ k e y there. marks k e y (greys.back k e y there);
       grey = grey-all own cycle h rs good.grey;
@@ -316,24 +334,21 @@ heap-greyed {G = G} {since = since} {own = own} {cycle = cycle} {done = done} {h
     kept k e y (as_was was) = good.kept k e y was
     kept k e y (turned x was white mark same grey a) = omega (arith, mark, older)
 
--- ---- some slots are swept
+-- ---- objects are freed
 
-pub heap-swept : {G : Ref → Type 0} {since own cycle done from to : ℕ} {h g : Heap} (now : ℕ)
-    → SweptHeap cycle from to h g
-    → ((k e : ℕ) (y : Object) → slot_at g k ≡ Occupied e y → now ≤ y.mark)
+pub heap-less : {G : Ref → Type 0} {since own cycle done : ℕ} {h g : Heap} (now : ℕ)
+    → Lessens h g → ((k e : ℕ) (y : Object) → slot_at g k ≡ Occupied e y → now ≤ y.mark)
     → GoodHeap G since own cycle done h → GoodHeap G since own cycle now g
-heap-swept {G = G} now swept kept good = record {
-  roots = record {
-    registers =
-        subst (λ (z : List (Option Ref)). (k : ℕ) → IfAny G (get_or z k None))
-        (sym swept.registers) good.roots.registers;
-    letters =
-        subst (λ z. (k : ℕ) → IfAny G (get_or z k no_letter).reference)
-        (sym swept.letters) good.roots.letters;
-  };
-  places = λ k e y there. good.places k e y (swept.back k e y there).0;
-  marks = λ k e y there. good.marks k e y (swept.back k e y there).0;
+heap-less {G = G} {since = since} now less kept good = record {
+  roots = roots-kept G less.registers less.letters good.roots;
+  places = λ k e y there is.
+      (let x = less.left k e y there in
+      subst (PlacesAll G) (sym x.2) (good.places k e x.0 x.1 is));
+  marks = λ k e y there more.
+      (let x = less.left k e y there in
+      good.marks k e x.0 x.1 (subst (λ (z : Object). since ≤ z.mark) x.2 more));
   grey = λ k e y a there.
-      good.grey k e y (subst (Among k) swept.grey a) (swept.back k e y there).0;
+      (let x = less.left k e y there in
+      ap (λ (z : Object). z.mark) x.2 ∙ good.grey k e x.0 (less.grey k a) x.1);
   kept = kept;
 }

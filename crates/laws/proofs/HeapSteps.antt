@@ -1,6 +1,6 @@
 -- The invariant after one change of a node's heap: registers and letters are written, an object is
 -- rewritten or made, or a grey object has been scanned.
-use Rattle.std.proofs.Common.{◌≡◌, ℕ, ◌<◌, ◌≤◌, ◌⊎◌, true, List, [], length, get_or, Option, None, refl, sym, ap, ◌∙◌, subst, ⊎_elim, inl, inr, arith, le_refl}
+use Rattle.std.proofs.Common.{◌≡◌, ℕ, ◌<◌, ◌≤◌, ◌⊎◌, Bool, true, List, [], length, get_or, Option, None, refl, sym, ap, ◌∙◌, subst, ⊎_elim, inl, inr, arith, le_refl}
 use Rattle.ids.specs.Limits.{Shaped}
 use Rattle.ids.specs.declared.names.Ref.{Ref}
 use Rattle.model.specs.declared.event.Letter.{Letter}
@@ -116,17 +116,19 @@ rewrite-inner {shape = shape} {c = c} {d = d} {i = i} r f inside becomes writes 
 
 -- ---- a new object
 
-pub object-inner : {shape : Shaped} {c d : Cut} {i : ℕ} (places : ℕ)
+pub object-inner : {shape : Shaped} {c d : Cut} {i : ℕ} (shared : Bool) (places : ℕ)
     → i < shape.nodes
     → Becomes c d i
-    (with_heap (c i) (with_object (c i).local.heap (new_object (cycle_of c i) places)))
+    (with_heap (c i) (with_object (c i).local.heap (new_object shared (cycle_of c i) places)))
     → has_slot (c i).local.shape.slots (c i).local.heap ≡ true → Inv shape c
     → Inner shape c d i
-    (record (c i).local { heap = with_object (c i).local.heap (new_object (cycle_of c i) places) })
+    (record (c i).local {
+      heap = with_object (c i).local.heap (new_object shared (cycle_of c i) places);
+    })
     []
-object-inner {shape = shape} {c = c} {d = d} {i = i} places inside becomes room inv =
+object-inner {shape = shape} {c = c} {d = d} {i = i} shared places inside becomes room inv =
     let h : Heap = (c i).local.heap in
-    let o : Object = new_object (cycle_of c i) places in
+    let o : Object = new_object shared (cycle_of c i) places in
     let tidy : Tidy (c i).local = inv.tidy i in
     heap-inner (record {
       inv = inv;

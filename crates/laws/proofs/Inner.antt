@@ -108,6 +108,10 @@ pub mentioned-carried : (b : Body) → is_reference b ≡ true → mentioned b �
 mentioned-carried (body.Mark target) is = absurd cc
 mentioned-carried b is = refl
 
+pub carried-mentioned : (b : Body) (r : Ref) → Among r (carried b) → Among r (mentioned b)
+carried-mentioned (body.Mark target) r never = absurd never
+carried-mentioned b r a = a
+
 -- ---- the step
 
 -- what stays as it was

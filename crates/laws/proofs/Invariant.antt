@@ -12,13 +12,15 @@ use Rattle.msg.specs.declared.body.Colour.TheVariants.{White, Black}
 use Rattle.msg.specs.declared.body.Token.{Token}
 use Rattle.msg.specs.declared.body.Message.{Message}
 use Rattle.model.specs.State.{Object, Slot, Free, Occupied, Retired, Heap, Phases, LocalState, NodeState, no_node, register_at, slot_at, got_from, sent_to}
-use Rattle.model.specs.Heaps.{next_generation, no_letter}
+use Rattle.model.specs.Heaps.{is_old, next_generation, no_letter}
 use Rattle.model.specs.Counting.{is_reference}
-use Rattle.model.specs.Shading.{is_in, is_open}
+use Rattle.model.specs.Shading.{is_in, is_open, filled}
+use Rattle.model.specs.Reclaiming.{is_young}
 use Rattle.model.specs.References.{IfAny}
 use Rattle.model.specs.Steps.{carried, mentioned}
 use Rattle.model.specs.Cuts.{Cut, taken, IsInFlight, Among}
 use Rattle.model.specs.Agreement.{total, flow, is_counted, balance}
+use Rattle.laws.specs.Privacy.{IsPrivate}
 use Rattle.laws.proofs.Safra.{Ringed, Safra}
 
 -- ---- words
@@ -279,3 +281,40 @@ pub record Inv (shape : Shaped) (c : Cut) : Type 0 where
   pub flows : Flows shape.nodes c
   pub tokens : Tokens shape.nodes c
   pub tallies : (i : ℕ) → i < shape.nodes → Tally shape.nodes (c i)
+
+-- ---- what others know of a node's objects
+
+-- Node i may have the reference. It is its own, or no private object's.
+abbrev pub MayHave : Cut → ℕ → Ref → Type 0
+MayHave c i r = r.node ≢ i → IsPrivate c r → ⊥
+
+-- No node has the reference of another node's private object, and no message in flight mentions a
+-- private object.
+pub record Unknown (c : Cut) : Type 0 where
+  pub roots : (i : ℕ) → RootsAll (MayHave c i) (c i).local.heap
+  pub places : (i k g : ℕ) (o : Object) → slot_at (c i).local.heap k ≡ Occupied g o
+      → PlacesAll (MayHave c i) o
+  -- a node asks only for other nodes' objects
+  pub asked : (i : ℕ) (r : Ref) → is_in r (c i).local.asked ≡ true → IsPrivate c r → ⊥
+  pub messages : (from to place : ℕ) (x : Message) → IsInFlight c from to place x
+      → AllByRecursion (λ r. IsPrivate c r → ⊥) (mentioned x.body)
+
+-- an object of this generation in the slot, if there is one, isn't young
+abbrev pub IsGrownAt : Heap → ℕ → ℕ → Type 0
+IsGrownAt h k g = (o : Object) → slot_at h k ≡ Occupied g o → is_young o.age ≡ false
+
+-- an old object has the reference in a place
+pub record OldHolds (h : Heap) (r : Ref) : Type 0 where
+  pub slot : ℕ
+  pub generation : ℕ
+  pub holder : Object
+  pub there : slot_at h slot ≡ Occupied generation holder
+  pub old : is_old holder.age ≡ true
+  pub among : Among r (filled holder.places)
+
+-- What old objects name is remembered or old.
+abbrev pub Remembers : ℕ → Heap → Type 0
+Remembers own h = (r : Ref) → OldHolds h r → r.node ≡ own → IsGrownAt h r.slot r.generation
+
+abbrev pub Recalled : Cut → Type 0
+Recalled c = (i : ℕ) → Remembers (c i).local.own (c i).local.heap

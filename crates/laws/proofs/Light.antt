@@ -11,6 +11,7 @@ use Rattle.msg.specs.declared.body.Body.{Body}
 use Rattle.msg.specs.declared.body.Body.TheVariants as body
 use Rattle.msg.specs.declared.body.Message.{Message}
 use Rattle.model.specs.State.{Object, Occupied, Heap, LocalState, slot_at, got_from, sent_to}
+use Rattle.model.specs.Counting.{is_idle}
 use Rattle.model.specs.Shading.{is_in, is_open}
 use Rattle.model.specs.Steps.{carried, mentioned}
 use Rattle.model.specs.Cuts.{Cut, taken, IsInFlight, Among, Becomes}
@@ -23,14 +24,6 @@ use Rattle.laws.proofs.Base.{BaseStep, base-step}
 use Rattle.laws.proofs.Tallies.{tally-same, tallies-turn}
 use Rattle.laws.proofs.Invariant.{phases_of, cycle_of, Marking, Resting, Safe, Holds, holds_marked, holds_asked, Covered, is_marked, is_asked, RootsAll, PlacesAll, Tidy, FreeSlots, Phased, Messages, Closed, Cover, Held, Rested, Flows, is_fresh, fresh_balance, Tokens, Inv}
 use Rattle.laws.proofs.Inner.{roots-map}
-
--- a message that carries no reference, and asks for no mark
-abbrev pub is_idle : Body → Bool
-is_idle body.Begin = true
-is_idle (body.Token t) = true
-is_idle body.Ended = true
-is_idle body.Swept = true
-is_idle b = false
 
 pub idle-mentions : (b : Body) → is_idle b ≡ true → mentioned b ≡ []
 idle-mentions (body.Mark r) is = absurd cc

@@ -32,18 +32,23 @@ use Rattle.laws.proofs.KeepsSent.{node-count}
 use Rattle.laws.proofs.Cuts.{cuts-extend}
 use Rattle.laws.proofs.StepFacts.{act-ok}
 use Rattle.laws.proofs.Base.{inside-where, no-node-refuses, at-new}
-use Rattle.laws.proofs.Invariant.{phases_of, cycle_of, Resting, Joined, Safe, StampFits, BodyFits, Inv}
+use Rattle.laws.proofs.Invariant.{phases_of, cycle_of, Resting, Joined, Safe, StampFits, BodyFits, Inv, Recalled}
 use Rattle.laws.proofs.Inner.{resting-joined, sweeping-resting}
 use Rattle.laws.proofs.Counts.{reference-counts}
 use Rattle.laws.proofs.Sweeps.{swept-some}
 use Rattle.laws.proofs.Plain.{plain-inv}
 use Rattle.laws.proofs.New.{new-inv}
+use Rattle.laws.proofs.Outside.{Outside, new-outside, plain-outside, outside-unknown}
+use Rattle.laws.proofs.Remembering.{plain-recalled, new-recalled}
 use Rattle.laws.proofs.Placed.{Placed, plain-placed, new-placed}
 use Rattle.laws.proofs.Unwrapping.{Numbered, plain-numbered, unwrapped}
 
--- the invariant, that numbers are within the limit, and that places are
+-- the invariant, that private objects are unknown outside, that what old objects name isn't young,
+-- that numbers are within the limit, and that places are
 pub record Whole (shape : Shaped) (c : Cut) : Type 0 where
   pub inv : Inv shape c
+  pub outside : Outside c
+  pub recalled : Recalled c
   pub numbered : Numbered c
   pub placed : Placed shape c
 
@@ -57,7 +62,10 @@ run-whole {shape = shape} limits (still same) whole =
 run-whole limits (further before s) whole =
     let w = run-whole limits before whole in
     record {
-      inv = plain-inv (several limits) (unwrapped limits w.inv w.numbered) s w.inv;
+      inv = plain-inv (several limits) (unwrapped limits w.inv w.numbered)
+          (outside-unknown w.outside, w.recalled) s w.inv;
+      outside = plain-outside s w.inv w.outside;
+      recalled = plain-recalled s w.inv w.outside w.recalled;
       numbered = plain-numbered s w.numbered;
       placed = plain-placed s w.inv.base w.placed;
     }
@@ -66,6 +74,8 @@ pub new-whole : (shape : Shaped) → IsShape shape → (choice : ℕ → Bool)
     → Whole shape (cut (new_world shape) choice)
 new-whole shape limits choice = record {
   inv = new-inv shape choice (let w = several limits in omega (arith, w));
+  outside = new-outside shape choice;
+  recalled = new-recalled shape choice;
   numbered = λ i k.
       at-new shape choice i (λ s. length (sent_to s k) ≤ GREATEST_NUMBER)
       (λ z own.

@@ -1,7 +1,7 @@
 -- Look-ups in lists, stated as what holds at each index, with a default past the end and no bounds.
-use Rattle.std.proofs.Common.{◌≡◌, ℕ, zero, suc, List, [], ◌∷◌, ◌++◌, ap, sym, ◌∙◌, append_assoc, append-nil, Some, slice_get, ltb, ltb-true, get_or, set, ◌<◌, ◌≤◌, le_refl, true, arith, subst, ◌⊎◌, inl, inr, ⊎_elim, ◌≢◌, refl, length, Option, None, option_to_list, unwrap_or}
-use Rattle.std.specs.Prelude.{is_some}
-use Rattle.std.proofs.lemmas.Bool.{cases_eq}
+use Rattle.std.proofs.Common.{◌≡◌, ℕ, zero, suc, List, [], ◌∷◌, ◌++◌, ap, sym, ◌∙◌, append_assoc, append-nil, Some, slice_get, ltb, ltb-true, get_or, set, ◌<◌, ◌≤◌, le_refl, true, arith, subst, ◌⊎◌, inl, inr, ⊎_elim, ◌≢◌, refl, length, Bool, Option, None, option_to_list, unwrap_or}
+use Rattle.std.specs.Prelude.{is_some, filter}
+use Rattle.std.proofs.lemmas.Bool.{cases_eq, cond_both, cond-true}
 use Rattle.ids.specs.declared.names.Ref.{Ref}
 use Rattle.model.specs.References.{IfAny}
 use Rattle.std.specs.List.{AllByRecursion}
@@ -106,3 +106,28 @@ pub slice_get-last : {A : Type 0} (xs : List A) (y : A)
     → slice_get (xs ++ y ∷ []) (length xs) ≡ Some y
 slice_get-last [] y = refl
 slice_get-last (x ∷ xs) y = slice_get-last xs y
+
+-- what passes the test stays in the list, and nothing else is in it
+pub among-filter : {A : Type 0} (test : A → Bool) (x : A) (xs : List A)
+    → Among x (filter test xs) → Among x xs
+among-filter test x [] never = never
+among-filter test x (y ∷ ys) a =
+    cond_both (test y) (y ∷ filter test ys) (filter test ys)
+    (λ z. Among x z → Among x (y ∷ ys))
+    (λ _ b. ⊎_elim {C = Among x (y ∷ ys)} (λ same. inl same)
+    (λ later. inr (among-filter test x ys later)) b)
+    (λ _ later. inr (among-filter test x ys later)) a
+
+pub filter-among : {A : Type 0} (test : A → Bool) (x : A) (xs : List A) → Among x xs
+    → test x ≡ true → Among x (filter test xs)
+filter-among test x [] never passes = never
+filter-among {A = A} test x (y ∷ ys) a passes =
+    ⊎_elim {C = Among x (filter test (y ∷ ys))}
+    (λ (same : x ≡ y).
+    subst (Among x)
+    (sym (cond-true (test y) (y ∷ filter test ys) (filter test ys)
+    (subst (λ (z : A). test z ≡ true) same passes)))
+    (inl same))
+    (λ later.
+    cond_both (test y) (y ∷ filter test ys) (filter test ys) (Among x)
+    (λ _. inr (filter-among test x ys later passes)) (λ _. filter-among test x ys later passes)) a

@@ -2,7 +2,7 @@
 use Rattle.std.proofs.Common.{◌≡◌, ◌≢◌, ℕ, ℤ, pos, ◌+ℤ◌, ◌<◌, ◌≤◌, ◌⊎◌, ◌==◌, ◌||◌, cond, not, true, List, [], ◌∷◌, ◌++◌, length, get_or, Option, None, refl, sym, ap, ◌∙◌, subst, ⊎_elim, inl, inr, arith, append_assoc, false}
 use Rattle.std.specs.Prelude.{◌≤ℤ◌}
 use Rattle.std.proofs.lemmas.Int.{ints}
-use Rattle.std.proofs.lemmas.Bool.{eq-eqb, eqb-true, cases_eq, cond_both, cond-true, and_parts, or_cases, or_left, or_right, both_ways}
+use Rattle.std.proofs.lemmas.Bool.{eq-eqb, eqb-true, cases_eq, cond_both, cond-true, or_cases, or_left, or_right, both_ways}
 use Rattle.std.proofs.Math.IntN.{+ℤ_idr}
 use Rattle.ids.specs.Limits.{Shaped}
 use Rattle.ids.specs.declared.names.Ref.{Ref}
@@ -15,6 +15,7 @@ use Rattle.model.specs.Steps.{append_all}
 use Rattle.model.specs.References.{IfAny}
 use Rattle.model.specs.Cuts.{Cut, Among, Becomes}
 use Rattle.model.specs.Agreement.{is_counted}
+use Rattle.model.proofs.Naming.{is-same, in-among}
 use Rattle.model.proofs.Slots.{same-object}
 use Rattle.model.proofs.Shading.{marks-none}
 use Rattle.laws.proofs.Flights.{number_sent}
@@ -26,27 +27,6 @@ use Rattle.laws.proofs.Slots.{rewrites-free}
 use Rattle.laws.proofs.Greys.{Greys, greys-all, Turned, as_was, turned, all-marked, wakes-any}
 
 -- ---- lists of references
-
-pub same-is : (r s : Ref) → is_same r s ≡ true → r ≡ s
-same-is r s h =
-    let parts = and_parts (r.node == s.node) _ h in
-    let rest = and_parts (r.slot == s.slot) (r.generation == s.generation) parts.1 in
-    ap (λ (n : ℕ). record { node = n; slot = r.slot; generation = r.generation })
-    (eqb-true _ _ parts.0)
-    ∙ ap (λ (n : ℕ). record { node = s.node; slot = n; generation = r.generation })
-    (eqb-true _ _ rest.0)
-    ∙ ap (λ (n : ℕ). record { node = s.node; slot = s.slot; generation = n }) (eqb-true _ _ rest.1)
-
-pub is-same : (r : Ref) → is_same r r ≡ true
-is-same r =
-    rw (eq-eqb r.node r.node refl, eq-eqb r.slot r.slot refl, eq-eqb r.generation r.generation refl)
-    refl
-
-pub in-among : (r : Ref) (rs : List Ref) → is_in r rs ≡ true → Among r rs
-in-among r [] h = absurd cc
-in-among r (s ∷ rs) h = ⊎_elim {C = Among r (s ∷ rs)}
-    (λ same. inl (same-is r s same)) (λ later. inr (in-among r rs later))
-    (or_cases (is_same r s) (is_in r rs) h)
 
 in-append_left : (r : Ref) (rs us : List Ref) → is_in r rs ≡ true → is_in r (rs ++ us) ≡ true
 in-append_left r [] us h = absurd cc

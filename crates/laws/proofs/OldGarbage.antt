@@ -4,6 +4,7 @@ use Rattle.std.proofs.Common.{◌≡◌, ℕ, ◌<◌, ◌≤◌, ◌⊎◌, fal
 use Rattle.std.proofs.lemmas.Bool.{cases_lt, cond_both}
 use Rattle.std.proofs.lemmas.List.{get_or_past}
 use Rattle.std.proofs.lemmas.Option.{slice_get-get_or}
+use Rattle.std.proofs.Math.Path.{fun_ext}
 use Rattle.ids.specs.Limits.{Shaped, IsShape}
 use Rattle.ids.specs.declared.names.Ref.{Ref}
 use Rattle.msg.specs.declared.body.Body.TheVariants as body
@@ -14,7 +15,7 @@ use Rattle.model.specs.State.{Occupied, NodeState, node_at, sent_to, slot_at}
 use Rattle.model.specs.Heaps.{no_letter}
 use Rattle.model.specs.References.{IfAny}
 use Rattle.model.specs.World.{World, new_world, happens, run}
-use Rattle.model.specs.Cuts.{Cut, cut, IsLive, Reachable, in_register, in_letter, in_message, in_place}
+use Rattle.model.specs.Cuts.{Cut, cut, IsLive, Reachable, in_register, in_letter, in_message, in_place, PlainRun, still, further}
 use Rattle.laws.specs.Statements.{OfEveryRun, GarbageGoes, OldGarbageGoes}
 use Rattle.laws.proofs.StepFacts.{Delivery, act-ok, Receipt, repeated, next, receipt-cases, Happening, nothing, acted, delivered, saved, restarted, happening}
 use Rattle.laws.proofs.Onward.{Compares, Behind, new-behind, behind-changed, behind-saved, behind-restarted}
@@ -29,7 +30,7 @@ use Rattle.laws.proofs.Live.{Whole, run-whole, all-whole, new-whole, all-inv}
 use Rattle.laws.proofs.Past.{PastAt, occupied-past, Ages, ages-same, ages-through, ages-own, ages-taken}
 use Rattle.laws.proofs.GoodHeaps.{own_reference}
 use Rattle.laws.proofs.Good.{GoodPart}
-use Rattle.laws.proofs.GoodCuts.{GoodCut, run-good}
+use Rattle.laws.proofs.GoodCuts.{GoodCut, plain-good}
 
 -- ---- a saved state is no later than the current one
 
@@ -79,6 +80,15 @@ all-older shape limits steps =
     older-run (new_world shape) steps
     (λ some. (all-inv shape limits some (λ _. false)).tidy)
     (new-behind older shape)
+
+-- ---- runs keep what is good
+
+pub run-good : {shape : Shaped} {G : Ref → Type 0} {since : ℕ} {c d : Cut} → IsShape shape
+    → PlainRun c d → Whole shape c → GoodCut G since c → GoodCut G since d
+run-good {G = G} {since = since} limits (still same) whole good =
+    subst (λ (z : Cut). GoodCut G since z) (sym (fun_ext same)) good
+run-good limits (further before s) whole good =
+    plain-good (run-whole limits before whole).inv s (run-good limits before whole good)
 
 -- ---- every cut is good if every reference is
 

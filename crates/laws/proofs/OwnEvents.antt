@@ -1,6 +1,6 @@
 -- The invariant after each event of a program.
-use Rattle.std.proofs.Common.{◌≡◌, ℕ, suc, ◌<◌, ◌⊎◌, Bool, true, false, List, [], ◌∷◌, drop, get_or, set, Option, None, Some, option_to_list, refl, sym, ap, ◌∙◌, subst, inl, inr, arith, append-nil}
-use Rattle.std.proofs.lemmas.Bool.{ltb-true, eqb-true}
+use Rattle.std.proofs.Common.{◌≡◌, ℕ, suc, ◌<◌, ◌⊎◌, ◌==◌, Bool, true, false, not, cond, List, [], ◌∷◌, drop, get_or, set, Option, None, Some, option_to_list, refl, sym, ap, ◌∙◌, subst, inl, inr, arith, append-nil}
+use Rattle.std.proofs.lemmas.Bool.{ltb-true, eqb-true, cond_both}
 use Rattle.ids.specs.Limits.{Shaped}
 use Rattle.ids.specs.declared.names.Ref.{Ref}
 use Rattle.msg.specs.declared.body.Body.{Body}
@@ -11,17 +11,18 @@ use Rattle.model.specs.declared.event.Event.TheVariants as event
 use Rattle.model.specs.declared.event.Letter.{Letter}
 use Rattle.model.specs.Checks.{AllPass}
 use Rattle.model.specs.State.{Object, Occupied, Heap, Phases, NodeState, register_at, slot_at}
-use Rattle.model.specs.Heaps.{no_letter, with_object, new_object, new_reference, no_reference, named, object_at, place_of, place_loaded, oldest_letter, with_place, filling, patching}
+use Rattle.model.specs.Heaps.{no_letter, with_object, new_object, new_reference, no_reference, named, object_at, place_of, place_loaded, oldest_letter, with_place, placing, remembering, filling, patching, with_rewritten, sharing}
 use Rattle.model.specs.References.{IfAny}
 use Rattle.model.specs.Effects.{Work}
 use Rattle.model.specs.Counting.{append}
 use Rattle.model.specs.Shading.{is_open, see_to}
-use Rattle.model.specs.Steps.{is_own, tests, made, append_all}
+use Rattle.model.specs.Steps.{is_own, tests, made, append_all, carried, share, post}
 use Rattle.model.specs.Cuts.{Cut, Among, Becomes}
-use Rattle.model.proofs.Lookups.{at_set, at_set_if}
+use Rattle.model.proofs.Lookups.{all-map, at_set, at_set_if}
 use Rattle.model.proofs.Slots.{found-object, same-object}
+use Rattle.model.proofs.Ages.{noted_for, noted-keeps}
 use Rattle.model.proofs.Walk.{work_in}
-use Rattle.laws.proofs.Lookups.{any-some, any-list, any-there}
+use Rattle.laws.proofs.Lookups.{any-map, any-some, any-list, any-there}
 use Rattle.laws.proofs.Invariant.{cycle_of, Resting, Safe, Holds, holds_marked, holds_asked, RootsAll, Inv}
 use Rattle.laws.proofs.Inner.{Known, known-roots, resting-joined, occupied-inside}
 use Rattle.laws.proofs.Acting.{with_heap, put, put-here, becomes-put, onward}
@@ -68,13 +69,47 @@ place-rewriting {c = c} {i = i} place v known = record {
 }
 
 pub rewrite-moves : {shape : Shaped} {c d : Cut} {i : ℕ} (r : Ref) (place : ℕ) (v : Option Ref)
-    → i < shape.nodes → Becomes c d i (with_heap (c i) (with_place (c i).local.heap r place v))
+    → i < shape.nodes
+    → Becomes c d i (with_heap (c i) (with_place (c i).local.own (c i).local.heap r place v))
     → IfAny (Known c i) v → Inv shape c → Moves shape c d i
-rewrite-moves r place v inside becomes known inv =
-    inner-moves (rewrite-inner r _ inside becomes (place-rewriting place v known) inv) refl
+rewrite-moves {shape = shape} {c = c} {d = d} {i = i} r place v inside becomes known inv =
+    let s : NodeState = c i in
+    let t : NodeState = with_heap s (noted_for s.local.own s.local.heap r v) in
+    let writes : Rewriting c i remembering =
+    record { mark = λ o. refl; places = λ o j. inl refl } in
+    let first : Moves shape c (put c i t) i =
+    noted-keeps
+    (λ (z : Heap). Becomes c (put c i t) i (with_heap s z) → Moves shape c (put c i t) i)
+    s.local.own s.local.heap r v
+    (λ z b. inner-moves (rewrite-inner z remembering inside b writes inv) refl)
+    (λ b. moves-none b inv) (becomes-put c i t) in
+    let now : IfAny (Known (put c i t) i) v =
+    any-map (Known c i) (Known (put c i t) i) first.known v known in
+    moves-through first
+    (inner-moves
+    (rewrite-inner r (placing place v) inside
+    (onward t (λ z. with_heap z (with_rewritten z.local.heap r (placing place v))) becomes)
+    (place-rewriting place v now) first.inv) refl)
 
--- a message with known references is sent
-pub send-moves : {shape : Shaped} {c d : Cut} {i to : ℕ} {b : Body} → Sending shape c i to b
+-- objects become shared
+pub share-moves : {shape : Shaped} {d : Cut} {i : ℕ} (rs : List Ref) {c : Cut} → i < shape.nodes
+    → Becomes c d i (worked (c i) (share rs (c i).local)) → Inv shape c → Moves shape c d i
+share-moves [] inside becomes inv = moves-none becomes inv
+share-moves {shape = shape} {d = d} {i = i} (r ∷ rs) {c = c} inside becomes inv =
+    let s : NodeState = c i in
+    let h : Heap = cond (r.node == s.local.own)
+    (with_rewritten s.local.heap r sharing) s.local.heap in
+    let t : NodeState = with_heap s h in
+    let writes : Rewriting c i sharing = record { mark = λ o. refl; places = λ o j. inl refl } in
+    let first : Moves shape c (put c i t) i =
+    cond_both (r.node == s.local.own) (with_rewritten s.local.heap r sharing) s.local.heap
+    (λ (z : Heap). Becomes c (put c i t) i (with_heap s z) → Moves shape c (put c i t) i)
+    (λ _ b. inner-moves (rewrite-inner r sharing inside b writes inv) refl)
+    (λ _ b. moves-none b inv) (becomes-put c i t) in
+    moves-through first
+    (share-moves rs inside (onward t (λ z. worked z (share rs z.local)) becomes) first.inv)
+
+send-moves : {shape : Shaped} {c d : Cut} {i to : ℕ} {b : Body} → Sending shape c i to b
     → Becomes c d i (worked (c i) (append to b (c i).local)) → Moves shape c d i
 send-moves {c = c} {d = d} {i = i} {to = to} {b = b} s becomes =
     inner-moves
@@ -82,6 +117,23 @@ send-moves {c = c} {d = d} {i = i} {to = to} {b = b} s becomes =
     (subst (λ (z : Work). Becomes c d i (worked (c i) z))
     (append-reference to b (c i).local s.reference) becomes))
     refl
+
+-- a message with known references is sent
+pub post-moves : {shape : Shaped} {c d : Cut} {i to : ℕ} {b : Body} → Sending shape c i to b
+    → Becomes c d i (worked (c i) (post to b (c i).local)) → Moves shape c d i
+post-moves {shape = shape} {c = c} {d = d} {i = i} {to = to} {b = b} s becomes =
+    let t : NodeState = worked (c i) (share (carried b) (c i).local) in
+    let first : Moves shape c (put c i t) i =
+    share-moves (carried b) s.inside (becomes-put c i t) s.inv in
+    let sends : Sending shape (put c i t) i to b = record {
+      inv = first.inv;
+      inside = s.inside;
+      receiver = s.receiver;
+      reference = s.reference;
+      known = all-map (Known c i) (Known (put c i t) i) first.known (carried b) s.known;
+      targets = s.targets;
+    } in
+    moves-through first (send-moves sends (onward t (λ z. worked z (append to b z.local)) becomes))
 
 -- ---- the reference in a place is known once it is shaded
 
@@ -163,13 +215,14 @@ known-option (Some r) all = all r (inl refl)
 
 -- ---- events of a program
 
--- the events of a collection cycle
-abbrev pub is_cyclic : Event → Bool
-is_cyclic event.Begin = true
-is_cyclic event.Scan = true
-is_cyclic event.Pass = true
-is_cyclic (event.Sweep count) = true
-is_cyclic e = false
+-- the events that mark, free, or bring a cycle on
+abbrev pub is_collecting : Event → Bool
+is_collecting (event.Reclaim scope) = true
+is_collecting event.Begin = true
+is_collecting event.Scan = true
+is_collecting event.Pass = true
+is_collecting (event.Sweep count) = true
+is_collecting e = false
 
 -- a node's own event
 pub record OwnStep (shape : Shaped) (c d : Cut) (i : ℕ) (counts : List ℕ) (e : Event) : Type 0 where
@@ -180,16 +233,17 @@ pub record OwnStep (shape : Shaped) (c d : Cut) (i : ℕ) (counts : List ℕ) (e
   pub becomes : Becomes c d i (worked (c i) (work_in (made (c i).local counts e)))
 
 pub program-moves : {shape : Shaped} {c d : Cut} (i : ℕ) (counts : List ℕ) (e : Event)
-    → is_cyclic e ≡ false → OwnStep shape c d i counts e → Moves shape c d i
+    → is_collecting e ≡ false → OwnStep shape c d i counts e → Moves shape c d i
 program-moves {shape = shape} {c = c} {d = d} i counts (event.Alloc register places) plain step =
     let s : NodeState = c i in
     let h : Heap = s.local.heap in
-    let o : Object = new_object s.local.phases.cycle places in
+    let shared : Bool = not s.local.shape.wide in
+    let o : Object = new_object shared s.local.phases.cycle places in
     let r : Ref = new_reference s.local.own h in
     let t : NodeState = with_heap s (with_object h o) in
     let first : Moves shape c (put c i t) i =
     inner-moves
-    (object-inner places step.inside (becomes-put c i t) step.passed.1.1.0 step.inv) refl in
+    (object-inner shared places step.inside (becomes-put c i t) step.passed.1.1.0 step.inv) refl in
     let b : Becomes (put c i t) d i
     (re_rooted (put c i t i) (set (put c i t i).local.heap.registers register (Some r))
     (put c i t i).local.heap.letters) =
@@ -296,7 +350,7 @@ program-moves {shape = shape} {c = c} i counts (event.Give to label register) pl
           ((known-roots i step.inv).registers register);
       targets = tt;
     } in
-    send-moves sends step.becomes
+    post-moves sends step.becomes
 program-moves {c = c} i counts (event.Accept register) plain step =
     let old = known-roots i step.inv in
     let known : RootsAll (Known c i) (record (c i).local.heap {
@@ -332,7 +386,7 @@ program-moves {shape = shape} {c = c} i counts (event.Put object place register)
       );
       targets = refl;
     } in
-    send-moves sends step.becomes
+    post-moves sends step.becomes
 program-moves {shape = shape} {c = c} i counts (event.Get object place label) plain step =
     let r : Ref = named (c i).local.heap object in
     let known : Known c i r =
@@ -347,7 +401,8 @@ program-moves {shape = shape} {c = c} i counts (event.Get object place label) pl
       known = (known, tt);
       targets = refl;
     } in
-    send-moves sends step.becomes
+    post-moves sends step.becomes
+program-moves i counts (event.Reclaim scope) plain step = absurd cc
 program-moves i counts event.Begin plain step = absurd cc
 program-moves i counts event.Scan plain step = absurd cc
 program-moves i counts event.Pass plain step = absurd cc

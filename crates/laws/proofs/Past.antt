@@ -1,23 +1,25 @@
 -- A generation that was given out stays so. No event of a node and no message takes a generation
 -- back or lowers the node's cycle.
-use Rattle.std.proofs.Common.{◌≡◌, ℕ, zero, suc, ◌+◌, ◌<◌, ◌≤◌, ◌==◌, cond, List, [], ◌∷◌, ◌++◌, length, length-set, length-append, get_or, set, sym, subst, arith, le_refl, le_trans, refl, true}
+use Rattle.std.proofs.Common.{◌≡◌, ℕ, ◌+◌, ◌<◌, ◌≤◌, ◌==◌, cond, List, [], ◌∷◌, ◌++◌, length, length-set, length-append, get_or, set, sym, subst, ⊎_elim, arith, le_refl, le_trans, refl, true}
 use Rattle.std.proofs.lemmas.Bool.{cond_both}
-use Rattle.std.proofs.lemmas.List.{get_or_append_left}
+use Rattle.std.proofs.lemmas.List.{get_or_append_left, length-map}
 use Rattle.ids.specs.declared.limits.TheConstants.{GREATEST_GENERATION}
 use Rattle.ids.specs.declared.names.Ref.{Ref}
 use Rattle.msg.specs.declared.body.Body.{Body}
 use Rattle.model.specs.declared.event.Event.{Event}
 use Rattle.model.specs.State.{Object, Slot, Free, Occupied, Retired, Heap, LocalState, slot_at}
-use Rattle.model.specs.Heaps.{rewritten, with_rewritten, slots_with, next_slot, next_generation, generation_for, object_at}
+use Rattle.model.specs.Heaps.{rewritten, with_rewritten, slots_with, next_slot, next_generation, generation_for, object_at, sharing}
 use Rattle.model.specs.Counting.{append, announce}
 use Rattle.model.specs.Shading.{is_open, is_unmarked, with_mark, make_grey, make_all_grey, enter, see_to}
-use Rattle.model.specs.Collecting.{is_garbage, generation_in, vacated_slot, vacated, Sweeping, sweep_one, sweep_some, looked_at}
+use Rattle.model.specs.Collecting.{is_garbage, vacated_slot, looked_at}
+use Rattle.model.specs.Reclaiming.{slot_aged, aged, freed_within}
 use Rattle.model.specs.Steps.{is_own, made, taken_in, settled, count_in}
 use Rattle.model.proofs.Lookups.{at_set_if}
 use Rattle.model.proofs.Slots.{occupied-within}
-use Rattle.model.proofs.Walk.{Walks, own-walks, taken-walks}
+use Rattle.model.proofs.Ages.{aged-at}
+use Rattle.model.proofs.Freeing.{garbage-test, Freed, freed-some, freed-reclaiming}
+use Rattle.model.proofs.Walk.{Collects, Walks, own-walks, taken-walks, place-walks, post-walks}
 use Rattle.laws.proofs.Invariant.{IsFree, FreeSlots}
-use Rattle.laws.proofs.Sweeps.{garbage-there}
 
 -- the slot has given this generation out, and won't do so again
 abbrev pub PastSlot : Slot → ℕ → Type 0
@@ -134,24 +136,30 @@ past-vacated g generation h =
     cond_both (g == GREATEST_GENERATION) Retired (Free (g + 1)) (λ z. PastSlot z generation)
     (λ _. tt) (λ _. (let w : generation < g + 1 = omega (arith, h) in w))
 
-later-sweep_one : (cycle i : ℕ) (s : Sweeping) → Later s.heap (sweep_one cycle i s).heap
-unfolding sweep_one
-later-sweep_one cycle i s =
-    let g : ℕ = generation_in (slot_at s.heap i) in
-    cond_both (is_garbage cycle (slot_at s.heap i))
-    (record { heap = vacated s.heap i g; freed = s.freed + 1 }) s
-    (λ (z : Sweeping). Later s.heap z.heap)
-    (λ garbage k generation x.
-    (let found = garbage-there cycle (slot_at s.heap i) garbage in
-    let y = later-set s.heap i (vacated_slot g)
-    (λ n h. past-vacated g n (subst (λ (z : Slot). PastSlot z n) found.1 h)) k generation x in
-    record { used = y.used; past = y.past }))
-    (λ _ k generation x. x)
+past-aged : (s : Slot) (generation : ℕ) → PastSlot s generation
+    → PastSlot (slot_aged s) generation
+past-aged (Free n) generation h = h
+past-aged (Occupied n o) generation h = h
+past-aged Retired generation h = h
 
-later-sweep : (cycle i n : ℕ) (s : Sweeping) → Later s.heap (sweep_some cycle i n s).heap
-later-sweep cycle i zero s k g x = x
-later-sweep cycle i (suc n) s k g x =
-    later-sweep cycle (i + 1) n (sweep_one cycle i s) k g (later-sweep_one cycle i s k g x)
+later-aged : (h : Heap) → Later h (aged h)
+later-aged h k generation x = record {
+  used = (let w = x.used in let e = length-map h.slots slot_aged in omega (arith, w, e));
+  past = subst (λ (z : Slot). PastSlot z generation) (sym (aged-at h k))
+      (past-aged (slot_at h k) generation x.past);
+}
+
+later-freed : {h g : Heap} → Freed h g → Later h g
+later-freed {h = h} {g = g} f k generation x = record {
+  used = (let w = x.used in let e = f.width in omega (arith, w, e));
+  past = ⊎_elim {C = PastSlot (slot_at g k) generation}
+      (λ same. subst (λ (z : Slot). PastSlot z generation) (sym same) x.past)
+      (λ v.
+      subst (λ (z : Slot). PastSlot z generation) (sym v.is)
+      (past-vacated v.generation generation
+      (subst (λ (z : Slot). PastSlot z generation) v.was x.past)))
+      (f.each k);
+}
 
 -- ---- nodes
 
@@ -167,38 +175,57 @@ moved {h = h} {g = g} same k generation x =
     (x.used, x.past) in
     record { used = y.0; past = y.1 }
 
--- if the free list names free slots, when an object is made
-ages-walks : Walks (λ p. FreeSlots p.heap.slots p.heap.free) (λ p w. Ages p w.local)
+pub ages-collects : Collects (λ p w. Ages p w.local)
 unfolding see_to enter append announce
-ages-walks = record {
-  collects = record {
-    rest = ages-same;
-    both = λ p w f first second. ages-through first second;
-    sees = λ due rs p. record {
-      cycle = le_refl _;
-      past = later-all_grey p.own p.phases.cycle p.heap (cond (is_open p) rs []);
-    };
-    enters = λ p cycle later. record { cycle = omega (arith, later); past = moved refl };
-    rings = λ p r. record { cycle = le_refl _; past = moved refl };
-    ends = λ p. record { cycle = le_refl _; past = moved refl };
-    hears = λ p reports. record { cycle = le_refl _; past = moved refl };
-    scans = λ p. record { cycle = le_refl _; past = moved refl };
-    sends = λ to b p quiet. record { cycle = le_refl _; past = moved refl };
-    tells = λ b p quiet. record { cycle = le_refl _; past = moved refl };
+ages-collects = record {
+  rest = ages-same;
+  both = λ p w f first second. ages-through first second;
+  sees = λ due rs p. record {
+    cycle = le_refl _;
+    past = later-all_grey p.own p.phases.cycle p.heap (cond (is_open p) rs []);
   };
+  enters = λ p cycle later. record { cycle = omega (arith, later); past = moved refl };
+  rings = λ p r. record { cycle = le_refl _; past = moved refl };
+  ends = λ p. record { cycle = le_refl _; past = moved refl };
+  hears = λ p reports. record { cycle = le_refl _; past = moved refl };
+  scans = λ p. record { cycle = le_refl _; past = moved refl };
+  sends = λ to b p quiet. record { cycle = le_refl _; past = moved refl };
+  tells = λ b p quiet. record { cycle = le_refl _; past = moved refl };
+}
+
+pub ages-rewritten : (p : LocalState) (r : Ref) (f : Object → Object)
+    → Ages p (record p { heap = with_rewritten p.heap r f })
+ages-rewritten p r f = record { cycle = le_refl _; past = later-rewritten p.heap r f }
+
+-- if the free list names free slots, when an object is made
+pub ages-walks : Walks (λ p. FreeSlots p.heap.slots p.heap.free) (λ p w. Ages p w.local)
+unfolding append
+ages-walks = record {
+  collects = ages-collects;
   roots = λ p registers letters. record { cycle = le_refl _; past = moved refl };
-  rewrites = λ p r f. record { cycle = le_refl _; past = later-rewritten p.heap r f };
+  rewrites = λ p r f quiet. ages-rewritten p r f;
+  places = place-walks ages-collects (λ p r f shared. ages-rewritten p r f);
   makes = λ p register places f. record {
     cycle = le_refl _;
     past = λ k g x.
         (let y = later-object p.heap.free p.heap.slots _ f k g x.used x.past in
         record { used = y.0; past = y.1 });
   };
-  gives = λ to b p. record { cycle = le_refl _; past = moved refl };
+  gives = λ to b p carries.
+      post-walks ages-collects
+      (λ q r. ages-rewritten q r sharing) to b p
+      (record { cycle = le_refl _; past = moved refl });
   sweeps = λ p count. record {
     cycle = le_refl _;
-    past = later-sweep p.phases.cycle p.phases.cursor (looked_at p count)
-        (record { heap = p.heap; freed = 0 });
+    past = later-freed (freed-some (λ _. is_garbage p.phases.cycle) (garbage-test p.phases.cycle)
+        p.phases.cursor (looked_at p count) (record { heap = p.heap; freed = 0 }));
+  };
+  reclaims = λ p scope. record {
+    cycle = le_refl _;
+    past = λ k g x.
+        (let y = later-freed (freed-reclaiming scope p.own p.heap) k g x in
+        later-aged (freed_within scope p.own p.heap) k g
+        (record { used = y.used; past = y.past }));
   };
 }
 

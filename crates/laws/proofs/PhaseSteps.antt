@@ -11,7 +11,7 @@ use Rattle.msg.specs.declared.body.Body.TheVariants as body
 use Rattle.msg.specs.declared.body.Token.{Token}
 use Rattle.msg.specs.declared.body.Message.{Message}
 use Rattle.model.specs.State.{Heap, Phases, LocalState, NodeState, got_from, sent_to}
-use Rattle.model.specs.Counting.{stamped, to_others}
+use Rattle.model.specs.Counting.{is_idle, stamped, to_others}
 use Rattle.model.specs.Shading.{is_open}
 use Rattle.model.specs.Steps.{append_all}
 use Rattle.model.specs.Cuts.{Cut, taken, IsInFlight, Among, Becomes}
@@ -24,7 +24,7 @@ use Rattle.laws.proofs.Tallies.{bound-turn}
 use Rattle.laws.proofs.Acting.{all-from}
 use Rattle.laws.proofs.Invariant.{phases_of, cycle_of, Marking, Phased, StampFits, BodyFits, is_single, IsSaidOnce, Tokens, IsBlack, Inv}
 use Rattle.laws.proofs.Base.{unheard}
-use Rattle.laws.proofs.Light.{is_idle, light-inv, Speaks, speaks-flows, Hears, hears-turn, hears-flows, hears-width, hears-within, hears-others, hears-marks}
+use Rattle.laws.proofs.Light.{light-inv, Speaks, speaks-flows, Hears, hears-turn, hears-flows, hears-width, hears-within, hears-others, hears-marks}
 use Rattle.laws.proofs.RingSteps.{NoToken, tokens-same, token-back, token-on}
 
 -- ---- what phases say of messages
@@ -81,7 +81,7 @@ pub record Quietly (n : ℕ) (c d : Cut) (i : ℕ) (q : LocalState) (ms : List (
     pub inside : i < n
     pub cycle : q.phases.cycle ≡ (c i).local.phases.cycle
     pub ended : (phases_of d 0).ended ≡ (phases_of c 0).ended
-    pub grey : q.heap.grey ≡ (c i).local.heap.grey
+    pub grey : (c i).local.heap.grey ≡ [] → q.heap.grey ≡ []
     pub earlier : q.ring.earlier ≡ (c i).local.ring.earlier
     pub colour : q.ring.colour ≡ (c i).local.ring.colour
     pub token : q.ring.token ≡ (c i).local.ring.token
@@ -105,7 +105,7 @@ quiet-tokens {n = n} {c = c} {d = d} {i = i} {q = q} {ms = ms} h =
             (λ black. inr (h.colour ∙ black)) b),
         omega (arith, ints, h.earlier),
       );
-      far = λ _. inl (λ p. ((h.cycle ∙ p.0, h.grey ∙ p.1), h.earlier));
+      far = λ _. inl (λ p. ((h.cycle ∙ p.0, h.grey p.1), h.earlier));
     } in
     let same : NoToken n c d = record {
       back = token-back h.turn h.token h.none;
@@ -249,7 +249,7 @@ module _ {shape : Shaped} {c d : Cut} {i : ℕ} {ms : List (ℕ × Message)}
     inside = h.inside;
     cycle = refl;
     ended = says-ended;
-    grey = refl;
+    grey = λ none. none;
     earlier = refl;
     colour = refl;
     token = refl;
@@ -412,7 +412,7 @@ hear-inv {shape = shape} {c = c} {d = d} {i = i} {q = q} {j = j} {x = x} h =
       inside = h.hears.inside;
       cycle = h.hears.cycle;
       ended = h.ended;
-      grey = ap (λ (z : Heap). z.grey) heap;
+      grey = λ none. ap (λ (z : Heap). z.grey) heap ∙ none;
       earlier = h.hears.earlier;
       colour = ap (λ (z : LocalState). z.ring.colour) h.same;
       token = ap (λ (z : LocalState). z.ring.token) h.same;

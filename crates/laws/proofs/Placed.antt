@@ -23,7 +23,7 @@ use Rattle.model.specs.Cuts.{Cut, cut, IsInFlight, Becomes, PlainStep, acts, del
 use Rattle.model.proofs.References.{all-append}
 use Rattle.model.proofs.Lookups.{all-map, get_or-replicate_any}
 use Rattle.model.proofs.Leaving.{own-stands, taken-stands}
-use Rattle.model.proofs.Walk.{Collects, begun-walks, scanned-walks, passed-walks, joined-walks, carried-walks, quiet-walks}
+use Rattle.model.proofs.Walk.{Collects, idle-quiet, begun-walks, scanned-walks, passed-walks, joined-walks, carried-walks, quiet-walks}
 use Rattle.laws.proofs.StepFacts.{act-ok, Receipt, repeated, next, receipt-cases}
 use Rattle.laws.proofs.Lookups.{all-among}
 use Rattle.laws.proofs.Turns.{Turn, at_becomes, flew}
@@ -81,8 +81,8 @@ collects-unplaced = record {
   ends = λ p. tt;
   hears = λ p reports. tt;
   scans = λ p. tt;
-  sends = λ to b p quiet. (quiet-unplaced b quiet, tt);
-  tells = λ b p quiet. others-unplaced p b (quiet-unplaced b quiet) p.shape.nodes;
+  sends = λ to b p idle. (quiet-unplaced b (idle-quiet b idle), tt);
+  tells = λ b p idle. others-unplaced p b (quiet-unplaced b (idle-quiet b idle)) p.shape.nodes;
 }
 
 body-unplaced : (from stamp : ℕ) (b : Body) (p : LocalState) → Unplaced p (take_body from stamp b p)

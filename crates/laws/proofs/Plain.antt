@@ -16,13 +16,14 @@ use Rattle.model.proofs.Walk.{work_in}
 use Rattle.laws.proofs.StepFacts.{act-ok, Receipt, repeated, next, receipt-cases}
 use Rattle.laws.proofs.Turns.{at_becomes}
 use Rattle.laws.proofs.Base.{inside-where, no-node-refuses, no-node-takes_nothing, first_in_flight}
-use Rattle.laws.proofs.Invariant.{Inv}
+use Rattle.laws.proofs.Invariant.{Unknown, Recalled, Inv}
 use Rattle.laws.proofs.Moves.{worked}
 use Rattle.laws.proofs.OwnEvents.{OwnStep, program-moves}
 use Rattle.laws.proofs.Replies.{taken-inv}
 use Rattle.laws.proofs.Cycles.{scan-inv, sweep-event}
 use Rattle.laws.proofs.Rounds.{some-of, Passing, pass-inv}
 use Rattle.laws.proofs.Begins.{Beginning, begin-inv}
+use Rattle.laws.proofs.ReclaimSteps.{reclaim-inv}
 
 -- no sum that a node passes on wraps
 abbrev pub Unwrapped : Cut → Type 0
@@ -35,9 +36,11 @@ calm-is (k ∷ grey) h = absurd (omega (arith, eqb-true (length (k ∷ grey)) 0 
 
 -- a step of a node's own
 own-inv : {shape : Shaped} {c d : Cut} (i : ℕ) (counts : List ℕ) (e : Event) → 2 ≤ shape.nodes
-    → Unwrapped c → OwnStep shape c d i counts e → Inv shape d
+    → Unwrapped c → Unknown c × Recalled c → OwnStep shape c d i counts e → Inv shape d
 unfolding scanned swept_slots
-own-inv {shape = shape} {c = c} {d = d} i counts event.Begin several unwrapped step =
+own-inv i counts (event.Reclaim scope) several unwrapped known step =
+    reclaim-inv i scope step.inside known.0 known.1 step.becomes step.inv
+own-inv {shape = shape} {c = c} {d = d} i counts event.Begin several unwrapped known step =
     let zero_is : i ≡ 0 =
     sym (step.inv.base.own i step.inside) ∙ eqb-true (c i).local.own 0 step.passed.0 in
     let begins : Beginning shape c d = record {
@@ -51,9 +54,9 @@ own-inv {shape = shape} {c = c} {d = d} i counts event.Begin several unwrapped s
           zero_is step.becomes;
     } in
     begin-inv begins
-own-inv i counts event.Scan several unwrapped step =
+own-inv i counts event.Scan several unwrapped known step =
     (scan-inv i step.inside (not-true _ step.passed.0) step.becomes step.inv).inv
-own-inv {shape = shape} {c = c} {d = d} i counts event.Pass several unwrapped step =
+own-inv {shape = shape} {c = c} {d = d} i counts event.Pass several unwrapped known step =
     let found = some-of (c i).local.ring.token step.passed.0 in
     let passing : Passing shape c d i found.0 = record {
       inv = step.inv;
@@ -65,17 +68,17 @@ own-inv {shape = shape} {c = c} {d = d} i counts event.Pass several unwrapped st
       becomes = step.becomes;
     } in
     pass-inv passing
-own-inv i counts (event.Sweep count) several unwrapped step =
+own-inv i counts (event.Sweep count) several unwrapped known step =
     sweep-event i count step.inside (ltb-true _ _ step.passed.0) step.becomes step.inv
-own-inv i counts e several unwrapped step =
+own-inv i counts e several unwrapped known step =
     (program-moves i counts e refl step).inv
 
-pub plain-inv : {shape : Shaped} {c d : Cut} → 2 ≤ shape.nodes → Unwrapped c → PlainStep c d
-    → Inv shape c → Inv shape d
-plain-inv {shape = shape} {c = c} {d = d} several unwrapped (acts i e s a own answered becomes) inv
-    =
+pub plain-inv : {shape : Shaped} {c d : Cut} → 2 ≤ shape.nodes → Unwrapped c
+    → Unknown c × Recalled c → PlainStep c d → Inv shape c → Inv shape d
+plain-inv {shape = shape} {c = c} {d = d} several unwrapped known
+    (acts i e s a own answered becomes) inv =
     let found = act-ok (c i) e s a answered in
-    own-inv i (map length (c i).sent) e several unwrapped (record {
+    own-inv i (map length (c i).sent) e several unwrapped known (record {
       inv = inv;
       inside = inside-where i (λ z. AllPass (tests z.local e)) inv.base found.passed
           (no-node-refuses e own);
@@ -83,7 +86,7 @@ plain-inv {shape = shape} {c = c} {d = d} several unwrapped (acts i e s a own an
       passed = found.passed;
       becomes = subst (λ (z : NodeState). Becomes c d i z) found.state becomes;
     })
-plain-inv {shape = shape} {c = c} {d = d} several unwrapped
+plain-inv {shape = shape} {c = c} {d = d} several unwrapped known
     (delivers from to x s a flight answered becomes) inv =
     by (receipt-cases (c to) (first_in_flight c from to x) s a answered)
   where

@@ -352,14 +352,17 @@ take-put {shape = shape} {c = c} {d = d} {i = i} {j = j} {stamp = stamp} target 
     let w : Work = take_carried stamp b (c i).local in
     let s1 : NodeState = worked (c i) w in
     let c1 : Cut = put c i s1 in
-    let s2 : NodeState = with_heap s1 (with_place s1.local.heap target place reference) in
+    let s2 : NodeState = with_heap s1
+    (with_place s1.local.own s1.local.heap target place reference) in
     let c2 : Cut = put c1 i s2 in
     let met : Met shape c c1 i (carried b) = carried-met s refl fits (becomes-put c i s1) in
     let at1 : c1 i ≡ s1 = put-here c i s1 in
     let b2 : Becomes c1 c2 i
-    (with_heap (c1 i) (with_place (c1 i).local.heap target place reference)) =
+    (with_heap (c1 i)
+    (with_place (c1 i).local.own (c1 i).local.heap target place reference)) =
     subst (λ (z : NodeState).
-    Becomes c1 c2 i (with_heap z (with_place z.local.heap target place reference)))
+    Becomes c1 c2 i
+    (with_heap z (with_place z.local.own z.local.heap target place reference)))
     (sym at1) (becomes-put c1 i s2) in
     let second : Moves shape c1 c2 i =
     rewrite-moves target place reference s.inside b2

@@ -12,9 +12,9 @@ use Rattle.msg.specs.declared.body.Message.{Message}
 use Rattle.model.specs.State.{Phases, LocalState, NodeState, got_from}
 use Rattle.model.specs.Heaps.{object_at, place_of}
 use Rattle.model.specs.Effects.{Work, at_rest, then}
-use Rattle.model.specs.Counting.{append}
+use Rattle.model.specs.Counting.{is_idle}
 use Rattle.model.specs.Shading.{is_open, join, joined, see_to}
-use Rattle.model.specs.Steps.{carried, count_in, take_carried, take_body, settled, taken_in, counted}
+use Rattle.model.specs.Steps.{carried, post, count_in, take_carried, take_body, settled, taken_in, counted}
 use Rattle.model.specs.Cuts.{Cut, taken, IsInFlight, Among, Becomes}
 use Rattle.model.proofs.Lookups.{at_set_if}
 use Rattle.model.proofs.Walk.{work_in}
@@ -25,9 +25,9 @@ use Rattle.laws.proofs.Inner.{Known, resting-joined}
 use Rattle.laws.proofs.Acting.{put, put-here, becomes-put, latest}
 use Rattle.laws.proofs.Counts.{Sending}
 use Rattle.laws.proofs.Moves.{worked, append_all-append, Moves, moves-through, Met, shade-met}
-use Rattle.laws.proofs.OwnEvents.{send-moves, Reading, read-shadeable, known-option}
+use Rattle.laws.proofs.OwnEvents.{post-moves, Reading, read-shadeable, known-option}
 use Rattle.laws.proofs.Lookups.{any-list}
-use Rattle.laws.proofs.Light.{is_idle, idle-carries, Hears, hears-turn}
+use Rattle.laws.proofs.Light.{idle-carries, Hears, hears-turn}
 use Rattle.laws.proofs.TokenSteps.{arrive-inv}
 use Rattle.laws.proofs.PhaseSteps.{hear-inv}
 use Rattle.laws.proofs.Receipts.{HasJoined, join-step, Taking, becomes-from, carried-met, Settles, take-give, take-put, take-mark, becomes-through, followed, settled-bare, reference-last}
@@ -50,7 +50,7 @@ take-get {shape = shape} {c = c} {d = d} {i = i} {j = j} {stamp = stamp} target 
     let s2 : NodeState = worked s1 (see_to true (option_to_list v) s1.local) in
     let c2 : Cut = put c1 i s2 in
     let at2 : c2 i ≡ s2 = put-here c1 i s2 in
-    let s3 : NodeState = worked s2 (append j (body.Give label v) s2.local) in
+    let s3 : NodeState = worked s2 (post j (body.Give label v) s2.local) in
     let c3 : Cut = put c2 i s3 in
     let met : Met shape c c1 i (carried b) = carried-met s refl fits (becomes-put c i s1) in
     let reads : Reading shape c1 i target = record {
@@ -80,16 +80,16 @@ take-get {shape = shape} {c = c} {d = d} {i = i} {j = j} {stamp = stamp} target 
       known = any-list (Known c2 i) v (known-option v known);
       targets = tt;
     } in
-    let b3 : Becomes c2 c3 i (worked (c2 i) (append j (body.Give label v) (c2 i).local)) =
-    subst (λ (z : NodeState). Becomes c2 c3 i (worked z (append j (body.Give label v) z.local)))
+    let b3 : Becomes c2 c3 i (worked (c2 i) (post j (body.Give label v) (c2 i).local)) =
+    subst (λ (z : NodeState). Becomes c2 c3 i (worked z (post j (body.Give label v) z.local)))
     (sym at2)
     (becomes-put c2 i s3) in
-    let third : Moves shape c2 c3 i = send-moves sends b3 in
+    let third : Moves shape c2 c3 i = post-moves sends b3 in
     let moves : Moves shape c c3 i = moves-through met.moves (moves-through second.moves third) in
     let follows : s3 ≡ followed j stamp b (c i) =
     ap (λ (z : List (List Message)). record { local = s3.local; sent = z })
     (sym (append_all-append s1.sent (see_to true (option_to_list v) s1.local).sends
-    (append j (body.Give label v) s2.local).sends)) in
+    (post j (body.Give label v) s2.local).sends)) in
     reference-last s refl fits moves
     (subst (Becomes c c3 i) follows
     (becomes-through (becomes-put c i s1)

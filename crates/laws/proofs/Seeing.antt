@@ -21,7 +21,7 @@ use Rattle.model.specs.Heaps.{is_filled, named, no_reference, object_at, place_o
 use Rattle.model.specs.Effects.{Work, Effect}
 use Rattle.model.specs.Counting.{is_reference, stamped, append}
 use Rattle.model.specs.Shading.{joined, see_to}
-use Rattle.model.specs.Steps.{tests, made, is_own, mentioned, take_carried, count_in, take_body, settled, taken_in, append_all}
+use Rattle.model.specs.Steps.{tests, made, is_own, mentioned, take_carried, count_in, take_body, settled, taken_in, append_all, post}
 use Rattle.model.specs.Cuts.{Cut, taken, IsInFlight, Becomes}
 use Rattle.laws.specs.Objects.{Space, with_messages, is_program, does, arrives}
 use Rattle.laws.specs.Sights.{programs}
@@ -267,7 +267,7 @@ body-inside from stamp (body.Put target place reference) p k n inside past = ref
 body-inside from stamp (body.Get target place label) p k n inside past =
     let v : Option Ref = place_of (object_at p.heap target) place in
     let w : Work = see_to true (option_to_list v) p in
-    let last : List (ℕ × Message) = (append from (body.Give label v) w.local).sends in
+    let last : List (ℕ × Message) = (post from (body.Give label v) w.local).sends in
     posts-append k w.sends last
     ∙ ap (λ (z : List Body). z ++ posts k last)
     (quiet-posts k w.sends (calm-collects.sees true (option_to_list v) p).quiet)

@@ -6,7 +6,7 @@ use Rattle.std.proofs.lemmas.List.{get_or_past, get_or_push, get_or_append_left}
 use Rattle.std.proofs.lemmas.Map.Keys.{IsDistinct-head, IsDistinct-tail}
 use Rattle.ids.specs.declared.names.Ref.{Ref}
 use Rattle.model.specs.State.{Object, Slot, Free, Occupied, Retired, Heap, slot_at}
-use Rattle.model.specs.Heaps.{rewritten, with_rewritten, slots_with, next_slot, next_generation, generation_for}
+use Rattle.model.specs.Heaps.{rewritten, with_rewritten, slots_with, next_slot, next_generation, generation_for, sharing, share_all}
 use Rattle.model.proofs.Lookups.{all-map, at_set_if, at_push}
 use Rattle.model.proofs.Slots.{slot-within, occupied-within}
 use Rattle.laws.proofs.Invariant.{IsFree, FreeSlots}
@@ -244,3 +244,16 @@ rewritten-rewrites cycle h r f mark =
           (subst (λ (n : ℕ). IsFree (slot_at h n)) (sym at) free))
           free;
     }
+
+-- ---- objects become shared
+
+-- only slots change
+pub shared-rest : (own : ℕ) (rs : List Ref) (h : Heap)
+    → share_all own h rs ≡ record h { slots = (share_all own h rs).slots }
+shared-rest own [] h = refl
+shared-rest own (r ∷ rs) h =
+    let g : Heap = cond (r.node == own) (with_rewritten h r sharing) h in
+    let slots : List Slot = (share_all own g rs).slots in
+    shared-rest own rs g
+    ∙ cond_both (r.node == own) (with_rewritten h r sharing) h
+    (λ (z : Heap). record z { slots = slots } ≡ record h { slots = slots }) (λ _. refl) (λ _. refl)

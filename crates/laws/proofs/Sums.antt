@@ -1,9 +1,13 @@
 -- Sums over the first numbers, and how many messages of a list pass a test.
-use Rattle.std.proofs.Common.{◌≡◌, ◌≢◌, ℕ, zero, suc, ℤ, pos, ◌+◌, ◌+ℤ◌, ◌<◌, ◌≤◌, Bool, cond, List, [], ◌∷◌, ◌++◌, length, drop, Some, slice_get, refl, sym, ap, ◌∙◌, subst, ⊎_elim, arith}
+use Rattle.std.proofs.Common.{◌≡◌, ◌≢◌, ℕ, zero, suc, ℤ, pos, ◌+◌, ◌+ℤ◌, ◌<◌, ◌≤◌, Bool, cond, List, [], ◌∷◌, ◌++◌, length, map, drop, Some, slice_get, refl, sym, ap, ◌∙◌, subst, ⊎_elim, arith}
 use Rattle.std.specs.Prelude.{◌≤ℤ◌}
 use Rattle.std.proofs.lemmas.Int.{ints}
 use Rattle.std.proofs.lemmas.Bool.{cases_eq}
 use Rattle.msg.specs.declared.body.Message.{Message}
+use Rattle.std.specs.List.{sum_by}
+use Rattle.std.proofs.lemmas.List.Sums.{sum_by-cons}
+use Rattle.model.specs.State.{Slot}
+use Rattle.model.specs.Reclaiming.{slot_aged}
 use Rattle.model.specs.Agreement.{total, weighed, number_of}
 
 pub total-same : (n : ℕ) (f g : ℕ → ℤ) → ((j : ℕ) → j < n → g j ≡ f j) → total n g ≡ total n f
@@ -129,3 +133,16 @@ number-same f g (x ∷ xs) same =
     let first : f x ≡ g x = same zero x refl in
     let rest : number_of f xs ≡ number_of g xs = number-same f g xs (λ k y h. same (suc k) y h) in
     ap (λ (b : Bool). cond b 1 0 + number_of f xs) first ∙ ap (λ (m : ℕ). cond (g x) 1 0 + m) rest
+
+-- ---- slots that become old
+
+pub sum-aged : (f : Slot → ℕ) → ((s : Slot) → f (slot_aged s) ≡ f s) → (slots : List Slot)
+    → sum_by f (map slot_aged slots) ≡ sum_by f slots
+sum-aged f same [] = refl
+sum-aged f same (s ∷ slots) =
+    sum_by-cons f (slot_aged s) (map slot_aged slots)
+    ∙ (let first = same s in
+    let others = sum-aged f same slots in
+    let e : f (slot_aged s) + sum_by f (map slot_aged slots) ≡ f s + sum_by f slots =
+    omega (arith, first, others) in e)
+    ∙ sym (sum_by-cons f s slots)

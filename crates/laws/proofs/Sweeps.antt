@@ -1,71 +1,39 @@
 -- The invariant after a node has swept some of its slots, and after it has reported that it is
 -- done.
-use Rattle.std.proofs.Common.{◌≡◌, ◌≢◌, ℕ, zero, suc, ◌+◌, ◌<◌, ◌≤◌, ◌⊎◌, ◌==◌, eqb, true, false, List, [], ◌∷◌, length, get_or, set, Option, None, refl, sym, ap, ◌∙◌, subst, ⊎_elim, inl, arith, le_refl, length-set, get_or-set_same, get_or-set_other}
+use Rattle.std.proofs.Common.{◌≡◌, ◌≢◌, ℕ, zero, suc, ◌+◌, ◌<◌, ◌≤◌, ◌⊎◌, ◌==◌, eqb, Bool, true, false, List, [], ◌∷◌, length, get_or, set, Option, None, refl, sym, ap, ◌∙◌, subst, ⊎_elim, inl, arith, le_refl, get_or-set_same}
 use Rattle.std.specs.List.{AllByRecursion, IsDistinct}
-use Rattle.std.proofs.lemmas.Bool.{cases_eq, cases_lt, cases_Bool, cond_both, cond-true, cond-false, eq-eqb, ne_eqb, eqb-true, both_ways, not_from_true, not-false}
+use Rattle.std.proofs.lemmas.Bool.{cases_lt, cases_Bool, cond_both, cond-true, cond-false, eq-eqb, ne_eqb, eqb-true, both_ways, not_from_true, not-false}
 use Rattle.ids.specs.declared.limits.TheConstants.{GREATEST_GENERATION}
 use Rattle.ids.specs.Limits.{Shaped}
 use Rattle.ids.specs.declared.names.Ref.{Ref}
 use Rattle.msg.specs.declared.body.Body.{Body}
 use Rattle.msg.specs.declared.body.Body.TheVariants as body
 use Rattle.msg.specs.declared.body.Message.{Message}
+use Rattle.model.specs.declared.age.Age.{Age}
+use Rattle.model.specs.declared.age.Scope.{Scope}
 use Rattle.model.specs.State.{Object, Slot, Free, Occupied, Retired, Heap, LocalState, slot_at}
 use Rattle.model.specs.Heaps.{no_letter}
-use Rattle.model.specs.Counting.{stamped}
-use Rattle.model.specs.Collecting.{is_garbage, generation_in, vacated_slot, vacated_free, vacated, Sweeping, sweep_one, sweep_some}
+use Rattle.model.specs.Counting.{is_idle, stamped}
+use Rattle.model.specs.Collecting.{is_garbage, generation_in, vacated_slot, vacated_free, vacated, Sweeping, free_one, free_some, sweep_some}
+use Rattle.model.specs.Reclaiming.{reclaiming, freed_within, reclaimed}
 use Rattle.model.specs.Shading.{is_open}
 use Rattle.model.specs.References.{IfAny}
 use Rattle.model.specs.Steps.{append_all, mentioned}
 use Rattle.model.specs.Cuts.{Cut, IsInFlight, Among, Becomes}
 use Rattle.model.proofs.Lookups.{all-map, at_set_if}
 use Rattle.model.proofs.Slots.{occupied-within}
-use Rattle.laws.proofs.Lookups.{any-map}
+use Rattle.model.proofs.Ages.{aged-back}
+use Rattle.model.proofs.Freeing.{IsTest, garbage-test, occupied-object, Freed, freed-none, freed-left, freed-through, freed-one, freed-reclaiming}
+use Rattle.laws.proofs.Lookups.{any-map, among-filter}
 use Rattle.laws.proofs.Turns.{Turn, at_turn, flew}
 use Rattle.laws.proofs.Base.{base-step, unheard}
 use Rattle.laws.proofs.Tallies.{tally-same, tallies-turn}
 use Rattle.laws.proofs.Inner.{roots-map, resting-joined, sweeping-resting}
 use Rattle.laws.proofs.Slots.{still-free}
 use Rattle.laws.proofs.Invariant.{phases_of, cycle_of, Marking, Resting, Joined, Safe, Holds, RootsAll, PlacesAll, IsFree, FreeSlots, Tidy, Phased, BodyFits, Inv}
-use Rattle.laws.proofs.Light.{is_idle, Speaks, speaks-flows}
+use Rattle.laws.proofs.Light.{Speaks, speaks-flows}
 use Rattle.laws.proofs.RingSteps.{token-back, flew-one}
 use Rattle.laws.proofs.PhaseSteps.{SaidAlike, fits-moved, Says, says-turn, says-inv}
-
--- ---- a heap whose slots from one number up to another were swept
-
-pub record SweptHeap (cycle from to : ℕ) (h g : Heap) : Type 0 where
-  pub registers : g.registers ≡ h.registers
-  pub letters : g.letters ≡ h.letters
-  pub grey : g.grey ≡ h.grey
-  pub width : length g.slots ≡ length h.slots
-  pub back : (k e : ℕ) (y : Object) → slot_at g k ≡ Occupied e y
-      → (slot_at h k ≡ Occupied e y) × (from ≤ k → k < to → y.mark ≡ cycle)
-  pub keeps : (k e : ℕ) (x : Object) → slot_at h k ≡ Occupied e x → x.mark ≡ cycle
-      → slot_at g k ≡ Occupied e x
-  pub free : FreeSlots h.slots h.free → FreeSlots g.slots g.free
-
-swept-none : (cycle from : ℕ) (h : Heap) → SweptHeap cycle from from h h
-swept-none cycle from h = record {
-  registers = refl;
-  letters = refl;
-  grey = refl;
-  width = refl;
-  back = λ k e y there. (there, λ least most. absurd (omega (arith, least, most)));
-  keeps = λ k e x there mark. there;
-  free = λ f. f;
-}
-
--- a slot with garbage in it
-pub garbage-there : (cycle : ℕ) (s : Slot) → is_garbage cycle s ≡ true
-    → (o : Object) × (s ≡ Occupied (generation_in s) o) × (o.mark ≢ cycle)
-garbage-there cycle (Free g) h = absurd cc
-garbage-there cycle (Occupied g o) h =
-    (o, refl, λ (e : o.mark ≡ cycle). both_ways _ (not_from_true _ (eq-eqb o.mark cycle e)) h)
-garbage-there cycle Retired h = absurd cc
-
-garbage-not : (cycle : ℕ) (s : Slot) (g : ℕ) (o : Object) → is_garbage cycle s ≡ false
-    → s ≡ Occupied g o → o.mark ≡ cycle
-garbage-not cycle s g o clean there =
-    eqb-true o.mark cycle (not-false _ (ap (is_garbage cycle) (sym there) ∙ clean))
 
 vacant : (g e : ℕ) (y : Object) → vacated_slot g ≡ Occupied e y → ⊥
 vacant g e y =
@@ -113,89 +81,168 @@ vacated-free slots j g o ks there f =
     }))
     (cases_Bool (g == GREATEST_GENERATION))
 
-swept-one : (cycle k : ℕ) (s : Sweeping)
-    → SweptHeap cycle k (k + 1) s.heap (sweep_one cycle k s).heap
-unfolding sweep_one
-swept-one cycle k s =
+-- ---- a heap in which slots from one number up to another were looked at
+
+-- The objects there that pass a test were freed.
+pub record Cleared (lost : ℕ → Slot → Bool) (from to : ℕ) (h g : Heap) : Type 0 where
+  pub freed : Freed h g
+  -- what doesn't pass the test is left, and nothing else
+  pub keeps : (k e : ℕ) (x : Object) → slot_at h k ≡ Occupied e x
+      → lost k (Occupied e x) ≡ false → slot_at g k ≡ Occupied e x
+  pub stays : (k e : ℕ) (y : Object) → slot_at g k ≡ Occupied e y → from ≤ k → k < to
+      → lost k (Occupied e y) ≡ false
+  pub free : FreeSlots h.slots h.free → FreeSlots g.slots g.free
+
+cleared-none : (lost : ℕ → Slot → Bool) (from : ℕ) (h : Heap) → Cleared lost from from h h
+cleared-none lost from h = record {
+  freed = freed-none h;
+  keeps = λ k e x there not_lost. there;
+  stays = λ k e y there least most. absurd (omega (arith, least, most));
+  free = λ f. f;
+}
+
+cleared-one : (lost : ℕ → Slot → Bool) → IsTest lost → (k : ℕ) (s : Sweeping)
+    → Cleared lost k (k + 1) s.heap (free_one lost k s).heap
+unfolding free_one
+cleared-one lost test k s =
     let g : ℕ = generation_in (slot_at s.heap k) in
-    cond_both (is_garbage cycle (slot_at s.heap k))
-    (record { heap = vacated s.heap k g; freed = s.freed + 1 }) s
-    (λ (z : Sweeping). SweptHeap cycle k (k + 1) s.heap z.heap)
-    (λ garbage.
-    let found = garbage-there cycle (slot_at s.heap k) garbage in
+    let w : Sweeping = record { heap = vacated s.heap k g; freed = s.freed + 1 } in
+    let here : Slot = slot_at s.heap k in
+    let same : (j : ℕ) → k ≡ j → lost k here ≡ lost j (slot_at s.heap j) =
+    λ j at. ap (λ (z : ℕ). lost z (slot_at s.heap z)) at in
     record {
-      registers = refl;
-      letters = refl;
-      grey = refl;
-      width = length-set s.heap.slots k (vacated_slot g);
-      back = λ j e y there. ⊎_elim {C = (slot_at s.heap j ≡ Occupied e y)
-          × (k ≤ j → j < k + 1 → y.mark ≡ cycle)}
-          (λ (at : j ≡ k).
-          absurd (vacant g e y (sym (get_or-set_same s.heap.slots k (vacated_slot g) Retired
-          (occupied-within s.heap.slots k g found.0 found.1))
-          ∙ ap (λ (z : ℕ). get_or (set s.heap.slots k (vacated_slot g)) z Retired) (sym at)
-          ∙ there)))
-          (λ (other : j ≢ k). (
-            sym (get_or-set_other s.heap.slots k j (vacated_slot g) Retired other) ∙ there,
-            λ least most. absurd (omega (arith, least, most, other)),
-          ))
-          (cases_eq j k);
-      keeps = λ j e x there mark.
+      freed = freed-one lost test k s;
+      keeps = λ j e x there not_lost.
+          cond_both (lost k here) w s (λ (z : Sweeping). slot_at z.heap j ≡ Occupied e x)
+          (λ goes.
           at_set_if (λ z. z ≡ Occupied e x) s.heap.slots k j (vacated_slot g) Retired
           (λ (at : k ≡ j).
-          absurd (found.2 (ap (λ (z : Object). z.mark)
-          (let both : Occupied g found.0 ≡ Occupied e x =
-          sym found.1 ∙ ap (slot_at s.heap) at ∙ there in
-          let o : found.0 ≡ x = cc in o) ∙ mark)))
-          there;
-      free = vacated-free s.heap.slots k g found.0 s.heap.free found.1;
-    })
-    (λ clean. record {
-      registers = refl;
-      letters = refl;
-      grey = refl;
-      width = refl;
-      back = λ j e y there. (
-        there,
-        λ least most.
-            garbage-not cycle (slot_at s.heap k) e y clean
-            (ap (slot_at s.heap) (let at : k ≡ j = omega (arith, least, most) in at) ∙ there),
-      );
-      keeps = λ j e x there mark. there;
-      free = λ f. f;
-    })
+          absurd (both_ways _ (same j at ∙ ap (lost j) there ∙ not_lost) goes))
+          there)
+          (λ _. there);
+      stays = λ j e y there least most.
+          (let at : k ≡ j = omega (arith, least, most) in
+          cond_both (lost k here) w s
+          (λ (z : Sweeping). slot_at z.heap j ≡ Occupied e y → lost j (Occupied e y) ≡ false)
+          (λ goes now.
+          let found = occupied-object here (test k here goes) in
+          absurd (vacant g e y (sym (get_or-set_same s.heap.slots k (vacated_slot g) Retired
+          (occupied-within s.heap.slots k g found.0 found.1))
+          ∙ ap (λ (z : ℕ). get_or (set s.heap.slots k (vacated_slot g)) z Retired) at
+          ∙ now)))
+          (λ clean now. ap (lost j) (sym now) ∙ sym (same j at) ∙ clean)
+          there);
+      free = cond_both (lost k here) w s
+          (λ (z : Sweeping).
+          FreeSlots s.heap.slots s.heap.free → FreeSlots z.heap.slots z.heap.free)
+          (λ goes.
+          let found = occupied-object here (test k here goes) in
+          vacated-free s.heap.slots k g found.0 s.heap.free found.1)
+          (λ _ f. f);
+    }
 
-swept-through : {cycle a b z : ℕ} {h f g : Heap} → a ≤ b → b ≤ z → SweptHeap cycle a b h f
-    → SweptHeap cycle b z f g → SweptHeap cycle a z h g
-swept-through {cycle = cycle} {a = a} {b = b} {z = z} first second x y = record {
-  registers = y.registers ∙ x.registers;
-  letters = y.letters ∙ x.letters;
-  grey = y.grey ∙ x.grey;
-  width = y.width ∙ x.width;
-  back = λ k e o there.
-      let later = y.back k e o there in
-      let before = x.back k e o later.0 in (
-        before.0,
-        λ least most. ⊎_elim {C = o.mark ≡ cycle}
-            (λ (below : k < b). before.1 least below)
-            (λ (past : b ≤ k). later.1 past most)
-            (cases_lt k b),
-      );
-  keeps = λ k e o there mark. y.keeps k e o (x.keeps k e o there mark) mark;
+cleared-through : {lost : ℕ → Slot → Bool} {a b z : ℕ} {h f g : Heap} → Cleared lost a b h f
+    → Cleared lost b z f g → Cleared lost a z h g
+cleared-through {lost = lost} {b = b} x y = record {
+  freed = freed-through x.freed y.freed;
+  keeps = λ k e o there not_lost. y.keeps k e o (x.keeps k e o there not_lost) not_lost;
+  stays = λ k e o there least most. ⊎_elim {C = lost k (Occupied e o) ≡ false}
+      (λ (below : k < b). x.stays k e o (freed-left y.freed k e o there) least below)
+      (λ (past : b ≤ k). y.stays k e o there past most)
+      (cases_lt k b);
   free = λ f. y.free (x.free f);
 }
 
+pub cleared-some : (lost : ℕ → Slot → Bool) → IsTest lost → (k n : ℕ) (s : Sweeping)
+    → Cleared lost k (k + n) s.heap (free_some lost k n s).heap
+cleared-some lost test k zero s =
+    subst (λ (z : ℕ). Cleared lost k z s.heap s.heap) (let e : k ≡ k + 0 = omega arith in e)
+    (cleared-none lost k s.heap)
+cleared-some lost test k (suc n) s =
+    subst
+    (λ (z : ℕ). Cleared lost k z s.heap (free_some lost (k + 1) n (free_one lost k s)).heap)
+    (let e : k + 1 + n ≡ k + suc n = omega arith in e)
+    (cleared-through (cleared-one lost test k s)
+    (cleared-some lost test (k + 1) n (free_one lost k s)))
+
+-- ---- a heap whose slots from one number up to another were swept
+
+pub record SweptHeap (cycle from to : ℕ) (h g : Heap) : Type 0 where
+  pub registers : g.registers ≡ h.registers
+  pub letters : g.letters ≡ h.letters
+  pub grey : g.grey ≡ h.grey
+  pub width : length g.slots ≡ length h.slots
+  pub back : (k e : ℕ) (y : Object) → slot_at g k ≡ Occupied e y
+      → (slot_at h k ≡ Occupied e y) × (from ≤ k → k < to → y.mark ≡ cycle)
+  pub keeps : (k e : ℕ) (x : Object) → slot_at h k ≡ Occupied e x → x.mark ≡ cycle
+      → slot_at g k ≡ Occupied e x
+  pub free : FreeSlots h.slots h.free → FreeSlots g.slots g.free
+
 pub swept-some : (cycle k n : ℕ) (s : Sweeping)
     → SweptHeap cycle k (k + n) s.heap (sweep_some cycle k n s).heap
-swept-some cycle k zero s =
-    subst (λ (z : ℕ). SweptHeap cycle k z s.heap s.heap) (let e : k ≡ k + 0 = omega arith in e)
-    (swept-none cycle k s.heap)
-swept-some cycle k (suc n) s =
-    subst
-    (λ (z : ℕ). SweptHeap cycle k z s.heap (sweep_some cycle (k + 1) n (sweep_one cycle k s)).heap)
-    (let e : k + 1 + n ≡ k + suc n = omega arith in e)
-    (swept-through (omega arith) (omega arith) (swept-one cycle k s)
-    (swept-some cycle (k + 1) n (sweep_one cycle k s)))
+swept-some cycle k n s =
+    let c = cleared-some (λ _. is_garbage cycle) (garbage-test cycle) k n s in
+    record {
+      registers = c.freed.registers;
+      letters = c.freed.letters;
+      grey = c.freed.grey;
+      width = c.freed.width;
+      back = λ j e y there. (
+        freed-left c.freed j e y there,
+        λ least most. eqb-true y.mark cycle (not-false _ (c.stays j e y there least most)),
+      );
+      keeps = λ j e x there mark.
+          c.keeps j e x there (not_from_true _ (eq-eqb x.mark cycle mark));
+      free = c.free;
+    }
+
+-- ---- a heap with the same roots
+
+pub roots-kept : {h g : Heap} (P : Ref → Type 0) → g.registers ≡ h.registers
+    → g.letters ≡ h.letters → RootsAll P h → RootsAll P g
+roots-kept P registers letters all = record {
+  registers = subst (λ (z : List (Option Ref)). (k : ℕ) → IfAny P (get_or z k None))
+      (sym registers) all.registers;
+  letters = subst (λ z. (k : ℕ) → IfAny P (get_or z k no_letter).reference)
+      (sym letters) all.letters;
+}
+
+-- ---- a heap with less in it
+
+-- Registers and letters are the same. Each object is as it was before, except for its age, and what
+-- is grey was grey.
+pub record Lessens (h g : Heap) : Type 0 where
+  pub registers : g.registers ≡ h.registers
+  pub letters : g.letters ≡ h.letters
+  pub left : (k e : ℕ) (y : Object) → slot_at g k ≡ Occupied e y
+      → (x : Object) × (slot_at h k ≡ Occupied e x) × (y ≡ record x { age = y.age })
+  pub grey : (k : ℕ) → Among k g.grey → Among k h.grey
+
+pub swept-lessens : {cycle from to : ℕ} {h g : Heap} → SweptHeap cycle from to h g → Lessens h g
+swept-lessens swept = record {
+  registers = swept.registers;
+  letters = swept.letters;
+  left = λ k e y there. (y, (swept.back k e y there).0, refl);
+  grey = λ k a. subst (Among k) swept.grey a;
+}
+
+pub reclaimed-lessens : (scope : Scope) (own : ℕ) (h : Heap) → Lessens h (reclaimed scope own h)
+reclaimed-lessens scope own h =
+    let f = freed-reclaiming scope own h in
+    record {
+      registers = f.registers;
+      letters = f.letters;
+      left = λ k e y there.
+          let back = aged-back (freed_within scope own h) k e y there in (
+            back.0,
+            freed-left f k e back.0 back.1,
+            back.2
+                ∙ ap (λ (a : Age). record back.0 { age = a })
+                (sym (ap (λ (z : Object). z.age) back.2)),
+          );
+      grey = λ k a.
+          subst (Among k) f.grey (among-filter _ k (reclaiming scope own h).heap.grey a);
+    }
 
 -- ---- the node has swept
 
@@ -381,14 +428,8 @@ module _ {shape : Shaped} {c d : Cut} {i : ℕ} {h : Heap} {to swept cursor : �
     };
     closed = record {
       roots = at_turn (λ j z. RootsAll (Safe d) z.local.heap) sweep-turn
-          (let old = roots-map (Safe c) (Safe d) sweep-safe (s.inv.closed.roots i) in
-          record {
-            registers =
-                subst (λ (z : List (Option Ref)). (k : ℕ) → IfAny (Safe d) (get_or z k None))
-                (sym s.heap.registers) old.registers;
-            letters = subst (λ z. (k : ℕ) → IfAny (Safe d) (get_or z k no_letter).reference)
-                (sym s.heap.letters) old.letters;
-          })
+          (roots-kept (Safe d) s.heap.registers s.heap.letters
+          (roots-map (Safe c) (Safe d) sweep-safe (s.inv.closed.roots i)))
           (λ j _. roots-map (Safe c) (Safe d) sweep-safe (s.inv.closed.roots j));
       places = λ j k g o there marked l.
           any-map (Safe c) (Safe d) sweep-safe _

@@ -270,6 +270,7 @@ limit-refused p counts (event.Put object place register) r is h =
     sym (last-refusal [] (fits counts _, LinkSpent) _ r tt h)
 limit-refused p counts (event.Get object place label) r is h =
     sym (last-refusal [] (fits counts _, LinkSpent) _ r tt h)
+limit-refused p counts (event.Reclaim scope) r never h = absurd cc
 limit-refused p counts event.Begin r never h = absurd cc
 limit-refused p counts event.Scan r never h = absurd cc
 limit-refused p counts event.Pass r never h = absurd cc

@@ -1,5 +1,5 @@
 -- What a space without a collector sees of a heap, and of the messages that a node sends.
-use Rattle.std.proofs.Common.{◌≡◌, ◌≢◌, ℕ, ◌+◌, ◌<◌, ◌≤◌, Bool, false, cond, ◌==◌, ◌&&◌, eqb, List, [], ◌∷◌, ◌++◌, length, length-set, map, drop, get_or, set, Option, None, Some, slice_get, refl, sym, ap, ◌∙◌, subst, ⊎_elim, inl, inr, arith, append-nil, append_assoc, get_or-set_same, get_or-set_other}
+use Rattle.std.proofs.Common.{◌≡◌, ◌≢◌, ℕ, ◌+◌, ◌<◌, ◌≤◌, ◌⊎◌, Bool, false, cond, ◌==◌, ◌&&◌, eqb, List, [], ◌∷◌, ◌++◌, length, length-set, map, drop, get_or, set, Option, None, Some, slice_get, refl, sym, ap, ◌∙◌, subst, ⊎_elim, inl, inr, arith, append-nil, append_assoc, get_or-set_same, get_or-set_other}
 use Rattle.std.specs.Prelude.{filter, option_map}
 use Rattle.std.proofs.lemmas.Bool.{cases_Bool, cases_eq, cases_lt, cond_both, cond-true, cond-false, eq-eqb, ne_eqb}
 use Rattle.std.proofs.lemmas.List.{get_or_past, map-append, drop-append-le, drop_more}
@@ -10,7 +10,7 @@ use Rattle.ids.specs.declared.names.Ref.{Ref}
 use Rattle.msg.specs.declared.body.Body.{Body}
 use Rattle.msg.specs.declared.body.Message.{Message}
 use Rattle.model.specs.State.{Object, Slot, Occupied, Retired, Heap, slot_at}
-use Rattle.model.specs.Heaps.{with_rewritten, object_at}
+use Rattle.model.specs.Heaps.{with_rewritten, object_at, sharing, remembering}
 use Rattle.model.specs.Counting.{is_reference}
 use Rattle.model.specs.Shading.{is_unmarked, with_mark, make_grey, make_all_grey, is_same}
 use Rattle.model.specs.Steps.{append_all}
@@ -21,7 +21,7 @@ use Rattle.laws.proofs.Lookups.{among-append}
 use Rattle.laws.proofs.StepFacts.{length-append_all}
 use Rattle.laws.proofs.Slots.{rewritten-at, rewritten-back, rewritten-rewrites}
 use Rattle.laws.proofs.GoodHeaps.{own_reference}
-use Rattle.laws.proofs.Meets.{same-is}
+use Rattle.model.proofs.Naming.{same-is}
 
 -- ---- heaps
 
@@ -83,28 +83,48 @@ kept-desk {h = h} {g = g} a =
     ap (λ (z : List (Option Ref)). record (desk_of g) { registers = z }) a.registers
     ∙ ap (λ z. record (desk_of h) { letters = z }) a.letters
 
+-- an object is rewritten in what isn't seen of it: in its mark, in who may know it, or in its age
+still-rewritten : (cycle : ℕ) (h : Heap) (r : Ref) (f : Object → Object)
+    → ((x : Object) → ((f x).mark ≡ x.mark) ⊎ ((f x).mark ≡ cycle))
+    → ((x : Object) → thing_of (f x) ≡ thing_of x) → Still h (with_rewritten h r f)
+still-rewritten cycle h r f mark same = record {
+  kept = record {
+    registers = refl;
+    letters = refl;
+    objects = λ k e y there.
+        let found = rewritten-back h r f k e y there in (
+          found.0,
+          found.1,
+          ⊎_elim {C = thing_of y ≡ thing_of found.0} (λ is. ap thing_of is)
+              (λ is. ap thing_of is ∙ same found.0) found.2,
+        );
+  };
+  lasting = λ k e x there.
+      let found = (rewritten-rewrites cycle h r f mark).lasting k e x there in
+      (found.object, found.there);
+}
+
+pub still-sharing : (h : Heap) (r : Ref) → Still h (with_rewritten h r sharing)
+still-sharing h r = still-rewritten 0 h r sharing (λ _. inl refl) (λ _. refl)
+
+pub still-remembering : (h : Heap) (r : Ref) → Still h (with_rewritten h r remembering)
+still-remembering h r = still-rewritten 0 h r remembering (λ _. inl refl) (λ _. refl)
+
 -- objects that turn grey are marked, and otherwise stay as they are
 still-grey : (cycle : ℕ) (h : Heap) (r : Ref) → Still h (make_grey cycle h r)
 unfolding make_grey
 still-grey cycle h r =
     cond_both (is_unmarked cycle (object_at h r))
     (record (with_rewritten h r (with_mark cycle)) { grey = h.grey ++ r.slot ∷ [] }) h (Still h)
-    (λ _. record {
+    (λ _.
+    let s = still-rewritten cycle h r (with_mark cycle) (λ _. inr refl) (λ _. refl) in
+    record {
       kept = record {
-        registers = refl;
-        letters = refl;
-        objects = λ k e y there.
-            let found = rewritten-back h r (with_mark cycle) k e y there in (
-              found.0,
-              found.1,
-              ⊎_elim {C = thing_of y ≡ thing_of found.0} (λ same. ap thing_of same)
-                  (λ same. ap thing_of same) found.2,
-            );
+        registers = s.kept.registers;
+        letters = s.kept.letters;
+        objects = s.kept.objects;
       };
-      lasting = λ k e x there.
-          let found =
-          (rewritten-rewrites cycle h r (with_mark cycle) (λ _. inr refl)).lasting k e x there in
-          (found.object, found.there);
+      lasting = s.lasting;
     })
     (λ _. still-same refl refl refl)
 

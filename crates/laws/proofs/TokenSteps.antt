@@ -8,7 +8,7 @@ use Rattle.msg.specs.declared.body.Colour.TheVariants.{White, Black}
 use Rattle.msg.specs.declared.body.Token.{Token}
 use Rattle.msg.specs.declared.body.Message.{Message}
 use Rattle.model.specs.State.{Phases, LocalState, NodeState, got_from, sent_to}
-use Rattle.model.specs.Counting.{stamped}
+use Rattle.model.specs.Counting.{is_idle, stamped}
 use Rattle.model.specs.Collecting.{new_token, whitened, without_token}
 use Rattle.model.specs.Steps.{append_all}
 use Rattle.model.specs.Cuts.{Cut, taken, IsInFlight, Becomes}
@@ -18,7 +18,7 @@ use Rattle.laws.proofs.Flights.{flight-inside}
 use Rattle.laws.proofs.Tallies.{bound-turn}
 use Rattle.laws.proofs.Invariant.{phases_of, cycle_of, Marking, Resting, Joined, Phased, BodyFits, is_single, Round, Spot, at_node, on_way, place_of_spot, IsAt, is_held, is_sent, IsBlack, ringed, is_black, Bound, Inv}
 use Rattle.laws.proofs.Base.{unheard}
-use Rattle.laws.proofs.Light.{is_idle, light-inv, Speaks, speaks-flows, Hears, hears-turn, hears-flows, hears-width, hears-within, hears-marks}
+use Rattle.laws.proofs.Light.{light-inv, Speaks, speaks-flows, Hears, hears-turn, hears-flows, hears-width, hears-within, hears-marks}
 use Rattle.laws.proofs.RingSteps.{at-once, way-not-node, Ringless, ringless-as, ringless-phases, ringless-cycle, ringless-passive, ringless-owed, ringless-safra, flew-one, quiet-messages}
 
 -- The node gives its token to another node, and is white then.

@@ -32,11 +32,12 @@ pub at_turn : {c d : Cut} {i : ℕ} {p : LocalState} {ms : List (ℕ × Message)
 at_turn P t here others = at_becomes P t.becomes here others
 
 -- a message among those sent was there before, or is one of the new ones
-abbrev WasOrNew : List (List Message) → List (ℕ × Message) → ℕ → ℕ → Message → Type 0
+abbrev pub WasOrNew : List (List Message) → List (ℕ × Message) → ℕ → ℕ → Message → Type 0
 WasOrNew sent ms to place x = (slice_get (get_or sent to []) place ≡ Some x) ⊎ Among (to, x) ms
 
-appended-from : (sent : List (List Message)) (ms : List (ℕ × Message)) (to place : ℕ) (x : Message)
-    → slice_get (get_or (append_all sent ms) to []) place ≡ Some x → WasOrNew sent ms to place x
+pub appended-from : (sent : List (List Message)) (ms : List (ℕ × Message)) (to place : ℕ)
+    (x : Message) → slice_get (get_or (append_all sent ms) to []) place ≡ Some x
+    → WasOrNew sent ms to place x
 appended-from sent [] to place x there = inl there
 appended-from sent ((other, y) ∷ ms) to place x there =
     let longer : List Message = get_or sent other [] ++ y ∷ [] in

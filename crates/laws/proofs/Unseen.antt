@@ -13,13 +13,14 @@ use Rattle.model.specs.Effects.{Work, then, Effect}
 use Rattle.model.specs.Counting.{is_reference, append, announce, to_others}
 use Rattle.model.specs.Shading.{is_open, enter, joined, marks_for, unasked, see_to}
 use Rattle.model.specs.Collecting.{reports_sweep, looked_at, swept_slots}
-use Rattle.model.specs.Steps.{is_own, made, take_carried}
-use Rattle.model.proofs.Walk.{work_in, Collects, joined-walks, carried-walks, begun-walks, scanned-walks, passed-walks}
+use Rattle.model.specs.Steps.{is_own, made, take_carried, share}
+use Rattle.model.proofs.Walk.{work_in, Collects, idle-quiet, joined-walks, carried-walks, begun-walks, scanned-walks, passed-walks, share-walks}
 use Rattle.laws.specs.Objects.{is_program}
 use Rattle.laws.proofs.Meets.{marks-from}
+use Rattle.laws.specs.Sights.{thing_of}
 use Rattle.laws.proofs.PhaseSteps.{others-are}
-use Rattle.laws.proofs.Sweeps.{swept-some}
-use Rattle.laws.proofs.Things.{Kept, Still, still-same, still-through, still-greys, IsQuiet, quiet-append}
+use Rattle.laws.proofs.Sweeps.{swept-some, reclaimed-lessens}
+use Rattle.laws.proofs.Things.{Kept, Still, still-same, still-through, still-sharing, still-greys, IsQuiet, quiet-append}
 
 -- some work after which no object is gone, and no message of a program was sent
 pub record Calm (h : Heap) (w : Work) : Type 0 where
@@ -69,9 +70,16 @@ calm-collects = record {
   ends = λ p. same-calm refl refl refl none-quiet;
   hears = λ p reports. same-calm refl refl refl none-quiet;
   scans = λ p. same-calm refl refl refl none-quiet;
-  sends = λ to b p quiet. same-calm refl refl refl (one-quiet to _ quiet);
-  tells = λ b p quiet. same-calm refl refl refl (others-quiet p b p.shape.nodes quiet);
+  sends = λ to b p idle. same-calm refl refl refl (one-quiet to _ (idle-quiet b idle));
+  tells = λ b p idle.
+      same-calm refl refl refl (others-quiet p b p.shape.nodes (idle-quiet b idle));
 }
+
+-- objects become shared
+pub calm-shares : (p : LocalState) (rs : List Ref) → Calm p.heap (share rs p)
+calm-shares =
+    share-walks calm-collects
+    (λ p r. record { still = still-sharing p.heap r; quiet = none-quiet })
 
 -- a message is received, up to what its body asks for
 abbrev pub before_body : LocalState → ℕ → Body → Work
@@ -110,6 +118,17 @@ unseen-own p counts (event.Sweep count) own none =
       };
       quiet = cond_both (reports_sweep p count) _ [] IsQuiet (λ _. one-quiet 0 _ refl)
           (λ _. none-quiet);
+    }
+unseen-own p counts (event.Reclaim scope) own none =
+    let less = reclaimed-lessens scope p.own p.heap in
+    record {
+      kept = record {
+        registers = less.registers;
+        letters = less.letters;
+        objects = λ k e y there.
+            (let x = less.left k e y there in (x.0, x.1, ap thing_of x.2));
+      };
+      quiet = none-quiet;
     }
 unseen-own p counts (event.Next from) own none = unseen (calm-collects.rest p)
 unseen-own p counts (event.Data d) own none = absurd cc

@@ -11,6 +11,7 @@ mod Stages
 mod Ends
 mod Costs
 mod Sweeping
+pub mod LocalWork
 pub mod Theorems
 mod TokenMoves
 mod Soon

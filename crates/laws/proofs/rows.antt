@@ -9,6 +9,7 @@ mod MarkRows
 mod CycleRows
 mod NextRows
 mod SweepRows
+mod ReclaimRows
 mod RingRows
 mod ShadingRows
 mod TurnRows

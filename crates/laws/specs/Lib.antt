@@ -1,4 +1,5 @@
 pub mod Statements
+pub mod Privacy
 pub mod Objects
 pub mod Sights
 pub mod Strategy

@@ -96,6 +96,7 @@ posted s from to b = with_messages s from to (s.under_way from to ++ b ∷ [])
 
 -- an event of a program; the others are the collector's, or bring what other nodes sent
 abbrev pub is_program : Event → Bool
+is_program (event.Reclaim scope) = false
 is_program event.Begin = false
 is_program event.Scan = false
 is_program event.Pass = false

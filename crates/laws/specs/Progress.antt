@@ -6,15 +6,17 @@ use Rattle.std.specs.Prelude.{◌≡◌, ◌⊎◌, ℕ, ◌+◌, ◌<◌, ◌�
 use Rattle.std.specs.List.{range_with_len}
 use Rattle.ids.specs.declared.names.Ref.{Ref}
 use Rattle.ids.specs.declared.limits.TheConstants.{GREATEST_CYCLE}
+use Rattle.model.specs.declared.age.Scope.{Scope}
 use Rattle.model.specs.declared.step.Step.{Step}
+use Rattle.model.specs.declared.event.Event.TheVariants as event
 use Rattle.model.specs.declared.step.Step.TheVariants as step
 use Rattle.model.specs.Collecting.{is_swept_everywhere}
-use Rattle.model.specs.World.{World, run}
+use Rattle.model.specs.World.{World, run, happens}
 use Rattle.model.specs.Cuts.{Cut, cut, IsLive}
 use Rattle.model.specs.Agreement.{Terminated, OldGarbage}
 use Rattle.laws.specs.Statements.{Garbage}
 use Rattle.laws.specs.Strategy.{now, play, IsPlayed}
-use Rattle.laws.specs.Bounds.{marking_moves, cycle_moves, both_moves, soon_moves, marking_room, cycle_room, both_room, soon_room, HasRoom}
+use Rattle.laws.specs.Bounds.{flight, work_left, whole_work, marking_moves, cycle_moves, both_moves, soon_moves, marking_room, cycle_room, both_room, soon_room, HasRoom}
 
 abbrev pub current_cycle : World → ℕ
 current_cycle w = (now w 0).local.phases.cycle
@@ -70,3 +72,18 @@ abbrev pub EndIsFoundSoon : ℕ → World → Type 0
 EndIsFoundSoon n w =
     Terminated n (current_cycle w) (now w) → HasRoom (soon_room n (now w)) (now w)
     → Comes n (soon_moves n (now w)) w (λ v. HasEnded (current_cycle w) (now v))
+
+-- A Reclaim of either scope adds nothing to what bounds are made of, and takes no number. Nor does
+-- it undo that marking has terminated.
+pub record AddsNoWork (n : ℕ) (c d : Cut) : Type 0 where
+  pub flight : flight n d ≤ flight n c
+  pub left : work_left n d ≤ work_left n c
+  pub whole : whole_work n d ≤ whole_work n c
+  pub sent : (i : ℕ) → (d i).sent ≡ (c i).sent
+  pub terminated : (cycle : ℕ) → Terminated n cycle c → Terminated n cycle d
+
+-- So a node may reclaim between any two moves, and the bounds on these still hold.
+abbrev pub ReclaimsAddNoWork : ℕ → World → Type 0
+ReclaimsAddNoWork n w =
+    (i : ℕ) (scope : Scope)
+    → AddsNoWork n (now w) (now (happens w (step.Act i (event.Reclaim scope))))

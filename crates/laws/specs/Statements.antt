@@ -87,19 +87,19 @@ NodesAgree w =
 
 -- The heaps are those of node i before and after a step. Take a cut with the node's current state,
 -- and with any states of the other nodes, current or saved. If an object of the node is reachable
--- in this cut, it is in its slot before the step and after it.
-abbrev pub KeepsReachable : World → ℕ → (old new : Heap) → Type 0
-KeepsReachable w i old new =
+-- in this cut, it is in its slot before the step. After it, what `makes` makes of it is there.
+abbrev pub KeepsReachable : (Object → Object) → World → ℕ → (old new : Heap) → Type 0
+KeepsReachable makes w i old new =
     (choice : ℕ → Bool) (r : Ref) → choice i ≡ false → Reachable (cut w choice) r → r.node ≡ i
     → (o : Object) × (slot_at old r.slot ≡ Occupied r.generation o)
-    × (slot_at new r.slot ≡ Occupied r.generation o)
+    × (slot_at new r.slot ≡ Occupied r.generation (makes o))
 
--- A sweep frees nothing that is reachable.
+-- A sweep frees nothing that is reachable, and leaves it as it is.
 abbrev pub SweepsFreeNoneReachable : World → Type 0
 SweepsFreeNoneReachable w =
     (i count : ℕ) (s : NodeState) (a : Answer)
     → act (node_at w.current i) (event.Sweep count) ≡ Ok (s, a)
-    → KeepsReachable w i (node_at w.current i).local.heap s.local.heap
+    → KeepsReachable (λ o. o) w i (node_at w.current i).local.heap s.local.heap
 
 -- Old garbage goes, rings of objects across nodes included. Take a cycle that node 0 hasn't begun
 -- yet. Take an object that its owner's saved state holds, and that is reachable in no cut. Once its

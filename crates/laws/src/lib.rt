@@ -4,8 +4,9 @@
 //! saves and restarts.
 //! `specs/Statements` says each of them in a few lines, and `proofs/` proves it. `specs/Sights`
 //! says that programs can't see the collector, by comparison with a space without one
-//! (`specs/Objects`), `specs/Progress` that collection never gets stuck (`progress.rt`).
-//! `proofs/rows` has worked examples of the rules.
+//! (`specs/Objects`). `specs/Privacy` says that a node frees its private garbage alone, all of it
+//! or only what it made since it last did that. `specs/Progress` says that collection never gets
+//! stuck (`progress.rt`). `proofs/rows` has worked examples of the rules.
 //!
 //! # The ideas of the proofs
 //!
@@ -33,6 +34,13 @@
 //! whatever it marks, asks for and sends from some cycle on is good too. Let the good references be
 //! those that a cut could reach, and those that weren't given out yet. Then what was garbage in
 //! that cut is gone once its owner has swept a cycle that began later (`OldGarbage`).
+//!
+//! What is private (`Outside`, `Shown`): every reference that another node has, or that a message
+//! mentions, was given out, and names no private object. That too is shown as for good references,
+//! with others for each node. So a Reclaim frees nothing that is named outside its node. And what
+//! it leaves names only what it leaves (`ReclaimSteps`). For a Reclaim of the young this rests on
+//! what a node remembers (`Remembering`): no place of an old object names a young one. So what is
+//! named only by old objects is kept, although their places aren't read.
 //!
 //! A space beside the cut (`Things`, `Doings`, `Telling`, `Transparent`): a space without a
 //! collector has the cut's registers, letters and messages of programs. Each object that a node

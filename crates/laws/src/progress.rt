@@ -1,11 +1,12 @@
 //! Collection never gets stuck. From every space that a run reaches, the collector alone ends the
 //! cycle, by moves that the space determines (`specs/Strategy`), and within a bound
-//! (`specs/Bounds`). `specs/Progress` says this in four statements, and `proofs/progress` proves
-//! them over the definitions of crate `model` and the invariant of this crate (`Invariant`).
+//! (`specs/Bounds`). `specs/Progress` says this in four statements. A fifth one says that a Reclaim
+//! between any two moves passes no bound. `proofs/progress` proves them over the definitions of
+//! crate `model` and the invariant of this crate (`Invariant`).
 ghost use Rattle.laws.specs.Statements.{OfSpaces};
-ghost use Rattle.laws.specs.Progress.{MarkingCanEnd, CycleCanEnd, GarbageCanGo, EndIsFoundSoon};
+ghost use Rattle.laws.specs.Progress.{MarkingCanEnd, CycleCanEnd, GarbageCanGo, EndIsFoundSoon, ReclaimsAddNoWork};
 
-/// The four theorems. They hold for every list of steps of every space, and for the moves that the
+/// The theorems. They hold for every list of steps of every space, and for the moves that the
 /// strategy plays after it. Each step of these is answered, if no link runs out of numbers. Nothing
 /// is said about memory and the size of images, which the definitions don't know, nor about who
 /// plays the moves.
@@ -22,4 +23,6 @@ pub fn laws()
     // Once marking has terminated, three rounds of the token are enough, and the moves for what
     // else is in flight.
     ensures soon { OfSpaces EndIsFoundSoon }
+    // A Reclaim, of all or of the young, adds no work.
+    ensures reclaims { OfSpaces ReclaimsAddNoWork }
 {}

@@ -1,6 +1,6 @@
 //! Early messages, in places by their numbers. All room for them is allocated at the beginning, so
 //! keeping one never fails.
-ghost use Rattle.std.specs.Prelude.{◌≡◌, ◌<◌, length, replicate, IfOk, IfErr};
+ghost use Rattle.std.specs.Prelude.{◌≡◌, ◌<◌, length, option_copied, replicate, IfOk, IfErr};
 ghost use Rattle.ids.specs.declared.limits.TheConstants.{WINDOW};
 ghost use Rattle.ids.specs.declared.refusal.Refusal.TheVariants.{Memory};
 ghost use Rattle.link.specs.Early.{no_early, place_at, placed, shifted, emptied};
@@ -38,17 +38,10 @@ impl EarlyFrames {
         ensures made { IfOk result (λ e. e ≡ no_early) }
         ensures refused { IfErr result (λ e. e ≡ Memory) }
     {
-        EarlyFrames::holding(alloc, &[None; WINDOW as usize])
-    }
-
-    // Makes places that hold these frames.
-    fn holding(alloc: Global, frames: &[Option<Data>]) -> Result<EarlyFrames, Refusal>
-        requires { length frames.now ≡ WINDOW }
-        ensures made { IfOk result (λ e. e ≡ frames.now) }
-        ensures refused { IfErr result (λ e. e ≡ Memory) }
-    {
         let mut places = HeapCircularBuffer::with_capacity(alloc, usize::from(WINDOW))?;
-        places.extend_from_slice(frames);
+        for _place in 0..WINDOW {
+            places.push_back(None);
+        }
         Ok(EarlyFrames { places })
     }
 
@@ -57,20 +50,22 @@ impl EarlyFrames {
         ensures made { IfOk result (λ v. v.items ≡ replicate width no_early) }
         ensures refused { IfErr result (λ e. e ≡ Memory) }
     {
-        let empty = [None; WINDOW as usize];
         let mut by_node = Vec::with_capacity(alloc, usize::from(width))?;
         for _node in 0..width {
-            by_node.push(EarlyFrames::holding(alloc, &empty)?)?;
+            by_node.push(EarlyFrames::new(alloc)?)?;
         }
         Ok(by_node)
     }
 
     /// The frame in this place; `None` past the last place.
-    #[tactic(auto, using(crate::proofs::Places::flat_read))]
-    pub fn at(&self, place: usize) -> Option<Data>
-        ensures { result ≡ place_at self.now place }
+    #[tactic(auto, using(crate::proofs::Places::read_there, crate::proofs::Places::read_past))]
+    pub fn at(&self, place: usize) -> Option<&Data>
+        ensures { option_copied result ≡ place_at self.now place }
     {
-        self.places.get(place).copied().flatten()
+        match self.places.get(place) {
+            Some(entry) => entry.as_ref(),
+            None => None,
+        }
     }
 
     /// Puts a frame into its place. If a frame is there already, that one stays.

@@ -1,6 +1,6 @@
 //! Both ends of the links between a node and each node, found by number. A message for all others
 //! is appended for all of them or for none.
-ghost use Rattle.std.specs.Prelude.{◌≡◌, ◌≢◌, ◌+◌, ◌<◌, ◌≤◌, true, false, length, map, slice_index_or, ◌↔◌, IsSome, IfSome, IfOk, IfErr, OnOk, OnErr};
+ghost use Rattle.std.specs.Prelude.{◌≡◌, ◌≢◌, ◌+◌, ◌<◌, ◌≤◌, true, false, length, map, option_copied, slice_index_or, ◌↔◌, IsSome, IfSome, IfOk, IfErr, OnOk, OnErr};
 ghost use Rattle.ids.specs.declared.limits.TheConstants.{GREATEST_NUMBER};
 ghost use Rattle.ids.specs.declared.refusal.Refusal.TheVariants.{AckBeyond, LinkSpent, Memory};
 ghost use Rattle.model.specs.Steps.{fits};
@@ -137,13 +137,13 @@ impl Links {
     /// Appends the same message for every node except `own`, in ascending order: for all of them or
     /// for none. It fails with [`Refusal::LinkSpent`] if one of their links has no number left, and
     /// otherwise with [`Refusal::Memory`] if an allocation fails. The links are then as they were.
-    pub fn announce(&mut self, own: u8, message: Message) -> Result<(), Refusal>
-        ensures fits { OnOk result (fits_others self.old own message ≡ true) }
-        ensures done { OnOk result (self.new ≡ announced self.old own message) }
+    pub fn announce(&mut self, own: u8, message: &Message) -> Result<(), Refusal>
+        ensures fits { OnOk result (fits_others self.old own message.now ≡ true) }
+        ensures done { OnOk result (self.new ≡ announced self.old own message.now) }
         ensures refused { IfErr result
-            (λ e. e ≢ Memory → (e ≡ LinkSpent) × (fits_others self.old own message ≡ false)) }
+            (λ e. e ≢ Memory → (e ≡ LinkSpent) × (fits_others self.old own message.now ≡ false)) }
         ensures memory { IfErr result
-            (λ e. e ≡ Memory → fits_others self.old own message ≡ true) }
+            (λ e. e ≡ Memory → fits_others self.old own message.now ≡ true) }
         ensures unchanged { OnErr result (self.new ≡ self.old) }
         ensures sound { IsLinks self.new }
     {
@@ -180,16 +180,16 @@ impl Links {
     }
 
     // Appends a message for a node, unless that is `own`.
-    fn append_other(&mut self, own: u8, to: u8, message: Message) -> Result<(), Refusal>
+    fn append_other(&mut self, own: u8, to: u8, message: &Message) -> Result<(), Refusal>
         requires { to < length self.old.links }
         ensures done { OnOk result (self.new ≡ record self.old {
-          links = append_to self.old.links (for_other own message to);
+          links = append_to self.old.links (for_other own message.now to);
         }) }
         ensures unchanged { OnErr result (self.new ≡ self.old) }
         ensures sound { IsLinks self.old → IsLinks self.new }
     {
         if to != own {
-            self.append(to, message)?;
+            self.append(to, message.copy())?;
         }
         Ok(())
     }
@@ -295,9 +295,9 @@ impl Links {
 
     /// The message with this number for the node `to`, released or not. `None` if none was appended
     /// under that number, or if it was dropped.
-    pub fn message(&self, to: u8, number: u64) -> Option<Message>
+    pub fn message(&self, to: u8, number: u64) -> Option<&Message>
         requires { to < length self.now.links }
-        ensures value { result ≡ message_of (link_at self.now to) number }
+        ensures value { option_copied result ≡ message_of (link_at self.now to) number }
         ensures within { IfSome result (λ _. number ≤ GREATEST_NUMBER) }
     {
         self.by_node[usize::from(to)].sender.message(number)
@@ -306,9 +306,9 @@ impl Links {
     /// The message in this place of the window to the node `to`. The window has
     /// [`WINDOW`](ids::WINDOW) places and shows only released messages: in the first place is the
     /// one after the last acknowledged one.
-    pub fn window(&self, to: u8, place: u8) -> Option<Message>
+    pub fn window(&self, to: u8, place: u8) -> Option<&Message>
         requires { to < length self.now.links }
-        ensures value { result ≡ released_at (link_at self.now to) place }
+        ensures value { option_copied result ≡ released_at (link_at self.now to) place }
         ensures within { IfSome result
             (λ _. (link_at self.now to).base + 1 + place ≤ GREATEST_NUMBER) }
     {

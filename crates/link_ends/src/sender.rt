@@ -1,6 +1,6 @@
 //! The sending end of a link: the messages that aren't acknowledged yet. Those that a saved state
 //! holds are released, and no restart takes them back.
-ghost use Rattle.std.specs.Prelude.{◌≡◌, ◌≢◌, ◌<◌, ◌≤◌, ◌+◌, ◌↔◌, length, IsSome, IfSome, IfOk, IfErr, OnOk, OnErr};
+ghost use Rattle.std.specs.Prelude.{◌≡◌, ◌≢◌, ◌<◌, ◌≤◌, ◌+◌, ◌↔◌, length, option_copied, IsSome, IfSome, IfOk, IfErr, OnOk, OnErr};
 ghost use Rattle.ids.specs.declared.limits.TheConstants.{GREATEST_NUMBER};
 ghost use Rattle.ids.specs.declared.refusal.Refusal.TheVariants.{AckBeyond, LinkSpent, Memory};
 ghost use Rattle.model.specs.View.{used, appended, retracted, trimmed, all_kept, kept_to, message_of, released_at, no_link};
@@ -134,9 +134,10 @@ impl Sender {
         if number > self.kept {
             return Err(Refusal::AckBeyond);
         }
-        if number > self.base {
-            self.unacknowledged.drain(..(number - self.base) as usize);
-            self.base = number;
+        // (One by one, since mostly there is one: a `drain` takes longer to begin.)
+        while self.base < number {
+            self.unacknowledged.pop_front();
+            self.base += 1;
         }
         Ok(())
     }
@@ -159,25 +160,25 @@ impl Sender {
 
     /// The message with this number, released or not. `None` if none was appended under that
     /// number, or if it was dropped.
-    pub fn message(&self, number: u64) -> Option<Message>
-        ensures value { result ≡ message_of self.now number }
+    pub fn message(&self, number: u64) -> Option<&Message>
+        ensures value { option_copied result ≡ message_of self.now number }
         ensures within { IfSome result (λ _. number ≤ GREATEST_NUMBER) }
     {
         if number <= self.base {
             return None;
         }
         let place = number - self.base - 1;
-        self.unacknowledged.get(place as usize).copied()
+        self.unacknowledged.get(place as usize)
     }
 
     /// The message in this place of the window. The window has [`WINDOW`] places and shows only
     /// released messages: in the first place is the one after the last acknowledged one.
-    pub fn window(&self, place: u8) -> Option<Message>
-        ensures value { result ≡ released_at self.now place }
+    pub fn window(&self, place: u8) -> Option<&Message>
+        ensures value { option_copied result ≡ released_at self.now place }
         ensures within { IfSome result (λ _. self.now.base + 1 + place ≤ GREATEST_NUMBER) }
     {
         if place < WINDOW && self.base + u64::from(place) < self.kept {
-            self.unacknowledged.get(usize::from(place)).copied()
+            self.unacknowledged.get(usize::from(place))
         } else {
             None
         }

@@ -6,7 +6,6 @@ use Rattle.ids.specs.declared.refusal.Refusal.{Refusal}
 use Rattle.ids.specs.declared.refusal.Refusal.TheVariants as refusal
 use Rattle.script.specs.Grammar.{words_of}
 use Rattle.script.specs.RunLines.{run_line_of}
-use Rattle.script.specs.Words.{last_of}
 use Rattle.script.specs.Text.{outcome_text, refused_text}
 use Rattle.script.specs.declared.run_line.RunLine.{RunLine}
 use Rattle.script.specs.declared.run_line.RunLine.TheVariants as said
@@ -104,22 +103,22 @@ IsSpelled count (told.Bytes text) = Spells count (string_bytes text)
 IsSpelled count (told.Refused e) = Unit {0}
 IsSpelled count t = ⊥
 
--- what kind of outcome a line has that says this and ends with this word
-abbrev pub IsToldOf : List ℕ → Option RunLine → Told → Type 0
-IsToldOf last None t = t ≡ told.NoCommand
-IsToldOf last (Some said.Blank) t = t ≡ told.Nothing
-IsToldOf last (Some (said.Act node e)) t = IsAnswer t
-IsToldOf last (Some (said.Restart node)) t = IsAnswer t
-IsToldOf last (Some (said.SetBytes node object)) t = IsWritten (hex_bytes last) t
-IsToldOf last (Some (said.Patch node object offset)) t = IsWritten (hex_bytes last) t
-IsToldOf last (Some (said.Bytes node object offset count)) t = IsSpelled count t
-IsToldOf last (Some said.Cycle) t = IsEnd t
-IsToldOf last (Some (said.Await node register)) t = IsAwaited t
-IsToldOf last (Some (said.Trace node)) t = IsTrace t
+-- what kind of outcome a line has that says this
+abbrev pub IsToldOf : Option RunLine → Told → Type 0
+IsToldOf None t = t ≡ told.NoCommand
+IsToldOf (Some said.Blank) t = t ≡ told.Nothing
+IsToldOf (Some (said.Act node e)) t = IsAnswer t
+IsToldOf (Some (said.Restart node)) t = IsAnswer t
+IsToldOf (Some (said.SetBytes node object hex)) t = IsWritten (hex_bytes hex.now) t
+IsToldOf (Some (said.Patch node object offset hex)) t = IsWritten (hex_bytes hex.now) t
+IsToldOf (Some (said.Bytes node object offset count)) t = IsSpelled count t
+IsToldOf (Some said.Cycle) t = IsEnd t
+IsToldOf (Some (said.Await node register)) t = IsAwaited t
+IsToldOf (Some (said.Trace node)) t = IsTrace t
 
 -- what kind of outcome a line of a script has, if the space is wide or not
 abbrev pub IsTold : Bool → List ℕ → Told → Type 0
-IsTold wide line t = IsToldOf (last_of (words_of line) []) (run_line_of wide (words_of line)) t
+IsTold wide line t = IsToldOf (run_line_of wide (words_of line)) t
 
 -- a line has such an outcome, which is printed, and the status is that of the outcome
 pub record PrintsLine (wide : Bool) (line : List ℕ) (number : ℕ) (old new : Option (List ℕ)) (status : ℕ)

@@ -29,9 +29,9 @@ pub(crate) fn act<R: Wait, D: Disk + Drop>(
     rt: &R,
     space: &Space<D>,
     node: u8,
-    event: Event,
+    event: &Event,
 ) -> Result<Answer, Refusal>
-    requires { is_own event ≡ true }
+    requires { is_own event.now ≡ true }
 {
     match space.program(node) {
         Some(program) => program.act(rt, event),
@@ -47,7 +47,7 @@ pub(crate) fn accept_last<R: Wait, D: Disk + Drop>(
     register: u16,
     _ended: AllEnded,
 ) -> Result<Answer, LastRefusal> {
-    match act(rt, space, node, Event::Accept { register }) {
+    match act(rt, space, node, &Event::Accept { register }) {
         Ok(answer) => Ok(answer),
         Err(refusal) => Err(LastRefusal { refusal }),
     }

@@ -32,7 +32,7 @@ pub(crate) fn write<R: Wait, D: Disk + Drop>(
     ensures { IsWritten (hex_bytes word.now) result }
 {
     match bytes_spelled(bytes.alloc, word) {
-        Ok(spelled) => told_of(act(rt, space, node, writing.event(spelled.as_slice()))),
+        Ok(spelled) => told_of(act(rt, space, node, &writing.event(spelled.as_slice()))),
         Err(FromHexError::OutOfMemory) => Told::Refused(Refusal::Memory),
         Err(_) => Told::NoCommand,
     }

@@ -16,7 +16,7 @@ use commands::{Writing, next_line};
 use disk::{Disk, FileDisk, MemoryDisk};
 use ids::Refusal;
 use model::{Answer, Event, Outcome};
-use script::{OutcomeText, RunLine, last_word};
+use script::{OutcomeText, RunLine};
 use std::alloc::Global;
 use std::fs::File;
 use std::io::Write;
@@ -295,25 +295,29 @@ fn take_line<R: Clock + Wait, D: Disk + Drop>(
 {
     match RunLine::parse(bytes.wide, text) {
         Some(RunLine::Blank) => Told::Nothing,
-        Some(RunLine::Act(node, event)) => told_of(act(rt, space, node, event)),
+        Some(RunLine::Act(node, event)) => told_of(act(rt, space, node, &event)),
         Some(RunLine::Restart(node)) => match space.restart(rt, node) {
             Ok(()) => Told::Outcome(Outcome::Done),
             Err(refusal) => Told::Refused(refusal),
         },
-        Some(RunLine::SetBytes { node, object }) => {
-            let writing = Writing::All { object };
-            write(rt, space, bytes, node, writing, last_word(text))
+        Some(RunLine::SetBytes { node, object, hex }) => {
+            write(rt, space, bytes, node, Writing::All { object }, hex)
         }
         Some(
             RunLine::Patch {
                 node,
                 object,
                 offset,
+                hex,
             },
-        ) => {
-            let writing = Writing::Part { object, offset };
-            write(rt, space, bytes, node, writing, last_word(text))
-        }
+        ) => write(
+            rt,
+            space,
+            bytes,
+            node,
+            Writing::Part { object, offset },
+            hex,
+        ),
         Some(
             RunLine::Bytes {
                 node,
@@ -413,7 +417,7 @@ fn await_letter<R: Clock + Wait, D: Disk + Drop>(
         if let Some(ended) = space.ended() {
             return told_last(accept_last(rt, space, node, register, ended));
         }
-        match act(rt, space, node, Event::Accept { register }) {
+        match act(rt, space, node, &Event::Accept { register }) {
             Err(Refusal::NoLetter) => {}
             answered => return told_of(answered),
         }

@@ -3,7 +3,7 @@
 use Rattle.std.specs.Prelude.{◌≡◌, ℕ, ℤ, Bool, Option, Some, None, Result, Err}
 use Rattle.model.specs.declared.event.Answer.{Answer}
 use Rattle.model.specs.declared.event.Event.{Event}
-use Rattle.c_values.specs.Faults.{Through, status, status_of, written}
+use Rattle.c_values.specs.Faults.{Through, read, status, status_of, written}
 use Rattle.c_values.specs.Fields.{answer_fields, bit}
 use Rattle.c_handles.specs.Lone.{NodeActs}
 use Rattle.c_values.specs.declared.fault.Fault.{Fault}
@@ -12,6 +12,14 @@ use Rattle.c_values.specs.declared.fields.CAnswer.{CAnswer}
 use Rattle.c_handles.specs.declared.lone.LoneNode.{LoneNode}
 use Rattle.c_handles.specs.Cells.{CellActs}
 use Rattle.c_handles.specs.declared.seated.SeatedCell.{SeatedCell}
+
+-- The call read this of what the handle holds, which stays as it was. What it read was written, as
+-- these fields.
+pub record Reads {X A B : Type 0} (found : X → Result A Fault) (fields : A → B) (old new : Option X)
+    (s : ℤ) (before after : B) : Type 0 where
+  pub same : new ≡ old
+  pub status : s ≡ status (read found old)
+  pub value : after ≡ written fields (read found old) before
 
 -- The call did this with some result, which was written to the answer.
 pub record Answered {X : Type 0} (Does : Option X → Option X → Result Answer Fault → Type 0)

@@ -1,10 +1,11 @@
 //! The events of a cell's node.
+ghost use Rattle.model.specs.declared.age.Scope.TheVariants as scope;
 ghost use Rattle.model.specs.declared.event.Event.TheVariants as event;
 ghost use Rattle.markring_c.specs.Calls.{CellCalled};
 
 use c_handles::CellHandle;
 use c_values::{CAnswer, answered};
-use model::Event;
+use model::{Event, Scope};
 use std::alloc::Global;
 
 /// Makes a new object with this many empty places, and puts its reference into the register.
@@ -156,8 +157,8 @@ pub extern "C" fn markring_cell_set_bytes(
     bytes: &[u8],
     answer: &mut CAnswer,
 ) -> i32
-    ensures { CellCalled (event.SetBytes object bytes.entry) cell.old.held cell.new.held result answer.old
-        answer.new }
+    ensures { CellCalled (event.SetBytes object bytes.entry) cell.old.held cell.new.held result
+        answer.old answer.new }
 {
     answered(cell.act(alloc, Event::SetBytes { object, bytes }), answer)
 }
@@ -274,6 +275,43 @@ pub extern "C" fn markring_cell_get(
                 object,
                 place,
                 label,
+            },
+        ),
+        answer,
+    )
+}
+
+/// Frees each private object that nothing needs any more.
+#[unsafe(no_mangle)]
+pub extern "C" fn markring_cell_reclaim(
+    alloc: Global,
+    cell: &mut CellHandle,
+    answer: &mut CAnswer,
+) -> i32
+    ensures { CellCalled (event.Reclaim scope.All) cell.old.held cell.new.held result
+        answer.old answer.new }
+{
+    answered(
+        cell.act(alloc, Event::Reclaim { scope: Scope::All }),
+        answer,
+    )
+}
+
+/// Frees those of them that were made since the last reclaim.
+#[unsafe(no_mangle)]
+pub extern "C" fn markring_cell_reclaim_young(
+    alloc: Global,
+    cell: &mut CellHandle,
+    answer: &mut CAnswer,
+) -> i32
+    ensures { CellCalled (event.Reclaim scope.Young) cell.old.held cell.new.held result
+        answer.old answer.new }
+{
+    answered(
+        cell.act(
+            alloc,
+            Event::Reclaim {
+                scope: Scope::Young,
             },
         ),
         answer,

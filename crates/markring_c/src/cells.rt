@@ -7,7 +7,7 @@ ghost use Rattle.c_handles.specs.Reads.{link_of, object_bytes, object_len, regis
 ghost use Rattle.c_values.specs.Bytes.{WroteIf};
 ghost use Rattle.c_handles.specs.Cells.{HandleImaged, Raised, Received, Reopened, Saved, Sent};
 ghost use Rattle.c_handles.specs.Cells.{SizedSame};
-ghost use Rattle.markring_c.specs.Calls.{Answered, CellActed, Finished, Finishes, Flagged, Numbered};
+ghost use Rattle.markring_c.specs.Calls.{Answered, CellActed, Finished, Finishes, Flagged, Numbered, Reads};
 
 use c_handles::CellHandle;
 use c_values::{
@@ -125,11 +125,8 @@ pub extern "C" fn markring_cell_state(
     cell: &mut CellHandle,
     state: &mut CState,
 ) -> i32
-    ensures same { cell.new.held ≡ cell.old.held }
-    ensures status { result
-        ≡ status (read (λ c. Ok (summary_of c.cell.node.core.local)) cell.old.held) }
-    ensures value { state.new ≡ written state_fields
-        (read (λ c. Ok (summary_of c.cell.node.core.local)) cell.old.held) state.old }
+    ensures { Reads (λ c. Ok (summary_of c.cell.node.core.local)) state_fields
+        cell.old.held cell.new.held result state.old state.new }
 {
     match cell.state(alloc) {
         Ok(it) => {
@@ -148,10 +145,8 @@ pub extern "C" fn markring_cell_link(
     peer: u8,
     link: &mut CLink,
 ) -> i32
-    ensures same { cell.new.held ≡ cell.old.held }
-    ensures status { result ≡ status (read (λ c. link_of c.cell.node.core peer) cell.old.held) }
-    ensures value { link.new
-        ≡ written (λ x. x) (read (λ c. link_of c.cell.node.core peer) cell.old.held) link.old }
+    ensures { Reads (λ c. link_of c.cell.node.core peer) (λ x. x)
+        cell.old.held cell.new.held result link.old link.new }
 {
     written(cell.link(alloc, peer), link)
 }
@@ -164,11 +159,8 @@ pub extern "C" fn markring_cell_register(
     register: u16,
     reference: &mut CRef,
 ) -> i32
-    ensures same { cell.new.held ≡ cell.old.held }
-    ensures status { result
-        ≡ status (read (λ c. register_of c.cell.node.core.local register) cell.old.held) }
-    ensures value { reference.new ≡ written reference_fields
-        (read (λ c. register_of c.cell.node.core.local register) cell.old.held) reference.old }
+    ensures { Reads (λ c. register_of c.cell.node.core.local register) reference_fields
+        cell.old.held cell.new.held result reference.old reference.new }
 {
     match cell.register(alloc, register) {
         Ok(it) => {
@@ -192,8 +184,8 @@ pub extern "C" fn markring_cell_bytes(
 ) -> i32
     ensures same { cell.new.held ≡ cell.old.held }
     ensures wrote { Finishes (λ r. WroteIf
-        (read (λ c. object_bytes c.cell.node.core.local object offset count) cell.old.held) r buffer.old
-        buffer.new needed.old needed.new) result }
+        (read (λ c. object_bytes c.cell.node.core.local object offset count) cell.old.held) r
+        buffer.old buffer.new needed.old needed.new) result }
 {
     status(cell.bytes(alloc, object, offset, count, buffer, needed))
 }
@@ -206,11 +198,8 @@ pub extern "C" fn markring_cell_bytes_length(
     object: u16,
     length: &mut u32,
 ) -> i32
-    ensures same { cell.new.held ≡ cell.old.held }
-    ensures status { result
-        ≡ status (read (λ c. object_len c.cell.node.core.local object) cell.old.held) }
-    ensures value { length.new ≡ written (λ x. x)
-        (read (λ c. object_len c.cell.node.core.local object) cell.old.held) length.old }
+    ensures { Reads (λ c. object_len c.cell.node.core.local object) (λ x. x)
+        cell.old.held cell.new.held result length.old length.new }
 {
     written(cell.bytes_len(alloc, object), length)
 }
@@ -218,10 +207,8 @@ pub extern "C" fn markring_cell_bytes_length(
 /// Whether an event has changed the node since the last save or reopening.
 #[unsafe(no_mangle)]
 pub extern "C" fn markring_cell_unsaved(alloc: Global, cell: &mut CellHandle, flag: &mut u8) -> i32
-    ensures same { cell.new.held ≡ cell.old.held }
-    ensures status { result ≡ status (read (λ c. Ok c.cell.unsaved) cell.old.held) }
-    ensures value { flag.new
-        ≡ written bit (read (λ c. Ok c.cell.unsaved) cell.old.held) flag.old }
+    ensures { Reads (λ c. Ok c.cell.unsaved) bit
+        cell.old.held cell.new.held result flag.old flag.new }
 {
     flagged(cell.is_unsaved(alloc), flag)
 }

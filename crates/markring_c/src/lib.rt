@@ -10,4 +10,5 @@ mod cell_events;
 mod cells;
 mod node_events;
 mod nodes;
+mod objects;
 mod space;

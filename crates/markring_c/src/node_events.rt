@@ -1,10 +1,11 @@
 //! The events of a node.
+ghost use Rattle.model.specs.declared.age.Scope.TheVariants as scope;
 ghost use Rattle.model.specs.declared.event.Event.TheVariants as event;
 ghost use Rattle.markring_c.specs.Calls.{NodeCalled};
 
 use c_handles::NodeHandle;
 use c_values::{CAnswer, answered};
-use model::Event;
+use model::{Event, Scope};
 use std::alloc::Global;
 
 // Gives the node an event. `Next` of a node that keeps a log isn't inlined, so that the events and
@@ -174,8 +175,8 @@ pub extern "C" fn markring_node_set_bytes(
     bytes: &[u8],
     answer: &mut CAnswer,
 ) -> i32
-    ensures { NodeCalled (event.SetBytes object bytes.entry) node.old.held node.new.held result answer.old
-        answer.new }
+    ensures { NodeCalled (event.SetBytes object bytes.entry) node.old.held node.new.held result
+        answer.old answer.new }
 {
     act(alloc, node, Event::SetBytes { object, bytes }, answer)
 }
@@ -289,6 +290,39 @@ pub extern "C" fn markring_node_get(
             object,
             place,
             label,
+        },
+        answer,
+    )
+}
+
+/// Frees each private object that nothing needs any more.
+#[unsafe(no_mangle)]
+pub extern "C" fn markring_node_reclaim(
+    alloc: Global,
+    node: &mut NodeHandle,
+    answer: &mut CAnswer,
+) -> i32
+    ensures { NodeCalled (event.Reclaim scope.All) node.old.held node.new.held result
+        answer.old answer.new }
+{
+    act(alloc, node, Event::Reclaim { scope: Scope::All }, answer)
+}
+
+/// Frees those of them that were made since the last reclaim.
+#[unsafe(no_mangle)]
+pub extern "C" fn markring_node_reclaim_young(
+    alloc: Global,
+    node: &mut NodeHandle,
+    answer: &mut CAnswer,
+) -> i32
+    ensures { NodeCalled (event.Reclaim scope.Young) node.old.held node.new.held result
+        answer.old answer.new }
+{
+    act(
+        alloc,
+        node,
+        Event::Reclaim {
+            scope: Scope::Young,
         },
         answer,
     )

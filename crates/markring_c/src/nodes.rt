@@ -11,7 +11,7 @@ ghost use Rattle.c_handles.specs.Frames.{HandlePacks, ack_bytes, frame_bytes};
 ghost use Rattle.c_handles.specs.Batches.{HandleBatched, Reopened, batch_of, size_of};
 ghost use Rattle.c_handles.specs.Images.{HandleImaged, Kept, Logs, Released, SizedSame};
 ghost use Rattle.c_handles.specs.Reads.{link_of, object_bytes, object_len, register_of, waiting_number};
-ghost use Rattle.markring_c.specs.Calls.{Answered, Finished, Finishes, NodeActed, Numbered};
+ghost use Rattle.markring_c.specs.Calls.{Answered, Finished, Finishes, NodeActed, Numbered, Reads};
 
 use crate::node_events::act;
 use c_handles::NodeHandle;
@@ -127,11 +127,8 @@ pub extern "C" fn markring_node_state(
     node: &mut NodeHandle,
     state: &mut CState,
 ) -> i32
-    ensures same { node.new.held ≡ node.old.held }
-    ensures status { result
-        ≡ status (read (λ n. Ok (summary_of n.node.core.local)) node.old.held) }
-    ensures value { state.new ≡ written state_fields
-        (read (λ n. Ok (summary_of n.node.core.local)) node.old.held) state.old }
+    ensures { Reads (λ n. Ok (summary_of n.node.core.local)) state_fields
+        node.old.held node.new.held result state.old state.new }
 {
     match node.state(alloc) {
         Ok(it) => {
@@ -150,10 +147,8 @@ pub extern "C" fn markring_node_link(
     peer: u8,
     link: &mut CLink,
 ) -> i32
-    ensures same { node.new.held ≡ node.old.held }
-    ensures status { result ≡ status (read (λ n. link_of n.node.core peer) node.old.held) }
-    ensures value { link.new
-        ≡ written (λ x. x) (read (λ n. link_of n.node.core peer) node.old.held) link.old }
+    ensures { Reads (λ n. link_of n.node.core peer) (λ x. x)
+        node.old.held node.new.held result link.old link.new }
 {
     written(node.link(alloc, peer), link)
 }
@@ -166,11 +161,8 @@ pub extern "C" fn markring_node_register(
     register: u16,
     reference: &mut CRef,
 ) -> i32
-    ensures same { node.new.held ≡ node.old.held }
-    ensures status { result
-        ≡ status (read (λ n. register_of n.node.core.local register) node.old.held) }
-    ensures value { reference.new ≡ written reference_fields
-        (read (λ n. register_of n.node.core.local register) node.old.held) reference.old }
+    ensures { Reads (λ n. register_of n.node.core.local register) reference_fields
+        node.old.held node.new.held result reference.old reference.new }
 {
     match node.register(alloc, register) {
         Ok(it) => {
@@ -208,11 +200,8 @@ pub extern "C" fn markring_node_bytes_length(
     object: u16,
     length: &mut u32,
 ) -> i32
-    ensures same { node.new.held ≡ node.old.held }
-    ensures status { result
-        ≡ status (read (λ n. object_len n.node.core.local object) node.old.held) }
-    ensures value { length.new ≡ written (λ x. x)
-        (read (λ n. object_len n.node.core.local object) node.old.held) length.old }
+    ensures { Reads (λ n. object_len n.node.core.local object) (λ x. x)
+        node.old.held node.new.held result length.old length.new }
 {
     written(node.bytes_len(alloc, object), length)
 }
@@ -220,10 +209,8 @@ pub extern "C" fn markring_node_bytes_length(
 /// Whether an event has changed the node since the image that was kept last.
 #[unsafe(no_mangle)]
 pub extern "C" fn markring_node_unsaved(alloc: Global, node: &mut NodeHandle, flag: &mut u8) -> i32
-    ensures same { node.new.held ≡ node.old.held }
-    ensures status { result ≡ status (read (λ n. Ok n.is_unsaved) node.old.held) }
-    ensures value { flag.new
-        ≡ written bit (read (λ n. Ok n.is_unsaved) node.old.held) flag.old }
+    ensures { Reads (λ n. Ok n.is_unsaved) bit
+        node.old.held node.new.held result flag.old flag.new }
 {
     flagged(node.is_unsaved(alloc), flag)
 }
@@ -236,10 +223,8 @@ pub extern "C" fn markring_node_waiting(
     from: u8,
     number: &mut u64,
 ) -> i32
-    ensures same { node.new.held ≡ node.old.held }
-    ensures status { result ≡ status (read (λ n. waiting_number n.node from) node.old.held) }
-    ensures value { number.new
-        ≡ written (λ x. x) (read (λ n. waiting_number n.node from) node.old.held) number.old }
+    ensures { Reads (λ n. waiting_number n.node from) (λ x. x)
+        node.old.held node.new.held result number.old number.new }
 {
     written(node.waiting(alloc, from), number)
 }
@@ -337,10 +322,8 @@ pub extern "C" fn markring_node_batch_size(
     node: &mut NodeHandle,
     size: &mut usize,
 ) -> i32
-    ensures same { node.new.held ≡ node.old.held }
-    ensures status { result ≡ status (read (λ n. size_of (batch_of n)) node.old.held) }
-    ensures value { size.new
-        ≡ written (λ x. x) (read (λ n. size_of (batch_of n)) node.old.held) size.old }
+    ensures { Reads (λ n. size_of (batch_of n)) (λ x. x)
+        node.old.held node.new.held result size.old size.new }
 {
     written(node.batch_size(alloc), size)
 }

@@ -1,11 +1,9 @@
 -- Writes to objects that change nothing.
-use Rattle.std.proofs.Common.{◌≡◌, ℕ, length, set, Option, Some, None, true, false, cond, eqb, refl, ap}
-use Rattle.std.proofs.lemmas.Bool.{ltb-false}
+use Rattle.std.proofs.Common.{◌≡◌, ℕ, Some, None, true, false, cond, eqb, refl, ap}
 use Rattle.std.proofs.lemmas.List.{set-get_or}
-use Rattle.std.proofs.Math.Seq.{set_out}
 use Rattle.ids.specs.declared.names.Ref.{Ref}
 use Rattle.model.specs.State.{Object, Slot, Free, Occupied, Retired, Heap, slot_at}
-use Rattle.model.specs.Heaps.{object_of, object_at, has_place, rewritten, with_rewritten, with_place}
+use Rattle.model.specs.Heaps.{object_of, object_at, rewritten, with_rewritten}
 
 rewritten-kept : (s : Slot) (g : ℕ) (f : Object → Object)
     → ((o : Object) → object_of s g ≡ Some o → f o ≡ o) → rewritten f g s ≡ s
@@ -25,20 +23,3 @@ pub with_rewritten-kept : (h : Heap) (r : Ref) (f : Object → Object)
 with_rewritten-kept h r f same =
     rw (rewritten-kept (slot_at h r.slot) r.generation f same, set-get_or h.slots r.slot Retired)
     refl
-
--- an object without such a place
-kept-past : (found : Option Object) (place : ℕ) (v : Option Ref) → has_place found place ≡ false
-    → (o : Object) → found ≡ Some o → record o { places = set o.places place v } ≡ o
-kept-past None place v past o is = absurd cc
-kept-past (Some x) place v past o is =
-    let same : x ≡ o = cc in
-    rw (← same)
-    (ap (λ places. record x { places = places })
-    (set_out x.places place v (ltb-false place (length x.places) past)))
-
--- if there is no such place, nothing changes
-pub with_place-kept : (h : Heap) (r : Ref) (place : ℕ) (v : Option Ref)
-    → has_place (object_at h r) place ≡ false → with_place h r place v ≡ h
-with_place-kept h r place v past =
-    with_rewritten-kept h r (λ o. record o { places = set o.places place v })
-    (kept-past (object_at h r) place v past)

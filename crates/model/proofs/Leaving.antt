@@ -64,10 +64,12 @@ stands-walks = record {
     tells = λ b p quiet. stays refl refl refl;
   };
   roots = λ p registers letters. stays refl refl refl;
-  rewrites = λ p r f. stays refl refl refl;
+  rewrites = λ p r f quiet. stays refl refl refl;
+  places = λ p r place v. stays refl refl refl;
   makes = λ p register places ready. stays refl refl refl;
-  gives = λ to b p. stays refl refl refl;
+  gives = λ to b p carries. stays refl refl refl;
   sweeps = λ p count. stays refl refl refl;
+  reclaims = λ p scope. stays refl refl refl;
 }
 
 pub own-stands : (p : LocalState) (counts : List ℕ) (e : Event) → is_own e ≡ true

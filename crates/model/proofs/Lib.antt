@@ -12,6 +12,12 @@ pub mod Walk
 pub mod Leaving
 pub mod References
 pub mod Slots
+pub mod Ages
+pub mod Freeing
+pub mod Naming
+pub mod Reclaiming
+pub mod Seeing
+pub mod Searching
 pub mod Stocks
 pub mod Asking
 pub mod Runs

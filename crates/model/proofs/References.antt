@@ -1,19 +1,19 @@
 -- Each change of a heap keeps a property of all references that the heap holds.
-use Rattle.std.proofs.Common.{◌≡◌, ℕ, zero, suc, ◌+◌, ◌-◌, cond, ◌==◌, List, [], ◌∷◌, ◌++◌, length, map, take, drop, replicate, get_or, Option, Some, None, refl, sym, subst}
+use Rattle.std.proofs.Common.{Bool, ◌≡◌, ℕ, zero, suc, ◌+◌, ◌-◌, cond, ◌==◌, List, [], ◌∷◌, ◌++◌, length, map, take, drop, replicate, get_or, Option, Some, None, refl, sym, subst}
 use Rattle.std.specs.List.{AllByRecursion}
 use Rattle.std.specs.Option.{option_to_list}
 use Rattle.std.proofs.lemmas.Bool.{cond_both}
 use Rattle.std.proofs.lemmas.Grind.{get_or_after_one}
-use Rattle.ids.specs.declared.limits.TheConstants.{GREATEST_GENERATION}
 use Rattle.ids.specs.Limits.{Shaped}
 use Rattle.ids.specs.declared.names.Ref.{Ref}
 use Rattle.model.specs.declared.event.Letter.{Letter}
 use Rattle.model.specs.State.{Object, Slot, Free, Occupied, Retired, Heap, slot_at, new_heap}
-use Rattle.model.specs.Heaps.{with_register, with_object, new_object, next_generation, slots_with, object_of, object_at, place_of, rewritten, with_rewritten, with_place, with_word, with_letter, no_letter}
+use Rattle.model.specs.Heaps.{remembering, sharing, share_all, with_register, with_object, new_object, next_generation, slots_with, object_of, object_at, place_of, rewritten, with_rewritten, with_place, with_word, with_letter, no_letter}
 use Rattle.model.specs.Shading.{is_unmarked, with_mark, make_grey, make_all_grey, filled, reference_of, roots, without_last_grey}
-use Rattle.model.specs.Collecting.{is_garbage, generation_in, places_in, vacated_slot, vacated, Sweeping, sweep_one, sweep_some}
+use Rattle.model.specs.Collecting.{places_in}
 use Rattle.model.specs.References.{IfAny, HoldsOnly}
 use Rattle.model.proofs.Lookups.{at_set, at_push}
+use Rattle.model.proofs.Ages.{noted_for, noted-keeps}
 use Rattle.model.proofs.Shading.{filled-append}
 
 pub holds-with_register : (P : Ref → Type 0) (h : Heap) (k : ℕ) (r : Option Ref) → HoldsOnly P h
@@ -41,33 +41,34 @@ holds-new_heap P shape = record {
 abbrev SlotHolds : (P : Ref → Type 0) → Slot → Type 0
 SlotHolds P s = (g : ℕ) (o : Object) (j : ℕ) → s ≡ Occupied g o → IfAny P (get_or o.places j None)
 
-new_slot : (P : Ref → Type 0) (generation cycle places : ℕ)
-    → SlotHolds P (Occupied generation (new_object cycle places))
-new_slot P generation cycle places g o j e =
-    let same : new_object cycle places ≡ o = cc in
+new_slot : (P : Ref → Type 0) (shared : Bool) (generation cycle places : ℕ)
+    → SlotHolds P (Occupied generation (new_object shared cycle places))
+new_slot P shared generation cycle places g o j e =
+    let same : new_object shared cycle places ≡ o = cc in
     subst (λ (z : Object). IfAny P (get_or z.places j None)) same (empty_place P places j)
 
 retired_slot : (P : Ref → Type 0) → SlotHolds P Retired
 retired_slot P g o j e = absurd cc
 
-places-slots_with : (P : Ref → Type 0) (free : List ℕ) (slots : List Slot) (cycle places : ℕ)
-    (k : ℕ) → SlotHolds P (get_or slots k Retired)
-    → SlotHolds P (get_or (slots_with free slots (new_object cycle places)) k Retired)
-places-slots_with P [] slots cycle places k h =
-    at_push (SlotHolds P) slots k (Occupied 1 (new_object cycle places)) Retired
-    (new_slot P 1 cycle places) (retired_slot P) h
-places-slots_with P (i ∷ free) slots cycle places k h =
+places-slots_with : (P : Ref → Type 0) (free : List ℕ) (slots : List Slot) (shared : Bool)
+    (cycle places : ℕ) (k : ℕ) → SlotHolds P (get_or slots k Retired)
+    → SlotHolds P (get_or (slots_with free slots (new_object shared cycle places)) k Retired)
+places-slots_with P [] slots shared cycle places k h =
+    at_push (SlotHolds P) slots k (Occupied 1 (new_object shared cycle places)) Retired
+    (new_slot P shared 1 cycle places) (retired_slot P) h
+places-slots_with P (i ∷ free) slots shared cycle places k h =
     at_set (SlotHolds P) slots i k
-    (Occupied (next_generation (get_or slots i Retired)) (new_object cycle places)) Retired
-    (new_slot P _ cycle places) h
+    (Occupied (next_generation (get_or slots i Retired)) (new_object shared cycle places)) Retired
+    (new_slot P shared _ cycle places) h
 
-pub holds-with_object : (P : Ref → Type 0) (h : Heap) (cycle places : ℕ) → HoldsOnly P h
-    → HoldsOnly P (with_object h (new_object cycle places))
-holds-with_object P h cycle places all = record {
+pub holds-with_object : (P : Ref → Type 0) (h : Heap) (shared : Bool) (cycle places : ℕ)
+    → HoldsOnly P h → HoldsOnly P (with_object h (new_object shared cycle places))
+holds-with_object P h shared cycle places all = record {
   registers = all.registers;
   letters = all.letters;
   places = λ k g o j e.
-      places-slots_with P h.free h.slots cycle places k (λ g o j. all.places k g o j) g o j e;
+      places-slots_with P h.free h.slots shared cycle places k
+      (λ g o j. all.places k g o j) g o j e;
 }
 
 -- rewriting an object keeps the property, if the rewriting function keeps it
@@ -96,15 +97,26 @@ holds-with_rewritten P h r f keeps all = record {
       (λ g o j. all.places k g o j) g o j e;
 }
 
-pub holds-with_place : (P : Ref → Type 0) (h : Heap) (r : Ref) (place : ℕ) (v : Option Ref)
-    → HoldsOnly P h → IfAny P v → HoldsOnly P (with_place h r place v)
-holds-with_place P h r place v all here =
-    holds-with_rewritten P h r _ (λ o j there. at_set (IfAny P) o.places place j v None here there)
-    all
+pub holds-with_place : (P : Ref → Type 0) (own : ℕ) (h : Heap) (r : Ref) (place : ℕ)
+    (v : Option Ref) → HoldsOnly P h → IfAny P v → HoldsOnly P (with_place own h r place v)
+holds-with_place P own h r place v all here =
+    holds-with_rewritten P (noted_for own h r v) r _
+    (λ o j there. at_set (IfAny P) o.places place j v None here there)
+    (noted-keeps (HoldsOnly P) own h r v
+    (λ z. holds-with_rewritten P h z remembering (λ o j there. there) all) all)
 
 pub holds-with_word : (P : Ref → Type 0) (h : Heap) (r : Ref) (word : ℕ) → HoldsOnly P h
     → HoldsOnly P (with_word h r word)
 holds-with_word P h r word all = holds-with_rewritten P h r _ (λ o j there. there) all
+
+pub holds-share_all : (P : Ref → Type 0) (own : ℕ) (h : Heap) (rs : List Ref) → HoldsOnly P h
+    → HoldsOnly P (share_all own h rs)
+holds-share_all P own h [] all = all
+holds-share_all P own h (r ∷ rs) all =
+    holds-share_all P own (cond (r.node == own) (with_rewritten h r sharing) h) rs
+    (cond_both (r.node == own) (with_rewritten h r sharing) h (HoldsOnly P)
+    (λ _. holds-with_rewritten P h r sharing (λ o j there. there) all)
+    (λ _. all))
 
 place_of-object : (P : Ref → Type 0) (s : Slot) (generation place : ℕ) → SlotHolds P s
     → IfAny P (place_of (object_of s generation) place)
@@ -186,46 +198,6 @@ holds-make_all_grey P own cycle h (r ∷ rs) all =
 pub holds-without_last_grey : (P : Ref → Type 0) (h : Heap) → HoldsOnly P h
     → HoldsOnly P (without_last_grey h)
 holds-without_last_grey P h all = marks_no_place P h (take (length h.grey - 1) h.grey) all
-
-vacated_slot_holds : (P : Ref → Type 0) (g : ℕ) → SlotHolds P (vacated_slot g)
-vacated_slot_holds P g =
-    cond_both (g == GREATEST_GENERATION) Retired (Free (g + 1))
-    (SlotHolds P)
-    (λ _ k o j e. absurd cc)
-    (λ _ k o j e. absurd cc)
-
-holds-vacated : (P : Ref → Type 0) (h : Heap) (k g : ℕ) → HoldsOnly P h
-    → HoldsOnly P (vacated h k g)
-holds-vacated P h k g all = record {
-  registers = all.registers;
-  letters = all.letters;
-  places = λ i generation o j e.
-      at_set (SlotHolds P) h.slots k i (vacated_slot g) Retired
-      (vacated_slot_holds P g)
-      (λ f x l. all.places i f x l)
-      generation o j e;
-}
-
-pub holds-sweep_one : (P : Ref → Type 0) (cycle k : ℕ) (s : Sweeping) → HoldsOnly P s.heap
-    → HoldsOnly P (sweep_one cycle k s).heap
-unfolding sweep_one
-holds-sweep_one P cycle k s all =
-    cond_both
-    (is_garbage cycle (get_or s.heap.slots k Retired))
-    (record {
-      heap = vacated s.heap k (generation_in (get_or s.heap.slots k Retired));
-      freed = s.freed + 1;
-    })
-    s
-    (λ (z : Sweeping). HoldsOnly P z.heap)
-    (λ _. holds-vacated P s.heap k (generation_in (get_or s.heap.slots k Retired)) all)
-    (λ _. all)
-
-pub holds-sweep_some : (P : Ref → Type 0) (cycle k count : ℕ) (s : Sweeping) → HoldsOnly P s.heap
-    → HoldsOnly P (sweep_some cycle k count s).heap
-holds-sweep_some P cycle k zero s all = all
-holds-sweep_some P cycle k (suc n) s all =
-    holds-sweep_some P cycle (k + 1) n (sweep_one cycle k s) (holds-sweep_one P cycle k s all)
 
 -- ---- references that are shaded together
 

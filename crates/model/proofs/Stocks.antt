@@ -1,5 +1,5 @@
 -- Each change of a node's heap keeps what is true of the heap of every node.
-use Rattle.std.proofs.Common.{◌≡◌, ◌≢◌, ℕ, zero, suc, ◌+◌, ◌-◌, ◌<◌, ◌≤◌, ◌==◌, Bool, true, false, eqb, List, [], ◌∷◌, ◌++◌, length, take, drop, get_or, set, Option, Some, None, refl, sym, ap, ◌∙◌, subst, arith, get_or-set_same}
+use Rattle.std.proofs.Common.{⊎_elim, filter, ◌≡◌, ◌≢◌, ℕ, zero, suc, ◌+◌, ◌-◌, ◌<◌, ◌≤◌, ◌==◌, Bool, true, false, eqb, List, [], ◌∷◌, ◌++◌, length, map, take, drop, get_or, Option, Some, None, refl, sym, ap, ◌∙◌, subst, arith, get_or-set_same}
 use Rattle.std.specs.List.{AllByRecursion, IsDistinct}
 use Rattle.std.proofs.lemmas.Bool.{cond_both, cond-true, leb-true, eqb-true, eqb-false, eq-eqb, ne_eqb, not-true}
 use Rattle.std.proofs.lemmas.List.{length-append, length-drop, length-set, length-replicate, length-take-le, get_or_append_left}
@@ -7,14 +7,19 @@ use Rattle.ids.specs.Limits.{Shaped}
 use Rattle.ids.specs.declared.limits.TheConstants.{GREATEST_GENERATION}
 use Rattle.ids.specs.declared.names.Ref.{Ref}
 use Rattle.msg.specs.declared.body.Token.{Token}
+use Rattle.model.specs.declared.age.Age.TheVariants.{Young, Old}
+use Rattle.model.specs.declared.age.Scope.{Scope}
 use Rattle.model.specs.declared.event.Letter.{Letter}
 use Rattle.model.specs.State.{Object, Slot, Free, Occupied, Retired, Heap, LocalState, slot_at, new_heap}
-use Rattle.model.specs.Heaps.{with_register, with_object, new_object, next_generation, slots_with, object_at, rewritten, with_rewritten, with_place, with_word, with_letter, filling, patching, has_range, overwritten}
+use Rattle.model.specs.Heaps.{sharing, share_all, with_register, with_object, new_object, next_generation, slots_with, object_at, rewritten, with_rewritten, with_place, placing, remembered, remembering, with_word, with_letter, filling, patching, has_range, overwritten}
 use Rattle.model.specs.Shading.{is_open, is_unmarked, with_mark, make_grey, make_all_grey, is_calm, without_last_grey}
-use Rattle.model.specs.Collecting.{is_garbage, generation_in, vacated_slot, vacated, Sweeping, sweep_one, sweep_some}
+use Rattle.model.specs.Collecting.{is_garbage, generation_in, vacated_slot, Sweeping, sweep_some}
+use Rattle.model.specs.Reclaiming.{is_occupied, reclaiming, left_grey, slot_aged, aged, freed_within, reclaimed}
 use Rattle.model.specs.WellFormed.{IsOther, IsObject, IsSlotOf, HasMarked, IsStocked, IsHeld}
 use Rattle.model.proofs.Lookups.{all-map, at_set, at_set_if, at_push}
 use Rattle.model.proofs.References.{all-append}
+use Rattle.model.proofs.Ages.{noted-keeps, aged-at}
+use Rattle.model.proofs.Freeing.{Vacates, Freed, freed-left, freed-some, freed-reclaiming, garbage-test, occupied-object}
 use Rattle.model.proofs.Slots.{slot-within, occupied-within, found-object, unmarked-there}
 
 -- ---- lists
@@ -167,46 +172,53 @@ module _ {shape : Shaped} {own cycle ended : ℕ} {h : Heap} (old : IsStocked sh
     born-later (Occupied g o) is = is.born
     born-later Retired is = omega arith
 
-    new-slot : (g places : ℕ) → 1 ≤ g → places ≤ shape.places
-        → IsSlotOf shape cycle (Occupied g (new_object cycle places))
-    new-slot g places born few = record {
+    new-slot : (shared : Bool) (g places : ℕ) → (shape.wide ≡ false → shared ≡ true) → 1 ≤ g
+        → places ≤ shape.places
+        → IsSlotOf shape cycle (Occupied g (new_object shared cycle places))
+    new-slot shared g places plain born few = record {
       born = born;
       places = (let wide = length-replicate {A = Option Ref} places None in
           omega (arith, wide, few));
       bytes = omega arith;
       mark = omega arith;
+      shared = plain;
+      age = λ narrow. cond-true shared Old Young (plain narrow);
     }
 
-    pub stocked-object : (places : ℕ) → places ≤ shape.places
-        → IsStocked shape own cycle ended (with_object h (new_object cycle places))
-    stocked-object places few =
-        stocked-slots (slots_with h.free h.slots (new_object cycle places)) (drop 1 h.free)
+    pub stocked-object : (shared : Bool) (places : ℕ) → (shape.wide ≡ false → shared ≡ true)
+        → places ≤ shape.places
+        → IsStocked shape own cycle ended (with_object h (new_object shared cycle places))
+    stocked-object shared places plain few =
+        stocked-slots (slots_with h.free h.slots (new_object shared cycle places)) (drop 1 h.free)
         (λ k. all h.free k) (λ k. marked h.free k)
       where
         all : (free : List ℕ) (k : ℕ)
             → IsSlotOf shape cycle (get_or (slots_with free h.slots
-            (new_object cycle places)) k Retired)
+            (new_object shared cycle places)) k Retired)
         all [] k =
             at_push (IsSlotOf shape cycle) h.slots k
-            (Occupied 1 (new_object cycle places)) Retired
-            (new-slot 1 places (omega arith) few) tt (old.slots k)
+            (Occupied 1 (new_object shared cycle places)) Retired
+            (new-slot shared 1 places plain (omega arith) few) tt (old.slots k)
         all (j ∷ free) k =
             at_set (IsSlotOf shape cycle) h.slots j k
-            (Occupied (next_generation (slot_at h j)) (new_object cycle places)) Retired
-            (new-slot (next_generation (slot_at h j)) places
+            (Occupied (next_generation (slot_at h j)) (new_object shared cycle places)) Retired
+            (new-slot shared (next_generation (slot_at h j)) places plain
             (born-later (slot_at h j) (old.slots j)) few)
             (old.slots k)
 
         marked : (free : List ℕ) (k : ℕ) → HasMarked cycle (slot_at h k)
-            → HasMarked cycle (get_or (slots_with free h.slots (new_object cycle places)) k Retired)
+            → HasMarked cycle
+            (get_or (slots_with free h.slots (new_object shared cycle places)) k Retired)
         marked [] k there =
             subst (HasMarked cycle)
-            (sym (get_or_append_left h.slots (Occupied 1 (new_object cycle places) ∷ []) Retired k
+            (sym (get_or_append_left h.slots (Occupied 1 (new_object shared cycle places) ∷ [])
+            Retired k
             (marked-within cycle h.slots k there)))
             there
         marked (j ∷ free) k there =
             at_set (HasMarked cycle) h.slots j k
-            (Occupied (next_generation (slot_at h j)) (new_object cycle places)) Retired refl there
+            (Occupied (next_generation (slot_at h j)) (new_object shared cycle places)) Retired
+            refl there
 
     -- an object is rewritten, which keeps its number of places, and a mark of this cycle
 
@@ -254,10 +266,24 @@ module _ {shape : Shaped} {own cycle ended : ℕ} {h : Heap} (old : IsStocked sh
             (old.slots k))
             still-marked
 
-    pub stocked-place : (r : Ref) (place : ℕ) (v : Option Ref)
-        → IsStocked shape own cycle ended (with_place h r place v)
-    stocked-place r place v =
-        stocked-rewritten r (λ o. record o { places = set o.places place v })
+    pub stocked-remembering : (r : Ref)
+        → IsStocked shape own cycle ended (with_rewritten h r remembering)
+    stocked-remembering r =
+        stocked-rewritten r remembering
+        (λ g o is. record {
+          born = is.born;
+          places = is.places;
+          bytes = is.bytes;
+          mark = is.mark;
+          shared = is.shared;
+          age = λ narrow. ap remembered (is.age narrow);
+        })
+        (λ o there. there)
+
+    pub stocked-placing : (r : Ref) (place : ℕ) (v : Option Ref)
+        → IsStocked shape own cycle ended (with_rewritten h r (placing place v))
+    stocked-placing r place v =
+        stocked-rewritten r (placing place v)
         (λ g o is. record {
           born = is.born;
           places = (let wide = length-set o.places place v in
@@ -265,6 +291,8 @@ module _ {shape : Shaped} {own cycle ended : ℕ} {h : Heap} (old : IsStocked sh
               omega (arith, wide, few));
           bytes = is.bytes;
           mark = is.mark;
+          shared = is.shared;
+          age = is.age;
         })
         (λ o there. there)
 
@@ -276,6 +304,8 @@ module _ {shape : Shaped} {own cycle ended : ℕ} {h : Heap} (old : IsStocked sh
           places = is.places;
           bytes = is.bytes;
           mark = is.mark;
+          shared = is.shared;
+          age = is.age;
         })
         (λ o there. there)
 
@@ -283,7 +313,14 @@ module _ {shape : Shaped} {own cycle ended : ℕ} {h : Heap} (old : IsStocked sh
         → IsStocked shape own cycle ended (with_rewritten h r (filling bytes))
     stocked-bytes r bytes few =
         stocked-rewritten r (filling bytes)
-        (λ g o is. record { born = is.born; places = is.places; bytes = few; mark = is.mark })
+        (λ g o is. record {
+          born = is.born;
+          places = is.places;
+          bytes = few;
+          mark = is.mark;
+          shared = is.shared;
+          age = is.age;
+        })
         (λ o there. there)
 
     pub stocked-patch : (r : Ref) (offset : ℕ) (bytes : List ℕ)
@@ -297,6 +334,8 @@ module _ {shape : Shaped} {own cycle ended : ℕ} {h : Heap} (old : IsStocked sh
               let few = is.bytes in
               omega (arith, same, few));
           mark = is.mark;
+          shared = is.shared;
+          age = is.age;
         })
         (λ o there. there)
 
@@ -313,7 +352,14 @@ module _ {shape : Shaped} {own cycle ended : ℕ} {h : Heap} (old : IsStocked sh
         sound : (g : ℕ) (o : Object) → IsObject shape cycle g o
             → IsObject shape cycle g (with_mark cycle o)
         sound g o is =
-            record { born = is.born; places = is.places; bytes = is.bytes; mark = omega arith }
+            record {
+              born = is.born;
+              places = is.places;
+              bytes = is.bytes;
+              mark = omega arith;
+              shared = is.shared;
+              age = is.age;
+            }
 
         marks : (o : Object) → o.mark ≡ cycle → (with_mark cycle o).mark ≡ cycle
         marks o e = refl
@@ -381,6 +427,8 @@ module _ {shape : Shaped} {own cycle ended : ℕ} {h : Heap} (old : IsStocked sh
           places = is.places;
           bytes = is.bytes;
           mark = omega (arith, mark, more);
+          shared = is.shared;
+          age = is.age;
         }
     slot-later later Retired more is = is
 
@@ -395,6 +443,16 @@ module _ {shape : Shaped} {own cycle ended : ℕ} {h : Heap} (old : IsStocked sh
       calm = λ _. none;
     }
 
+-- ---- a place is written
+
+pub stocked-place : {shape : Shaped} {own cycle ended : ℕ} {h : Heap}
+    → IsStocked shape own cycle ended h → (node : ℕ) (r : Ref) (place : ℕ) (v : Option Ref)
+    → IsStocked shape own cycle ended (with_place node h r place v)
+stocked-place {shape} {own} {cycle} {ended} {h} old node r place v =
+    stocked-placing
+    (noted-keeps (IsStocked shape own cycle ended) node h r v (stocked-remembering old) old) r place
+    v
+
 -- ---- many objects turn grey
 
 pub stocked-greyed : {shape : Shaped} {own cycle ended : ℕ} (rs : List Ref) {h : Heap}
@@ -407,49 +465,151 @@ stocked-greyed {shape} {own} {cycle} {ended} (r ∷ rs) {h} opened old =
     (λ _. stocked-make_grey old r opened)
     (λ _. old))
 
--- ---- slots are swept while no object is grey
+-- ---- objects become shared
 
-vacated-sound : (shape : Shaped) (cycle of : ℕ) (s : Slot) → is_garbage of s ≡ true
-    → IsSlotOf shape cycle s → IsSlotOf shape cycle (vacated_slot (generation_in s))
-vacated-sound shape cycle of (Free g) garbage is = absurd cc
-vacated-sound shape cycle of (Occupied g o) garbage is =
+pub stocked-shared : {shape : Shaped} {own cycle ended : ℕ} (by : ℕ) (rs : List Ref) {h : Heap}
+    → IsStocked shape own cycle ended h → IsStocked shape own cycle ended (share_all by h rs)
+stocked-shared by [] old = old
+stocked-shared {shape} {own} {cycle} {ended} by (r ∷ rs) {h} old =
+    stocked-shared by rs
+    (cond_both (r.node == by) (with_rewritten h r sharing) h (IsStocked shape own cycle ended)
+    (λ _.
+    stocked-rewritten old r sharing
+    (λ g o is. record {
+      born = is.born;
+      places = is.places;
+      bytes = is.bytes;
+      mark = is.mark;
+      shared = λ _. refl;
+      age = is.age;
+    })
+    (λ o there. there))
+    (λ _. old))
+
+-- ---- objects are freed
+
+vacated-sound : (shape : Shaped) (cycle g : ℕ) → 1 ≤ g → IsSlotOf shape cycle (vacated_slot g)
+vacated-sound shape cycle g born =
     cond_both (g == GREATEST_GENERATION) Retired (Free (g + 1)) (IsSlotOf shape cycle)
     (λ _. tt)
-    (λ _. let born = is.born in omega (arith, born))
-vacated-sound shape cycle of Retired garbage is = absurd cc
+    (λ _. omega (arith, born))
 
-module _ {shape : Shaped} {own cycle ended : ℕ} (of : ℕ) where
-  swept-one : (k : ℕ) (s : Sweeping) → s.heap.grey ≡ [] → IsStocked shape own cycle ended s.heap
-      → IsStocked shape own cycle ended (sweep_one of k s).heap
-      × ((sweep_one of k s).heap.grey ≡ [])
-  unfolding sweep_one
-  swept-one k s none old =
-      let g : ℕ = generation_in (slot_at s.heap k) in
-      cond_both (is_garbage of (slot_at s.heap k))
-      (record { heap = vacated s.heap k g; freed = s.freed + 1 }) s
-      (λ (z : Sweeping). IsStocked shape own cycle ended z.heap × (z.heap.grey ≡ []))
-      (λ garbage. (
-        record {
-          registers = old.registers;
-          letters = old.letters;
-          slots = λ j.
-              at_set (IsSlotOf shape cycle) s.heap.slots k j (vacated_slot g) Retired
-              (vacated-sound shape cycle of (slot_at s.heap k) garbage (old.slots k))
-              (old.slots j);
-          grey = subst
-              (AllByRecursion (λ (j : ℕ). HasMarked cycle (slot_at (vacated s.heap k g) j)))
-              (sym none) tt;
-          once = old.once;
-          calm = old.calm;
-        },
-        none,
-      ))
-      (λ _. (old, none))
+freed-slot : (shape : Shaped) (cycle : ℕ) {s t : Slot} → Vacates s t → IsSlotOf shape cycle s
+    → IsSlotOf shape cycle t
+freed-slot shape cycle v old =
+    let is : IsObject shape cycle v.generation v.object =
+    subst (IsSlotOf shape cycle) v.was old in
+    subst (IsSlotOf shape cycle) (sym v.is) (vacated-sound shape cycle v.generation is.born)
 
-  pub stocked-swept : (k count : ℕ) (s : Sweeping) → s.heap.grey ≡ []
-      → IsStocked shape own cycle ended s.heap
-      → IsStocked shape own cycle ended (sweep_some of k count s).heap
-  stocked-swept k zero s none old = old
-  stocked-swept k (suc n) s none old =
-      let one = swept-one k s none old in
-      stocked-swept (k + 1) n (sweep_one of k s) one.1 one.0
+-- only the grey list may have to change
+freed-stocked : {shape : Shaped} {own cycle ended : ℕ} {h g : Heap} (grey : List ℕ) → Freed h g
+    → IsStocked shape own cycle ended h
+    → AllByRecursion (λ (k : ℕ). HasMarked cycle (slot_at g k)) grey → IsDistinct eqb grey
+    → (ended ≡ cycle → grey ≡ []) → IsStocked shape own cycle ended (record g { grey = grey })
+freed-stocked {shape} {own} {cycle} {ended} {h} {g} grey f old marked once calm = record {
+  registers = ap length f.registers ∙ old.registers;
+  letters = subst (AllByRecursion (λ (l : Letter). IsOther shape own l.from)) (sym f.letters)
+      old.letters;
+  slots = λ k.
+      ⊎_elim {C = IsSlotOf shape cycle (slot_at g k)}
+      (λ same. subst (IsSlotOf shape cycle) (sym same) (old.slots k))
+      (λ v. freed-slot shape cycle v (old.slots k))
+      (f.each k);
+  grey = marked;
+  once = once;
+  calm = calm;
+}
+
+-- slots are swept while no object is grey
+pub stocked-swept : {shape : Shaped} {own cycle ended : ℕ} (of k count : ℕ) (s : Sweeping)
+    → s.heap.grey ≡ [] → IsStocked shape own cycle ended s.heap
+    → IsStocked shape own cycle ended (sweep_some of k count s).heap
+stocked-swept {shape} {own} {cycle} {ended} of k count s none old =
+    let f = freed-some (λ _. is_garbage of) (garbage-test of) k count s in
+    let g : Heap = (sweep_some of k count s).heap in
+    let now : g.grey ≡ [] = f.grey ∙ none in
+    freed-stocked g.grey f old
+    (subst (AllByRecursion (λ (j : ℕ). HasMarked cycle (slot_at g j))) (sym now) tt)
+    (subst (IsDistinct eqb) (sym f.grey) old.once) (λ _. now)
+
+all-filter : {A : Type 0} (P : A → Type 0) (test : A → Bool) (xs : List A) → AllByRecursion P xs
+    → AllByRecursion P (filter test xs)
+all-filter P test [] all = tt
+all-filter P test (x ∷ xs) all =
+    cond_both (test x) (x ∷ filter test xs) (filter test xs) (AllByRecursion P)
+    (λ _. (all.0, all-filter P test xs all.1)) (λ _. all-filter P test xs all.1)
+
+distinct-filter : {A : Type 0} (same : A → A → Bool) (test : A → Bool) (xs : List A)
+    → IsDistinct same xs → IsDistinct same (filter test xs)
+unfolding IsDistinct
+distinct-filter same test [] once = tt
+distinct-filter {A = A} same test (x ∷ xs) once =
+    let rest = distinct-filter same test xs once.1 in
+    cond_both (test x) (x ∷ filter test xs) (filter test xs) (IsDistinct same)
+    (λ _. (all-filter (λ (y : A). same x y ≡ false) test xs once.0, rest)) (λ _. rest)
+
+-- a grey slot that still has an object has the object that it had
+left-marked : (cycle : ℕ) {h g : Heap} → Freed h g → (ks : List ℕ)
+    → AllByRecursion (λ (k : ℕ). HasMarked cycle (slot_at h k)) ks
+    → AllByRecursion (λ (k : ℕ). HasMarked cycle (slot_at g k))
+    (filter (λ k. is_occupied (slot_at g k)) ks)
+left-marked cycle f [] all = tt
+left-marked cycle {h} {g} f (k ∷ ks) all =
+    let rest = left-marked cycle f ks all.1 in
+    cond_both (is_occupied (slot_at g k))
+    (k ∷ filter (λ k. is_occupied (slot_at g k)) ks)
+    (filter (λ k. is_occupied (slot_at g k)) ks)
+    (AllByRecursion (λ (k : ℕ). HasMarked cycle (slot_at g k)))
+    (λ there.
+    let found = occupied-object (slot_at g k) there in
+    let e = generation_in (slot_at g k) in
+    let was = freed-left f k e found.0 found.1 in
+    (subst (HasMarked cycle) (was ∙ sym found.1) all.0, rest))
+    (λ _. rest)
+
+stocked-freed : {shape : Shaped} {own cycle ended : ℕ} {h : Heap} (scope : Scope)
+    → IsStocked shape own cycle ended h
+    → IsStocked shape own cycle ended (freed_within scope own h)
+stocked-freed {shape} {own} {cycle} {ended} {h} scope old =
+    let f = freed-reclaiming scope own h in
+    let g : Heap = (reclaiming scope own h).heap in
+    freed-stocked (left_grey g) f old
+    (subst (λ ks. AllByRecursion (λ (k : ℕ). HasMarked cycle (slot_at g k))
+    (filter (λ k. is_occupied (slot_at g k)) ks)) (sym f.grey)
+    (left-marked cycle f h.grey old.grey))
+    (distinct-filter eqb (λ k. is_occupied (slot_at g k)) g.grey
+    (subst (IsDistinct eqb) (sym f.grey) old.once))
+    (λ done.
+    ap (filter (λ k. is_occupied (slot_at g k))) (f.grey ∙ old.calm done))
+
+-- what is left becomes old
+
+slot-aged : (shape : Shaped) (cycle : ℕ) (s : Slot) → IsSlotOf shape cycle s
+    → IsSlotOf shape cycle (slot_aged s)
+slot-aged shape cycle (Free g) is = is
+slot-aged shape cycle (Occupied g o) is = record {
+  born = is.born;
+  places = is.places;
+  bytes = is.bytes;
+  mark = is.mark;
+  shared = is.shared;
+  age = λ _. refl;
+}
+slot-aged shape cycle Retired is = is
+
+aged-marked : (cycle : ℕ) (s : Slot) → HasMarked cycle s → HasMarked cycle (slot_aged s)
+aged-marked cycle (Free g) is = is
+aged-marked cycle (Occupied g o) is = is
+aged-marked cycle Retired is = is
+
+pub stocked-aged : {shape : Shaped} {own cycle ended : ℕ} {h : Heap}
+    → IsStocked shape own cycle ended h → IsStocked shape own cycle ended (aged h)
+stocked-aged {shape} {own} {cycle} {ended} {h} old =
+    stocked-slots old (map slot_aged h.slots) h.free
+    (λ k. subst (IsSlotOf shape cycle) (sym (aged-at h k))
+    (slot-aged shape cycle (slot_at h k) (old.slots k)))
+    (λ k is. subst (HasMarked cycle) (sym (aged-at h k)) (aged-marked cycle (slot_at h k) is))
+
+pub stocked-reclaimed : {shape : Shaped} {own cycle ended : ℕ} {h : Heap} (scope : Scope)
+    → IsStocked shape own cycle ended h → IsStocked shape own cycle ended (reclaimed scope own h)
+stocked-reclaimed scope old = stocked-aged (stocked-freed scope old)

@@ -183,10 +183,11 @@ pub record Sweeping : Type 0 where
   pub heap : Heap
   pub freed : ℕ
 
-unfoldable pub sweep_one : ℕ → ℕ → Sweeping → Sweeping
-sweep_one cycle k s =
+-- The object of a slot is freed, if the slot passes the test.
+unfoldable pub free_one : (ℕ → Slot → Bool) → ℕ → Sweeping → Sweeping
+free_one lost k s =
     cond
-    (is_garbage cycle (slot_at s.heap k))
+    (lost k (slot_at s.heap k))
     (record {
       heap = vacated s.heap k (generation_in (slot_at s.heap k));
       freed = s.freed + 1;
@@ -194,9 +195,15 @@ sweep_one cycle k s =
     s
 
 -- this many slots, from slot k on
+abbrev pub free_some : (ℕ → Slot → Bool) → ℕ → ℕ → Sweeping → Sweeping
+free_some lost k zero s = s
+free_some lost k (suc n) s = free_some lost (k + 1) n (free_one lost k s)
+
+abbrev pub sweep_one : ℕ → ℕ → Sweeping → Sweeping
+sweep_one cycle k s = free_one (λ _. is_garbage cycle) k s
+
 abbrev pub sweep_some : ℕ → ℕ → ℕ → Sweeping → Sweeping
-sweep_some cycle k zero s = s
-sweep_some cycle k (suc n) s = sweep_some cycle (k + 1) n (sweep_one cycle k s)
+sweep_some cycle k n s = free_some (λ _. is_garbage cycle) k n s
 
 abbrev pub sweep_tests : LocalState → List (Bool × Refusal)
 sweep_tests p = (nat_lt p.phases.swept p.phases.ended, NothingToDo) ∷ []

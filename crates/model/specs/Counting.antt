@@ -16,6 +16,14 @@ is_reference (body.Put target place reference) = true
 is_reference (body.Get target place label) = true
 is_reference b = false
 
+-- a body that carries no reference, and asks for no mark
+abbrev pub is_idle : Body → Bool
+is_idle body.Begin = true
+is_idle (body.Token token) = true
+is_idle body.Ended = true
+is_idle body.Swept = true
+is_idle b = false
+
 -- a message with references counts as earlier if its stamp is below the node's cycle
 abbrev pub reference_balance : ℕ → ℕ → Balance
 reference_balance cycle stamp = cond (nat_lt stamp cycle) Earlier Recent

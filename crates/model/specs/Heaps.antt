@@ -1,10 +1,12 @@
 -- What the events do to a node's heap, and the tests that come before each of them.
-use Rattle.std.specs.Prelude.{ℕ, ◌+◌, Bool, false, cond, ◌||◌, ◌&&◌, ◌==◌, not, nat_lt, nat_le, List, [], ◌∷◌, ◌++◌, length, take, drop, replicate, Option, Some, None, is_some, Result, slice_index_or, slice_set}
+use Rattle.std.specs.Prelude.{ℕ, ◌+◌, Bool, true, false, cond, ◌||◌, ◌&&◌, ◌==◌, not, nat_lt, nat_le, List, [], ◌∷◌, ◌++◌, length, take, drop, replicate, Option, Some, None, is_some, Result, slice_index_or, slice_set}
 use Rattle.std.specs.Option.{unwrap_or}
 use Rattle.ids.specs.Limits.{Shaped}
 use Rattle.ids.specs.declared.names.Ref.{Ref}
 use Rattle.ids.specs.declared.refusal.Refusal.{Refusal}
 use Rattle.ids.specs.declared.refusal.Refusal.TheVariants.{ArenaFull, NoRegister, EmptyRegister, Remote, Local, NoLetter, NoField, TooManyFields, TooManyBytes, NoBytes}
+use Rattle.model.specs.declared.age.Age.{Age}
+use Rattle.model.specs.declared.age.Age.TheVariants.{Young, Remembered, Old}
 use Rattle.model.specs.declared.event.Letter.{Letter}
 use Rattle.model.specs.Checks.{guarded}
 use Rattle.model.specs.State.{Object, Slot, Free, Occupied, Retired, Heap, register_at, slot_at}
@@ -56,10 +58,17 @@ new_reference own h = record {
 abbrev pub with_object : Heap → Object → Heap
 with_object h o = record h { slots = slots_with h.free h.slots o; free = drop 1 h.free }
 
--- a new object's mark is the node's cycle
-abbrev pub new_object : ℕ → ℕ → Object
-new_object cycle places =
-    record { word = 0; bytes = []; places = replicate places None; mark = cycle }
+-- A new object's mark is the node's cycle. It is young if it is private.
+abbrev pub new_object : Bool → ℕ → ℕ → Object
+new_object shared cycle places =
+    record {
+      word = 0;
+      bytes = [];
+      places = replicate places None;
+      mark = cycle;
+      shared = shared;
+      age = cond shared Old Young;
+    }
 
 -- In a space whose nodes have this many slots, and whose objects have at most this many places.
 abbrev pub alloc_tests : ℕ → ℕ → Heap → ℕ → ℕ → List (Bool × Refusal)
@@ -67,9 +76,13 @@ alloc_tests limit most h register places =
     (is_register h register, NoRegister) ∷ (nat_le places most, TooManyFields)
     ∷ (has_slot limit h, ArenaFull) ∷ []
 
-abbrev pub alloc_heap : ℕ → ℕ → Heap → ℕ → ℕ → Heap
-alloc_heap own cycle h register places =
-    with_register (with_object h (new_object cycle places)) register (Some (new_reference own h))
+-- The new object is shared or private.
+abbrev pub alloc_heap : ℕ → Bool → ℕ → Heap → ℕ → ℕ → Heap
+alloc_heap own shared cycle h register places =
+    with_register
+    (with_object h (new_object shared cycle places))
+    register
+    (Some (new_reference own h))
 
 abbrev pub drop_tests : Heap → ℕ → List (Bool × Refusal)
 drop_tests h register =
@@ -134,18 +147,51 @@ abbrev pub with_rewritten : Heap → Ref → (Object → Object) → Heap
 with_rewritten h r f =
     record h { slots = slice_set h.slots r.slot (rewritten f r.generation (slot_at h r.slot)) }
 
--- Writes a place of a live object. If there is no such place, nothing changes.
+abbrev pub is_old : Age → Bool
+is_old Young = false
+is_old Remembered = false
+is_old Old = true
+
+abbrev pub is_old_object : Option Object → Bool
+is_old_object None = false
+is_old_object (Some o) = is_old o.age
+
+-- A young object that an old one may name is remembered.
+abbrev pub remembered : Age → Age
+remembered Young = Remembered
+remembered Remembered = Remembered
+remembered Old = Old
+
+abbrev pub remembering : Object → Object
+remembering o = record o { age = remembered o.age }
+
+abbrev pub remember : ℕ → Heap → Option Ref → Heap
+remember own h None = h
+remember own h (Some r) = cond (r.node == own) (with_rewritten h r remembering) h
+
+-- Writes a place of a live object. If there is no such place, nothing changes but that: if the
+-- object is old, the node's own object that the place is to name is remembered.
 abbrev pub placing : ℕ → Option Ref → Object → Object
 placing place v o = record o { places = slice_set o.places place v }
 
-abbrev pub with_place : Heap → Ref → ℕ → Option Ref → Heap
-with_place h r place v = with_rewritten h r (placing place v)
+abbrev pub with_place : ℕ → Heap → Ref → ℕ → Option Ref → Heap
+with_place own h r place v =
+    with_rewritten (cond (is_old_object (object_at h r)) (remember own h v) h) r (placing place v)
 
 abbrev pub wording : ℕ → Object → Object
 wording word o = record o { word = word }
 
 abbrev pub with_word : Heap → Ref → ℕ → Heap
 with_word h r word = with_rewritten h r (wording word)
+
+-- The objects of a node that these references name become shared.
+abbrev pub sharing : Object → Object
+sharing o = record o { shared = true }
+
+abbrev pub share_all : ℕ → Heap → List Ref → Heap
+share_all own h [] = h
+share_all own h (r ∷ rs) =
+    share_all own (cond (r.node == own) (with_rewritten h r sharing) h) rs
 
 abbrev pub filling : List ℕ → Object → Object
 filling bytes o = record o { bytes = bytes }
@@ -259,10 +305,11 @@ abbrev pub with_letter : Heap → Letter → Heap
 with_letter h l = record h { letters = h.letters ++ l ∷ [] }
 
 -- the events of a heap as a whole: the heap and the answer, or the first refusal that applies
-unfoldable pub heap_alloc : ℕ → ℕ → ℕ → ℕ → Heap → ℕ → ℕ → Result (Heap × Ref) Refusal
-heap_alloc limit most own cycle h register places =
-    guarded (alloc_tests limit most h register places)
-    (alloc_heap own cycle h register places, new_reference own h)
+-- in a space of this shape; in a plain space all objects are shared
+unfoldable pub heap_alloc : Shaped → ℕ → ℕ → Heap → ℕ → ℕ → Result (Heap × Ref) Refusal
+heap_alloc shape own cycle h register places =
+    guarded (alloc_tests shape.slots shape.places h register places)
+    (alloc_heap own (not shape.wide) cycle h register places, new_reference own h)
 
 unfoldable pub heap_drop : Heap → ℕ → Result Heap Refusal
 heap_drop h register = guarded (drop_tests h register) (with_register h register None)
@@ -281,11 +328,11 @@ heap_copy h register source =
 unfoldable pub heap_store : ℕ → Heap → ℕ → ℕ → ℕ → Result Heap Refusal
 heap_store own h object place register =
     guarded (store_tests own h object place register)
-    (with_place h (named h object) place (register_at h register))
+    (with_place own h (named h object) place (register_at h register))
 
 unfoldable pub heap_clear : ℕ → Heap → ℕ → ℕ → Result Heap Refusal
 heap_clear own h object place =
-    guarded (clear_tests own h object place) (with_place h (named h object) place None)
+    guarded (clear_tests own h object place) (with_place own h (named h object) place None)
 
 unfoldable pub heap_word : ℕ → Heap → ℕ → Result ℕ Refusal
 heap_word own h object = guarded (word_tests own h object) (word_of (object_at h (named h object)))

@@ -5,6 +5,7 @@ pub mod Effects
 pub mod Counting
 pub mod Shading
 pub mod Collecting
+pub mod Reclaiming
 pub mod Steps
 pub mod View
 pub mod World
@@ -12,3 +13,4 @@ pub mod Cuts
 pub mod References
 pub mod WellFormed
 pub mod Agreement
+pub mod Searching

@@ -1,20 +1,24 @@
 -- The state of a node, as plain data ("A node" in docs/RULES.md). Look-ups are total: past the end
 -- of a list they give a default, and the default node refuses every event.
-use Rattle.std.specs.Prelude.{ℕ, ℤ, pos, List, [], replicate, Option, None, slice_index_or}
+use Rattle.std.specs.Prelude.{ℕ, ℤ, Bool, pos, List, [], replicate, Option, None, slice_index_or}
 use Rattle.ids.specs.Limits.{Shaped, plain_shape}
 use Rattle.ids.specs.declared.names.Ref.{Ref}
 use Rattle.msg.specs.declared.body.Colour.{Colour}
 use Rattle.msg.specs.declared.body.Colour.TheVariants.{White}
 use Rattle.msg.specs.declared.body.Token.{Token}
 use Rattle.msg.specs.declared.body.Message.{Message}
+use Rattle.model.specs.declared.age.Age.{Age}
 use Rattle.model.specs.declared.event.Letter.{Letter}
 
--- an object: its word, its bytes, its places, and the cycle that marked it
+-- An object: its word, its bytes, its places, the cycle that marked it, and its age. A *shared*
+-- object is one that other nodes may know; the others are *private*.
 pub record Object : Type 0 where
   pub word : ℕ
   pub bytes : List ℕ
   pub places : List (Option Ref)
   pub mark : ℕ
+  pub shared : Bool
+  pub age : Age
 
 -- A slot is free, with the generation of its next object; or occupied by an object of a generation;
 -- or retired, once its generations are used up.

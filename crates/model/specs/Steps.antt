@@ -11,13 +11,15 @@ use Rattle.msg.specs.declared.body.Body.{Body}
 use Rattle.msg.specs.declared.body.Body.TheVariants as body
 use Rattle.msg.specs.declared.body.Message.{Message}
 use Rattle.msg.specs.declared.frame.Ack.{Ack}
+use Rattle.model.specs.declared.age.Scope.{Scope}
 use Rattle.model.specs.declared.event.Event.{Event}
 use Rattle.model.specs.declared.event.Event.TheVariants as event
 use Rattle.model.specs.declared.event.Answer.{Answer}
 use Rattle.model.specs.declared.event.Answer.TheVariants as answer
 use Rattle.model.specs.Checks.{guarded}
 use Rattle.model.specs.State.{LocalState, NodeState, register_at, got_from, Object, Heap}
-use Rattle.model.specs.Heaps.{with_register, with_place, new_reference, named, object_at, word_of, oldest_letter, with_letter, alloc_heap, place_of, place_loaded, letter_taken, alloc_tests, copy_tests, drop_tests, load_tests, store_tests, clear_tests, word_tests, put_tests, get_tests, accept_tests, register_tests, set_bytes_tests, patch_tests, placing, wording, filling, patching, with_rewritten}
+use Rattle.model.specs.Heaps.{with_register, with_place, new_reference, named, object_at, word_of, oldest_letter, with_letter, alloc_heap, place_of, place_loaded, letter_taken, alloc_tests, copy_tests, drop_tests, load_tests, store_tests, clear_tests, word_tests, put_tests, get_tests, accept_tests, register_tests, set_bytes_tests, patch_tests, wording, filling, patching, with_rewritten, share_all}
+use Rattle.model.specs.Reclaiming.{reclaim_tests, reclaiming, reclaimed}
 use Rattle.model.specs.Effects.{Work, at_rest, then, Effect, answers, becomes, unchanged}
 use Rattle.model.specs.Counting.{balance_of, counted_down, append}
 use Rattle.model.specs.Shading.{is_open, is_calm, see_to, joined}
@@ -123,10 +125,19 @@ may_take p from stamp b =
 abbrev pub take_carried : ℕ → Body → LocalState → Work
 take_carried stamp b p = see_to (nat_lt stamp p.phases.cycle) (carried b) p
 
+-- The node's own objects among these become shared.
+abbrev pub share : List Ref → LocalState → Work
+share rs p = at_rest (record p { heap = share_all p.own p.heap rs })
+
+-- A message that may carry references is sent: what it carries becomes shared, and then it is
+-- appended. Nothing else makes an object shared.
+abbrev pub post : ℕ → Body → LocalState → Work
+post to b p = then (share (carried b) p) (append to b)
+
 -- a place is read for another node: its reference is shaded, and then sent back
 abbrev pub answer_get : ℕ → ℕ → Option Ref → LocalState → Work
 answer_get from label v p =
-    then (see_to true (option_to_list v) p) (append from (body.Give label v))
+    then (see_to true (option_to_list v) p) (post from (body.Give label v))
 
 -- The body is followed. Token: it is held. Mark: the object is shaded. Give: a letter is added.
 -- Put: a place is written. Get: the content of a place is sent back. Ended: marking has ended.
@@ -141,7 +152,7 @@ take_body from stamp (body.Give label reference) p =
       heap = with_letter p.heap (record { from = from; label = label; reference = reference });
     })
 take_body from stamp (body.Put target place reference) p =
-    at_rest (record p { heap = with_place p.heap target place reference })
+    at_rest (record p { heap = with_place p.own p.heap target place reference })
 take_body from stamp (body.Get target place label) p =
     answer_get from label (place_of (object_at p.heap target) place) p
 take_body from stamp body.Ended p =
@@ -188,12 +199,15 @@ receipt p from number stamp b =
 -- ---- events
 
 -- What an event writes to the heap: a register; a register, which gets the reference of the oldest
--- letter; an object, while it is live; a new object, which a register then names.
+-- letter; an object, while it is live, or a place of it; a new object, which a register then names.
+-- Or all slots, as private garbage goes.
 pub data Write : Type 0 where
   Sets : ℕ → Option Ref → Write
   Accepts : ℕ → Write
   Rewrites : Ref → (Object → Object) → Write
+  Places : Ref → ℕ → Option Ref → Write
   Makes : ℕ → ℕ → Write
+  Reclaims : Scope → Write
 
 -- What an event does if its tests pass, with its answer. It reads; or it writes; or it shades what
 -- a place holds, and then the register gets it; or it sends one message. The last is for the
@@ -231,13 +245,11 @@ rule p (event.Load register object place) = record {
 }
 rule p (event.Store object place register) = record {
   tests = store_tests p.own p.heap object place register;
-  deed = Writes
-      (Rewrites (named p.heap object) (placing place (register_at p.heap register)))
-      answer.Done;
+  deed = Writes (Places (named p.heap object) place (register_at p.heap register)) answer.Done;
 }
 rule p (event.Clear object place) = record {
   tests = clear_tests p.own p.heap object place;
-  deed = Writes (Rewrites (named p.heap object) (placing place None)) answer.Done;
+  deed = Writes (Places (named p.heap object) place None) answer.Done;
 }
 rule p (event.Word object) = record {
   tests = word_tests p.own p.heap object;
@@ -274,6 +286,10 @@ rule p (event.Get object place label) = record {
   tests = get_tests p.shape.places p.own p.heap object place;
   deed = Sends (named p.heap object).node (body.Get (named p.heap object) place label);
 }
+rule p (event.Reclaim scope) = record {
+  tests = reclaim_tests scope p.heap;
+  deed = Writes (Reclaims scope) (answer.Reclaimed (reclaiming scope p.own p.heap).freed);
+}
 rule p event.Begin = record { tests = begin_tests p; deed = Takes (begun p) }
 rule p event.Scan = record { tests = scan_tests p; deed = Takes (scanned p) }
 rule p event.Pass = record { tests = pass_tests p; deed = Takes (passed p) }
@@ -295,7 +311,10 @@ abbrev pub written : LocalState → Write → Heap
 written p (Sets register v) = with_register p.heap register v
 written p (Accepts register) = letter_taken p.heap register
 written p (Rewrites r f) = with_rewritten p.heap r f
-written p (Makes register places) = alloc_heap p.own p.phases.cycle p.heap register places
+written p (Places r place v) = with_place p.own p.heap r place v
+written p (Makes register places) =
+    alloc_heap p.own (not p.shape.wide) p.phases.cycle p.heap register places
+written p (Reclaims scope) = reclaimed scope p.own p.heap
 
 -- the register gets what was read
 abbrev pub with_loaded : ℕ → Option Ref → LocalState → Work
@@ -305,7 +324,7 @@ with_loaded register v p = at_rest (record p { heap = with_register p.heap regis
 -- were appended so far.
 abbrev pub sends_one : LocalState → List ℕ → ℕ → Body → Effect
 sends_one p counts to b =
-    answers (append to b p) (answer.Sent (slice_index_or counts to 0 + 1))
+    answers (post to b p) (answer.Sent (slice_index_or counts to 0 + 1))
 
 abbrev pub carry : LocalState → List ℕ → Deed → Effect
 carry p counts (Reads a) = unchanged p a

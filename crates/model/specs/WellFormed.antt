@@ -1,11 +1,12 @@
 -- What is true of the parts of every node: of its heap, of what it asked for, of its token, of its
 -- reports, and of its link to itself ("Well-formed nodes" in docs/RULES.md). The references that it
 -- holds are treated in `References`.
-use Rattle.std.specs.Prelude.{◌≡◌, ◌≢◌, ℕ, eqb, ◌<◌, ◌≤◌, List, [], length, Option, Some, None, slice_index_or}
+use Rattle.std.specs.Prelude.{◌≡◌, ◌≢◌, ℕ, true, false, eqb, ◌<◌, ◌≤◌, List, [], length, Option, Some, None, slice_index_or}
 use Rattle.std.specs.List.{AllByRecursion, IsDistinct}
 use Rattle.ids.specs.Limits.{Shaped}
 use Rattle.ids.specs.declared.names.Ref.{Ref}
 use Rattle.msg.specs.declared.body.Token.{Token}
+use Rattle.model.specs.declared.age.Age.TheVariants.{Old}
 use Rattle.model.specs.declared.event.Letter.{Letter}
 use Rattle.model.specs.State.{Object, Slot, Free, Occupied, Retired, Heap, slot_at}
 use Rattle.model.specs.Shading.{is_same}
@@ -16,13 +17,15 @@ use Rattle.model.specs.View.{Link, no_link}
 abbrev pub IsOther : Shaped → ℕ → ℕ → Type 0
 IsOther shape own i = (i < shape.nodes) × (i ≢ own)
 
--- an object of this generation, with no more places and bytes than the space allows, at a node in
--- this cycle
+-- An object of this generation, with no more places and bytes than the space allows, at a node in
+-- this cycle. In a plain space all objects are shared and old.
 pub record IsObject (shape : Shaped) (cycle generation : ℕ) (o : Object) : Type 0 where
   pub born : 1 ≤ generation
   pub places : length o.places ≤ shape.places
   pub bytes : length o.bytes ≤ shape.bytes
   pub mark : o.mark ≤ cycle
+  pub shared : shape.wide ≡ false → o.shared ≡ true
+  pub age : shape.wide ≡ false → o.age ≡ Old
 
 -- A slot becomes free when its first object is freed, so its next object has at least generation 2.
 abbrev pub IsSlotOf : Shaped → ℕ → Slot → Type 0

@@ -2,6 +2,7 @@
 ghost use Rattle.std.specs.Prelude.{◌≡◌};
 ghost use Rattle.model.specs.Effects.{is_change};
 
+use crate::age::Scope;
 use ids::Ref;
 use msg::{Ack, Data, Token};
 
@@ -16,7 +17,7 @@ pub struct Letter {
 
 /// An event of one node. A program names objects only by its registers: `object` is the register
 /// that names the object. An event borrows the bytes that it writes.
-#[derive(Clone, Copy)]
+#[derive(Drop)]
 pub enum Event<'a> {
     /// Makes a new object with this many empty places, and puts its reference into the register.
     Alloc {
@@ -96,6 +97,11 @@ pub enum Event<'a> {
         place: u8,
         label: u32,
     },
+    /// Frees each private object within the scope that neither a root of this node nor an object
+    /// which other nodes may know leads to. It needs no other node.
+    Reclaim {
+        scope: Scope,
+    },
     /// Begins the next cycle. Only node 0 may do this, once all nodes have swept the last cycle.
     Begin,
     /// Shades the references in the places of a grey object.
@@ -133,6 +139,8 @@ pub enum Answer {
     Sent(u64),
     /// The letter that was accepted.
     Letter(Letter),
+    /// How many private objects were freed.
+    Reclaimed(u32),
     /// The cycle that begins.
     Begun(u64),
     /// The object whose places were scanned.

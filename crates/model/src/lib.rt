@@ -10,11 +10,13 @@
 //! says the same in words.
 #![tactic(auto)]
 
+mod age;
 mod balance;
 mod event;
 mod step;
 mod summary;
 
+pub use age::{Age, Scope};
 pub use balance::Balance;
 pub use event::{Answer, Event, Letter};
 pub use step::{Outcome, Step};

@@ -2,7 +2,7 @@
 use crate::event::{Answer, Event};
 
 /// One step of a space of nodes in one thread.
-#[derive(Clone, Copy)]
+#[derive(Drop)]
 pub enum Step<'a> {
     /// An event of the node, which comes from no other node.
     Act(u8, Event<'a>),

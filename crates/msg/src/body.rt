@@ -1,5 +1,7 @@
 //! What nodes say to each other: the messages of programs, and the collector's own. The numbers in
 //! them are not limited here; frames and nodes keep them within the limits.
+ghost use Rattle.std.specs.Prelude.{◌≡◌};
+
 use ids::Ref;
 
 /// The colour of a node or of the token, as in EWD998. Only a white token that met only white nodes
@@ -19,7 +21,7 @@ pub struct Token {
 }
 
 /// What a message says.
-#[derive(Clone, Copy)]
+#[derive(Drop)]
 pub enum Body {
     /// A collection cycle begins.
     Begin,
@@ -55,8 +57,54 @@ pub enum Body {
 
 /// A message as its sender keeps it: the sender's cycle when it was appended, and what it says. Its
 /// number is its position among all messages of its link, counted from 1.
-#[derive(Clone, Copy)]
+#[derive(Drop)]
 pub struct Message {
     pub stamp: u64,
     pub body: Body,
+}
+
+impl Body {
+    /// The same body once more. (By Rattle's `Clone`, it could fail.)
+    pub fn copy(&self) -> Body
+        ensures { result ≡ self.now }
+    {
+        match *self {
+            Body::Begin => Body::Begin,
+            Body::Token(token) => Body::Token(token),
+            Body::Mark { target } => Body::Mark { target },
+            Body::Give { label, reference } => Body::Give { label, reference },
+            Body::Put {
+                target,
+                place,
+                reference,
+            } => Body::Put {
+                target,
+                place,
+                reference,
+            },
+            Body::Get {
+                target,
+                place,
+                label,
+            } => Body::Get {
+                target,
+                place,
+                label,
+            },
+            Body::Ended => Body::Ended,
+            Body::Swept => Body::Swept,
+        }
+    }
+}
+
+impl Message {
+    /// The same message once more.
+    pub fn copy(&self) -> Message
+        ensures { result ≡ self.now }
+    {
+        Message {
+            stamp: self.stamp,
+            body: self.body.copy(),
+        }
+    }
 }

@@ -16,7 +16,7 @@ use ids::{
 /// when it was appended, and what it says. The two nodes differ, the number is 1 to
 /// [`GREATEST_NUMBER`], the stamp is at most [`GREATEST_CYCLE`], and every part is within the
 /// limits.
-#[derive(Clone, Copy)]
+#[derive(Drop)]
 pub struct Data {
     pub from: u8,
     pub to: u8,
@@ -24,6 +24,17 @@ pub struct Data {
     pub stamp: u64,
     pub body: Body,
     pub ghost fits: { IsTrue (data_fits from to number stamp body) },
+}
+
+/// The same, with a borrowed body.
+#[derive(Clone, Copy)]
+pub struct DataRef<'a> {
+    pub from: u8,
+    pub to: u8,
+    pub number: u64,
+    pub stamp: u64,
+    pub body: &'a Body,
+    pub ghost fits: { IsTrue (data_fits from to number stamp body.now) },
 }
 
 /// An acknowledgement: the node `by` has received and saved all messages of the node `of` up to
@@ -37,10 +48,19 @@ pub struct Ack {
 }
 
 /// What a link carries: a message or an acknowledgement.
-#[derive(Clone, Copy)]
+#[derive(Drop)]
 pub enum Frame {
     /// A message.
     Data(Data),
+    /// An acknowledgement.
+    Ack(Ack),
+}
+
+/// The same, with a borrowed body.
+#[derive(Clone, Copy)]
+pub enum FrameRef<'a> {
+    /// A message.
+    Data(DataRef<'a>),
     /// An acknowledgement.
     Ack(Ack),
 }
@@ -66,10 +86,10 @@ fn place_fits(target: Ref, place: u8) -> bool
 
 /// Whether everything that the body says is within the limits: its references (see [`Ref::fits`]),
 /// and its place, which must be below [`GREATEST_PLACES`].
-pub fn body_fits(body: Body) -> bool
-    ensures { result ≡ body_fits body }
+pub fn body_fits(body: &Body) -> bool
+    ensures { result ≡ body_fits body.now }
 {
-    match body {
+    match *body {
         Body::Begin | Body::Token(_) | Body::Ended | Body::Swept => true,
         Body::Mark { target } => target.fits(),
         Body::Give { reference, .. } => optional_fits(reference),
@@ -141,10 +161,10 @@ fn fits_plain_place(target: Ref, place: u8) -> bool
 }
 
 // Whether the body is within the limits, and a plain space has room for it.
-fn fits_plain_body(body: Body) -> bool
-    ensures { result ≡ (body_fits body && is_plain_body body) }
+fn fits_plain_body(body: &Body) -> bool
+    ensures { result ≡ (body_fits body.now && is_plain_body body.now) }
 {
-    match body {
+    match *body {
         Body::Begin | Body::Token(_) | Body::Ended | Body::Swept => true,
         Body::Mark { target } => fits_plain_reference(target),
         Body::Give { reference, .. } => fits_plain_optional(reference),
@@ -164,7 +184,7 @@ pub fn plain_data_fits(from: u8, to: u8, number: u64, stamp: u64, body: &Body) -
     ensures { result ≡ (data_fits from to number stamp body.now && is_plain_body body.now) }
 {
     let number_fits = 1 <= number && number <= GREATEST_NUMBER;
-    nodes_fit(from, to) && number_fits && stamp <= GREATEST_CYCLE && fits_plain_body(*body)
+    nodes_fit(from, to) && number_fits && stamp <= GREATEST_CYCLE && fits_plain_body(body)
 }
 
 /// Whether a message of these parts is within the limits.
@@ -173,7 +193,7 @@ pub fn data_fits(from: u8, to: u8, number: u64, stamp: u64, body: &Body) -> bool
     ensures { result ≡ data_fits from to number stamp body.now }
 {
     let number_fits = 1 <= number && number <= GREATEST_NUMBER;
-    nodes_fit(from, to) && number_fits && stamp <= GREATEST_CYCLE && body_fits(*body)
+    nodes_fit(from, to) && number_fits && stamp <= GREATEST_CYCLE && body_fits(body)
 }
 
 impl Data {
@@ -194,6 +214,19 @@ impl Data {
             })
         } else {
             None
+        }
+    }
+
+    /// The same message once more.
+    pub fn copy(&self) -> Data
+        ensures { result ≡ self.now }
+    {
+        Data {
+            from: self.from,
+            to: self.to,
+            number: self.number,
+            stamp: self.stamp,
+            body: self.body.copy(),
         }
     }
 }

@@ -24,5 +24,6 @@ mod frame;
 
 pub use body::{Body, Colour, Message, Token};
 pub use frame::{
-    Ack, Data, Frame, body_fits, data_fits, is_plain_body, optional_fits, plain_data_fits,
+    Ack, Data, DataRef, Frame, FrameRef, body_fits, data_fits, is_plain_body, optional_fits,
+    plain_data_fits,
 };

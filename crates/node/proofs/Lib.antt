@@ -5,6 +5,7 @@ mod Appended
 mod Balances
 mod Nodes
 mod Sound
+mod Sharing
 mod Seeing
 mod Errands
 mod Runs

@@ -13,10 +13,10 @@ use Rattle.model.specs.declared.event.Answer.TheVariants as answer
 use Rattle.cycles.specs.Phases.{with_ended, with_report}
 use Rattle.model.specs.Counting.{append}
 use Rattle.model.specs.Effects.{Effect, Work, answers, at_rest, then}
-use Rattle.model.specs.Heaps.{object_at, place_of, with_place}
+use Rattle.model.specs.Heaps.{object_at, place_of, share_all, with_place}
 use Rattle.model.specs.Shading.{filled, is_calm, is_open, join, joined, see_to}
 use Rattle.model.specs.State.{LocalState, Phases, got_from}
-use Rattle.model.specs.Steps.{answer_get, count_in, is_marking, may_follow, may_settle, settled, take_body, take_carried, taken_in}
+use Rattle.model.specs.Steps.{answer_get, post, count_in, is_marking, may_follow, may_settle, settled, take_body, take_carried, taken_in}
 use Rattle.model.specs.View.{NodeView, Performed, view_taken}
 use Rattle.model.proofs.Joining.{calm-none, join-phases}
 use Rattle.model.proofs.Leaving.{Stands, stands-walks}
@@ -227,26 +227,29 @@ module _ (from stamp : ℕ) (p : LocalState) where
   pub put-followed : (due : Bool) (target : Ref) (place : ℕ) (v : Option Ref) → due ≡ late
       → followed from stamp (body.Put target place v) p
       ≡ stepped (errand stamp due (filled (Some target ∷ v ∷ [])) extra.Nothing p)
-      (λ z. record z { heap = with_place z.heap target place v })
+      (λ z. record z { heap = with_place z.own z.heap target place v })
   unfolding take_body errand errand_here
   put-followed due target place v is =
       by-errand (body.Put target place v)
       {v = stepped (errand_here due (filled (Some target ∷ v ∷ [])) extra.Nothing q)
-      (λ z. record z { heap = with_place z.heap target place v })}
+      (λ z. record z { heap = with_place z.own z.heap target place v })}
       (rw (is, joined-cycle p stamp, filled-one v) refl)
 
   -- What is in the place is read before the node joins. Marking doesn't change it.
   pub get-followed : (target : Ref) (place label : ℕ) {v : Option Ref}
       → (target.node == p.own) ≡ true → v ≡ place_of (object_at p.heap target) place
       → followed from stamp (body.Get target place label) p
-      ≡ errand stamp true (filled (Some target ∷ v ∷ [])) (extra.Answer from label v) p
+      ≡ stepped (errand stamp true (filled (Some target ∷ v ∷ [])) (extra.Answer from label v) p)
+      (λ z. record z { heap = share_all z.own z.heap (option_to_list v) })
   unfolding take_body errand errand_here append
   get-followed target place label {v = v} own is =
       by-errand (body.Get target place label) same
     where
       same : then (take_carried stamp (body.Get target place label) q)
           (take_body from stamp (body.Get target place label))
-          ≡ errand_here true (filled (Some target ∷ v ∷ [])) (extra.Answer from label v) q
+          ≡ stepped
+          (errand_here true (filled (Some target ∷ v ∷ [])) (extra.Answer from label v) q)
+          (λ z. record z { heap = share_all z.own z.heap (option_to_list v) })
       same =
           let due : Bool = nat_lt stamp q.phases.cycle in
           let here : (target.node == q.own) ≡ true =
@@ -257,11 +260,11 @@ module _ (from stamp : ℕ) (p : LocalState) where
           seen-places due (target ∷ []) q target place ∙ joined-places p stamp target place
           ∙ sym is in
           let s : Work = see_to true (option_to_list v) w.local in
-          let a : Work = append from (body.Give label v) s.local in
+          let a : Work = post from (body.Give label v) s.local in
           ap (λ (z : Option Ref). then w (answer_get from label z)) there
           ∙ ap (λ (ms : List (ℕ × Message)). record { local = a.local; sends = ms })
           (sym (append_assoc w.sends s.sends a.sends))
-          ∙ ap (λ (z : Work). then z (append from (body.Give label v)))
+          ∙ ap (λ (z : Work). then z (post from (body.Give label v)))
           (see_to-then due target (option_to_list v) q here
           ∙ ap (λ (rs : List Ref). see_to true (target ∷ rs) q) (sym (filled-one v)))
 

@@ -1,6 +1,6 @@
 -- What is tested of the parts of a saved node is what holds of every node.
-use Rattle.std.proofs.Common.{◌≡◌, ◌≢◌, ℕ, ◌<◌, ◌≤◌, ◌==◌, true, false, List, length, get_or, Option, Some, None, refl, ap, subst, ⊎_elim, arith}
-use Rattle.std.specs.Prelude.{◌↔◌, is_some}
+use Rattle.std.proofs.Common.{◌≡◌, ◌≢◌, ℕ, ◌<◌, ◌≤◌, ◌==◌, Bool, true, false, ◌&&◌, List, length, get_or, Option, Some, None, refl, ap, subst, ⊎_elim, arith}
+use Rattle.std.specs.Prelude.{◌||◌, ◌↔◌, is_some}
 use Rattle.std.specs.List.{AllByRecursion, list_all}
 use Rattle.std.proofs.lemmas.Bool.{cases_eq, cases_lt, eq-eqb, eqb-true}
 use Rattle.std.proofs.lemmas.Bool.Decides.{nat_tests}
@@ -12,9 +12,11 @@ use Rattle.msg.specs.declared.body.Body.{Body}
 use Rattle.msg.specs.declared.body.Body.TheVariants as body
 use Rattle.msg.specs.declared.body.Message.{Message}
 use Rattle.msg.specs.declared.body.Token.{Token}
+use Rattle.model.specs.declared.age.Age.{Age}
+use Rattle.model.specs.declared.age.Age.TheVariants.{Young, Remembered, Old}
 use Rattle.model.specs.declared.event.Letter.{Letter}
 use Rattle.model.specs.State.{Object, Slot, Free, Occupied, Retired, Heap, Phases, LocalState, slot_at}
-use Rattle.model.specs.Heaps.{no_letter}
+use Rattle.model.specs.Heaps.{is_old, no_letter}
 use Rattle.model.specs.References.{IfAny, IsWithin, IsPlaced, IsSendable, no_message}
 use Rattle.model.specs.Shading.{is_same}
 use Rattle.model.specs.Steps.{mentioned}
@@ -48,19 +50,40 @@ module _ (shape : Shaped) where
   any-each : (vs : List (Option Ref)) → list_all (is_any_named shape) vs ≡ true ↔ HoldsWithin vs
   any-each vs = each-is (IfAny (IsWithin shape)) (is_any_named shape) any-is vs None tt
 
+  -- in a plain space the object is shared and old
+  abbrev IsKnown : Object → Type 0
+  IsKnown o = shape.wide ≡ false → (o.shared ≡ true) × (o.age ≡ Old)
+
+  known-is : (o : Object) → (shape.wide || (o.shared && is_old o.age)) ≡ true ↔ IsKnown o
+  known-is o = (to shape.wide o.shared o.age, from shape.wide o.shared o.age)
+    where
+      to : (a b : Bool) (c : Age) → a || (b && is_old c) ≡ true → a ≡ false
+          → (b ≡ true) × (c ≡ Old)
+      to true b c is plain = absurd cc
+      to false true Old is plain = (refl, refl)
+      to false true Young is plain = absurd cc
+      to false true Remembered is plain = absurd cc
+      to false false c is plain = absurd cc
+
+      from : (a b : Bool) (c : Age) → (a ≡ false → (b ≡ true) × (c ≡ Old))
+          → a || (b && is_old c) ≡ true
+      from true b c is = refl
+      from false b c is = rw ((is refl).0, (is refl).1) refl
+
   module _ (cycle : ℕ) where
     -- a slot's first generation isn't tested here
     abbrev IsGiven : Slot → Type 0
     IsGiven (Free g) = 2 ≤ g
     IsGiven (Occupied g o) =
         (o.mark ≤ cycle)
+        × (IsKnown o
         × ((length o.places ≤ shape.places)
-        × ((length o.bytes ≤ shape.bytes) × HoldsWithin o.places))
+        × ((length o.bytes ≤ shape.bytes) × HoldsWithin o.places)))
     IsGiven Retired = Unit {0}
 
     slot-is : (s : Slot) → is_slot shape cycle s ≡ true ↔ IsGiven s
     slot-is (Free g) = grind (arith, nat_tests)
-    slot-is (Occupied g o) = grind (arith, nat_tests, any-each o.places)
+    slot-is (Occupied g o) = grind (arith, nat_tests, known-is o, any-each o.places)
     slot-is Retired = (λ _. tt, λ _. refl)
 
     slots-are : (slots : List Slot)
@@ -72,22 +95,26 @@ module _ (shape : Shaped) where
     given-slot (Free g) is born = is
     given-slot (Occupied g o) is born = record {
       born = born;
-      places = is.1.0;
-      bytes = is.1.1.0;
+      places = is.1.1.0;
+      bytes = is.1.1.1.0;
       mark = is.0;
+      shared = λ plain. (is.1.0 plain).0;
+      age = λ plain. (is.1.0 plain).1;
     }
     given-slot Retired is born = tt
 
     given-holds : (s : Slot) (g : ℕ) (o : Object) → IsGiven s → s ≡ Occupied g o
         → HoldsWithin o.places
     given-holds (Occupied f x) g o is e =
-        let same : x ≡ o = cc in subst (λ (z : Object). HoldsWithin z.places) same is.1.1.1
+        let same : x ≡ o = cc in subst (λ (z : Object). HoldsWithin z.places) same is.1.1.1.1
     given-holds s g o is e = absurd cc
 
     slot-given : (s : Slot) → IsSlotOf shape cycle s
         → ((g : ℕ) (o : Object) → s ≡ Occupied g o → HoldsWithin o.places) → IsGiven s
     slot-given (Free g) is holds = is
-    slot-given (Occupied g o) is holds = (is.mark, (is.places, (is.bytes, holds g o refl)))
+    slot-given (Occupied g o) is holds =
+        let known : IsKnown o = λ plain. (is.shared plain, is.age plain) in
+        (is.mark, (known, (is.places, (is.bytes, holds g o refl))))
     slot-given Retired is holds = tt
 
   -- ---- letters, and what was asked for

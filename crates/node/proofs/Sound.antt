@@ -1,5 +1,5 @@
 -- Each event on the heap alone preserves what holds of every node.
-use Rattle.std.proofs.Common.{◌≡◌, ℕ, ◌<◌, ◌≤◌, Bool, List, [], ◌∷◌, drop, length, get_or, Option, Some, None, Ok, nat_le, refl, ap, sym, ◌∙◌, subst, arith, rules, length-append, le_refl}
+use Rattle.std.proofs.Common.{◌≡◌, ℕ, ◌<◌, ◌≤◌, Bool, not, List, [], ◌∷◌, drop, length, get_or, Option, Some, None, Ok, nat_le, refl, ap, sym, ◌∙◌, subst, arith, rules, length-append, le_refl}
 use Rattle.std.proofs.lemmas.Bool.{leb-true, and_parts}
 use Rattle.std.proofs.lemmas.List.{length-set}
 use Rattle.ids.specs.declared.names.Ref.{Ref}
@@ -14,6 +14,7 @@ use Rattle.model.specs.declared.event.Event.TheVariants as event
 use Rattle.model.specs.View.{NodeView, view_act}
 use Rattle.model.specs.WellFormed.{IsStocked}
 use Rattle.model.proofs.Checks.{guarded-ok, guarded-passes}
+use Rattle.model.proofs.Ages.{noted_for, noted-keeps}
 use Rattle.model.proofs.References.{holds-letter_gone, holds-with_register, holds-with_object, holds-with_place, holds-with_word, holds-with_rewritten}
 use Rattle.model.proofs.Stocks.{stocked-letter_gone, stocked-object, stocked-place, stocked-register, stocked-word, stocked-bytes, stocked-patch}
 use Rattle.heap.specs.Heap.{HeapView}
@@ -36,36 +37,33 @@ slots_with-more (k ∷ ks) slots o =
     omega (arith, length-set slots k (Occupied (next_generation (get_or slots k Retired)) o))
 
 -- an object was allocated, with this reference and in this heap
-pub record Allocates (n : NodeView) (limit most cycle register places : ℕ) (g : Heap) (r : Ref)
-    : Type 0
+pub record Allocates (n : NodeView) (cycle register places : ℕ) (g : Heap) (r : Ref) : Type 0
   where
     pub now : cycle ≡ n.local.phases.cycle
-    pub most_is : most ≡ n.local.shape.places
-    pub done : heap_alloc limit most n.local.own cycle n.local.heap register places ≡ Ok (g, r)
+    pub done : heap_alloc n.local.shape n.local.own cycle n.local.heap register places ≡ Ok (g, r)
     pub slot : r.slot < n.local.shape.slots
     pub generation : 1 ≤ r.generation
 
 -- and its reference is the answer
 pub alloc-answered : (n : NodeView) (register places : ℕ) {g : Heap} {r : Ref}
-    → heap_alloc n.local.shape.slots n.local.shape.places n.local.own n.local.phases.cycle
-    n.local.heap register places
+    → heap_alloc n.local.shape n.local.own n.local.phases.cycle n.local.heap register places
     ≡ Ok (g, r)
     → view_act n (event.Alloc register places) ≡ okay (with_heap n g) (answer.New r)
 unfolding heap_alloc view_act
 alloc-answered n register places h = search rules
 
 module _ (n : NodeView) (old : IsNode n) where
-  pub node-allocated : {limit most cycle register places : ℕ} {g : Heap} {r : Ref}
-      → Allocates n limit most cycle register places g r → IsNode (with_heap n g)
+  pub node-allocated : {cycle register places : ℕ} {g : Heap} {r : Ref}
+      → Allocates n cycle register places g r → IsNode (with_heap n g)
   unfolding heap_alloc
-  node-allocated {limit = limit} {most = most} {cycle = cycle} {register = register}
-      {places = places} {g = g} {r = r} a =
+  node-allocated {cycle = cycle} {register = register} {places = places} {g = g} {r = r} a =
       let p = n.local in
       let h : Heap = p.heap in
       let at : ℕ = p.phases.cycle in
-      let tests = alloc_tests limit most h register places in
+      let shared : Bool = not p.shape.wide in
+      let tests = alloc_tests p.shape.slots p.shape.places h register places in
       let both : ◌≡◌ {A = Heap × Ref}
-      (alloc_heap p.own cycle h register places, new_reference p.own h) (g, r) =
+      (alloc_heap p.own shared cycle h register places, new_reference p.own h) (g, r) =
       guarded-ok tests _ _ a.done in
       let name : new_reference p.own h ≡ r = ap (λ (z : Heap × Ref). z.1) both in
       let within : IsWithin p.shape r = record {
@@ -73,19 +71,19 @@ module _ (n : NodeView) (old : IsNode n) where
         slot = a.slot;
         generation = a.generation;
       } in
-      let heap : alloc_heap p.own at h register places ≡ g =
-      ap (λ (k : ℕ). alloc_heap p.own k h register places) (sym a.now)
+      let heap : alloc_heap p.own shared at h register places ≡ g =
+      ap (λ (k : ℕ). alloc_heap p.own shared k h register places) (sym a.now)
       ∙ ap (λ (z : Heap × Ref). z.0) both in
       let passed : AllPass tests = guarded-passes tests _ _ a.done in
-      let o : Object = new_object at places in
+      let o : Object = new_object shared at places in
       subst (λ (z : Heap). IsNode (with_heap n z)) heap
-      (node-heap n (alloc_heap p.own at h register places) old
+      (node-heap n (alloc_heap p.own shared at h register places) old
       (holds-with_register (IsWithin p.shape) (with_object h o) register
       (Some (new_reference p.own h))
-      (holds-with_object (IsWithin p.shape) h at places old.references)
+      (holds-with_object (IsWithin p.shape) h shared at places old.references)
       (subst (IsWithin p.shape) (sym name) within))
-      (stocked-register (stocked-object old.stocked places
-      (subst (λ (k : ℕ). places ≤ k) a.most_is (leb-true places most passed.1.0)))
+      (stocked-register (stocked-object old.stocked shared places (λ plain. ap not plain)
+      (leb-true places p.shape.places passed.1.0))
       register (Some (new_reference p.own h)))
       (slots_with-more h.free h.slots o))
 
@@ -134,14 +132,16 @@ module _ (n : NodeView) (old : IsNode n) where
       (le_refl (length p.heap.slots)))
 
   pub node-placed : (r : Ref) (place : ℕ) (v : Option Ref) → IfAny (IsWithin n.local.shape) v
-      → IsNode (with_heap n (with_place n.local.heap r place v))
+      → IsNode (with_heap n (with_place n.local.own n.local.heap r place v))
   node-placed r place v within =
       let p = n.local in
-      let slots : length (with_place p.heap r place v).slots ≡ length p.heap.slots =
-      length-set p.heap.slots r.slot _ in
-      node-heap n (with_place p.heap r place v) old
-      (holds-with_place (IsWithin p.shape) p.heap r place v old.references within)
-      (stocked-place old.stocked r place v)
+      let noted = noted-keeps (λ (h : Heap). length h.slots ≡ length p.heap.slots) p.own p.heap r v
+      (λ z. length-set p.heap.slots z.slot _) refl in
+      let slots : length (with_place p.own p.heap r place v).slots ≡ length p.heap.slots =
+      length-set (noted_for p.own p.heap r v).slots r.slot _ ∙ noted in
+      node-heap n (with_place p.own p.heap r place v) old
+      (holds-with_place (IsWithin p.shape) p.own p.heap r place v old.references within)
+      (stocked-place old.stocked p.own r place v)
       (omega (arith, slots))
 
   pub node-stored : (object place register : ℕ) (g : Heap)

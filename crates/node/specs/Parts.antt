@@ -11,6 +11,7 @@ use Rattle.msg.specs.declared.body.Body.TheVariants.{Begin, Token, Mark, Give, P
 use Rattle.msg.specs.declared.body.Message.{Message}
 use Rattle.model.specs.declared.event.Letter.{Letter}
 use Rattle.model.specs.State.{Object, Slot, Free, Occupied, Retired, LocalState}
+use Rattle.model.specs.Heaps.{is_old}
 use Rattle.model.specs.Shading.{is_calm, is_in}
 use Rattle.model.specs.Steps.{is_within, mentioned}
 use Rattle.model.specs.View.{Link, NodeView, used}
@@ -63,12 +64,13 @@ is_foreign shape own r = is_named shape r && not (r.node == own)
 abbrev pub is_letter : Shaped → ℕ → Letter → Bool
 is_letter shape own l = is_neighbour shape own l.from && is_any_named shape l.reference
 
--- an object of a node in this cycle; in a plain space it has no bytes
+-- an object of a node in this cycle; in a plain space it has no bytes, and is shared and old
 abbrev pub is_object : Shaped → ℕ → Object → Bool
 is_object shape cycle o =
     nat_le o.mark cycle
+    && ((shape.wide || (o.shared && is_old o.age))
     && (nat_le (length o.places) shape.places
-    && (nat_le (length o.bytes) shape.bytes && list_all (is_any_named shape) o.places))
+    && (nat_le (length o.bytes) shape.bytes && list_all (is_any_named shape) o.places)))
 
 -- A slot of a node in this cycle. A free slot has held an object, so its next generation is at
 -- least 2.

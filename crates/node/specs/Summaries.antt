@@ -1,6 +1,6 @@
 -- A node in numbers.
 use Rattle.std.specs.Prelude.{length, count_by, is_some}
-use Rattle.heap.specs.Heap.{is_occupied}
+use Rattle.model.specs.Reclaiming.{is_occupied}
 use Rattle.model.specs.State.{LocalState}
 use Rattle.model.specs.declared.summary.Summary.{Summary}
 

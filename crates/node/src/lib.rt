@@ -49,11 +49,11 @@
 //!
 //! # Why it is safe
 //!
-//! The claim is one sentence: what is reachable is live. Only Sweep frees, and it frees what isn't
-//! marked. So when a node sweeps, everything that is reachable must be marked. The proof has one
-//! invariant of eleven facts, which hold in a new space and which each step other than a save or a
-//! restart preserves (`laws/proofs/Invariant.antt`). Here they are, except two of bookkeeping
-//! (`Base`, `Tidy`), each after those that it relies on.
+//! The claim is one sentence: what is reachable is live. Sweep frees what isn't marked. (Reclaim
+//! frees too, but only what no other node knows; see 9.) So when a node sweeps, everything that is
+//! reachable must be marked. The proof has one invariant of eleven facts, which hold in a new space
+//! and which each step other than a save or a restart preserves (`laws/proofs/Invariant.antt`).
+//! Here they are, except two of bookkeeping (`Base`, `Tidy`), each after those that it relies on.
 //!
 //! 1. No node is more than one cycle behind (`Phased`). Each node is in node 0's cycle or, while
 //! node 0 is marking, in the cycle before, which it has swept. So a mark is either of node 0's
@@ -94,6 +94,12 @@
 //! only a save releases messages and acknowledgements. Choose for each node its current or its
 //! saved state: this is a cut. Any cut is a space that could have come about without restarts
 //! (`cuts_extend`), and each fact above holds of every cut of every run.
+//!
+//! 9. A Reclaim changes nothing. Whatever has a reference to a private object is its own node's
+//! (`private`), since an object is shared as soon as a message carries a reference to it. So the
+//! node finds alone what leads to it. What is left names nothing that was freed. A Reclaim of the
+//! young frees less: only what was made since the last Reclaim. It needn't follow the places of old
+//! objects, since each young object that one of these names is shared or remembered.
 //!
 //! That garbage is freed is another theorem (`old_garbage`). Take any time before the cycle.
 //! Whatever a node still has after its sweep was reachable in some cut of that time, or was made

@@ -1,9 +1,9 @@
 //! A node together with its early messages. These are kept apart from what is saved, and are in no
 //! state. So each clause about the core is about the event that reaches the core.
-ghost use Rattle.std.specs.Prelude.{◌≡◌, ◌≢◌, ℕ, ◌<◌, ◌≤◌, IsTrue, Ok, Err, Some, IfOk, IfErr, OnErr};
+ghost use Rattle.std.specs.Prelude.{◌≡◌, ◌≢◌, ℕ, ◌<◌, ◌≤◌, IsTrue, Ok, Err, Some, option_copied, IfOk, IfErr, OnErr};
 ghost use Rattle.std.specs.Option.{option_map};
 ghost use Rattle.ids.specs.declared.refusal.Refusal.TheVariants.{Memory, NoNode};
-ghost use Rattle.msg.specs.Frames.{plain};
+ghost use Rattle.msg.specs.Frames.{plain_ref};
 ghost use Rattle.msg.specs.declared.frame.Data.{Data};
 ghost use Rattle.model.specs.Heaps.{heap_bytes, heap_bytes_len};
 ghost use Rattle.model.specs.State.{NodeState};
@@ -34,7 +34,7 @@ use crate::node_core::Core;
 use ids::{NodeId, Refusal, Shape};
 use link::EarlyFrames;
 use model::{Answer, Event, Summary};
-use msg::{Data, Frame};
+use msg::{Data, FrameRef};
 use std::alloc::Global;
 use std::marker::Model;
 
@@ -106,26 +106,26 @@ impl Node {
     /// is refused, it has left its place, unless memory ran out.
     #[inline(always)]
     #[tactic(auto, using(crate::proofs::Held::handled))]
-    pub fn act(&mut self, event: Event) -> Result<Answer, Refusal>
-        ensures performs { Performs (is_shading (met self.old.early event.entry)) result
-            self.new.core (view_act self.old.core (met self.old.early event.entry)) }
+    pub fn act(&mut self, event: &Event) -> Result<Answer, Refusal>
+        ensures performs { Performs (is_shading (met self.old.early event.now)) result
+            self.new.core (view_act self.old.core (met self.old.early event.now)) }
         ensures states { (s : NodeState) → Shows self.old.core s
-            → Follows (met self.old.early event.entry) result self.new.core
-            (act s (met self.old.early event.entry)) }
+            → Follows (met self.old.early event.now) result self.new.core
+            (act s (met self.old.early event.now)) }
         ensures unchanged { OnErr result (self.new.core ≡ self.old.core) }
-        ensures leaves { Leaves self.old.core self.new.core (met self.old.early event.entry) }
-        ensures memory_free { IsTrue (is_memory_free self.old.core.local (met self.old.early event.entry))
-            → IfErr result (λ e. e ≢ Memory) }
+        ensures leaves { Leaves self.old.core self.new.core (met self.old.early event.now) }
+        ensures memory_free { IsTrue (is_memory_free self.old.core.local
+            (met self.old.early event.now)) → IfErr result (λ e. e ≢ Memory) }
         ensures early { self.new.early
-            ≡ early_after self.old.core.local self.old.early event.entry result }
-        ensures turn { met self.old.early event.entry ≢ event.entry
+            ≡ early_after self.old.core.local self.old.early event.now result }
+        ensures turn { met self.old.early event.now ≢ event.now
             → IfOk result (λ a. a ≡ answer.Received) }
         ensures kept { AreKeptIn self.new }
     {
         // (Separate variables for what the two calls write, so that the answers of all other
         // events need not go through memory.)
-        match event {
-            Event::Data(frame) => {
+        match *event {
+            Event::Data(ref frame) => {
                 let taken = self.take(frame);
                 taken
             }
@@ -139,17 +139,17 @@ impl Node {
 
     /// Performs an event to which early messages mean nothing.
     #[inline(always)]
-    fn handle(&mut self, other: Event) -> Result<Answer, Refusal>
-        requires waits { (from : ℕ) → other ≢ event.Next from }
-        requires comes { (frame : Data) → other ≢ event.Data frame }
-        ensures { Handled self.old self.new other.entry result }
+    fn handle(&mut self, other: &Event) -> Result<Answer, Refusal>
+        requires waits { (from : ℕ) → other.now ≢ event.Next from }
+        requires comes { (frame : Data) → other.now ≢ event.Data frame }
+        ensures { Handled self.old self.new other.now result }
     {
         self.core.perform(other)
     }
 
     #[inline(always)]
-    fn take(&mut self, frame: Data) -> Result<Answer, Refusal>
-        ensures { Handled self.old self.new (event.Data frame) result }
+    fn take(&mut self, frame: &Data) -> Result<Answer, Refusal>
+        ensures { Handled self.old self.new (event.Data frame.now) result }
     {
         let taken = self.core.taken_from(frame.from);
         let answer = self.core.take_in(frame)?;
@@ -178,8 +178,8 @@ impl Node {
     }
 
     /// The frame from that node that waits for [`Event::Next`], if there is one.
-    pub fn waiting(&self, from: u8) -> Option<Data>
-        ensures value { result ≡ waiting self.now.early from }
+    pub fn waiting(&self, from: u8) -> Option<&Data>
+        ensures value { option_copied result ≡ waiting self.now.early from }
         ensures kept { AreKeptIn self.now }
     {
         front(&self.early, from)
@@ -234,22 +234,22 @@ impl Node {
     }
 
     /// The frame in this place of the window to another node; see [`Core::frame_at`].
-    pub fn frame_at(&self, to: u8, place: u8) -> Option<Frame>
-        ensures { option_map plain result ≡ released_frame self.now.core to place }
+    pub fn frame_at(&self, to: u8, place: u8) -> Option<FrameRef>
+        ensures { option_map plain_ref result ≡ released_frame self.now.core to place }
     {
         self.core.frame_at(to, place)
     }
 
     /// The acknowledgement to another node; see [`Core::ack_for`].
-    pub fn ack_for(&self, from: u8) -> Option<Frame>
-        ensures { option_map plain result ≡ acknowledgement self.now.core from }
+    pub fn ack_for(&self, from: u8) -> Option<FrameRef>
+        ensures { option_map plain_ref result ≡ acknowledgement self.now.core from }
     {
         self.core.ack_for(from)
     }
 }
 
-fn front(early: &[EarlyFrames], from: u8) -> Option<Data>
-    ensures { result ≡ waiting early.now from }
+fn front(early: &[EarlyFrames], from: u8) -> Option<&Data>
+    ensures { option_copied result ≡ waiting early.now from }
 {
     early.get(usize::from(from))?.at(0)
 }
@@ -280,14 +280,14 @@ fn put(early: &mut Vec<EarlyFrames>, from: u8, place: usize, frame: Data)
 
 /// Updates the early messages after this message got this answer. Before it, `taken` messages of
 /// its sender had been received.
-fn keep(early: &mut Vec<EarlyFrames>, taken: u64, frame: Data, answer: Answer)
-    ensures { early.new.items ≡ after_data taken early.old.items frame (Ok answer) }
+fn keep(early: &mut Vec<EarlyFrames>, taken: u64, frame: &Data, answer: Answer)
+    ensures { early.new.items ≡ after_data taken early.old.items frame.now (Ok answer) }
 {
     match answer {
         Answer::Received => shift(early, frame.from),
         Answer::Early => {
             let place = frame.number.saturating_sub(taken).saturating_sub(1);
-            put(early, frame.from, place as usize, frame);
+            put(early, frame.from, place as usize, frame.copy());
         }
         _ => {}
     }

@@ -14,6 +14,7 @@ mod objects;
 mod parts;
 mod reading;
 mod receiving;
+mod sharing;
 mod steps;
 mod taking;
 
@@ -98,13 +99,13 @@ impl Core {
 
     /// Performs one event, which may shade (`is_shading`). A refused event changes nothing.
     #[inline(always)]
-    pub(crate) fn perform(&mut self, event: Event) -> Result<Answer, Refusal>
-        ensures performed { Performed (is_shading event.entry) result self.old self.new
-            (view_act self.old event.entry) }
-        ensures memory_free { IsTrue (is_memory_free self.old.local event.entry)
+    pub(crate) fn perform(&mut self, event: &Event) -> Result<Answer, Refusal>
+        ensures performed { Performed (is_shading event.now) result self.old self.new
+            (view_act self.old event.now) }
+        ensures memory_free { IsTrue (is_memory_free self.old.local event.now)
             → IfErr result (λ e. e ≢ Memory) }
     {
-        match event {
+        match *event {
             Event::Alloc { register, places } => self.allocate(register, places),
             Event::Copy { register, source } => self.copy_register(register, source),
             Event::Drop { register } => self.drop_register(register),
@@ -143,12 +144,13 @@ impl Core {
                 place,
                 label,
             } => self.get(object, place, label),
+            Event::Reclaim { scope } => self.reclaim(scope),
             Event::Begin => self.begin(),
             Event::Scan => self.scan(),
             Event::Pass => self.pass(),
             Event::Sweep { count } => self.sweep(count),
             Event::Next { from } => self.next(from),
-            Event::Data(frame) => self.take_in(frame),
+            Event::Data(ref frame) => self.take_in(frame),
             Event::Ack(ack) => self.acknowledge(ack),
         }
     }

@@ -1,5 +1,5 @@
 //! Gives a node an event and notes it in the node's log.
-ghost use Rattle.std.specs.Prelude.{◌≡◌, nat_le, false, true, IfOk};
+ghost use Rattle.std.specs.Prelude.{◌≡◌, nat_le, false, true, unwrap_or, IfOk};
 ghost use Rattle.model.specs.Effects.{is_change};
 ghost use Rattle.model.specs.View.{link_to};
 ghost use Rattle.node.specs.Keeping.{AreKeptIn, met};
@@ -19,15 +19,24 @@ pub fn is_turn(event: &Event) -> bool
     matches!(event, Event::Next { .. })
 }
 
-/// What an event is to the node's core: `Next` of a message that waits is that message.
-pub fn meant<'a>(node: &Node, event: Event<'a>) -> Event<'a>
-    ensures { result ≡ met node.now.early event.entry }
+/// What an event is to the node's core, if that is another event: `Next` of a message that waits is
+/// that message.
+pub fn turned<'a>(node: &Node, event: &Event<'a>) -> Option<Event<'a>>
+    ensures { unwrap_or result event.now ≡ met node.now.early event.now }
 {
-    let Event::Next { from } = event else {
-        return event;
+    let Event::Next { from } = *event else {
+        return None;
     };
-    match node.waiting(from) {
-        Some(frame) => Event::Data(frame),
+    let frame = node.waiting(from)?;
+    Some(Event::Data(frame.copy()))
+}
+
+/// What an event is to the node's core, by what [`turned`] said of it.
+pub fn meant<'a, 'b>(turned: &'b Option<Event<'a>>, event: &'b Event<'a>) -> &'b Event<'a>
+    ensures { result.now ≡ unwrap_or turned.now event.now }
+{
+    match turned {
+        Some(other) => other,
         None => event,
     }
 }
@@ -59,11 +68,11 @@ fn is_acknowledged(node: &Node, by: u8, number: u64) -> bool
 /// Gives a node an event, as [`Node::act`] does, and notes it in the node's log if it is answered
 /// and changes what is saved. The log may be lost (see [`Log::note`]); no event is refused for
 /// that. If it is lost already, nothing is noted.
-pub fn act(node: &mut Node, log: &mut Log, event: Event) -> Result<Answer, Refusal>
-    ensures acts { Acts node.old node.new event.entry result }
+pub fn act(node: &mut Node, log: &mut Log, event: &Event) -> Result<Answer, Refusal>
+    ensures acts { Acts node.old node.new event.now result }
     ensures kept { AreKeptIn node.new }
     ensures notes { Notes node.old node.new log.old log.new result }
-    ensures old { is_old_ack node.old.core (met node.old.early event.entry) ≡ true
+    ensures old { is_old_ack node.old.core (met node.old.early event.now) ≡ true
         → log.new ≡ log.old }
     ensures quiet { IfOk result (λ a. is_change a ≡ false → log.new ≡ log.old) }
 {
@@ -77,22 +86,23 @@ pub fn act(node: &mut Node, log: &mut Log, event: Event) -> Result<Answer, Refus
 // The same, with a log that isn't lost. It is a function of its own, so that a node without a log
 // doesn't pay for it.
 #[inline(never)]
-fn act_noting(node: &mut Node, log: &mut Log, event: Event) -> Result<Answer, Refusal>
-    ensures acts { Acts node.old node.new event.entry result }
+fn act_noting(node: &mut Node, log: &mut Log, event: &Event) -> Result<Answer, Refusal>
+    ensures acts { Acts node.old node.new event.now result }
     ensures kept { AreKeptIn node.new }
     ensures notes { Notes node.old node.new log.old log.new result }
-    ensures old { is_old_ack node.old.core (met node.old.early event.entry) ≡ true
+    ensures old { is_old_ack node.old.core (met node.old.early event.now) ≡ true
         → log.new ≡ log.old }
     ensures quiet { IfOk result (λ a. is_change a ≡ false → log.new ≡ log.old) }
 {
-    let meant = meant(node, event);
-    let is_old = is_old_ack(node, &meant);
+    let turned = turned(node, event);
+    let meant = meant(&turned, event);
+    let is_old = is_old_ack(node, meant);
     let answer = node.act(event)?;
     if is_old {
         return Ok(answer);
     }
     if answer.is_change() {
-        let _lost = log.note(&meant);
+        let _lost = log.note(meant);
     }
     Ok(answer)
 }

@@ -15,7 +15,7 @@ mod plain;
 mod redoing;
 mod store;
 
-pub use acting::{act, is_old_ack, is_turn, meant};
+pub use acting::{act, is_old_ack, is_turn, meant, turned};
 pub use images::Images;
 pub use node_log::{GREATEST_LOG, Log};
 pub use place::Place;

@@ -74,12 +74,12 @@ impl Replay for LoggedImages {
 }
 
 // Performs an event of a log. Fails with `BadImage` if the event isn't answered.
-fn perform(node: &mut Node, event: Event) -> Result<(), Refusal>
+fn perform(node: &mut Node, event: &Event) -> Result<(), Refusal>
     requires { IsAlone node.old }
-    ensures done { OnOk result (IsDone node.old.core event.entry node.new.core) }
+    ensures done { OnOk result (IsDone node.old.core event.now node.new.core) }
     ensures alone { OnOk result (IsAlone node.new) }
     ensures refused { IfErr result (λ e. e ≢ Memory → (e ≡ BadImage)
-        × ((m : NodeView) → IsDone node.old.core event.entry m → ⊥)) }
+        × ((m : NodeView) → IsDone node.old.core event.now m → ⊥)) }
 {
     let answer = match node.act(event) {
         Ok(answer) => answer,
@@ -107,7 +107,7 @@ fn redo(node: &mut Node, batch: &[u8]) -> Result<(), Refusal>
         if !reader.is_open() {
             return Err(Refusal::BadImage);
         }
-        perform(node, event)?;
+        perform(node, &event)?;
     }
     node.mark_saved();
     Ok(())

@@ -1,16 +1,17 @@
 -- No line asks for an event that comes from another node.
-use Rattle.std.proofs.Common.{◌≡◌, ℕ, Bool, true, false, cond, List, [], ◌∷◌, Option, Some, None, IfSome, refl, subst, sym}
+use Rattle.std.proofs.Common.{◌≡◌, ℕ, Bool, true, false, cond, List, [], ◌∷◌, Option, Some, None, IfSome, refl, subst, sym, ◌∙◌}
 use Rattle.std.specs.Option.{option_and_then, option_map}
+use Rattle.model.specs.declared.age.Scope.TheVariants as scope
 use Rattle.model.specs.declared.event.Event.{Event}
 use Rattle.model.specs.declared.event.Event.TheVariants as event
 use Rattle.model.specs.declared.step.Step.{Step}
 use Rattle.model.specs.declared.step.Step.TheVariants as step
-use Rattle.model.specs.Steps.{is_own}
+use Rattle.model.specs.Steps.{is_own, lent}
 use Rattle.model.specs.World.{is_own_step}
 use Rattle.script.specs.declared.line.Line.{Line}
 use Rattle.script.specs.declared.line.Line.TheVariants as line
 use Rattle.script.specs.Operands.{read}
-use Rattle.script.specs.Grammar.{Number, acted, alone, by_operands, command_of, delivery_of, hand_of, is_own_line, line_of, node_line_of, numbered_of, about_bytes, set_bytes_of, patch_of, bytes_of, either_of, of_three, of_two, report_of, space_of, stepped, u16_of, u32_of, u64_of, u8_of, wide_of, with_none, with_one, with_three, with_two}
+use Rattle.script.specs.Grammar.{Number, acted, alone, by_operands, command_of, delivery_of, hand_of, is_own_line, line_of, node_line_of, plain, numbered_of, only_wide, reclaim_of, set_bytes_of, patch_of, bytes_of, either_of, of_three, of_two, report_of, space_of, stepped, u16_of, u32_of, u64_of, u8_of, wide_of, with_none, with_one, with_three, with_two}
 
 -- the value, if there is one, passes the test
 record Passes {X : Type 0} (test : X → Bool) (o : Option X) : Type 0 where
@@ -108,7 +109,8 @@ own-set_bytes : (node : ℕ) (words : List (List ℕ)) → Passes is_own_line (s
 unfolding set_bytes_of
 own-set_bytes node [] = none
 own-set_bytes node (a ∷ []) = none
-own-set_bytes node (a ∷ b ∷ []) = one (λ x. line.SetBytes node x) (λ x. refl) (u16_of a)
+own-set_bytes node (a ∷ b ∷ []) =
+    one (λ x. line.SetBytes node x (lent b)) (λ x. refl) (u16_of a)
 own-set_bytes node (a ∷ b ∷ c ∷ words) = none
 
 own-patch : (node : ℕ) (words : List (List ℕ)) → Passes is_own_line (patch_of node words)
@@ -117,7 +119,7 @@ own-patch node [] = none
 own-patch node (a ∷ []) = none
 own-patch node (a ∷ b ∷ []) = none
 own-patch node (a ∷ b ∷ c ∷ []) =
-    two u16_of u32_of (λ x y. line.Patch node x y) (λ x y. refl) a b
+    two u16_of u32_of (λ x y. line.Patch node x y (lent c)) (λ x y. refl) a b
 own-patch node (a ∷ b ∷ c ∷ d ∷ words) = none
 
 own-bytes : (node : ℕ) (words : List (List ℕ)) → Passes is_own_line (bytes_of node words)
@@ -129,12 +131,19 @@ own-bytes node (a ∷ b ∷ c ∷ []) =
     three u16_of u32_of u32_of (λ x y z. line.Bytes node x y z) (λ x y z. refl) a b c
 own-bytes node (a ∷ b ∷ c ∷ d ∷ words) = none
 
-own-about : (node : ℕ) (words : List (List ℕ)) → Passes is_own_line (about_bytes node words)
-unfolding about_bytes
-own-about node [] = none
-own-about node (verb ∷ words) =
+own-reclaim : (node : ℕ) (words : List (List ℕ)) → Passes is_own_line (reclaim_of node words)
+unfolding reclaim_of
+own-reclaim node [] = some refl
+own-reclaim node (a ∷ []) = either _ (some {x = line.Reclaim node scope.Young} refl) none
+own-reclaim node (a ∷ b ∷ words) = none
+
+own-only_wide : (node : ℕ) (words : List (List ℕ)) → Passes is_own_line (only_wide node words)
+unfolding only_wide
+own-only_wide node [] = none
+own-only_wide node (verb ∷ words) =
     either _ (own-set_bytes node words)
-    (either _ (own-patch node words) (either _ (own-bytes node words) none))
+    (either _ (own-patch node words)
+    (either _ (own-bytes node words) (either _ (own-reclaim node words) none)))
 
 own-either : (o p : Option Line) → Passes is_own_line o → Passes is_own_line p
     → Passes is_own_line (either_of o p)
@@ -144,8 +153,8 @@ own-either (Some l) p first second = first
 own-node : (node : ℕ) (words : List (List ℕ)) → Passes is_own_line (node_line_of node words)
 unfolding node_line_of
 own-node node words =
-    own-either (numbered_of node words) (about_bytes node words) (own-numbered node words)
-    (own-about node words)
+    own-either (numbered_of node words) (only_wide node words) (own-numbered node words)
+    (own-only_wide node words)
 
 own-space : (words : List (List ℕ)) → Passes is_own_line (space_of words)
 unfolding space_of
@@ -229,12 +238,23 @@ unfolding line_of
 own-line [] = some refl
 own-line (first ∷ words) = either _ (some {x = line.Blank} refl) (own-command first words)
 
-pub own_line : (words : List (List ℕ)) → IfSome (line_of words) (λ l. is_own_line l ≡ true)
-own_line words = (own-line words).there
+-- an address doesn't matter
+own-plain : (l : Line) → is_own_line (plain l) ≡ is_own_line l
+own-plain (line.Step s) = refl
+own-plain line.Blank = refl
+own-plain (line.Space nodes registers slots) = refl
+own-plain (line.Wide nodes registers slots places bytes) = refl
+own-plain (line.SetBytes node object hex) = refl
+own-plain (line.Patch node object offset hex) = refl
+own-plain (line.Bytes node object offset count) = refl
+own-plain (line.Reclaim node scope) = refl
+own-plain (line.State node) = refl
+own-plain line.Report = refl
 
 -- the same of a line that was built in place
 pub own_read : {X : Type 0} (done : Option X) (l : Line) (words : List (List ℕ))
     → read done l ≡ line_of words → IfSome done (λ d. is_own_line l ≡ true)
 own_read None l words e = tt
 own_read (Some d) l words e =
-    subst (λ o. IfSome o (λ l. is_own_line l ≡ true)) (sym e) (own_line words)
+    sym (own-plain l)
+    ∙ subst (λ o. IfSome o (λ l. is_own_line l ≡ true)) (sym e) (own-line words).there

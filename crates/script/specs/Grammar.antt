@@ -7,10 +7,12 @@ use Rattle.std.specs.Str.Parse.{digits_value}
 use Rattle.script.specs.declared.line.Line.{Line}
 use Rattle.script.specs.declared.line.Line.TheVariants as line
 use Rattle.script.specs.declared.line.TheConstants.{MOST_DIGITS}
+use Rattle.model.specs.declared.age.Scope.TheVariants as scope
 use Rattle.model.specs.declared.event.Event.{Event}
 use Rattle.model.specs.declared.event.Event.TheVariants as event
 use Rattle.model.specs.declared.step.Step.{Step}
 use Rattle.model.specs.declared.step.Step.TheVariants as step
+use Rattle.model.specs.Steps.{lent}
 use Rattle.model.specs.World.{is_own_step}
 
 -- the words of a line, which spaces separate
@@ -129,12 +131,13 @@ numbered_of node words = None
 -- The words after `setbytes`, `patch` and `bytes`. Of the first two, the last word spells bytes; it
 -- may be any here.
 unfoldable pub set_bytes_of : ℕ → List (List ℕ) → Option Line
-set_bytes_of node (a ∷ hex ∷ []) = option_map (λ object. line.SetBytes node object) (u16_of a)
+set_bytes_of node (a ∷ hex ∷ []) =
+    option_map (λ object. line.SetBytes node object (lent hex)) (u16_of a)
 set_bytes_of node words = None
 
 unfoldable pub patch_of : ℕ → List (List ℕ) → Option Line
 patch_of node (a ∷ b ∷ hex ∷ []) =
-    of_two u16_of u32_of (λ object offset. line.Patch node object offset) a b
+    of_two u16_of u32_of (λ object offset. line.Patch node object offset (lent hex)) a b
 patch_of node words = None
 
 unfoldable pub bytes_of : ℕ → List (List ℕ) → Option Line
@@ -142,13 +145,22 @@ bytes_of node (a ∷ b ∷ c ∷ []) =
     of_three u16_of u32_of u32_of (λ object offset count. line.Bytes node object offset count) a b c
 bytes_of node words = None
 
--- the words after a node's number, if they are about an object's bytes
-unfoldable pub about_bytes : ℕ → List (List ℕ) → Option Line
-about_bytes node [] = None
-about_bytes node (verb ∷ words) =
+-- nothing after `reclaim`, or `young`
+unfoldable pub reclaim_of : ℕ → List (List ℕ) → Option Line
+reclaim_of node [] = Some (line.Reclaim node scope.All)
+reclaim_of node (a ∷ []) =
+    cond (bytes_eq a (codes "young")) (Some (line.Reclaim node scope.Young)) None
+reclaim_of node words = None
+
+-- The words after a node's number, if they are about what only wide spaces have: bytes of objects,
+-- and private objects.
+unfoldable pub only_wide : ℕ → List (List ℕ) → Option Line
+only_wide node [] = None
+only_wide node (verb ∷ words) =
     cond (bytes_eq verb (codes "setbytes")) (set_bytes_of node words)
     (cond (bytes_eq verb (codes "patch")) (patch_of node words)
-    (cond (bytes_eq verb (codes "bytes")) (bytes_of node words) None))
+    (cond (bytes_eq verb (codes "bytes")) (bytes_of node words)
+    (cond (bytes_eq verb (codes "reclaim")) (reclaim_of node words) None)))
 
 abbrev pub either_of : Option Line → Option Line → Option Line
 either_of (Some l) other = Some l
@@ -156,7 +168,7 @@ either_of None other = other
 
 -- the words after a node's number
 unfoldable pub node_line_of : ℕ → List (List ℕ) → Option Line
-node_line_of node words = either_of (numbered_of node words) (about_bytes node words)
+node_line_of node words = either_of (numbered_of node words) (only_wide node words)
 
 -- the words after `space`
 unfoldable pub space_of : List (List ℕ) → Option Line
@@ -206,11 +218,18 @@ unfoldable pub command_of : List ℕ → List (List ℕ) → Option Line
 command_of first words =
     cond (bytes_eq first (codes "wide")) (wide_of words) (by_operands first words)
 
--- what a line of these words says, or None if they are outside the grammar
+-- What a line of these words says, without the address of a word that it borrows, or None if they
+-- are outside the grammar.
 unfoldable pub line_of : List (List ℕ) → Option Line
 line_of [] = Some line.Blank
 line_of (first ∷ words) =
     cond (starts_with (λ x y. x == y) first (codes "#")) (Some line.Blank) (command_of first words)
+
+-- the line without the address of the word that it borrows
+abbrev pub plain : Line → Line
+plain (line.SetBytes node object hex) = line.SetBytes node object (lent hex.now)
+plain (line.Patch node object offset hex) = line.Patch node object offset (lent hex.now)
+plain l = l
 
 -- a line whose event, if it has one, is the node's own, so it comes from no other node
 abbrev pub is_own_line : Line → Bool
@@ -218,8 +237,9 @@ is_own_line (line.Step s) = is_own_step s
 is_own_line line.Blank = true
 is_own_line (line.Space nodes registers slots) = true
 is_own_line (line.Wide nodes registers slots places bytes) = true
-is_own_line (line.SetBytes node object) = true
-is_own_line (line.Patch node object offset) = true
+is_own_line (line.SetBytes node object hex) = true
+is_own_line (line.Patch node object offset hex) = true
 is_own_line (line.Bytes node object offset count) = true
+is_own_line (line.Reclaim node scope) = true
 is_own_line (line.State node) = true
 is_own_line line.Report = true

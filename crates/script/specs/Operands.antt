@@ -3,7 +3,7 @@ use Rattle.std.specs.Prelude.{ℕ, List, [], ◌∷◌, Option, Some, None, deci
 use Rattle.script.specs.declared.line.Line.{Line}
 use Rattle.script.specs.declared.operands.Operands.{Operands}
 use Rattle.script.specs.declared.operands.Operands.TheVariants as operands
-use Rattle.script.specs.Grammar.{of_three, of_two, u64_of}
+use Rattle.script.specs.Grammar.{of_three, of_two, plain, u64_of}
 
 -- the numbers that the words spell, three at most
 unfoldable pub operands_of : List (List ℕ) → Option Operands
@@ -23,4 +23,4 @@ spelled (operands.Three a b c) = decimal a ∷ decimal b ∷ decimal c ∷ []
 
 -- what a line became, if it was read
 abbrev pub read : {X : Type 0} → Option X → Line → Option Line
-read done line = option_map (λ d. line) done
+read done line = option_map (λ d. plain line) done

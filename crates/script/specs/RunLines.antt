@@ -6,7 +6,7 @@ use Rattle.script.specs.declared.line.Line.{Line}
 use Rattle.script.specs.declared.line.Line.TheVariants as line
 use Rattle.script.specs.declared.run_line.RunLine.{RunLine}
 use Rattle.script.specs.declared.run_line.RunLine.TheVariants as said
-use Rattle.model.specs.Steps.{is_own}
+use Rattle.model.specs.Steps.{is_own, lent}
 use Rattle.model.specs.declared.event.Event.{Event}
 use Rattle.model.specs.declared.event.Event.TheVariants as event
 use Rattle.model.specs.declared.step.Step.{Step}
@@ -31,11 +31,14 @@ step_said s = None
 abbrev pub shared_of : Bool → Line → Option RunLine
 shared_of wide line.Blank = Some said.Blank
 shared_of wide (line.Step s) = step_said s
-shared_of wide (line.SetBytes node object) = cond wide (Some (said.SetBytes node object)) None
-shared_of wide (line.Patch node object offset) =
-    cond wide (Some (said.Patch node object offset)) None
+shared_of wide (line.SetBytes node object hex) =
+    cond wide (Some (said.SetBytes node object hex)) None
+shared_of wide (line.Patch node object offset hex) =
+    cond wide (Some (said.Patch node object offset hex)) None
 shared_of wide (line.Bytes node object offset count) =
     cond wide (Some (said.Bytes node object offset count)) None
+shared_of wide (line.Reclaim node scope) =
+    cond wide (Some (said.Act node (event.Reclaim scope))) None
 shared_of wide l = None
 
 -- the meaning of one, two and three words that aren't a line of other scripts
@@ -63,10 +66,16 @@ abbrev pub said_of : Bool → Option Line → List (List ℕ) → Option RunLine
 said_of wide (Some l) words = shared_of wide l
 said_of wide None words = of_runs words
 
--- What a line of these words says in a space that is wide or not, or None if they are outside the
--- grammar there.
+-- What a line of these words says in a space that is wide or not, without the address of a word
+-- that it borrows, or None if they are outside the grammar there.
 abbrev pub run_line_of : Bool → List (List ℕ) → Option RunLine
 run_line_of wide words = said_of wide (line_of words) words
+
+-- the line without the address of the word that it borrows
+abbrev pub plain_said : RunLine → RunLine
+plain_said (said.SetBytes node object hex) = said.SetBytes node object (lent hex.now)
+plain_said (said.Patch node object offset hex) = said.Patch node object offset (lent hex.now)
+plain_said l = l
 
 -- a line whose event, if it has one, is the node's own, so it comes from no other node
 abbrev pub is_own_said : RunLine → Bool

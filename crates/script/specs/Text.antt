@@ -42,6 +42,7 @@ answer_text (answer.Scanned r) = codes "scanned " ++ reference_text r
 answer_text (answer.Passed token) = passed_text token
 answer_text answer.ProbeAgain = codes "probe again"
 answer_text (answer.Ended cycle) = codes "ended " ++ decimal cycle
+answer_text (answer.Reclaimed count) = codes "reclaimed " ++ decimal count
 answer_text (answer.Freed count done) = freed_text count done
 answer_text answer.Received = codes "received"
 answer_text answer.Repeat = codes "repeat"

@@ -11,11 +11,6 @@ is_space byte = byte == 32
 abbrev pub past : List ℕ → List ℕ
 past text = drop (prefix_len is_space text) text
 
--- the last of these words, or else this one
-abbrev pub last_of : List (List ℕ) → List ℕ → List ℕ
-last_of [] last = last
-last_of (word ∷ words) last = last_of words word
-
 -- no space at the front
 pub record IsTrimmed (text : List ℕ) : Type 0 where
   pub none : prefix_len is_space text ≡ 0

@@ -3,7 +3,7 @@
 //! the functions that fill in a part are always inlined.
 ghost use Rattle.std.specs.Prelude.{◌≡◌, Some, decimal, option_map};
 ghost use Rattle.model.specs.declared.event.Event.TheVariants as event;
-ghost use Rattle.script.specs.Grammar.{acted, alone, of_two, of_three, u8_of, u16_of, u32_of, u64_of, with_none, with_one, with_two, with_three};
+ghost use Rattle.script.specs.Grammar.{acted, alone, of_two, of_three, plain, u8_of, u16_of, u32_of, u64_of, with_none, with_one, with_two, with_three};
 ghost use Rattle.script.specs.Operands.{read};
 
 use crate::line::Line;
@@ -25,8 +25,8 @@ pub(crate) fn alone(line: &mut Line, node: u8, verb: &str) -> Option<()>
 
 /// Sets the line to this.
 #[inline(always)]
-pub(crate) fn say(line: &mut Line, said: Line) -> Option<()>
-    ensures { read result line.new ≡ Some said }
+pub(crate) fn say<'a>(line: &mut Line<'a>, said: Line<'a>) -> Option<()>
+    ensures { read result line.new ≡ Some (plain said.entry) }
 {
     *line = said;
     Some(())

@@ -24,13 +24,13 @@ impl fmt::Display for ColourText {
 
 /// Writes the body of a message: its kind and its fields.
 #[derive(Clone, Copy)]
-struct BodyText(Body);
+struct BodyText<'a>(&'a Body);
 
-impl fmt::Display for BodyText {
-    ghost output = { λ t. Some (body_text t.0) };
+impl fmt::Display for BodyText<'_> {
+    ghost output = { λ t. Some (body_text t.0.now) };
 
     fn fmt<W: fmt::Write>(&self, f: &mut fmt::Formatter<W>) -> fmt::Result {
-        match self.0 {
+        match *self.0 {
             Body::Begin => write!(f, "begin"),
             Body::Token(Token { colour, q }) => write!(f, "token {} {q}", ColourText(colour)),
             Body::Mark { target } => write!(f, "mark {target}"),
@@ -55,10 +55,10 @@ impl fmt::Display for BodyText {
 
 /// Writes a message's two nodes, its number, its stamp and its body.
 #[derive(Clone, Copy)]
-struct DataText(Data);
+struct DataText<'a>(&'a Data);
 
-impl fmt::Display for DataText {
-    ghost output = { λ t. Some (frame_text (plain_data t.0)) };
+impl fmt::Display for DataText<'_> {
+    ghost output = { λ t. Some (frame_text (plain_data t.0.now)) };
 
     fn fmt<W: fmt::Write>(&self, f: &mut fmt::Formatter<W>) -> fmt::Result {
         let Data {
@@ -66,8 +66,8 @@ impl fmt::Display for DataText {
             to,
             number,
             stamp,
-            body,
-        } = self.0;
+            ref body,
+        } = *self.0;
         let body = BodyText(body);
         write!(
             f,
@@ -78,10 +78,10 @@ impl fmt::Display for DataText {
 
 /// Writes a message, or an acknowledgement's two nodes and its number.
 #[derive(Clone, Copy)]
-pub struct FrameText(pub Frame);
+pub struct FrameText<'a>(pub &'a Frame);
 
-impl fmt::Display for FrameText {
-    ghost output = { λ t. Some (frame_text (plain t.0)) };
+impl fmt::Display for FrameText<'_> {
+    ghost output = { λ t. Some (frame_text (plain t.0.now)) };
 
     fn fmt<W: fmt::Write>(&self, f: &mut fmt::Formatter<W>) -> fmt::Result {
         match self.0 {

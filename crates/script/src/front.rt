@@ -5,7 +5,7 @@ ghost use Rattle.std.specs.Char.{is_ascii_digit};
 ghost use Rattle.std.specs.Str.{bytes_eq};
 ghost use Rattle.std.specs.List.{prefix_len, position_or_len};
 ghost use Rattle.script.specs.Grammar.{u64_of, value_after, words_of};
-ghost use Rattle.script.specs.Words.{IsTrimmed, behind, last_of, word_end, digit_count, ends_word, fits_word, is_one_digit, is_space, past, starts_number, word_of};
+ghost use Rattle.script.specs.Words.{IsTrimmed, behind, word_end, digit_count, ends_word, fits_word, is_one_digit, is_space, past, starts_number, word_of};
 
 use crate::line::MOST_DIGITS;
 
@@ -78,19 +78,6 @@ pub(crate) fn next_word(text: &str) -> Option<(&str, &str)>
         return None;
     }
     Some(first_word(text))
-}
-
-/// The last word of a line, or nothing if it has none.
-pub fn last_word(text: &str) -> &str
-    ensures { result.now ≡ last_of (words_of text.now) [] }
-{
-    let mut last = "";
-    let mut rest = past_spaces(text);
-    while let Some((word, others)) = next_word(rest) {
-        last = word;
-        rest = others;
-    }
-    last
 }
 
 /// Whether the word is this one. (Inlined, so that each of the few bytes of `name` is compared with

@@ -13,7 +13,6 @@ mod run_line;
 mod text;
 
 pub use frames::FrameText;
-pub use front::last_word;
 pub use line::{Line, read_u8, read_u16};
 pub use printing::{Printer, print_report};
 pub use run_line::RunLine;

@@ -1,7 +1,7 @@
 //! One line of a script. Its words are read one after another; anything outside the grammar is
 //! rejected.
-ghost use Rattle.std.specs.Prelude.{◌≡◌, false, IfSome, IsTrue, option_and_then};
-ghost use Rattle.script.specs.Grammar.{command_of, delivery_of, hand_of, is_own_line, line_of, node_line_of, numbered_of, about_bytes, set_bytes_of, patch_of, bytes_of, report_of, space_of, stepped, u8_of, u16_of, u32_of, wide_of, words_of};
+ghost use Rattle.std.specs.Prelude.{◌≡◌, false, IfSome, IsTrue, option_and_then, option_map};
+ghost use Rattle.script.specs.Grammar.{command_of, delivery_of, hand_of, is_own_line, line_of, node_line_of, numbered_of, only_wide, reclaim_of, set_bytes_of, patch_of, bytes_of, plain, report_of, space_of, stepped, u8_of, u16_of, u32_of, wide_of, words_of};
 ghost use Rattle.script.specs.Operands.{read, spelled};
 ghost use Rattle.script.specs.Words.{IsTrimmed, behind, starts_number, word_of};
 
@@ -10,14 +10,14 @@ use crate::front::{
     behind_word, first_number, first_word, is_word, next_word, past_spaces, read_u64,
 };
 use crate::operands::{Operands, to_u8, to_u16, to_u32};
-use model::Step;
+use model::{Scope, Step};
 
 /// The most digits that a number has, including leading zeros.
 pub(crate) const MOST_DIGITS: usize = 20;
 
 /// What one line of a script says.
-#[derive(Clone, Copy)]
-pub enum Line {
+#[derive(Drop)]
+pub enum Line<'a> {
     /// Nothing: the line has no word, or is a comment.
     Blank,
     /// The sizes of the space, which need not be within the limits.
@@ -36,17 +36,19 @@ pub enum Line {
     },
     /// A step of the space that writes no bytes.
     Step(Step<'static>),
-    /// Replaces the bytes of the object that a node's register names by those that the last word of
-    /// the line spells; see [`last_word`](crate::last_word).
+    /// Replaces the bytes of the object that a node's register names by those that a word of the
+    /// line spells, if it spells any.
     SetBytes {
         node: u8,
         object: u16,
+        hex: &'a str,
     },
-    /// Overwrites bytes of the object, from this offset on, by those that the last word spells.
+    /// Overwrites bytes of the object, from this offset on, by those that a word spells.
     Patch {
         node: u8,
         object: u16,
         offset: u32,
+        hex: &'a str,
     },
     /// Asks for this many bytes of the object, from this offset on.
     Bytes {
@@ -55,16 +57,21 @@ pub enum Line {
         offset: u32,
         count: u32,
     },
+    /// Asks the node to free private objects within the scope that nothing needs.
+    Reclaim {
+        node: u8,
+        scope: Scope,
+    },
     /// Asks for the node in numbers.
     State(u8),
     /// Asks what the sweeps of each cycle freed.
     Report,
 }
 
-impl Line {
+impl<'a> Line<'a> {
     /// What the line says, or `None` if it is outside the grammar. Spaces separate its words.
-    pub fn parse(text: &str) -> Option<Line>
-        ensures reads { result ≡ line_of (words_of text.now) }
+    pub fn parse(text: &'a str) -> Option<Line<'a>>
+        ensures reads { option_map plain result ≡ line_of (words_of text.now) }
         ensures own { IfSome result (λ l. IsTrue (is_own_line l)) }
     {
         let mut line = Line::Blank;
@@ -75,7 +82,7 @@ impl Line {
     /// Sets this to what the line says. `None` if that is outside the grammar; the value is then
     /// meaningless. A `Line` is large, so it is built in place.
     #[inline(always)]
-    pub fn read(&mut self, text: &str) -> Option<()>
+    pub fn read(&mut self, text: &'a str) -> Option<()>
         ensures reads { read result self.new ≡ line_of (words_of text.now) }
         ensures own { IfSome result (λ done. IsTrue (is_own_line self.new)) }
     {
@@ -86,7 +93,7 @@ impl Line {
 /// The meaning of the words of a text. (Only the path to a save is inlined, because most lines ask
 /// a node for one.)
 #[inline(always)]
-fn line_in(line: &mut Line, text: &str) -> Option<()>
+fn line_in<'a>(line: &mut Line<'a>, text: &'a str) -> Option<()>
     requires { IsTrimmed text.now }
     ensures { read result line.new ≡ line_of (words_of text.now) }
 {
@@ -104,7 +111,7 @@ fn line_in(line: &mut Line, text: &str) -> Option<()>
 
 /// The meaning of a line that begins with a node's number.
 #[inline(always)]
-fn node_line(line: &mut Line, text: &str) -> Option<()>
+fn node_line<'a>(line: &mut Line<'a>, text: &'a str) -> Option<()>
     requires { IsTrimmed text.now }
     ensures { read result line.new
         ≡ option_and_then (λ node. node_line_of node (words_of (behind text.now)))
@@ -116,7 +123,7 @@ fn node_line(line: &mut Line, text: &str) -> Option<()>
 
 /// The meaning of the words after a node's number.
 #[inline(always)]
-fn asked_of(line: &mut Line, node: u8, text: &str) -> Option<()>
+fn asked_of<'a>(line: &mut Line<'a>, node: u8, text: &'a str) -> Option<()>
     requires { IsTrimmed text.now }
     ensures { read result line.new ≡ node_line_of node (words_of text.now) }
 {
@@ -128,13 +135,13 @@ fn asked_of(line: &mut Line, node: u8, text: &str) -> Option<()>
 
 /// The same for any words.
 #[inline(never)]
-fn any_asked_of(line: &mut Line, node: u8, text: &str) -> Option<()>
+fn any_asked_of<'a>(line: &mut Line<'a>, node: u8, text: &'a str) -> Option<()>
     requires { IsTrimmed text.now }
     ensures { read result line.new ≡ node_line_of node (words_of text.now) }
 {
     match numbered(line, node, text) {
         Some(()) => Some(()),
-        None => about_bytes(line, node, text),
+        None => only_wide(line, node, text),
     }
 }
 
@@ -154,44 +161,61 @@ fn numbered(line: &mut Line, node: u8, text: &str) -> Option<()>
     }
 }
 
-/// The meaning of the words after a node's number, if they are about an object's bytes.
+/// The meaning of the words after a node's number, if they are about what only wide spaces have.
 #[inline(never)]
-#[tactic(auto, unfolding(crate::specs::Grammar::about_bytes))]
-fn about_bytes(line: &mut Line, node: u8, text: &str) -> Option<()>
+#[tactic(auto, unfolding(crate::specs::Grammar::only_wide))]
+fn only_wide<'a>(line: &mut Line<'a>, node: u8, text: &'a str) -> Option<()>
     requires { IsTrimmed text.now }
-    ensures { read result line.new ≡ about_bytes node (words_of text.now) }
+    ensures { read result line.new ≡ only_wide node (words_of text.now) }
 {
     let (verb, text) = next_word(text)?;
     match verb {
         "setbytes" => set_bytes(line, node, text),
         "patch" => patch(line, node, text),
         "bytes" => bytes(line, node, text),
+        "reclaim" => reclaim(line, node, text),
         _ => None,
     }
 }
 
+#[tactic(auto, unfolding(crate::specs::Grammar::reclaim_of))]
+fn reclaim(line: &mut Line, node: u8, text: &str) -> Option<()>
+    requires { IsTrimmed text.now }
+    ensures { read result line.new ≡ reclaim_of node (words_of text.now) }
+{
+    let Some((word, text)) = next_word(text) else {
+        let scope = Scope::All;
+        return say(line, Line::Reclaim { node, scope });
+    };
+    if word != "young" || next_word(text).is_some() {
+        return None;
+    }
+    let scope = Scope::Young;
+    say(line, Line::Reclaim { node, scope })
+}
+
 #[tactic(auto, unfolding(crate::specs::Grammar::set_bytes_of))]
-fn set_bytes(line: &mut Line, node: u8, text: &str) -> Option<()>
+fn set_bytes<'a>(line: &mut Line<'a>, node: u8, text: &'a str) -> Option<()>
     requires { IsTrimmed text.now }
     ensures { read result line.new ≡ set_bytes_of node (words_of text.now) }
 {
     let (object, text) = next_word(text)?;
-    let (_hex, text) = next_word(text)?;
+    let (hex, text) = next_word(text)?;
     if next_word(text).is_some() {
         return None;
     }
     let object = read_u16(object)?;
-    say(line, Line::SetBytes { node, object })
+    say(line, Line::SetBytes { node, object, hex })
 }
 
 #[tactic(auto, unfolding(crate::specs::Grammar::patch_of))]
-fn patch(line: &mut Line, node: u8, text: &str) -> Option<()>
+fn patch<'a>(line: &mut Line<'a>, node: u8, text: &'a str) -> Option<()>
     requires { IsTrimmed text.now }
     ensures { read result line.new ≡ patch_of node (words_of text.now) }
 {
     let (object, text) = next_word(text)?;
     let (offset, text) = next_word(text)?;
-    let (_hex, text) = next_word(text)?;
+    let (hex, text) = next_word(text)?;
     if next_word(text).is_some() {
         return None;
     }
@@ -202,6 +226,7 @@ fn patch(line: &mut Line, node: u8, text: &str) -> Option<()>
             node,
             object,
             offset,
+            hex,
         },
     )
 }

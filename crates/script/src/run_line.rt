@@ -1,8 +1,8 @@
 //! One line of a script that runs on node threads. The grammar is that of scripts on one thread,
 //! without what the workers do by themselves, and with three more lines.
-ghost use Rattle.std.specs.Prelude.{◌≡◌, None, Some, cond, IfSome, IsTrue};
+ghost use Rattle.std.specs.Prelude.{◌≡◌, None, Some, cond, IfSome, IsTrue, option_map};
 ghost use Rattle.script.specs.Grammar.{is_own_line, line_of, words_of};
-ghost use Rattle.script.specs.RunLines.{is_for_workers, is_own_said, of_runs, run_line_of, shared_of};
+ghost use Rattle.script.specs.RunLines.{is_for_workers, is_own_said, of_runs, plain_said, run_line_of, shared_of};
 ghost use Rattle.script.specs.RunLines.{with_all, with_word, with_words};
 ghost use Rattle.script.specs.Words.{IsTrimmed};
 
@@ -11,24 +11,26 @@ use crate::line::{Line, read_u8, read_u16};
 use model::{Event, Step};
 
 /// What one line of such a script says.
-#[derive(Clone, Copy)]
-pub enum RunLine {
+#[derive(Drop)]
+pub enum RunLine<'a> {
     /// Nothing: the line has no word, or is a comment.
     Blank,
     /// An event of a node's own program.
     Act(u8, Event<'static>),
     /// A restart of a node.
     Restart(u8),
-    /// The object that a register names gets the bytes that the last word spells.
+    /// The object that a register names gets the bytes that a word spells.
     SetBytes {
         node: u8,
         object: u16,
+        hex: &'a str,
     },
     /// These overwrite its bytes from an offset on.
     Patch {
         node: u8,
         object: u16,
         offset: u32,
+        hex: &'a str,
     },
     /// Prints a count of its bytes from an offset on.
     Bytes {
@@ -48,14 +50,14 @@ pub enum RunLine {
     Trace(u8),
 }
 
-impl RunLine {
+impl<'a> RunLine<'a> {
     /// What the line says in a space that is wide or not, or `None` if it is outside the grammar
     /// there. The grammar has `cycle`, `await` with a node and a register, a node and `trace`, and
     /// the lines of other scripts that ask for an event of a program or for a restart. In wide
-    /// spaces it also has their lines about bytes.
+    /// spaces it also has their lines about bytes, and `reclaim`.
     #[tactic(auto, using(crate::proofs::Words::after_spaces))]
-    pub fn parse(wide: bool, text: &str) -> Option<RunLine>
-        ensures reads { result ≡ run_line_of wide (words_of text.now) }
+    pub fn parse(wide: bool, text: &'a str) -> Option<RunLine<'a>>
+        ensures reads { option_map plain_said result ≡ run_line_of wide (words_of text.now) }
         ensures own { IfSome result (λ l. IsTrue (is_own_said l)) }
     {
         match Line::parse(text) {
@@ -66,8 +68,8 @@ impl RunLine {
 }
 
 // What a line of other scripts means here.
-fn shared(wide: bool, line: Line) -> Option<RunLine>
-    ensures { result ≡ shared_of wide line }
+fn shared<'a>(wide: bool, line: Line<'a>) -> Option<RunLine<'a>>
+    ensures { result ≡ shared_of wide line.entry }
 {
     match line {
         Line::Blank => Some(RunLine::Blank),
@@ -79,17 +81,22 @@ fn shared(wide: bool, line: Line) -> Option<RunLine>
                 Some(RunLine::Act(node, event))
             }
         }
-        Line::SetBytes { node, object } => only_if(wide, RunLine::SetBytes { node, object }),
+        Line::SetBytes { node, object, hex } => only_if(
+            wide,
+            RunLine::SetBytes { node, object, hex },
+        ),
         Line::Patch {
             node,
             object,
             offset,
+            hex,
         } => only_if(
             wide,
             RunLine::Patch {
                 node,
                 object,
                 offset,
+                hex,
             },
         ),
         Line::Bytes {
@@ -106,13 +113,17 @@ fn shared(wide: bool, line: Line) -> Option<RunLine>
                 count,
             },
         ),
+        Line::Reclaim { node, scope } => only_if(
+            wide,
+            RunLine::Act(node, Event::Reclaim { scope }),
+        ),
         Line::Step(_) | Line::Space { .. } | Line::Wide { .. } | Line::State(_) | Line::Report =>
             None,
     }
 }
 
-fn only_if(wide: bool, said: RunLine) -> Option<RunLine>
-    ensures { result ≡ cond wide (Some said) None }
+fn only_if(wide: bool, said: RunLine<'_>) -> Option<RunLine<'_>>
+    ensures { result ≡ cond wide (Some said.entry) None }
 {
     if wide { Some(said) } else { None }
 }
@@ -129,10 +140,11 @@ fn is_for_workers(event: &Event) -> bool
 
 // The meaning of words that aren't a line of other scripts.
 #[tactic(auto, unfolding(crate::specs::RunLines::of_runs))]
-fn of_runs(text: &str) -> Option<RunLine>
+fn of_runs(text: &str) -> Option<RunLine<'static>>
     requires { IsTrimmed text.now }
     ensures value { result ≡ of_runs (words_of text.now) }
     ensures own { IfSome result (λ l. IsTrue (is_own_said l)) }
+    ensures wordless { option_map plain_said result ≡ result }
 {
     let (first, text) = next_word(text)?;
     let Some((second, text)) = next_word(text) else {
@@ -148,9 +160,10 @@ fn of_runs(text: &str) -> Option<RunLine>
 }
 
 #[tactic(auto, unfolding(crate::specs::RunLines::with_word))]
-fn cycle(word: &str) -> Option<RunLine>
+fn cycle(word: &str) -> Option<RunLine<'static>>
     ensures value { result ≡ with_word word.now }
     ensures own { IfSome result (λ l. IsTrue (is_own_said l)) }
+    ensures wordless { option_map plain_said result ≡ result }
 {
     match word {
         "cycle" => Some(RunLine::Cycle),
@@ -159,9 +172,10 @@ fn cycle(word: &str) -> Option<RunLine>
 }
 
 #[tactic(auto, unfolding(crate::specs::RunLines::with_words))]
-fn trace(node: &str, verb: &str) -> Option<RunLine>
+fn trace(node: &str, verb: &str) -> Option<RunLine<'static>>
     ensures value { result ≡ with_words node.now verb.now }
     ensures own { IfSome result (λ l. IsTrue (is_own_said l)) }
+    ensures wordless { option_map plain_said result ≡ result }
 {
     match verb {
         "trace" => Some(RunLine::Trace(read_u8(node)?)),
@@ -170,9 +184,10 @@ fn trace(node: &str, verb: &str) -> Option<RunLine>
 }
 
 #[tactic(auto, unfolding(crate::specs::RunLines::with_all))]
-fn letter(verb: &str, node: &str, register: &str) -> Option<RunLine>
+fn letter(verb: &str, node: &str, register: &str) -> Option<RunLine<'static>>
     ensures value { result ≡ with_all verb.now node.now register.now }
     ensures own { IfSome result (λ l. IsTrue (is_own_said l)) }
+    ensures wordless { option_map plain_said result ≡ result }
 {
     match verb {
         "await" => {

@@ -96,6 +96,7 @@ pub(crate) fn put_answer(text: &mut Ending, answer: &Answer)
         Answer::Word(word) => text.put_number(*word),
         Answer::Sent(number) => put_named(text, b"sent ", *number),
         Answer::Letter(letter) => put_letter(text, letter),
+        Answer::Reclaimed(count) => put_named(text, b"reclaimed ", u64::from(*count)),
         Answer::Begun(cycle) => put_named(text, b"cycle ", *cycle),
         Answer::Scanned(reference) => put_scanned(text, *reference),
         Answer::Passed(token) => put_passed(text, *token),

@@ -15,13 +15,14 @@ use Rattle.supervisor.specs.declared.config.ObjectSize.{ObjectSize}
 use Rattle.supervisor.specs.declared.config.TheConstants.{GREATEST_TURNS}
 
 -- the sizes of a space, the most turns of a worker, what a save writes, the folder of its disks,
--- and whether saves get seals there
+-- whether saves get seals there, and whether workers reclaim
 pub record Settings : Type 0 where
   pub shape : Shaped
   pub turns : ℕ
   pub saves : Saves
   pub folder : Option (List ℕ)
   pub seals : Bool
+  pub reclaims : Bool
 
 abbrev pub settings_of : Config → Settings
 settings_of c = record {
@@ -30,6 +31,7 @@ settings_of c = record {
   saves = c.saves;
   folder = option_map (λ s. string_bytes s) c.folder;
   seals = c.seals;
+  reclaims = c.reclaims;
 }
 
 abbrev pub found_settings : Found → Settings
@@ -39,6 +41,7 @@ found_settings f = record {
   saves = f.saves;
   folder = option_map (λ s. s.now) f.folder;
   seals = f.seals;
+  reclaims = f.reclaims;
 }
 
 -- a number within these limits
@@ -76,14 +79,14 @@ saves_in None = Some None
 saves_in (Some d) = option_map (λ s. Some s) (option_and_then saves_named (as_str d))
 
 -- a truth value or nothing; anything else is rejected
-abbrev pub seals_in : Option Data → Option (Option Bool)
-seals_in None = Some None
-seals_in (Some d) = option_map (λ b. Some b) (as_bool d)
+abbrev pub flag_in : Option Data → Option (Option Bool)
+flag_in None = Some None
+flag_in (Some d) = option_map (λ b. Some b) (as_bool d)
 
--- saves get seals unless the configuration says otherwise
-abbrev pub are_sealed : Option Bool → Bool
-are_sealed (Some b) = b
-are_sealed None = true
+-- true unless the configuration says otherwise: that saves get seals, and that workers reclaim
+abbrev pub is_on : Option Bool → Bool
+is_on (Some b) = b
+is_on None = true
 
 -- a save writes the image unless the configuration says otherwise
 abbrev pub chosen : Option Saves → Saves
@@ -122,16 +125,19 @@ abbrev pub table_settings : Members → Option Settings
 table_settings t =
     option_and_then (λ size. option_and_then (λ shape. option_and_then (λ turns.
     option_and_then (λ save. option_and_then (λ folder. option_and_then (λ seals.
+    option_and_then (λ reclaims.
     cond (count_keys t == 4 + cond (is_some size) 2 0 + cond (is_some save) 1 0
-    + cond (is_some folder) 1 0 + cond (is_some seals) 1 0)
+    + cond (is_some folder) 1 0 + cond (is_some seals) 1 0 + cond (is_some reclaims) 1 0)
     (Some (record {
       shape = shape;
       turns = turns;
       saves = chosen save;
       folder = folder;
-      seals = are_sealed seals;
+      seals = is_on seals;
+      reclaims = is_on reclaims;
     })) None)
-    (seals_in (get_member (codes "seals") t)))
+    (flag_in (get_member (codes "reclaims") t)))
+    (flag_in (get_member (codes "seals") t)))
     (folder_in (get_member (codes "folder") t)))
     (saves_in (get_member (codes "saves") t)))
     (number_at (codes "turns") 1 GREATEST_TURNS t))

@@ -7,7 +7,7 @@ ghost use Rattle.toml.specs.Data.{as_integer, get_member};
 ghost use Rattle.toml.specs.View.{table_view, view};
 ghost use Rattle.supervisor.specs.Settings.{count_keys, found_settings, settings_of, folder_in};
 ghost use Rattle.supervisor.specs.Settings.{number_at, shape_at, table_settings, text_settings};
-ghost use Rattle.supervisor.specs.Settings.{chosen, saves_in, saves_named, seals_in, size_in};
+ghost use Rattle.supervisor.specs.Settings.{chosen, saves_in, saves_named, flag_in, size_in};
 ghost use Rattle.supervisor.specs.Settings.{most_registers, most_slots, within};
 ghost use Rattle.supervisor.specs.declared.fault.OpenFault.TheVariants as fault;
 
@@ -18,12 +18,13 @@ use ids::{
 };
 use std::alloc::Global;
 use toml::{Table, Value};
+use workers::Reclaims;
 
 /// The greatest number of turns that a worker may be given.
 pub const GREATEST_TURNS: u32 = 1_000_000;
 
-/// How many keys each configuration has. `places` with `bytes`, `saves`, `folder` and `seals` are
-/// optional.
+/// How many keys each configuration has. `places` with `bytes`, `saves`, `folder`, `seals` and
+/// `reclaims` are optional.
 const KEYS: usize = 4;
 
 /// How a space is to be opened and run.
@@ -39,6 +40,8 @@ pub struct Config {
     pub folder: Option<String>,
     /// Whether saves in a folder get seals, with which an opening compares what was saved.
     pub seals: bool,
+    /// Whether the workers of a wide space have their nodes reclaim.
+    pub reclaims: bool,
 }
 
 // The contents of a table.
@@ -49,6 +52,7 @@ struct Found<'a> {
     saves: Saves,
     folder: Option<&'a str>,
     seals: bool,
+    reclaims: bool,
 }
 
 // How many places and bytes an object has at most in a wide space.
@@ -64,7 +68,8 @@ impl Config {
     /// optional. `places`, 0 to 255, and `bytes`, 0 to 16,777,216, are there together or not at
     /// all; with them the space is wide, with up to 65,535 registers and 16,777,216 slots. `saves`
     /// is `"images"` or `"events"`; without it, a save writes the image. `folder` is a string.
-    /// `seals` is `true` or `false`; without it, saves get seals.
+    /// `seals` is `true` or `false`; without it, saves get seals. `reclaims` is `true` or `false`;
+    /// without it, workers have their nodes reclaim.
     ///
     /// `Config` exactly if the text isn't such a document. `Memory` may come instead of either
     /// result.
@@ -82,6 +87,15 @@ impl Config {
                     Err(OpenFault::Config)
                 }
             }
+        }
+    }
+
+    /// Whether workers have their nodes reclaim. (In a plain space there is nothing to reclaim.)
+    pub fn reclaims(&self) -> Reclaims {
+        if self.reclaims && self.shape.is_wide() {
+            Reclaims::Within(self.shape.slots())
+        } else {
+            Reclaims::Never
         }
     }
 }
@@ -109,6 +123,7 @@ fn config_in(alloc: Global, table: &Table) -> Result<Config, OpenFault>
         saves: found.saves,
         folder,
         seals: found.seals,
+        reclaims: found.reclaims,
     })
 }
 
@@ -121,11 +136,13 @@ fn found_in(table: &Table) -> Option<Found<'_>>
     let turns = number_at(table, "turns", 1, GREATEST_TURNS)?;
     let saves = saves_in(value_at(table, "saves"))?;
     let folder = folder_in(value_at(table, "folder"))?;
-    let seals = seals_in(value_at(table, "seals"))?;
+    let seals = flag_in(value_at(table, "seals"))?;
+    let reclaims = flag_in(value_at(table, "reclaims"))?;
     let optional = 2 * one_if(size.is_some())
         + one_if(saves.is_some())
         + one_if(folder.is_some())
-        + one_if(seals.is_some());
+        + one_if(seals.is_some())
+        + one_if(reclaims.is_some());
     if count_in(table) != KEYS + optional {
         return None;
     }
@@ -135,6 +152,7 @@ fn found_in(table: &Table) -> Option<Found<'_>>
         saves: chosen(saves),
         folder,
         seals: seals.unwrap_or(true),
+        reclaims: reclaims.unwrap_or(true),
     })
 }
 
@@ -263,8 +281,8 @@ fn saves_in(value: Option<&Value>) -> Option<Option<Saves>>
 }
 
 // The truth value, if there is a value. The outer `None` is for a value of another kind.
-fn seals_in(value: Option<&Value>) -> Option<Option<bool>>
-    ensures { result ≡ seals_in (option_map (λ v. view v.now) value.entry) }
+fn flag_in(value: Option<&Value>) -> Option<Option<bool>>
+    ensures { result ≡ flag_in (option_map (λ v. view v.now) value.entry) }
 {
     match value {
         Some(value) => value.as_bool().map(Some),

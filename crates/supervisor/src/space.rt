@@ -128,6 +128,7 @@ impl<D: Disk + Drop> Opened<D> {
             plan: TeamPlan {
                 nodes: shape.nodes(),
                 turns: config.turns,
+                reclaims: config.reclaims(),
             },
             wire,
             cells,
@@ -281,7 +282,7 @@ impl<D: Disk + Drop, W: Naming> SpaceOn<D, W> {
         ensures answered { WasAnswered D.may_leave W.wire event.Begin result }
     {
         match self.program(0) {
-            Some(program) => program.act(rt, Event::Begin),
+            Some(program) => program.act(rt, &Event::Begin),
             None => unreachable!(),
         }
     }

@@ -14,13 +14,15 @@ use std::marker::{Brand, PhantomData};
 use std::sync::{Arc, Wait};
 use std::thread;
 use std::thread::{Promise, PromisedHandle, Threads};
-use workers::{Ended, Gate, Report, Station, Stop, run_node};
+use workers::{Ended, Gate, Reclaims, Report, Station, Stop, run_node};
 
-/// How many workers there are, and how many turns each takes at most.
+/// How many workers there are, how many turns each takes at most, and whether they have their nodes
+/// reclaim.
 #[derive(Clone, Copy, Debug, PartialEq, Eq)]
 pub struct TeamPlan {
     pub nodes: u8,
     pub turns: u32,
+    pub reclaims: Reclaims,
 }
 
 // Names an order in proofs, so that what comes out of a channel is known to be what went in.
@@ -110,7 +112,12 @@ fn work<O: Ordered, R: Wait, S: Station, G: Gate>(
         Ok(order) => (order.node, order.turns),
         Err(_) => (of.node, of.plan.turns),
     };
-    run_node(rt, station, gate, node, of.plan.nodes, turns, stop).report
+    let TeamPlan {
+        nodes,
+        reclaims,
+        ..
+    } = of.plan;
+    run_node(rt, station, gate, node, nodes, turns, reclaims, stop).report
 }
 
 // Starts the thread of a worker, whose order has the name of `O`. The order is in the channel

@@ -30,7 +30,7 @@ fn stop_in_save(wire: &Wire, cell: &mut Cell<MemoryDisk>, call: u64)
         register: 0,
         places: 2,
     };
-    let _answer = cell.act(wire, object);
+    let _answer = cell.act(wire, &object);
     cell.fail_from(call);
     let _saved = cell.save(wire);
 }
@@ -80,8 +80,8 @@ fn stop_first(wire: &Wire, cells: &mut [Cell<MemoryDisk>], call: u64)
     stop_in_save(wire, &mut cells[0], call);
 }
 
-// Kills the cells while the first one is saved: its disk fails from this call on, and each byte that
-// wasn't synced becomes `fill`. Returns what that leaves of the disks.
+// Kills the cells while the first one is saved: its disk fails from this call on, and each byte
+// that wasn't synced becomes `fill`. Returns what that leaves of the disks.
 fn kill_all(
     alloc: Global,
     wire: &Wire,
@@ -146,5 +146,5 @@ pub(crate) fn outlived<R: Wait>(
     let opened = continued(alloc, config, disks)?;
     let space = opened.share::<Unnamed>().ok()?;
     let program = space.program(0)?;
-    Some(program.act(rt, Event::Word { object: 0 }))
+    Some(program.act(rt, &Event::Word { object: 0 }))
 }

@@ -7,6 +7,7 @@ mod case;
 mod crashes;
 mod files;
 mod gates;
+mod growing;
 mod killed;
 mod lent;
 mod making;

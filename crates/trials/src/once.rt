@@ -34,13 +34,13 @@ fn give<R: Wait, D: Disk + Drop, W: Naming>(rt: &R, space: &SpaceOn<D, W>) -> Op
         register: 0,
         places: 2,
     };
-    program.act(rt, object).ok()?;
+    program.act(rt, &object).ok()?;
     let letter = Event::Give {
         to: 1,
         label: 7,
         register: 0,
     };
-    program.act(rt, letter).ok()?;
+    program.act(rt, &letter).ok()?;
     program.save(rt).ok()
 }
 
@@ -64,7 +64,7 @@ where
 {
     let program = space.program(1)?;
     for _ in rt.forever() {
-        match program.act(rt, Event::Accept { register: 1 }) {
+        match program.act(rt, &Event::Accept { register: 1 }) {
             Ok(Answer::Letter(letter)) => return Some(letter.label),
             Err(Refusal::NoLetter) => pause(rt),
             _ => return None,

@@ -170,7 +170,7 @@ fn within<R: Wait, D: Disk + Drop>(rt: &R, space: &Space<D>, case: &mut Case) {
         _ => match event_in(case.line()) {
             Some(event) => {
                 let node = case.node();
-                case.answer(act_on(rt, space, node, event));
+                case.answer(act_on(rt, space, node, &event));
             }
             None => case.unknown(),
         },
@@ -182,9 +182,9 @@ fn act_on<R: Wait, D: Disk + Drop>(
     rt: &R,
     space: &Space<D>,
     node: u8,
-    event: Event,
+    event: &Event,
 ) -> Result<Answer, Refusal>
-    requires { is_own event ≡ true }
+    requires { is_own event.now ≡ true }
 {
     let Some(program) = space.program(node) else {
         return Err(Refusal::NoNode);

@@ -19,7 +19,7 @@ use std::thread::Threads;
 use std::time::{Clock, Duration};
 use std::{mem, thread};
 use supervisor::Space;
-use workers::{Report, turn_node};
+use workers::{Pace, Reclaims, Report, turn_node};
 
 /// An open space, and whether its workers were started.
 #[derive(Drop)]
@@ -350,7 +350,8 @@ fn await_end<R: Clock + Wait, D: Disk + Drop>(rt: &R, space: &Space<D>) {
 
 // Takes this many turns of a node's worker on this thread.
 fn turn_often<R: Wait, D: Disk>(rt: &R, cell: &Shared<D>, node: u8, nodes: u8, turns: u32) {
+    let mut pace = Pace::new(Reclaims::Never);
     for turn in 0..turns {
-        drop(turn_node(rt, cell, &Open, node, nodes, turn));
+        drop(turn_node(rt, cell, &Open, node, nodes, turn, &mut pace));
     }
 }

@@ -1,6 +1,7 @@
 //! Commands that keep nothing from one line to the next: runs of a worker, a collection in one
 //! thread, and laws.
 use crate::case::{Case, Subject};
+use crate::growing::grow;
 use crate::turns::run;
 use ids::{Refusal, Shape};
 use model::Event;
@@ -19,6 +20,7 @@ impl<R: Wait> Subject for Single<'_, R> {
     fn take(&mut self, case: &mut Case) {
         match case.verb() {
             "run" | "stopped" => run(self.rt, case),
+            "grow" => grow(self.rt, case),
             "laws" => {
                 call_laws();
                 case.text("ok");
@@ -59,12 +61,12 @@ fn collect(alloc: Global) -> Result<[(u32, u64); 3], Refusal> {
             register,
             places: 0,
         };
-        sim.act(0, object)?;
+        sim.act(0, &object)?;
     }
-    sim.act(0, Event::Begin)?;
+    sim.act(0, &Event::Begin)?;
     sim.finish_cycle()?;
     let first = seen_in(&sim);
-    sim.act(0, Event::Drop { register: 1 })?;
+    sim.act(0, &Event::Drop { register: 1 })?;
     let then = seen_in(&sim);
     sim.collect()?;
     let last = seen_in(&sim);

@@ -42,13 +42,13 @@ fn work<R: Wait, D: Disk + Drop>(rt: &R, space: &mut Space<D>) -> Option<()> {
         register: 0,
         places: 2,
     };
-    program.act(rt, object).ok()?;
+    program.act(rt, &object).ok()?;
     let letter = Event::Give {
         to: 1,
         label: 7,
         register: 0,
     };
-    program.act(rt, letter).ok()?;
+    program.act(rt, &letter).ok()?;
     space.begin(rt).ok()?;
     let _ended = space.look(&mut watch);
     space.restart(rt, 1).ok()

@@ -22,11 +22,11 @@ pub(crate) fn on_station<R: Clock + Wait, D: Disk>(rt: &R, cell: &Shared<D>, cas
     match case.verb() {
         "take" => take_letters(rt, cell, case.number(2), case.number(3), case),
         "until" => match event_in(case.rest()) {
-            Some(event) => act_until(rt, cell, event, case),
+            Some(event) => act_until(rt, cell, &event, case),
             None => case.unknown(),
         },
         _ => match event_in(case.line()) {
-            Some(event) => case.answer(cell.act(rt, event)),
+            Some(event) => case.answer(cell.act(rt, &event)),
             None => case.unknown(),
         },
     }
@@ -42,7 +42,7 @@ fn take_letters<R: Wait, D: Disk>(
     case: &mut Case,
 ) {
     for _ in 0..count {
-        let answer = cell.act(rt, Event::Accept { register });
+        let answer = cell.act(rt, &Event::Accept { register });
         let Ok(Answer::Letter(letter)) = answer else {
             case.answer(answer);
             return;
@@ -52,15 +52,15 @@ fn take_letters<R: Wait, D: Disk>(
                 object: TAKEN,
                 word: u64::from(letter.label) + 1,
             };
-            let _ = cell.act(rt, taken);
+            let _ = cell.act(rt, &taken);
         }
         case.debug(&letter);
     }
 }
 
 // Repeats an event until there is a letter, a free slot, or no cycle under way.
-fn act_until<R: Clock + Wait, D: Disk>(rt: &R, cell: &Shared<D>, event: Event, case: &mut Case)
-    requires { is_own event ≡ true }
+fn act_until<R: Clock + Wait, D: Disk>(rt: &R, cell: &Shared<D>, event: &Event, case: &mut Case)
+    requires { is_own event.now ≡ true }
 {
     for _ in rt.forever() {
         match cell.act(rt, event) {

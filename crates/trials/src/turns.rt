@@ -7,7 +7,7 @@ use model::{Answer, Event};
 use std::cell::Cell;
 use std::sync::Wait;
 use wire::{Inbound, Outbound, Raised};
-use workers::{Gate, Point, Report, Stage, Station, Stop, run_node};
+use workers::{Gate, Look, Point, Reclaims, Report, Stage, Station, Stop, run_node};
 
 // How many objects each sweep frees.
 const FREED: u32 = 2;
@@ -26,7 +26,7 @@ impl Station for Busy {
         Ok(Inbound::Event(Answer::Received))
     }
 
-    fn act<R: Wait>(&self, _rt: &R, event: Event) -> Result<Answer, Refusal> {
+    fn act<R: Wait>(&self, _rt: &R, event: &Event) -> Result<Answer, Refusal> {
         match event {
             Event::Sweep { .. } => Ok(Answer::Freed {
                 count: FREED,
@@ -36,8 +36,11 @@ impl Station for Busy {
         }
     }
 
-    fn unsaved<R: Wait>(&self, _rt: &R) -> bool {
-        true
+    fn look<R: Wait>(&self, _rt: &R) -> Look {
+        Look {
+            live: 0,
+            unsaved: true,
+        }
     }
 
     fn save<R: Wait>(&self, _rt: &R) -> Result<(), Refusal> {
@@ -86,7 +89,8 @@ pub(crate) fn run<R: Wait>(rt: &R, case: &mut Case) {
         stop.ask();
     }
     let before = stop.ended();
-    let report = run_node(rt, &busy, &busy, node, nodes, turns, &stop).report;
+    let never = Reclaims::Never;
+    let report = run_node(rt, &busy, &busy, node, nodes, turns, never, &stop).report;
     case.debug(&Ran {
         report,
         last: busy.last.get(),

@@ -40,10 +40,12 @@ older-walks = record {
     tells = λ b p quiet. still p;
   };
   roots = λ p registers letters. still p;
-  rewrites = λ p r f. still p;
+  rewrites = λ p r f quiet. still p;
+  places = λ p r place v. still p;
   makes = λ p register places ready. still p;
-  gives = λ to b p. still p;
+  gives = λ to b p carries. still p;
   sweeps = λ p count. still p;
+  reclaims = λ p scope. still p;
 }
 
 taken-older : (p : LocalState) (from number stamp : ℕ) (b : Body)

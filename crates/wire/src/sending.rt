@@ -1,7 +1,7 @@
 //! Frames between a node and its mailboxes. The window and the saved state determine what is due,
 //! so nothing leaves that a restart could take back.
 ghost use Rattle.std.specs.Prelude.{◌≡◌, ◌≢◌, ◌<◌, ℕ, IsTrue, MatchOption};
-ghost use Rattle.msg.specs.Frames.{plain};
+ghost use Rattle.msg.specs.Frames.{plain, plain_ref};
 ghost use Rattle.model.specs.View.{is_other};
 ghost use Rattle.wire.specs.Plays.{Arrives, Releases};
 ghost use Rattle.wire.specs.Readers.{inbox, known, outbox, seat_node, width, IsSame, IsSeatOf};
@@ -11,15 +11,15 @@ ghost use Rattle.wire.specs.Views.{FindsOther};
 
 use crate::seats::{NodeSeat, Wire};
 use frames::decode;
-use msg::Frame;
+use msg::{Frame, FrameRef};
 use node::Node;
 
 /// The frame that a node sends next to another one, and the place in the window that comes after
 /// it. It is the released message in the given place, or else the acknowledgement of what a saved
 /// state has received.
-pub fn due(node: &Node, to: u8, place: u8) -> (Frame, u8)
+pub fn due(node: &Node, to: u8, place: u8) -> (FrameRef, u8)
     requires { IsTrue (is_other node.now.core.local to) }
-    ensures frame { plain result.0 ≡ frame_due node.now.core to place }
+    ensures frame { plain_ref result.0 ≡ frame_due node.now.core to place }
     ensures next { result.1 ≡ next_place node.now.core to place }
 {
     if let Some(frame) = node.frame_at(to, place) {

@@ -1,8 +1,9 @@
 -- Calls made one after another.
-use Rattle.std.proofs.Common.{◌≡◌, ℕ, ◌+◌, Bool, true, List, ◌∷◌, [], ◌++◌, Some, Result, Ok, Err, IfErr, is_ok, sym, subst, append_assoc, arith}
+use Rattle.std.proofs.Common.{◌≡◌, ℕ, ◌+◌, Bool, true, false, List, ◌∷◌, [], ◌++◌, Option, None, Some, Result, Ok, Err, IfErr, is_ok, sym, ap, ◌∙◌, subst, append_assoc, arith}
 use Rattle.std.specs.Result.{result_err}
+use Rattle.model.specs.declared.age.Scope.{Scope}
 use Rattle.workers.specs.Calls.{Called, Makes, asked}
-use Rattle.workers.specs.Turns.{at, collects, raises, saves, sends, takes, turn_of}
+use Rattle.workers.specs.Turns.{at, collects, raises, saves, sends, takes}
 use Rattle.workers.specs.declared.calls.CallsMade.{CallsMade}
 use Rattle.workers.specs.declared.gate.Stage.{Stage}
 use Rattle.workers.specs.declared.gate.Stage.TheVariants as stage
@@ -28,19 +29,19 @@ answered {node} {turn} {r} {f} {s} {old = old} {new = new} answer is makes =
     subst (λ a. Makes (at node turn s a ∷ []) r f old new) is makes
 
 -- the calls of a turn whose last question has this answer
-abbrev pub up_to_sent : ℕ → ℕ → ℕ → ℕ → Bool → Bool → List Called
-up_to_sent node nodes turn scanned unsaved goes_on =
+abbrev pub up_to_sent : ℕ → ℕ → ℕ → ℕ → Option Scope → Bool → Bool → List Called
+up_to_sent node nodes turn scanned due unsaved goes_on =
     (at node turn stage.Start true ∷ [])
     ++ (takes node nodes ++ ((at node turn stage.TakenIn true ∷ [])
-    ++ (collects scanned ++ ((at node turn stage.Collected true ∷ [])
+    ++ (collects scanned due ++ ((at node turn stage.Collected true ∷ [])
     ++ (saves unsaved ++ ((at node turn stage.Saved true ∷ [])
     ++ (sends node nodes ++ (raises node ++ at node turn stage.Sent goes_on ∷ []))))))))
 
 -- a whole turn, whether or not its last question ends the worker
-pub at-last : {T : Type 0} {calls : List Called} (node nodes turn scanned : ℕ) (unsaved : Bool)
-    (r : Result T Stage) → IfErr r (λ s. s ≡ stage.Sent)
-    → calls ≡ up_to_sent node nodes turn scanned unsaved (is_ok r)
-    → calls ≡ turn_of node nodes turn (result_err r) scanned unsaved
-at-last node nodes turn scanned unsaved (Ok x) is made = made
-at-last {calls = calls} node nodes turn scanned unsaved (Err s) is made =
-    subst (λ t. calls ≡ turn_of node nodes turn (Some t) scanned unsaved) (sym is) made
+pub at-last : {T : Type 0} {calls : List Called} (part : Bool → List Called)
+    (whole : Option Stage → List Called) (r : Result T Stage) → IfErr r (λ s. s ≡ stage.Sent)
+    → part true ≡ whole None → part false ≡ whole (Some stage.Sent)
+    → calls ≡ part (is_ok r) → calls ≡ whole (result_err r)
+at-last part whole (Ok x) is goes_on ends made = made ∙ goes_on
+at-last part whole (Err s) is goes_on ends made =
+    made ∙ ends ∙ ap (λ t. whole (Some t)) (sym is)

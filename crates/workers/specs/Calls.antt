@@ -1,5 +1,6 @@
 -- The calls of a turn, in order, and what they did.
 use Rattle.std.specs.Prelude.{◌≡◌, ℕ, ◌+◌, Bool, is_ok, List, [], ◌∷◌, ◌++◌, Ok}
+use Rattle.model.specs.declared.age.Scope.{Scope}
 use Rattle.model.specs.declared.event.Answer.TheVariants as answer
 use Rattle.wire.specs.declared.pumped.Inbound.TheVariants as inbound
 use Rattle.workers.specs.declared.calls.WorkerCall.{WorkerCall}
@@ -14,7 +15,8 @@ pub data Called : Type 0 where
   Scan : Bool → Called
   Pass : Called
   Sweep : ℕ → Called
-  Unsaved : Bool → Called
+  Reclaim : Scope → Called
+  Look : Bool → Called
   Save : Called
   PumpOut : ℕ → Called
   Raise : Called
@@ -25,7 +27,8 @@ plain (call.PumpIn from answered) = PumpIn from
 plain (call.Scan answered) = Scan (is_ok answered)
 plain call.Pass = Pass
 plain (call.Sweep count answered) = Sweep count
-plain (call.Unsaved unsaved) = Unsaved unsaved
+plain (call.Reclaim scope answered) = Reclaim scope
+plain (call.Look unsaved) = Look unsaved
 plain call.Save = Save
 plain (call.PumpOut to) = PumpOut to
 plain call.Raise = Raise
@@ -39,6 +42,7 @@ received_by _ = 0
 -- how many objects a call freed
 abbrev pub freed_by : WorkerCall → ℕ
 freed_by (call.Sweep count (Ok (answer.Freed freed done))) = freed
+freed_by (call.Reclaim scope (Ok (answer.Reclaimed freed))) = freed
 freed_by _ = 0
 
 -- the completed calls

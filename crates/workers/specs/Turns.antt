@@ -1,6 +1,7 @@
 -- The calls of a worker's turns.
 use Rattle.std.specs.Prelude.{◌≡◌, ℕ, ◌+◌, ◌≤◌, zero, suc, nat_lt, ◌==◌, Bool, true, false, not, cond, List, [], ◌∷◌, ◌++◌, replicate, Option, Some, None}
-use Rattle.workers.specs.Calls.{Called, At, Pass, PumpIn, PumpOut, Raise, Save, Scan, Sweep, Unsaved, asked, freed_in, received_in}
+use Rattle.model.specs.declared.age.Scope.{Scope}
+use Rattle.workers.specs.Calls.{Called, At, Look, Pass, PumpIn, PumpOut, Raise, Reclaim, Save, Scan, Sweep, asked, freed_in, received_in}
 use Rattle.workers.specs.declared.calls.CallsMade.{CallsMade}
 use Rattle.workers.specs.declared.gate.Stage.{Stage}
 use Rattle.workers.specs.declared.gate.Stage.TheVariants as stage
@@ -35,13 +36,22 @@ sends own n = each_other (λ to. PumpOut to) own n
 abbrev pub scans : ℕ → List Called
 scans n = replicate n (Scan true) ++ cond (nat_lt n 8) (Scan false ∷ []) []
 
+-- a reclaim, or none
+abbrev pub reclaims : Option Scope → List Called
+reclaims None = []
+reclaims (Some scope) = Reclaim scope ∷ []
+
+-- a sweep, and perhaps a reclaim
+abbrev pub frees : Option Scope → List Called
+frees due = Sweep 64 ∷ reclaims due
+
 -- the collector's part
-abbrev pub collects : ℕ → List Called
-collects scanned = scans scanned ++ Pass ∷ Sweep 64 ∷ []
+abbrev pub collects : ℕ → Option Scope → List Called
+collects scanned due = scans scanned ++ Pass ∷ frees due
 
 -- a save, if there is something to save
 abbrev pub saves : Bool → List Called
-saves unsaved = Unsaved unsaved ∷ cond unsaved (Save ∷ []) []
+saves unsaved = Look unsaved ∷ cond unsaved (Save ∷ []) []
 
 -- node 0 raises the last ended cycle on the board
 abbrev pub raises : ℕ → List Called
@@ -52,11 +62,11 @@ abbrev pub asks : ℕ → ℕ → Option Stage → Stage → List Called → Lis
 asks node turn ended s rest =
     at node turn s (not (ends_at ended s)) ∷ cond (ends_at ended s) [] rest
 
-abbrev pub turn_of : ℕ → ℕ → ℕ → Option Stage → ℕ → Bool → List Called
-turn_of node nodes turn ended scanned unsaved =
+abbrev pub turn_of : ℕ → ℕ → ℕ → Option Stage → ℕ → Option Scope → Bool → List Called
+turn_of node nodes turn ended scanned due unsaved =
     asks node turn ended stage.Start
     (takes node nodes ++ asks node turn ended stage.TakenIn
-    (collects scanned ++ asks node turn ended stage.Collected
+    (collects scanned due ++ asks node turn ended stage.Collected
     (saves unsaved ++ asks node turn ended stage.Saved
     (sends node nodes ++ (raises node ++ asks node turn ended stage.Sent [])))))
 
@@ -65,8 +75,9 @@ turn_of node nodes turn ended scanned unsaved =
 pub record IsTurn (node nodes turn : ℕ) (ended : Option Stage) (past : CallsMade) : Type 0 where
   pub scanned : ℕ
   pub few : scanned ≤ 8
+  pub reclaimed : Option Scope
   pub unsaved : Bool
-  pub whole : asked past ≡ turn_of node nodes turn ended scanned unsaved
+  pub whole : asked past ≡ turn_of node nodes turn ended scanned reclaimed unsaved
 
 -- nothing has been done yet in the turn
 pub record IsNew (c : Counts) (past : CallsMade) : Type 0 where

@@ -2,13 +2,15 @@
 //! which adds each call to a record. So the record is what was called, in order, and a turn's
 //! contract is stated in terms of it. Only proofs read it: it takes up no bytes.
 ghost use Rattle.std.specs.Prelude.{◌≡◌, ◌∷◌, [], cond};
-ghost use Rattle.workers.specs.Calls.{At, Pass, PumpIn, PumpOut, Raise, Save, Scan, Sweep, Unsaved};
+ghost use Rattle.workers.specs.Calls.{At, Pass, PumpIn, PumpOut, Raise, Reclaim, Save, Scan, Sweep};
+ghost use Rattle.workers.specs.Calls as Called;
+ghost use Rattle.std.specs.Option.{unwrap_or};
 ghost use Rattle.workers.specs.Calls.{asked, freed_in, received_in, Adds, Makes};
 
 use crate::gate::{Gate, Point};
-use crate::station::Station;
+use crate::station::{Look, Station};
 use ids::Refusal;
-use model::{Answer, Event};
+use model::{Answer, Event, Scope};
 use std::mem;
 use std::snapshot::Snapshot;
 use std::sync::Wait;
@@ -38,8 +40,13 @@ pub enum WorkerCall {
         count: u32,
         answered: Result<Answer, Refusal>,
     },
-    /// A question whether anything is unsaved; the answer.
-    Unsaved {
+    /// A reclaim.
+    Reclaim {
+        scope: Scope,
+        answered: Result<Answer, Refusal>,
+    },
+    /// A look at the node, and whether anything was unsaved.
+    Look {
         unsaved: bool,
     },
     /// A save of the node.
@@ -128,7 +135,7 @@ impl<'a, S: Station, G: Gate> Calls<'a, S, G> {
     pub(crate) fn scan<R: Wait>(&mut self, rt: &R) -> bool
         ensures { Makes (Scan result ∷ []) 0 0 self.old.past.value self.new.past.value }
     {
-        let answered = self.station.act(rt, Event::Scan);
+        let answered = self.station.act(rt, &Event::Scan);
         self.note(WorkerCall::Scan { answered });
         answered.is_ok()
     }
@@ -137,29 +144,44 @@ impl<'a, S: Station, G: Gate> Calls<'a, S, G> {
     pub(crate) fn pass<R: Wait>(&mut self, rt: &R)
         ensures { Makes (Pass ∷ []) 0 0 self.old.past.value self.new.past.value }
     {
-        let _ = self.station.act(rt, Event::Pass);
+        let _ = self.station.act(rt, &Event::Pass);
         self.note(WorkerCall::Pass);
     }
 
-    /// Sweeps slots, if there is a cycle to sweep; returns how many objects it freed.
-    pub(crate) fn sweep<R: Wait>(&mut self, rt: &R, count: u32) -> u32
-        ensures { Makes (Sweep count ∷ []) 0 result self.old.past.value self.new.past.value }
+    /// Sweeps slots; returns how many objects it freed, or `None` if there is no cycle to sweep.
+    pub(crate) fn sweep<R: Wait>(&mut self, rt: &R, count: u32) -> Option<u32>
+        ensures { Makes (Sweep count ∷ []) 0 (unwrap_or result 0)
+            self.old.past.value self.new.past.value }
     {
-        let answered = self.station.act(rt, Event::Sweep { count });
+        let answered = self.station.act(rt, &Event::Sweep { count });
         self.note(WorkerCall::Sweep { count, answered });
         match answered {
-            Ok(Answer::Freed { count, .. }) => count,
+            Ok(Answer::Freed { count, .. }) => Some(count),
+            Ok(_) | Err(_) => None,
+        }
+    }
+
+    /// Reclaims; returns how many objects that freed.
+    pub(crate) fn reclaim<R: Wait>(&mut self, rt: &R, scope: Scope) -> u32
+        ensures { Makes (Reclaim scope ∷ []) 0 result self.old.past.value self.new.past.value }
+    {
+        let answered = self.station.act(rt, &Event::Reclaim { scope });
+        self.note(WorkerCall::Reclaim { scope, answered });
+        match answered {
+            Ok(Answer::Reclaimed(count)) => count,
             Ok(_) | Err(_) => 0,
         }
     }
 
-    /// Asks whether something is unsaved.
-    pub(crate) fn unsaved<R: Wait>(&mut self, rt: &R) -> bool
-        ensures { Makes (Unsaved result ∷ []) 0 0 self.old.past.value self.new.past.value }
+    /// Looks at the node.
+    pub(crate) fn look<R: Wait>(&mut self, rt: &R) -> Look
+        ensures { Makes (Called.Look result.unsaved ∷ []) 0 0
+            self.old.past.value self.new.past.value }
     {
-        let unsaved = self.station.unsaved(rt);
-        self.note(WorkerCall::Unsaved { unsaved });
-        unsaved
+        let look = self.station.look(rt);
+        let unsaved = look.unsaved;
+        self.note(WorkerCall::Look { unsaved });
+        look
     }
 
     /// Saves the node.

@@ -8,6 +8,7 @@
 //! scan, until one fails, at most 8 times
 //! pass
 //! sweep 64 slots
+//! reclaim the young or all, if there was nothing to sweep, and there are many new objects
 //! gate: Collected
 //! save, if something is unsaved
 //! gate: Saved
@@ -28,6 +29,7 @@
 
 mod calls;
 mod gate;
+mod pace;
 mod run;
 mod station;
 mod steps;
@@ -36,7 +38,8 @@ mod turn;
 
 pub use calls::{CallsMade, WorkerCall};
 pub use gate::{Gate, Point, Stage};
+pub use pace::{Pace, Reclaims};
 pub use run::{Report, Run, Turns, run_node};
-pub use station::Station;
+pub use station::{Look, Station};
 pub use stop::{Asked, Counted, Ended, Stop};
 pub use turn::{Turn, turn_node};

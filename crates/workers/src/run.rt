@@ -6,6 +6,7 @@ ghost use Rattle.workers.specs.Turns.{is_whole, AddsTurn};
 
 use crate::calls::CallsMade;
 use crate::gate::{Gate, Stage};
+use crate::pace::{Pace, Reclaims};
 use crate::station::Station;
 use crate::stop::{Asked, Counted, Stop};
 use crate::turn::turn_node;
@@ -80,7 +81,8 @@ fn add(turns: &mut Snapshot<Turns>, turn: Snapshot<CallsMade>)
 
 /// Takes `turns` turns for a node of a space of `nodes` nodes. It takes fewer only if it finds,
 /// before a turn, that the workers were asked to stop, or if the gate ends this worker. Then it
-/// counts the worker as ended. The report sums up the turns.
+/// counts the worker as ended. The report sums up the turns. `reclaims` says whether the node is to
+/// reclaim.
 pub fn run_node<R: Wait, S: Station, G: Gate>(
     rt: &R,
     station: &S,
@@ -88,6 +90,7 @@ pub fn run_node<R: Wait, S: Station, G: Gate>(
     node: u8,
     nodes: u8,
     turns: u32,
+    reclaims: Reclaims,
     stop: &Stop,
 ) -> Run
     ensures { IsRun node nodes turns result.report result.asked result.turns.value }
@@ -98,12 +101,13 @@ pub fn run_node<R: Wait, S: Station, G: Gate>(
     let mut freed = 0;
     let mut ended_at = None;
     let mut asked = None;
+    let mut pace = Pace::new(reclaims);
     for turn in 0..turns {
         asked = stop.asked();
         if asked.is_some() || ended_at.is_some() {
             break;
         }
-        let taken = turn_node(rt, station, gate, node, nodes, turn + 1);
+        let taken = turn_node(rt, station, gate, node, nodes, turn + 1, &mut pace);
         ended_at = taken.ended_at;
         if is_whole(ended_at) {
             over += 1;

@@ -8,6 +8,15 @@ use model::{Answer, Event};
 use std::sync::Wait;
 use wire::{Inbound, Outbound, Raised};
 
+/// What a worker sees of its node.
+#[derive(Clone, Copy, Debug, PartialEq, Eq)]
+pub struct Look {
+    /// How many objects the node has.
+    pub live: u32,
+    /// Whether there was an event since the last save or reopening.
+    pub unsaved: bool,
+}
+
 /// A node with its disk, as several threads share it. Each call is at most one event of the node,
 /// and may wait for the call of another thread.
 pub trait Station {
@@ -15,11 +24,11 @@ pub trait Station {
     fn pump_in<R: Wait>(&self, rt: &R, from: u8) -> Result<Inbound, Refusal>;
 
     /// Gives the node an event of its own.
-    fn act<R: Wait>(&self, rt: &R, event: Event) -> Result<Answer, Refusal>
-        requires { is_own event ≡ true };
+    fn act<R: Wait>(&self, rt: &R, event: &Event) -> Result<Answer, Refusal>
+        requires { is_own event.now ≡ true };
 
-    /// Whether there was an event since the last save or reopening.
-    fn unsaved<R: Wait>(&self, rt: &R) -> bool;
+    /// Looks at the node.
+    fn look<R: Wait>(&self, rt: &R) -> Look;
 
     /// Saves the node.
     fn save<R: Wait>(&self, rt: &R) -> Result<(), Refusal>;

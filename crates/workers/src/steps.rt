@@ -1,10 +1,12 @@
 //! The steps of a turn. From the record of its calls, a turn's contract says which calls it made.
-ghost use Rattle.std.specs.Prelude.{◌≡◌, ◌≤◌, ◌∷◌, [], ℕ, is_ok, Bool, IfErr};
+ghost use Rattle.std.specs.Prelude.{◌≡◌, ◌≤◌, ◌∷◌, [], ℕ, is_ok, Bool, IfErr, Option};
+ghost use Rattle.model.specs.declared.age.Scope.{Scope};
 ghost use Rattle.workers.specs.Calls.{Makes};
-ghost use Rattle.workers.specs.Turns.{at, collects, raises, saves, scans, sends, takes};
+ghost use Rattle.workers.specs.Turns.{at, collects, frees, raises, reclaims, saves, scans, sends, takes};
 
 use crate::calls::Calls;
 use crate::gate::{Gate, Point, Stage};
+use crate::pace::Pace;
 use crate::station::Station;
 use std::sync::Wait;
 
@@ -61,21 +63,60 @@ fn scan_some<R: Wait, S: Station, G: Gate>(rt: &R, calls: &mut Calls<'_, S, G>)
     }
 }
 
-// Scans, passes the token on and sweeps; returns how many objects were freed.
-pub(crate) fn collect<R: Wait, S: Station, G: Gate>(rt: &R, calls: &mut Calls<'_, S, G>) -> u32
+// Reclaims, if that is due; returns how many objects were freed.
+fn reclaim_if_due<R: Wait, S: Station, G: Gate>(
+    rt: &R,
+    calls: &mut Calls<'_, S, G>,
+    pace: &mut Pace,
+) -> u32
+    ensures { (due : Option Scope)
+        × Makes (reclaims due) 0 result calls.old.past.value calls.new.past.value }
+{
+    let Some(scope) = pace.due() else {
+        return 0;
+    };
+    let freed = calls.reclaim(rt, scope);
+    pace.note(scope, freed);
+    freed
+}
+
+// Sweeps, or reclaims if there is nothing to sweep; returns how many objects were freed.
+fn free<R: Wait, S: Station, G: Gate>(rt: &R, calls: &mut Calls<'_, S, G>, pace: &mut Pace) -> u32
+    ensures { (due : Option Scope)
+        × Makes (frees due) 0 result calls.old.past.value calls.new.past.value }
+{
+    match calls.sweep(rt, SWEPT) {
+        Some(freed) => freed,
+        None => reclaim_if_due(rt, calls, pace),
+    }
+}
+
+// Scans, passes the token on, and sweeps or reclaims; returns how many objects were freed.
+pub(crate) fn collect<R: Wait, S: Station, G: Gate>(
+    rt: &R,
+    calls: &mut Calls<'_, S, G>,
+    pace: &mut Pace,
+) -> u32
     ensures { (n : ℕ) × (n ≤ 8)
-        × Makes (collects n) 0 result calls.old.past.value calls.new.past.value }
+        × (due : Option Scope)
+        × Makes (collects n due) 0 result calls.old.past.value calls.new.past.value }
 {
     scan_some(rt, calls);
     calls.pass(rt);
-    calls.sweep(rt, SWEPT)
+    free(rt, calls, pace)
 }
 
 // Saves the node, if something is unsaved.
-pub(crate) fn save_unsaved<R: Wait, S: Station, G: Gate>(rt: &R, calls: &mut Calls<'_, S, G>)
+pub(crate) fn save_unsaved<R: Wait, S: Station, G: Gate>(
+    rt: &R,
+    calls: &mut Calls<'_, S, G>,
+    pace: &mut Pace,
+)
     ensures { (b : Bool) × Makes (saves b) 0 0 calls.old.past.value calls.new.past.value }
 {
-    if calls.unsaved(rt) {
+    let look = calls.look(rt);
+    pace.see(look.live);
+    if look.unsaved {
         calls.save(rt);
     }
 }

@@ -7,6 +7,7 @@ ghost use Rattle.workers.specs.Turns.{IsNew, IsTurn};
 
 use crate::calls::{Calls, CallsMade};
 use crate::gate::{Gate, Stage};
+use crate::pace::Pace;
 use crate::station::Station;
 use crate::steps::{ask, collect, raise, save_unsaved, send_out, take_in};
 use std::snapshot::Snapshot;
@@ -39,6 +40,7 @@ fn take_turn<R: Wait, S: Station, G: Gate>(
     node: u8,
     nodes: u8,
     number: u32,
+    pace: &mut Pace,
     counts: &mut Counts,
 ) -> Result<(), Stage>
     requires { IsNew counts.old calls.old.past.value }
@@ -49,9 +51,9 @@ fn take_turn<R: Wait, S: Station, G: Gate>(
     ask(calls, node, number, Stage::Start)?;
     counts.received = take_in(rt, calls, node, nodes);
     ask(calls, node, number, Stage::TakenIn)?;
-    counts.freed = collect(rt, calls);
+    counts.freed = collect(rt, calls, pace);
     ask(calls, node, number, Stage::Collected)?;
-    save_unsaved(rt, calls);
+    save_unsaved(rt, calls, pace);
     ask(calls, node, number, Stage::Saved)?;
     send_out(rt, calls, node, nodes);
     raise(rt, calls, node);
@@ -60,8 +62,9 @@ fn take_turn<R: Wait, S: Station, G: Gate>(
 
 /// Takes one turn for a node of a space of `nodes` nodes. The turn receives a frame from each other
 /// node, ascending; scans objects until a scan fails, at most 8 times; passes the token on; and
-/// sweeps 64 slots. It saves the node if something is unsaved, and sends a frame to each other
-/// node, ascending. At node 0 it then raises the last ended cycle on the board.
+/// sweeps 64 slots. If there is nothing to sweep, it reclaims when the pace says so. It saves the
+/// node if something is unsaved, and sends a frame to each other node, ascending. At node 0 it then
+/// raises the last ended cycle on the board.
 ///
 /// The gate is asked at the start, after the frames, after the sweep, after the save and at the
 /// end. If it ends the worker, the turn ends there. A call that fails doesn't change the order: the
@@ -73,6 +76,7 @@ pub fn turn_node<R: Wait, S: Station, G: Gate>(
     node: u8,
     nodes: u8,
     turn: u32,
+    pace: &mut Pace,
 ) -> Turn
     ensures calls { IsTurn node nodes turn result.ended_at result.past.value }
     ensures received { result.received ≡ received_in result.past.value }
@@ -83,7 +87,7 @@ pub fn turn_node<R: Wait, S: Station, G: Gate>(
         received: 0,
         freed: 0,
     };
-    let ended_at = take_turn(rt, &mut calls, node, nodes, turn, &mut counts).err();
+    let ended_at = take_turn(rt, &mut calls, node, nodes, turn, pace, &mut counts).err();
     let Counts { received, freed } = counts;
     Turn {
         received,

@@ -33,7 +33,7 @@ pub(crate) enum Sign {
 }
 
 /// A move of the collector.
-#[derive(Clone, Copy)]
+#[derive(Drop)]
 pub(crate) enum Next {
     /// The node `to` receives the next message from the node `from`, which has this number.
     Bring { from: u8, to: u8, number: u64 },
@@ -170,7 +170,7 @@ impl Sim {
         ensures too_large { IfErr result (λ e. e ≡ ImageTooLarge → HasTooLarge self.new.sites) }
     {
         for step in steps {
-            self.step(*step)?;
+            self.step(step)?;
         }
         Ok(())
     }

@@ -2,7 +2,8 @@
 //! are in `laws/specs`, and docs/PROOF.md explains their terms.
 ghost use Rattle.laws.specs.Sights.{CollectorIsUnseen};
 ghost use Rattle.laws.specs.Statements.{OfEveryRun, OfSpaces, OnlyEventsChange, CutsExtend, ReachIsLive, SweepsFreeNoneReachable, NodesAgree, BalancesAddUp, GarbageGoes, OldGarbageGoes, TargetsAreLive, NetGrows, NoneRefusedInTurn, NoneBeyond, AcknowledgementsGoThrough, HandsGoThrough, AcknowledgedIsTakenIn};
-ghost use Rattle.laws.specs.Progress.{MarkingCanEnd, CycleCanEnd, GarbageCanGo, EndIsFoundSoon};
+ghost use Rattle.laws.specs.Privacy.{PrivateGarbageGoes, PrivateIsUnknown, ReclaimsFreeNoneReachable, YoungGarbageGoes};
+ghost use Rattle.laws.specs.Progress.{MarkingCanEnd, CycleCanEnd, GarbageCanGo, EndIsFoundSoon, ReclaimsAddNoWork};
 ghost use Rattle.world.specs.Answered.{AnswersAreUnseen};
 ghost use Rattle.world.specs.Played.{PlayedIsAnswered};
 
@@ -22,8 +23,13 @@ ghost use Rattle.world.specs.Played.{PlayedIsAnswered};
 /// the cycle, no node in it has a grey object, and no message that the cycle counts is in flight
 /// (`agreement`). The nodes' balances add up to the number of these messages (`balances`). Anything
 /// saved that was already garbage before a cycle began has been freed once that cycle has been
-/// swept, rings of objects across nodes included (`old_garbage`). So has anything that no save held,
-/// unless its node restarted meanwhile (`garbage_goes`).
+/// swept, rings of objects across nodes included (`old_garbage`). So has anything that no save
+/// held, unless its node restarted meanwhile (`garbage_goes`).
+///
+/// No other node knows a private object (`private`). So its node frees it without the others as
+/// soon as nothing needs it (`private_garbage`). It may look only at objects that it made since it
+/// last did that (`young_garbage`). Neither frees anything reachable
+/// (`reclaims_free_none_reachable`).
 ///
 /// For a program this means: a reference that it holds, or is sent, names an existing object. A
 /// request about another node's object finds the object (`targets`). A frame that a node released
@@ -77,6 +83,19 @@ pub fn laws()
     // The same of an object that the node's current state had, saved or not, as long as the node
     // doesn't restart.
     ensures garbage_goes { OfEveryRun GarbageGoes }
+    // In each cut, no other node has a reference to a private object, and no message mentions one,
+    // neither in flight, nor received, nor released.
+    ensures private { OfEveryRun PrivateIsUnknown }
+    // After a Reclaim of all, a node has exactly the objects that it needed: those that are shared,
+    // those that its registers and letters name, and those that the places of these lead to. So
+    // rings of private objects go too. This holds of every node in any state.
+    ensures private_garbage { PrivateGarbageGoes }
+    // After a Reclaim of the young, it has its old objects, and of the others exactly those that it
+    // needed: also those that old ones may name, and not what is in places of old ones.
+    ensures young_garbage { YoungGarbageGoes }
+    // In each cut with the current state of a node that reclaims, that node's reachable objects are
+    // there before, and after it, when they are old and otherwise the same.
+    ensures reclaims_free_none_reachable { OfEveryRun ReclaimsFreeNoneReachable }
     // A Mark, Put or Get that is received finds the object that it is about: it is the receiver's,
     // and live.
     ensures targets { OfEveryRun TargetsAreLive }
@@ -107,6 +126,8 @@ pub fn laws()
     // If marking has terminated, node 0 finds that within three rounds of the token and the moves
     // that messages in flight need.
     ensures soon { OfSpaces EndIsFoundSoon }
+    // A Reclaim between any two of these moves adds nothing to the bounds on what remains.
+    ensures reclaims { OfSpaces ReclaimsAddNoWork }
     // The calls of `Sim::step` for these moves all succeed, unless one fails with `Memory` or
     // `ImageTooLarge`. The space then shows what the moves lead to.
     ensures played { PlayedIsAnswered }

@@ -3,7 +3,7 @@
 ghost use Rattle.std.specs.Prelude.{◌≡◌, ◌≢◌, ◌≤◌, ◌<◌, ◌++◌, [], ◌∷◌, ℕ, length, map, take, replicate, slice_index_or, IsTrue, IfOk, IfErr, OnOk, OnErr};
 ghost use Rattle.std.specs.Option.{option_map};
 ghost use Rattle.ids.specs.declared.refusal.Refusal.TheVariants.{Memory};
-ghost use Rattle.msg.specs.Frames.{plain};
+ghost use Rattle.msg.specs.Frames.{plain_ref};
 ghost use Rattle.frames.specs.Grammar.{Fits, spelling};
 ghost use Rattle.model.specs.View.{link_to, is_other};
 ghost use Rattle.node.specs.Invariant.{IsNode};
@@ -13,7 +13,7 @@ use crate::packed::Frames;
 use codec::Piece;
 use frames::writing::add_frame;
 use ids::Refusal;
-use msg::Frame;
+use msg::FrameRef;
 use node::Core;
 use std::alloc::Global;
 use std::marker::Model;
@@ -114,9 +114,9 @@ fn stage_frames(frames: &mut Frames, node: &Core, to: u8) -> Result<(), Refusal>
 
 /// Appends the bytes of a frame.
 #[inline(always)]
-fn push_frame(frames: &mut Frames, frame: &Frame) -> Result<(), Refusal>
-    ensures spelled { Fits (plain frame.now) }
-    ensures done { OnOk result (frames.new ≡ frames.old ++ spelling (plain frame.now) ∷ []) }
+fn push_frame(frames: &mut Frames, frame: &FrameRef) -> Result<(), Refusal>
+    ensures spelled { Fits (plain_ref frame.now) }
+    ensures done { OnOk result (frames.new ≡ frames.old ++ spelling (plain_ref frame.now) ∷ []) }
     ensures unchanged { OnErr result (frames.new ≡ frames.old) }
     ensures refused { IfErr result (λ e. e ≡ Memory) }
 {

@@ -93,12 +93,12 @@ impl Sim {
     ///
     /// Steps one after another are a run of the definitions, without those that fail with `Memory`
     /// or `ImageTooLarge`. In that run, a `Next` of a message that waits is its delivery.
-    pub fn step(&mut self, step: Step) -> Result<Outcome, Refusal>
-        requires own { IsTrue (is_own_step step) }
-        ensures { SteppedSpace result self.old self.new step.entry }
+    pub fn step(&mut self, step: &Step) -> Result<Outcome, Refusal>
+        requires own { IsTrue (is_own_step step.now) }
+        ensures { SteppedSpace result self.old self.new step.now }
     {
-        match step {
-            Step::Act(node, event) => self.act_step(node, event),
+        match *step {
+            Step::Act(node, ref event) => self.act_step(node, event),
             Step::Save(node) => self.save_step(node),
             Step::Restart(node) => self.restart(node),
             Step::Deliver { from, to, number } => self.deliver_step(from, to, number),
@@ -109,10 +109,10 @@ impl Sim {
     /// Gives a node an event that comes from no other node. This is the step [`Step::Act`], as
     /// [`Sim::step`] takes it, except that only the node's answer is returned.
     #[inline(always)]
-    pub fn act(&mut self, node: u8, event: Event) -> Result<Answer, Refusal>
-        requires own { IsTrue (is_own event) }
+    pub fn act(&mut self, node: u8, event: &Event) -> Result<Answer, Refusal>
+        requires own { IsTrue (is_own event.now) }
         ensures stepped { SteppedSpace (outcome_by (λ a. outcome.Answer a) result) self.old self.new
-            (step.Act node event.entry) }
+            (step.Act node event.now) }
         ensures small { IfErr result (λ e. e ≢ ImageTooLarge) }
     {
         if node >= self.count() {
@@ -162,7 +162,7 @@ impl Sim {
             return Err(Refusal::BadFrame);
         };
         let site = &mut self.sites[usize::from(to)];
-        let answer = site.act(Event::Data(message))?;
+        let answer = site.act(&Event::Data(message))?;
         Ok(Some(answer))
     }
 
@@ -182,7 +182,7 @@ impl Sim {
         }
         let ack = self.acknowledgement(from, to);
         let site = &mut self.sites[usize::from(from)];
-        site.act(Event::Ack(ack))?;
+        site.act(&Event::Ack(ack))?;
         Ok(Some(ack.number))
     }
 
@@ -249,9 +249,9 @@ impl Sim {
 
     // Kept out of `step`, so that the other steps, which need little, don't pay for this one.
     #[inline(never)]
-    fn act_step(&mut self, node: u8, event: Event) -> Result<Outcome, Refusal>
-        requires own { IsTrue (is_own event) }
-        ensures { SteppedSpace result self.old self.new (step.Act node event.entry) }
+    fn act_step(&mut self, node: u8, event: &Event) -> Result<Outcome, Refusal>
+        requires own { IsTrue (is_own event.now) }
+        ensures { SteppedSpace result self.old self.new (step.Act node event.now) }
     {
         match self.act(node, event) {
             Ok(answer) => Ok(Outcome::Answer(answer)),

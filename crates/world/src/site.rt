@@ -22,7 +22,7 @@ use crate::saved::SavedNode;
 use ids::{NodeId, Refusal, Shape};
 use image::{to_bytes, to_bytes_over};
 use model::{Answer, Event};
-use msg::{Ack, Frame};
+use msg::{Ack, FrameRef};
 use node::{Core, Node};
 use std::alloc::Global;
 use std::marker::Model;
@@ -94,8 +94,8 @@ impl Site {
     /// Gives the current node an event, and fails with whatever the node refuses. If it fails, the
     /// site is as before, except that an early message may have left its place.
     #[inline(always)]
-    pub fn act(&mut self, event: Event) -> Result<Answer, Refusal>
-        ensures { ActedKeeping result self.old self.new event.entry }
+    pub fn act(&mut self, event: &Event) -> Result<Answer, Refusal>
+        ensures { ActedKeeping result self.old self.new event.now }
     {
         self.current.act(event)
     }
@@ -149,7 +149,7 @@ impl Site {
         ensures number { result.number ≡ slice_index_or self.now.site.saved.acks from 0 }
     {
         match self.current.ack_for(from) {
-            Some(Frame::Ack(ack)) => ack,
+            Some(FrameRef::Ack(ack)) => ack,
             _ => unreachable!(),
         }
     }

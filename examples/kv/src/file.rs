@@ -4,7 +4,7 @@
 use crate::{Result, SHAPE};
 use markring::{Events, Node, Refusal};
 use std::fs::{self, File};
-use std::io::{self, Write};
+use std::io::Write;
 use std::path::PathBuf;
 
 const HEAD: usize = 16;
@@ -27,16 +27,17 @@ pub(crate) struct NodeFile {
 }
 
 impl NodeFile {
-    pub(crate) fn create(path: PathBuf, own: u8) -> Result<Self> {
-        let node = Node::with_shape(SHAPE, own, 0)?;
-        node.log(true)?;
-        let (file, image) = write_image(&node, &path)?;
-        Ok(NodeFile { node, path, file, image, batches: 0 })
-    }
-
-    /// Opens the node in a file. A record at its end that a kill or a crash cut short is dropped: it
-    /// wasn't acknowledged.
+    /// Opens the node in a file, or makes both. A record at its end that a kill or a crash cut short
+    /// is dropped: it wasn't acknowledged.
     pub(crate) fn open(path: PathBuf) -> Result<Self> {
+        if !path.exists() {
+            let node = Node::with_shape(SHAPE, 0, 0)?;
+            node.log(true)?;
+            let file = File::create(path.with_extension("new"))?;
+            let mut made = NodeFile { node, path, file, image: 0, batches: 0 };
+            made.write_image()?;
+            return Ok(made);
+        }
         let bytes = fs::read(&path)?;
         let (image, mut rest) = record(&bytes).ok_or("the file is damaged")?;
         let mut batches = Vec::new();
@@ -61,35 +62,31 @@ impl NodeFile {
         let is_due = self.batches > self.image + SPARE;
         let batch = if is_due { Err(Refusal::NoLog) } else { self.node.batch() };
         if batch == Err(Refusal::NoLog) {
-            (self.file, self.image) = write_image(&self.node, &self.path)?;
-            self.batches = 0;
-            return Ok(());
+            return self.write_image();
         }
         let batch = batch?;
-        append(&mut self.file, &batch.bytes)?;
+        self.append(&batch.bytes)?;
         self.batches += batch.bytes.len();
-        self.node.kept(batch.mark)?;
-        Ok(())
+        Ok(self.node.kept(batch.mark)?)
     }
-}
 
-// Puts a file with the node's image into the place of the old one. Returns it, with the image's
-// length.
-fn write_image(node: &Node, path: &PathBuf) -> Result<(File, usize)> {
-    let (image, new) = (node.image()?, path.with_extension("new"));
-    let mut file = File::create(&new)?;
-    append(&mut file, &image.bytes)?;
-    fs::rename(&new, path)?;
-    File::open(path.with_file_name("."))?.sync_all()?;
-    node.kept(image.mark)?;
-    Ok((file, image.bytes.len()))
-}
+    // Puts a file with the node's image into the place of the old one.
+    fn write_image(&mut self) -> Result<()> {
+        let (image, new) = (self.node.image()?, self.path.with_extension("new"));
+        self.file = File::create(&new)?;
+        self.append(&image.bytes)?;
+        fs::rename(&new, &self.path)?;
+        File::open(self.path.with_file_name("."))?.sync_all()?;
+        (self.image, self.batches) = (image.bytes.len(), 0);
+        Ok(self.node.kept(image.mark)?)
+    }
 
-fn append(file: &mut File, bytes: &[u8]) -> io::Result<()> {
-    file.write_all(&(bytes.len() as u64).to_le_bytes())?;
-    file.write_all(&hash(bytes).to_le_bytes())?;
-    file.write_all(bytes)?;
-    file.sync_data()
+    fn append(&mut self, bytes: &[u8]) -> Result<()> {
+        self.file.write_all(&(bytes.len() as u64).to_le_bytes())?;
+        self.file.write_all(&hash(bytes).to_le_bytes())?;
+        self.file.write_all(bytes)?;
+        Ok(self.file.sync_data()?)
+    }
 }
 
 // How long the first record is, with its head.

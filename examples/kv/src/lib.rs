@@ -1,9 +1,9 @@
 //! A key-value store in a folder. Keys and values are bytes of objects of a wide node, and each
-//! change is durable before it is answered. What was deleted is freed by collection cycles.
+//! change is durable before it is answered. What was deleted never left the node, so the node
+//! reclaims it alone: the space's other node is never made.
 //!
-//! A space has two nodes at least. Node 0 has the objects; node 1 has none, and takes part in the
-//! cycles. Register 0 has the root, whose places have tables. A place of a table begins a chain of
-//! entries. An entry has its key as its bytes, and two places: the next entry, and the value.
+//! Register 0 has the root, whose places have tables. A place of a table begins a chain of entries.
+//! An entry has its key as its bytes, and two places: the next entry, and the value.
 
 mod file;
 
@@ -17,8 +17,7 @@ pub type Result<T> = std::result::Result<T, Box<dyn std::error::Error>>;
 // The places of the root and of a table.
 const PLACES: u8 = 64;
 const SHAPE: Shape = Shape::wide(2, 6, 16_777_216, PLACES, 16_777_216);
-// The registers of node 0. Only the root is kept in one. Reading fills registers too, so the next
-// save has it.
+// The registers. Only the root is kept in one. Reading fills registers too, so the next save has it.
 const ROOT: u16 = 0;
 const LINK: u16 = 1;
 const ENTRY: u16 = 2;
@@ -28,11 +27,11 @@ const TABLE: u16 = 5;
 // The places of an entry.
 const NEXT: u8 = 0;
 const CONTENT: u8 = 1;
-// A cycle is due once there are half as many objects more than after the last one, and these.
+// Garbage is reclaimed once there are half as many objects more than it left last, and these.
 const SPARE: u64 = 1_000;
 
 pub struct Kv {
-    nodes: [NodeFile; 2],
+    file: NodeFile,
     _lock: File,
 }
 
@@ -43,15 +42,7 @@ impl Kv {
         fs::create_dir_all(folder)?;
         let lock = File::create(folder.join("lock"))?;
         lock.lock()?;
-        let [zero, one] = ["0", "1"].map(|it| folder.join(it));
-        // Node 0 is made last. Without it there is no store yet, and node 1 is as new.
-        let nodes = if zero.exists() {
-            [NodeFile::open(zero)?, NodeFile::open(one)?]
-        } else {
-            let one = NodeFile::create(one, 1)?;
-            [NodeFile::create(zero, 0)?, one]
-        };
-        let mut kv = Kv { nodes, _lock: lock };
+        let mut kv = Kv { file: NodeFile::open(folder.join("node"))?, _lock: lock };
         if kv.node().register(ROOT)?.is_none() {
             kv.make_tables()?;
         }
@@ -59,7 +50,7 @@ impl Kv {
     }
 
     fn node(&self) -> &Node {
-        &self.nodes[0].node
+        &self.file.node
     }
 
     // They are all in one batch, so there are all of them or none.
@@ -78,15 +69,14 @@ impl Kv {
             let _ = self.node().drop_register(register);
         }
         outcome?;
-        self.nodes[0].save()
+        self.file.save()
     }
 
     /// Sets the value of a key.
     pub fn put(&mut self, key: &[u8], value: &[u8]) -> Result<()> {
         let outcome = self.try_put(key, value);
         self.end(outcome)?;
-        let live = u64::from(self.node().state()?.live);
-        if live > self.node().word(ROOT)? * 3 / 2 + SPARE {
+        if u64::from(self.objects()?) > self.node().word(ROOT)? * 3 / 2 + SPARE {
             self.collect()?;
         }
         Ok(())
@@ -104,7 +94,7 @@ impl Kv {
         Ok(self.node().store(LINK, place, ENTRY)?)
     }
 
-    // A new object with these bytes. If the node is full, a collection comes first.
+    // A new object with these bytes. If the node is full, it reclaims first.
     fn alloc(&mut self, register: u16, places: u8, bytes: &[u8]) -> Result<()> {
         if self.node().alloc(register, places) == Err(Refusal::ArenaFull) {
             self.collect()?;
@@ -154,60 +144,28 @@ impl Kv {
     /// All keys with their values.
     pub fn list(&self) -> Result<Vec<(Vec<u8>, Vec<u8>)>> {
         let (node, mut found) = (self.node(), Vec::new());
-        for first in 0..PLACES {
-            node.load(TABLE, ROOT, first)?;
-            for second in 0..PLACES {
-                let mut next = node.load(ENTRY, TABLE, second)?;
-                while next.is_some() {
-                    node.load(VALUE, ENTRY, CONTENT)?;
-                    found.push((node.bytes(ENTRY)?, node.bytes(VALUE)?));
-                    next = node.load(ENTRY, ENTRY, NEXT)?;
-                }
+        for chain in 0..u16::from(PLACES) * u16::from(PLACES) {
+            let place = (chain % u16::from(PLACES)) as u8;
+            node.load(TABLE, ROOT, (chain / u16::from(PLACES)) as u8)?;
+            let mut next = node.load(ENTRY, TABLE, place)?;
+            while next.is_some() {
+                node.load(VALUE, ENTRY, CONTENT)?;
+                found.push((node.bytes(ENTRY)?, node.bytes(VALUE)?));
+                next = node.load(ENTRY, ENTRY, NEXT)?;
             }
         }
         Ok(found)
     }
 
-    /// How many objects there are, with those that no cycle has freed yet.
+    /// How many objects there are, with those that weren't reclaimed yet.
     pub fn objects(&self) -> Result<u32> {
         Ok(self.node().state()?.live)
     }
 
-    /// Frees what was deleted: ends the cycle that is under way, if one is, and runs another.
+    /// Frees what was deleted or replaced. The root's word counts what is left.
     pub fn collect(&mut self) -> Result<()> {
-        let last = self.node().state()?.cycle + 1;
-        while self.swept()? < last {
-            self.turn(0, 1)?;
-            self.turn(1, 0)?;
-        }
+        self.node().reclaim()?;
         self.node().set_word(ROOT, u64::from(self.objects()?))?;
-        self.nodes[0].save()
-    }
-
-    // The last cycle that both nodes have swept.
-    fn swept(&self) -> Result<u64> {
-        let [zero, one] = &self.nodes;
-        Ok(zero.node.state()?.swept.min(one.node.state()?.swept))
-    }
-
-    // A node collects and is saved. Then its messages go to the other one.
-    fn turn(&mut self, from: usize, to: usize) -> Result<()> {
-        let node = &self.nodes[from].node;
-        let begun = node.begin().map(drop);
-        while node.scan().is_ok() {}
-        for step in [begun, node.pass().map(drop), node.sweep(u32::MAX).map(drop)] {
-            match step {
-                Ok(()) | Err(Refusal::NothingToDo | Refusal::CycleRunning) => {}
-                Err(Refusal::NotDirector) => {}
-                Err(refusal) => return Err(refusal.into()),
-            }
-        }
-        self.nodes[from].save()?;
-        for frame in self.nodes[from].node.frames(to as u8, 0)? {
-            self.nodes[to].node.take(&frame.bytes)?;
-        }
-        let received = self.nodes[to].node.ack_for(from as u8)?;
-        self.nodes[from].node.take(&received)?;
-        Ok(())
+        self.file.save()
     }
 }

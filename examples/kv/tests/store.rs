@@ -52,10 +52,10 @@ fn map(pairs: &[(&str, &str)]) -> Map {
     pairs.iter().map(|(key, value)| (key.to_string(), value.to_string())).collect()
 }
 
-// The answers to a command of these words, or to the commands in these lines.
-fn answers(folder: &Folder, words: &[&str], lines: &str) -> (String, String, bool) {
+// The answers to the commands in these lines.
+fn answers(folder: &Folder, lines: &str) -> (String, String, bool) {
     let mut kv = Command::new(env!("CARGO_BIN_EXE_kv"))
-        .args([&[folder.0.to_str().expect("a path")], words].concat())
+        .arg(&folder.0)
         .stdin(Stdio::piped())
         .stdout(Stdio::piped())
         .stderr(Stdio::piped())
@@ -74,7 +74,7 @@ fn commands_have_answers() {
         delete b\nput c\nput d \nget d\nsing\n\nget a b\ncollect\nlist\n";
     let missing = "error: there is no such key";
     let unknown = "error: that isn't a command";
-    let (out, said, ended_well) = answers(&folder, &[], lines);
+    let (out, said, ended_well) = answers(&folder, lines);
     let mut expected =
         vec!["ok", "ok", "ok", "3", "two words", "a 3", "b two words", "ok", missing];
     expected.extend([missing, unknown, "ok", "", unknown, unknown, unknown, "ok", "a 3", "d "]);
@@ -83,13 +83,6 @@ fn commands_have_answers() {
     lines[5..7].sort_unstable();
     lines[17..].sort_unstable();
     assert_eq!((lines, said.as_str(), ended_well), (expected, "", true));
-
-    let answer = |words: &[&str]| answers(&folder, words, "");
-    assert_eq!(answer(&["put", "a key", "a\nvalue"]), ("ok\n".into(), "".into(), true));
-    assert_eq!(answer(&["get", "a key"]), ("a\nvalue\n".into(), "".into(), true));
-    assert_eq!(answer(&["delete", "a key"]), ("ok\n".into(), "".into(), true));
-    let gone = "kv: there is no such key\n".to_string();
-    assert_eq!(answer(&["get", "a key"]), ("".into(), gone, false));
 }
 
 #[test]
@@ -125,8 +118,8 @@ fn what_was_deleted_is_freed() {
         for key in 0..50 {
             kv.put(format!("{key}").as_bytes(), format!("{round}").as_bytes()).unwrap();
         }
-        // A cycle is due once there are half as many objects more than needed, and 1,000. In the
-        // end 2,000 values were put.
+        // Garbage is reclaimed once there are half as many objects more than needed, and 1,000. In
+        // the end 2,000 values were put.
         let most = (TABLES + 100) * 3 / 2 + 1_000;
         assert!(kv.objects().unwrap() <= most, "{} objects", kv.objects().unwrap());
     }
@@ -146,12 +139,12 @@ fn a_record_that_was_cut_short_is_dropped() {
     let folder = Folder::new("short");
     let mut kv = folder.open();
     kv.put(b"a", b"1").unwrap();
-    let before = fs::metadata(folder.0.join("0")).unwrap().len() as usize;
+    let before = fs::metadata(folder.0.join("node")).unwrap().len() as usize;
     kv.put(b"b", b"2").unwrap();
     drop(kv);
-    let whole = fs::read(folder.0.join("0")).unwrap();
+    let whole = fs::read(folder.0.join("node")).unwrap();
     for length in before..whole.len() {
-        fs::write(folder.0.join("0"), &whole[..length]).unwrap();
+        fs::write(folder.0.join("node"), &whole[..length]).unwrap();
         folder.open().put(b"c", b"3").unwrap();
         assert_eq!(all(&folder.open()), map(&[("a", "1"), ("c", "3")]), "{length} bytes");
     }
@@ -160,7 +153,7 @@ fn a_record_that_was_cut_short_is_dropped() {
     for (changed, opens) in [(whole.len() - 1, true), (before - 1, false), (20, false)] {
         let mut bytes = whole.clone();
         bytes[changed] ^= 1;
-        fs::write(folder.0.join("0"), bytes).unwrap();
+        fs::write(folder.0.join("node"), bytes).unwrap();
         match Kv::open(&folder.0) {
             Ok(kv) => assert!(opens && all(&kv) == map(&[("a", "1")]), "byte {changed}"),
             Err(it) => assert!(!opens && it.to_string() == "the file is damaged", "byte {changed}"),

@@ -8,7 +8,7 @@ use super::LoneNode;
 use c_values::Fault;
 use model::{Answer, Event};
 use msg::Ack;
-use node_store::{is_old_ack, meant};
+use node_store::{is_old_ack, meant, turned};
 
 impl LoneNode {
     /// Keeps the events from the next image on, or no more. If they are kept already, nothing
@@ -22,7 +22,8 @@ impl LoneNode {
         self.logs = on;
     }
 
-    // Notes an event in the log, as a copy, so that without a log the event need not be in memory.
+    // Notes an event in the log, after a move, so that without a log the event need not be in
+    // memory.
     #[inline(always)]
     pub(super) fn note(&mut self, event: Event)
         ensures stays { self.new ≡ record self.old { log = self.new.log } }
@@ -38,10 +39,10 @@ impl LoneNode {
     pub(super) fn perform_noting(&mut self, event: Event) -> Result<Answer, Fault>
         ensures { Given false self.old self.new event.entry result }
     {
-        let meant = meant(&self.node, event);
-        let answer = self.node.act(event)?;
+        let turned = turned(&self.node, &event);
+        let answer = self.node.act(&event)?;
         if answer.is_change() {
-            let _lost = self.log.note(&meant);
+            let _lost = self.log.note(meant(&turned, &event));
             self.is_changed = true;
             self.is_unsaved = true;
         }
@@ -55,7 +56,7 @@ impl LoneNode {
     {
         let event = Event::Ack(ack);
         let is_old = is_old_ack(&self.node, &event);
-        let answer = self.node.act(event)?;
+        let answer = self.node.act(&event)?;
         if !is_old {
             let _lost = self.log.note(&event);
         }

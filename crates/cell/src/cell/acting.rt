@@ -92,30 +92,30 @@ impl<D: Disk> Cell<D> {
     /// is closed. An event that takes no memory never fails with `Memory`. Either way a line is
     /// added to the trace.
     #[inline(always)]
-    pub fn act(&mut self, wire: &Wire, event: Event) -> Result<Answer, Refusal>
+    pub fn act(&mut self, wire: &Wire, event: &Event) -> Result<Answer, Refusal>
         requires wire { IsSeatOf wire.now self.old.seat }
-        requires own { is_own event ≡ true }
+        requires own { is_own event.now ≡ true }
         ensures given { IsTrue self.old.is_open
-            → Given event.entry (met self.old.node.early event.entry)
-            (own_step self.old.node.early (known self.old.seat).me event.entry) result
+            → Given event.now (met self.old.node.early event.now)
+            (own_step self.old.node.early (known self.old.seat).me event.now) result
             self.old.node self.new.node (known self.old.seat) (known self.new.seat) }
         ensures memory_free { IsTrue (is_memory_free self.old.node.core.local
-            (met self.old.node.early event.entry))
+            (met self.old.node.early event.now))
             → IfErr result (λ e. e ≢ Memory) }
         ensures closed { IsErrOf result Refusal.Closed ↔ (self.old.is_open ≡ false) }
         ensures shut { self.old.is_open ≡ false
             → self.new ≡ record self.old { trace = self.new.trace } }
         ensures goes_on { GoesOn self.old self.new }
         ensures traced { self.new.trace ≡ keep_last TRACE_EVENTS (self.old.trace
-            ++ record { call = call_of event.entry; outcome = outcome_of result } ∷ []) }
+            ++ record { call = call_of event.now; outcome = outcome_of result } ∷ []) }
     {
         if !self.store.is_ready() {
             let closed = CallOutcome::Refused(Refusal::Closed);
-            self.trace.push(Call::of(&event), closed);
+            self.trace.push(Call::of(event), closed);
             return Err(Refusal::Closed);
         }
         let answered = self.desk.act(wire, event);
-        self.trace.push(Call::of(&event), outcome(&answered));
+        self.trace.push(Call::of(event), outcome(&answered));
         answered
     }
 

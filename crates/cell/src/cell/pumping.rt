@@ -20,6 +20,7 @@ ghost use Rattle.node.specs.Keeping.{waiting};
 ghost use Rattle.wire.specs.Readers.{known, outbox, IsSame, IsSeatOf};
 ghost use Rattle.cell.specs.Cells.{GoesOn};
 ghost use Rattle.cell.specs.Events.{event_of};
+ghost use Rattle.cell.specs.Lines.{call_of};
 ghost use Rattle.cell.specs.Pumping.{is_out, FoundEmpty, PumpedIn, TookFrom};
 ghost use Rattle.wire.specs.Sending.{frame_due, places_after, IsSent};
 
@@ -32,13 +33,13 @@ use model::{Answer, Event};
 use msg::Frame;
 use wire::{Inbound, Outbound, Wire};
 
-// The event that a frame is.
-fn event_of(frame: Frame) -> Event<'static>
-    ensures { result ≡ event_of frame }
+// The call for the event that a frame is.
+fn call_for(frame: &Frame) -> Call
+    ensures { result ≡ call_of (event_of frame.now) }
 {
     match frame {
-        Frame::Data(data) => Event::Data(data),
-        Frame::Ack(ack) => Event::Ack(ack),
+        Frame::Data(_) => Call::Data,
+        Frame::Ack(_) => Call::Ack,
     }
 }
 
@@ -98,7 +99,7 @@ impl<D: Disk> Cell<D> {
         ensures pumped { PumpedIn from result self.old self.new }
         ensures goes_on { GoesOn self.old self.new }
     {
-        let answer = self.act(wire, Event::Next { from })?;
+        let answer = self.act(wire, &Event::Next { from })?;
         Ok(Inbound::Event(answer))
     }
 
@@ -128,9 +129,9 @@ impl<D: Disk> Cell<D> {
         ensures goes_on { GoesOn self.old self.new }
     {
         let frame = self.desk.take(wire, from)?;
+        let call = call_for(&frame);
         let answered = self.desk.handle(wire, frame);
-        self.trace
-            .push(Call::of(&event_of(frame)), outcome(&answered));
+        self.trace.push(call, outcome(&answered));
         Some(answered)
     }
 

@@ -11,7 +11,8 @@ ghost use Rattle.model.specs.Shading.{is_unmarked, wakes, make_grey, make_all_gr
 ghost use Rattle.model.specs.Shading.{filled, roots, is_calm};
 ghost use Rattle.model.specs.Shading.{last_grey, without_last_grey};
 ghost use Rattle.model.specs.Collecting.{places_in};
-ghost use Rattle.heap.specs.Heap.{Holds, HasRoom, KeepsRoom, Became, reference_in};
+ghost use Rattle.model.specs.Reclaiming.{reference_in};
+ghost use Rattle.heap.specs.Heap.{Holds, HasRoom, KeepsRoom, Became};
 
 use super::Heap;
 use super::objects::key;

@@ -10,9 +10,10 @@ ghost use Rattle.model.specs.Heaps.{object_at, place_of, with_place, with_word, 
 ghost use Rattle.model.specs.Heaps.{load_tests, place_loaded};
 ghost use Rattle.model.specs.Heaps.{heap_store, heap_clear, heap_word, heap_set_word};
 ghost use Rattle.model.specs.Heaps.{heap_bytes, heap_bytes_len, heap_set_bytes, heap_patch};
-ghost use Rattle.model.specs.Heaps.{filling, patching, with_rewritten};
-ghost use Rattle.model.specs.State.{slot_at};
-ghost use Rattle.heap.specs.Heap.{KeepsRoom, IsSlotted, IsBorn, is_occupied};
+ghost use Rattle.model.specs.Heaps.{filling, named, patching, placing, with_rewritten};
+ghost use Rattle.model.specs.State.{register_at, slot_at};
+ghost use Rattle.model.specs.Reclaiming.{is_occupied};
+ghost use Rattle.heap.specs.Heap.{KeepsRoom, IsSlotted, IsBorn};
 ghost use Rattle.heap.specs.Stored.{object_in};
 ghost use Rattle.heap.specs.Tests.{place_tests, object_tests};
 
@@ -23,49 +24,53 @@ use ids::{Ref, Refusal, Shape};
 
 impl Heap {
     /// Makes an object with this many empty places, marked by `cycle`. Its reference goes into the
-    /// register and is returned. `own` is the node's number, and `most` is how many places an
-    /// object may have.
+    /// register and is returned. `own` is the node's number, and `shape` that of its space. In a
+    /// wide space the object is private and young, and in a plain one shared and old, as all
+    /// objects there.
     ///
     /// It fails with [`Refusal::NoRegister`] if there is no such register, with
-    /// [`Refusal::TooManyFields`] if there are more than `most` places, and with
+    /// [`Refusal::TooManyFields`] if an object of the space has fewer places, and with
     /// [`Refusal::ArenaFull`] if no slot is left. If none of these applies, it fails with
     /// [`Refusal::Memory`] if there is no memory for the object. The heap is then as it was.
     #[tactic(auto, unfolding(model::specs::Heaps::heap_alloc))]
     pub fn alloc(
         &mut self,
+        shape: Shape,
         own: u8,
         cycle: u64,
-        most: u8,
         register: u16,
         places: u8,
     ) -> Result<Ref, Refusal>
         ensures done { IfOk result (λ r.
-            heap_alloc self.old.limit most own cycle self.old.heap register places
-            ≡ Ok (self.new.heap, r)) }
+            heap_alloc (record shape { slots = self.old.limit }) own cycle self.old.heap register
+            places ≡ Ok (self.new.heap, r)) }
         ensures limit { self.new.limit ≡ self.old.limit }
         ensures room { KeepsRoom self.old self.new }
         ensures within { IfOk result (λ r. (r.slot < self.old.limit) × (1 ≤ r.generation)) }
         ensures named { own < GREATEST_NODES → IfOk result (λ r. IsTrue (reference_fits r)) }
 
-        ensures refused { IfErr result (λ e.
-            IsFirstRefusal false e
-            (heap_alloc self.old.limit most own cycle self.old.heap register places)) }
+        ensures refused { IfErr result (λ e. IsFirstRefusal false e
+            (heap_alloc (record shape { slots = self.old.limit }) own cycle self.old.heap register
+            places)) }
         ensures unchanged { OnErr result (self.new ≡ self.old) }
     {
         if register as usize >= self.registers.len() {
             return Err(Refusal::NoRegister);
         }
-        if places > most {
+        if places > shape.places() {
             return Err(Refusal::TooManyFields);
         }
         if self.objects.is_full() {
             return Err(Refusal::ArenaFull);
         }
         // From here on it can fail only for lack of memory.
-        let object = Object::new(*self.registers.allocator(), cycle, places)?;
+        let shared = !shape.is_wide();
+        let object = Object::new(*self.registers.allocator(), shared, cycle, places)?;
         let Ok(key) = self.objects.insert(object) else {
             return Err(Refusal::Memory);
         };
+        self.shared.note_if(shared, key.slot);
+        self.recent.note_if(!shared, key.slot);
         let reference = Ref {
             node: own,
             slot: key.slot,
@@ -102,8 +107,9 @@ impl Heap {
         self.read_place(named, place)
     }
 
-    /// Writes what `register` holds into a place of the object that the register `object` names.
-    /// `own` is the node's number.
+    /// Writes what `register` holds into a place of the object that the register `object` names. If
+    /// this object is old, the node's own object that the place names then is remembered. `own` is
+    /// the node's number.
     ///
     /// It fails with [`Refusal::NoRegister`] if one of the two registers doesn't exist, and with
     /// [`Refusal::EmptyRegister`] if one of them is empty. It fails with [`Refusal::Remote`] if
@@ -121,13 +127,13 @@ impl Heap {
         ensures unchanged { OnErr result (self.new ≡ self.old) }
     {
         let (named, value) = (self.register(object)?, self.register(register)?);
-        let (Some(named), Some(value)) = (named, value) else {
+        let (Some(named), Some(_)) = (named, value) else {
             return Err(Refusal::EmptyRegister);
         };
         if named.node != own {
             return Err(Refusal::Remote);
         }
-        self.write_place(named, place, Some(value))
+        self.store_place(own, object, place, register)
     }
 
     /// Empties a place of the object that the register `object` names. `own` is the node's number.
@@ -324,12 +330,15 @@ impl Heap {
         self.read_place(object, place).unwrap_or(None)
     }
 
-    /// Sets a place of an object of this heap. If there is no such place or object, the heap stays
-    /// as it is. The reference's node isn't checked.
-    pub fn set_place(&mut self, object: Ref, place: u8, value: Option<Ref>)
+    /// Sets a place of an object of this heap. If there is no such place or object, nothing is
+    /// written. If the object is old, the node's own object that the value names is remembered,
+    /// even if there is no such place. The reference's node isn't checked. `own` is the node's
+    /// number.
+    pub fn set_place(&mut self, own: u8, object: Ref, place: u8, value: Option<Ref>)
         ensures { self.new
-            ≡ record self.old { heap = with_place self.old.heap object place value } }
+            ≡ record self.old { heap = with_place own self.old.heap object place value } }
     {
+        self.note_write(own, object, value);
         self.write_place(object, place, value).ok();
     }
 
@@ -344,10 +353,7 @@ impl Heap {
     pub(super) fn stored(&self, slot: u32) -> Option<&Object>
         ensures { option_copied result ≡ object_in (slot_at self.now.heap slot) }
     {
-        match self.objects.key_at(slot) {
-            Some(key) => self.objects.get(key),
-            None => None,
-        }
+        self.objects.value_at(slot)
     }
 
     // Reads a place, or fails with `NoField` if it isn't there.
@@ -361,10 +367,54 @@ impl Heap {
         }
     }
 
+    // Writes what a register holds into a place of the object that another one names, or fails with
+    // `NoField` if it isn't there. If the object is old, the node's own object that the place names
+    // then is remembered.
+    #[inline(always)]
+    fn store_place(&mut self, own: u8, object: u16, place: u8, register: u16) -> Result<(), Refusal>
+        ensures done { let h = self.old.heap in OnOk result (self.new ≡ record self.old {
+          heap = with_place own h (named h object) place (register_at h register);
+        }) }
+        ensures answer { let h = self.old.heap in
+            result ≡ guarded (place_tests h (named h object) place) tt }
+        ensures unchanged { OnErr result (self.new ≡ self.old) }
+    {
+        if !self.recent.is_empty() {
+            return self.store_noting(own, object, place, register);
+        }
+        let (named, value) = (self.named(object), self.held(register));
+        self.write_place(named, place, value)
+    }
+
+    // The same. It isn't inlined, since in a plain space no object is recent. (It reads the
+    // registers itself: if it were given references, each store would copy them first.)
+    #[inline(never)]
+    fn store_noting(
+        &mut self,
+        own: u8,
+        object: u16,
+        place: u8,
+        register: u16,
+    ) -> Result<(), Refusal>
+        ensures done { let h = self.old.heap in OnOk result (self.new ≡ record self.old {
+          heap = with_place own h (named h object) place (register_at h register);
+        }) }
+        ensures answer { let h = self.old.heap in
+            result ≡ guarded (place_tests h (named h object) place) tt }
+        ensures unchanged { OnErr result (self.new ≡ self.old) }
+    {
+        let (named, value) = (self.named(object), self.held(register));
+        self.write_place(named, place, value)?;
+        self.note_write(own, named, value);
+        Ok(())
+    }
+
     // Writes a place, or fails with `NoField` if it isn't there.
+    #[inline(always)]
     fn write_place(&mut self, object: Ref, place: u8, value: Option<Ref>) -> Result<(), Refusal>
-        ensures done { self.new
-            ≡ record self.old { heap = with_place self.old.heap object place value } }
+        ensures done { self.new ≡ record self.old {
+          heap = with_rewritten self.old.heap object (placing place value);
+        } }
         ensures answer { result ≡ guarded (place_tests self.old.heap object place) tt }
         ensures unchanged { OnErr result (self.new ≡ self.old) }
     {

@@ -1,17 +1,21 @@
 //! Makes a heap from its parts, and reads it part by part. Parts are refused only if no heap has
 //! them, so each saved heap can be made again.
-ghost use Rattle.std.specs.Prelude.{◌≡◌, length, slice_get, OnOk, IfOk, IfErr};
+ghost use Rattle.std.specs.Prelude.{◌≡◌, length, map, slice_index_or, slice_get, OnOk, IfOk, IfErr};
 ghost use Rattle.ids.specs.declared.refusal.Refusal.TheVariants.{BadImage};
 ghost use Rattle.arena_slot.specs.Slot.{slot_read};
-ghost use Rattle.model.specs.State.{slot_at};
+ghost use Rattle.model.specs.State.{Retired, slot_at};
+ghost use Rattle.model.specs.Reclaiming.{is_shared, is_recent};
+ghost use Rattle.heap.specs.Blocks.{Covers};
 ghost use Rattle.heap.specs.Heap.{Holds, IsHeapFor, slot_of};
 ghost use Rattle.heap.specs.Parts.{heap_given};
 
 use super::Heap;
+use crate::blocks::Blocks;
 use crate::object::Object;
 use arena::{Arena, FreeSlots, Slot, Slots};
 use ids::{Ref, Refusal, Shape};
 use model::Letter;
+use std::alloc::Global;
 use std::collections::VecDeque;
 
 /// The parts of a heap.
@@ -30,7 +34,8 @@ pub struct HeapParts {
 
 impl Heap {
     /// Makes the heap of these parts, for a node of this shape. It takes time linear in the size of
-    /// the parts, and allocates nothing.
+    /// the parts. It allocates at most 2 bytes for each 64 slots, and if there is no memory for
+    /// them, later reclaims may take longer.
     ///
     /// It fails only with [`Refusal::BadImage`]: if there aren't as many registers as the shape
     /// has, or there are more slots, or a slot has the generation 0, or `free` doesn't list exactly
@@ -53,12 +58,17 @@ impl Heap {
             return Err(Refusal::BadImage);
         }
         match Arena::from_slots(shape.slots(), slots, &free) {
-            Ok(objects) => Ok(Heap {
-                objects,
-                registers,
-                letters,
-                grey,
-            }),
+            Ok(objects) => {
+                let alloc = *registers.allocator();
+                Ok(Heap {
+                    shared: shared_blocks(alloc, shape, &objects),
+                    recent: recent_blocks(alloc, &objects),
+                    objects,
+                    registers,
+                    letters,
+                    grey,
+                })
+            }
             Err(_) => Err(Refusal::BadImage),
         }
     }
@@ -105,5 +115,48 @@ impl Heap {
         ensures { result.now ≡ self.now.heap.grey }
     {
         &self.grey
+    }
+}
+
+// The blocks that have shared objects, and maybe others. In a plain space these are all blocks.
+fn shared_blocks(alloc: Global, shape: Shape, objects: &Arena<Object>) -> Blocks
+    ensures { Covers is_shared result (map slot_of objects.now.slots) }
+{
+    if !shape.is_wide() {
+        return Blocks::All;
+    }
+    let mut blocks = Blocks::none(alloc);
+    for slot in 0..objects.high() {
+        blocks.note_if(is_shared(objects, slot), slot);
+    }
+    blocks
+}
+
+// The blocks that have objects which aren't old, and maybe others.
+fn recent_blocks(alloc: Global, objects: &Arena<Object>) -> Blocks
+    ensures { Covers is_recent result (map slot_of objects.now.slots) }
+{
+    let mut blocks = Blocks::none(alloc);
+    for slot in 0..objects.high() {
+        blocks.note_if(is_recent(objects, slot), slot);
+    }
+    blocks
+}
+
+fn is_shared(objects: &Arena<Object>, slot: u32) -> bool
+    ensures { result ≡ is_shared (slice_index_or (map slot_of objects.now.slots) slot Retired) }
+{
+    match objects.value_at(slot) {
+        Some(object) => object.is_shared(),
+        None => false,
+    }
+}
+
+fn is_recent(objects: &Arena<Object>, slot: u32) -> bool
+    ensures { result ≡ is_recent (slice_index_or (map slot_of objects.now.slots) slot Retired) }
+{
+    match objects.value_at(slot) {
+        Some(object) => !object.is_old(),
+        None => false,
     }
 }

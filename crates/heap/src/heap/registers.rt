@@ -3,6 +3,7 @@
 ghost use Rattle.std.specs.Prelude.{◌≡◌, ◌<◌, length, Ok, Err, OnOk, OnErr, IfErr};
 ghost use Rattle.model.specs.Checks.{guarded};
 ghost use Rattle.model.specs.Heaps.{named, with_register, heap_copy, heap_drop, heap_register};
+ghost use Rattle.model.specs.State.{register_at};
 ghost use Rattle.heap.specs.Heap.{KeepsRoom};
 ghost use Rattle.heap.specs.Tests.{named_tests};
 
@@ -89,5 +90,26 @@ impl Heap {
             return Err(Refusal::Remote);
         }
         Ok(reference)
+    }
+
+    // What the register holds; nothing if there is no such register.
+    pub(super) fn held(&self, register: u16) -> Option<Ref>
+        ensures { result ≡ register_at self.now.heap register }
+    {
+        match self.registers.get(register as usize) {
+            Some(reference) => *reference,
+            None => None,
+        }
+    }
+
+    // The reference in a register, or one that names no object.
+    pub(super) fn named(&self, register: u16) -> Ref
+        ensures { result ≡ named self.now.heap register }
+    {
+        self.held(register).unwrap_or(Ref {
+            node: 0,
+            slot: 0,
+            generation: 0,
+        })
     }
 }

@@ -1,5 +1,6 @@
-//! Sweeping: what isn't marked is freed. Here is the one line that frees an object. `world::laws`
-//! (`frees_none_reachable`) states that it frees nothing that is reachable.
+//! Sweeping: what isn't marked is freed. Here is the line that frees an object in a sweep; another
+//! one is in `reclaiming.rt`. `world::laws` (`frees_none_reachable`) states that it frees nothing
+//! that is reachable.
 //!
 //! When marking has ended, an unmarked object is unreachable and stays so: no program holds a
 //! reference to it, no message carries one, and no marked object has one in a place. New objects
@@ -50,13 +51,7 @@ impl Heap {
         ensures rest { self.new ≡ record self.old { heap = self.new.heap } }
         ensures slots { length self.new.heap.slots ≡ length self.old.heap.slots }
     {
-        if !self.is_garbage(cycle, slot) {
-            return false;
-        }
-        if let Some(key) = self.objects.key_at(slot) {
-            drop(self.objects.remove(key));
-        }
-        true
+        self.is_garbage(cycle, slot) && self.objects.discard(slot)
     }
 
     // Whether there is an object in the slot that the cycle hasn't marked.

@@ -1,5 +1,6 @@
 -- What the steps of a node cost: the work that they add, and the messages that they send.
-use Rattle.std.proofs.Common.{◌≡◌, ◌≢◌, ℕ, zero, suc, ◌+◌, ◌*◌, ◌<◌, ◌≤◌, ◌==◌, ◌||◌, ◌⊎◌, ltb, ltb-true, Bool, true, false, cond, List, [], ◌∷◌, ◌++◌, length, map, Option, None, Some, option_to_list, set, refl, sym, ap, ◌∙◌, subst, ⊎_elim, arith, length-append, length-set, eq-eqb, ◌-◌, get_or, take}
+use Rattle.std.proofs.Common.{◌≡◌, ◌≢◌, ℕ, zero, suc, ◌+◌, ◌*◌, ◌<◌, ◌≤◌, ◌==◌, ◌||◌, ◌⊎◌, ltb, ltb-true, Bool, true, false, cond, List, [], ◌∷◌, ◌++◌, length, map, Option, None, Some, option_to_list, refl, sym, ap, ◌∙◌, subst, ⊎_elim, arith, length-append, eq-eqb, ◌-◌, get_or, take}
+use Rattle.std.specs.Prelude.{filter}
 use Rattle.std.specs.List.{sum_by}
 use Rattle.std.proofs.lemmas.Bool.{cases_Bool, cond_both, cond-true, cond-false, ltb-false, ne_eqb, or_left, eqb-false}
 use Rattle.std.proofs.lemmas.List.{length-map, take_all}
@@ -14,16 +15,19 @@ use Rattle.model.specs.Effects.{Work, at_rest, then}
 use Rattle.model.specs.Counting.{append, stamped, to_others}
 use Rattle.model.specs.Shading.{is_in, is_open, make_all_grey, seen, see_to, filled, reference_of, roots, unasked, marks_for, enter, join, is_calm, last_grey, without_last_grey}
 use Rattle.model.specs.References.{IfAny}
-use Rattle.model.specs.Steps.{carried, target_of, count_in, take_carried, take_body, settled, taken_in}
+use Rattle.model.specs.Steps.{carried, target_of, count_in, take_carried, take_body, settled, taken_in, post}
 use Rattle.model.proofs.Shading.{see_to-open, see_to-closed}
 use Rattle.model.proofs.Joining.{join-phases}
 use Rattle.model.proofs.Walk.{join-walks}
 use Rattle.model.proofs.Leaving.{stands-walks}
 use Rattle.laws.proofs.Flights.{load_sent}
-use Rattle.laws.specs.Bounds.{cost_of, weight, heap_work, root_work, held_work, node_work, whole_node_work, slot_work, grey_work}
-use Rattle.laws.proofs.progress.HeapWork.{SameWork, same-refl, grey-all, rewritten-same}
+use Rattle.laws.specs.Bounds.{cost_of, weight, heap_work, root_work, held_work, node_work, whole_node_work, scan_work, slot_work, grey_work}
+use Rattle.laws.proofs.progress.HeapWork.{SameWork, shared-same, grey-all, placed-same, aged-same}
 use Rattle.std.proofs.lemmas.List.Sums.{sum_by-cons, sum_by_more}
-use Rattle.model.specs.Collecting.{places_in, scan, scanned, is_garbage, vacated_slot, generation_in, Sweeping, sweep_one, sweep_some, sweeping, looked_at, after_sweep}
+use Rattle.model.specs.Collecting.{places_in, scan, scanned, is_garbage, vacated_slot, sweeping, looked_at, after_sweep}
+use Rattle.model.specs.declared.age.Scope.{Scope}
+use Rattle.model.specs.Reclaiming.{is_occupied, reclaiming, left_grey, freed_within, reclaimed}
+use Rattle.model.proofs.Freeing.{Freed, garbage-test, occupied-object, freed-left, freed-some, freed-reclaiming}
 use Rattle.msg.specs.declared.body.Body.TheVariants as body
 
 -- ---- messages
@@ -236,18 +240,16 @@ body-pays cycle from stamp (body.Give label reference) p own timed =
     }
 body-pays cycle from stamp (body.Put target place reference) p own timed =
     pays-same cycle 0 p (take_body from stamp (body.Put target place reference) p) refl
-    (rewritten-same p.heap target (λ o. record o { places = set o.places place reference })
-    (λ o. length-set o.places place reference) cycle (λ o. refl))
-    (omega arith)
+    (placed-same cycle p.own p.heap target place reference) (omega arith)
 body-pays cycle from stamp (body.Get target place label) p own timed =
     let v : Option Ref = place_of (object_at p.heap target) place in
     let first = sees-most cycle true (option_to_list v) p timed in
     let w : Work = see_to true (option_to_list v) p in
-    let sends : Pays cycle 8 0 w.local (append from (body.Give label v) w.local) =
-    pays-same cycle 8 w.local (append from (body.Give label v) w.local) refl
-    (same-refl cycle w.local.heap) (omega arith) in
+    let sends : Pays cycle 8 0 w.local (post from (body.Give label v) w.local) =
+    pays-same cycle 8 w.local (post from (body.Give label v) w.local) refl
+    (shared-same cycle w.local.own (option_to_list v) w.local.heap) (omega arith) in
     pays-most 10 0 (omega (arith, option-few v)) (omega arith)
-    (pays-then (append from (body.Give label v)) first sends)
+    (pays-then (post from (body.Give label v)) first sends)
 body-pays cycle from stamp b p own timed = record { work = omega arith; kept = omega arith }
 
 abbrev settled_cost : Body → ℕ
@@ -348,82 +350,91 @@ scan-pays cycle p grey timed =
     let last = without-last (grey_work p.heap) p.heap.grey grey in
     (omega (arith, pays.work, filled-few places, last), omega (arith, pays.kept))
 
--- ---- a sweep
-
-sum-set_less : {A : Type 0} (f : A → ℕ) (xs : List A) (i : ℕ) (x d : A) → f x ≤ f (get_or xs i d)
-    → sum_by f (set xs i x) ≤ sum_by f xs
-sum-set_less f [] i x d h = omega arith
-sum-set_less f (a ∷ xs) zero x d h =
-    omega (arith, sum_by-cons f x xs, sum_by-cons f a xs, h)
-sum-set_less f (a ∷ xs) (suc i) x d h =
-    omega (arith, sum_by-cons f a (set xs i x), sum_by-cons f a xs, sum-set_less f xs i x d h)
-
--- a heap of which some objects were freed
-record Freed (cycle : ℕ) (h g : Heap) : Type 0 where
-  work : sum_by (slot_work cycle) g.slots ≤ sum_by (slot_work cycle) h.slots
-  held : sum_by held_work g.slots ≤ sum_by held_work h.slots
-  rest : g ≡ record h { slots = g.slots; free = g.free }
+-- ---- objects are freed
 
 vacant : (f : Slot → ℕ) (g : ℕ) → ((k : ℕ) → f (Free k) ≡ 0) → f Retired ≡ 0
     → f (vacated_slot g) ≡ 0
 vacant f g free retired = cond_both _ Retired (Free (g + 1)) (λ z. f z ≡ 0) (λ _. retired)
     (λ _. free (g + 1))
 
-sweep-one : (cycle c k : ℕ) (s : Sweeping) → Freed cycle s.heap (sweep_one c k s).heap
-unfolding sweep_one
-sweep-one cycle c k s =
-    cond_both (is_garbage c (slot_at s.heap k)) _ s (λ z. Freed cycle s.heap z.heap)
-    (λ _.
-    let g : ℕ = generation_in (slot_at s.heap k) in
-    record {
-      work = sum-set_less (slot_work cycle) s.heap.slots k (vacated_slot g) Retired
-          (omega (arith, vacant (slot_work cycle) g (λ _. refl) refl));
-      held = sum-set_less held_work s.heap.slots k (vacated_slot g) Retired
-          (omega (arith, vacant held_work g (λ _. refl) refl));
-      rest = refl;
-    })
-    (λ _. record { work = omega arith; held = omega arith; rest = refl })
+sum-less : (f : Slot → ℕ) (xs ys : List Slot) → length xs ≡ length ys
+    → ((k : ℕ) → f (get_or xs k Retired) ≤ f (get_or ys k Retired)) → sum_by f xs ≤ sum_by f ys
+sum-less f [] ys wide less = omega arith
+sum-less f (x ∷ xs) [] wide less = absurd (omega (arith, wide))
+sum-less f (x ∷ xs) (y ∷ ys) wide less =
+    let rest = sum-less f xs ys (omega (arith, wide)) (λ k. less (suc k)) in
+    omega (arith, sum_by-cons f x xs, sum_by-cons f y ys, less 0, rest)
 
-sweep-some : (cycle c k n : ℕ) (s : Sweeping) → Freed cycle s.heap (sweep_some c k n s).heap
-sweep-some cycle c k zero s = record { work = omega arith; held = omega arith; rest = refl }
-sweep-some cycle c k (suc n) s =
-    let t : Sweeping = sweep_one c k s in
-    let first = sweep-one cycle c k s in
-    let later = sweep-some cycle c (k + 1) n t in
-    let u : Heap = (sweep_some c (k + 1) n t).heap in
-    record {
-      work = omega (arith, first.work, later.work);
-      held = omega (arith, first.held, later.held);
-      rest = later.rest ∙ ap (λ (z : Heap). record z { slots = u.slots; free = u.free }) first.rest;
-    }
+-- a sum over the slots that counts only objects
+freed-sum : {h g : Heap} (f : Slot → ℕ) → ((k : ℕ) → f (Free k) ≡ 0) → f Retired ≡ 0 → Freed h g
+    → sum_by f g.slots ≤ sum_by f h.slots
+freed-sum {h = h} {g = g} f free retired freed =
+    sum-less f g.slots h.slots freed.width
+    (λ k. ⊎_elim {C = f (slot_at g k) ≤ f (slot_at h k)}
+    (λ same. omega (arith, ap f same))
+    (λ v. omega (arith, ap f v.is, vacant f v.generation free retired))
+    (freed.each k))
 
--- if nothing is grey
+-- The work grows neither in the slots nor in the grey list.
+freed-less : {g : Heap} (cycle : ℕ) (p : LocalState) (grey : List ℕ) → Freed p.heap g
+    → sum_by (grey_work g) grey ≤ sum_by (grey_work p.heap) p.heap.grey
+    → (node_work cycle (record p { heap = record g { grey = grey } }) ≤ node_work cycle p)
+    × (whole_node_work (record p { heap = record g { grey = grey } }) ≤ whole_node_work p)
+freed-less {g = g} cycle p grey freed less =
+    let work = freed-sum (slot_work cycle) (λ _. refl) refl freed in
+    let held = freed-sum held_work (λ _. refl) refl freed in
+    let regs = ap (λ (z : List (Option Ref)). length z) freed.registers in
+    let lets = ap (λ (z : List Letter). length z) freed.letters in
+    let roots : length g.registers + length g.letters
+    ≡ length p.heap.registers + length p.heap.letters = omega (arith, regs, lets) in
+    let left : cond (p.phases.cycle == cycle) 0
+    (1 + 2 * (length g.registers + length g.letters))
+    ≡ cond (p.phases.cycle == cycle) 0
+    (1 + 2 * (length p.heap.registers + length p.heap.letters)) =
+    ap (λ (z : ℕ). cond (p.phases.cycle == cycle) 0 (1 + 2 * z)) roots in
+    (omega (arith, less, left, work), omega (arith, roots, held))
+
+-- a sweep, if nothing is grey
 pub sweep-frees : (cycle : ℕ) (p : LocalState) (count : ℕ) → p.heap.grey ≡ []
     → (node_work cycle (after_sweep p count) ≤ node_work cycle p)
     × (whole_node_work (after_sweep p count) ≤ whole_node_work p)
 sweep-frees cycle p count calm =
-    let s : Sweeping = record { heap = p.heap; freed = 0 } in
-    let f : Freed cycle p.heap (sweeping p count).heap =
-    sweep-some cycle p.phases.cycle p.phases.cursor (looked_at p count) s in
-    by (sweeping p count).heap f.rest f.work f.held
-  where
-    by : (g : Heap) → g ≡ record p.heap { slots = g.slots; free = g.free }
-        → sum_by (slot_work cycle) g.slots ≤ sum_by (slot_work cycle) p.heap.slots
-        → sum_by held_work g.slots ≤ sum_by held_work p.heap.slots
-        → (node_work cycle (record p { heap = g }) ≤ node_work cycle p)
-        × (whole_node_work (record p { heap = g }) ≤ whole_node_work p)
-    by g rest work held =
-        let none : sum_by (grey_work g) g.grey ≡ 0 =
-        ap (λ (z : List ℕ). sum_by (grey_work g) z) (ap (λ (z : Heap). z.grey) rest ∙ calm) in
-        let before : sum_by (grey_work p.heap) p.heap.grey ≡ 0 =
-        ap (λ (z : List ℕ). sum_by (grey_work p.heap) z) calm in
-        let regs = ap (λ (z : Heap). length z.registers) rest in
-        let lets = ap (λ (z : Heap). length z.letters) rest in
-        let roots : length g.registers + length g.letters
-        ≡ length p.heap.registers + length p.heap.letters = omega (arith, regs, lets) in
-        let left : cond (p.phases.cycle == cycle) 0
-        (1 + 2 * (length g.registers + length g.letters))
-        ≡ cond (p.phases.cycle == cycle) 0
-        (1 + 2 * (length p.heap.registers + length p.heap.letters)) =
-        ap (λ (z : ℕ). cond (p.phases.cycle == cycle) 0 (1 + 2 * z)) roots in
-        (omega (arith, none, before, left, work), omega (arith, roots, held))
+    let g : Heap = (sweeping p count).heap in
+    let freed : Freed p.heap g =
+    freed-some (λ _. is_garbage p.phases.cycle) (garbage-test p.phases.cycle) p.phases.cursor
+    (looked_at p count) (record { heap = p.heap; freed = 0 }) in
+    let none = ap (sum_by (grey_work g)) (freed.grey ∙ calm) in
+    freed-less cycle p g.grey freed (omega (arith, none))
+
+-- What is still grey is as it was.
+left-greys : {h g : Heap} → Freed h g → (ks : List ℕ)
+    → sum_by (grey_work g) (filter (λ k. is_occupied (slot_at g k)) ks) ≤ sum_by (grey_work h) ks
+left-greys freed [] = omega arith
+left-greys {h = h} {g = g} freed (k ∷ ks) =
+    let rest : List ℕ = filter (λ k. is_occupied (slot_at g k)) ks in
+    let others = left-greys freed ks in
+    cond_both (is_occupied (slot_at g k)) (k ∷ rest) rest
+    (λ z. sum_by (grey_work g) z ≤ sum_by (grey_work h) (k ∷ ks))
+    (λ there.
+    let found = occupied-object (slot_at g k) there in
+    let same : grey_work g k ≡ grey_work h k =
+    ap scan_work (found.1 ∙ sym (freed-left freed k _ found.0 found.1)) in
+    omega (arith, sum_by-cons (grey_work g) k rest, sum_by-cons (grey_work h) k ks, same, others))
+    (λ _. omega (arith, sum_by-cons (grey_work h) k ks, others))
+
+-- a reclaim
+pub reclaim-frees : (cycle : ℕ) (scope : Scope) (p : LocalState)
+    → (node_work cycle (record p { heap = reclaimed scope p.own p.heap }) ≤ node_work cycle p)
+    × (whole_node_work (record p { heap = reclaimed scope p.own p.heap }) ≤ whole_node_work p)
+reclaim-frees cycle scope p =
+    let g : Heap = (reclaiming scope p.own p.heap).heap in
+    let freed : Freed p.heap g = freed-reclaiming scope p.own p.heap in
+    let less = left-greys freed g.grey in
+    let same = ap (sum_by (grey_work p.heap)) freed.grey in
+    let first = freed-less cycle p (left_grey g) freed (omega (arith, less, same)) in
+    let q : LocalState = record p { heap = freed_within scope p.own p.heap } in
+    let aged : SameWork cycle q.heap (reclaimed scope p.own p.heap) = aged-same cycle q.heap in
+    let work = same-node cycle q (record p { heap = reclaimed scope p.own p.heap }) refl aged in
+    let below = first.0 in
+    let whole = first.1 in
+    (omega (arith, work, below), omega (arith, aged.roots, aged.held, whole))

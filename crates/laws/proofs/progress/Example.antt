@@ -6,7 +6,7 @@ use Rattle.model.specs.declared.event.Event.TheVariants as event
 use Rattle.model.specs.declared.step.Step.TheVariants as step
 use Rattle.model.specs.Counting.{append, announce}
 use Rattle.model.specs.Shading.{see_to, enter, join}
-use Rattle.model.specs.Collecting.{is_swept_everywhere, probe, begun, conclude, passed, sweep_one, swept_slots}
+use Rattle.model.specs.Collecting.{is_swept_everywhere, probe, begun, conclude, passed, free_one, swept_slots}
 use Rattle.model.specs.Steps.{act, receive, count_in, take_body, settled, taken_in}
 use Rattle.model.specs.World.{World, new_world, run, take_step}
 use Rattle.laws.specs.Strategy.{now, play}
@@ -40,10 +40,10 @@ swept_in w = ((now w 1).local.phases.swept == 1) && is_swept_everywhere (now w 0
 -- computed once
 twelve : World
 unfolding take_step act append announce join enter see_to probe begun receive count_in take_body
-    settled taken_in passed conclude swept_slots sweep_one int_wrap
+    settled taken_in passed conclude swept_slots free_one int_wrap
 twelve = play 2 12 start
 
 swept_thirteenth : (swept_in twelve ≡ false) × (swept_in (play 2 1 twelve) ≡ true)
 unfolding twelve take_step act append announce join enter see_to probe begun receive count_in
-    take_body settled taken_in passed conclude swept_slots sweep_one int_wrap
+    take_body settled taken_in passed conclude swept_slots free_one int_wrap
 swept_thirteenth = (refl, refl)

@@ -1,15 +1,19 @@
 -- The work that a heap holds: shading moves it from unmarked objects to grey ones.
-use Rattle.std.proofs.Common.{◌≡◌, ℕ, ◌+◌, ◌*◌, ◌==◌, cond, List, [], ◌∷◌, ◌++◌, length, length-set, get_or, set, sum, refl, sym, ap, ◌∙◌, arith, eq-eqb}
+use Rattle.std.proofs.Common.{◌≡◌, ℕ, ◌+◌, ◌*◌, ◌==◌, cond, List, [], ◌∷◌, ◌++◌, Option, length, length-set, get_or, set, sum, refl, sym, ap, ◌∙◌, arith, eq-eqb}
 use Rattle.std.specs.List.{sum_by}
 use Rattle.std.proofs.lemmas.Bool.{cond_both, cond-true, cond-false, ne_eqb}
+use Rattle.std.proofs.lemmas.List.{length-map}
 use Rattle.std.proofs.lemmas.List.Sums.{sum_by_push, sum_by-set, sum-map}
 use Rattle.std.proofs.Math.Path.{fun_ext}
 use Rattle.ids.specs.declared.names.Ref.{Ref}
-use Rattle.model.specs.State.{Object, Slot, Occupied, Retired, Heap, slot_at}
-use Rattle.model.specs.Heaps.{object_at, rewritten, with_rewritten}
+use Rattle.model.specs.State.{Object, Slot, Free, Occupied, Retired, Heap, slot_at}
+use Rattle.model.specs.Heaps.{object_at, rewritten, with_rewritten, with_place, placing, remembering, sharing, share_all}
 use Rattle.model.specs.Shading.{is_unmarked, with_mark, make_grey, make_all_grey}
 use Rattle.model.proofs.Lookups.{at_set_if, map-set_same}
+use Rattle.model.specs.Reclaiming.{slot_aged, aged}
+use Rattle.laws.proofs.Sums.{sum-aged}
 use Rattle.model.proofs.Slots.{found-object, occupied-within, unmarked-there}
+use Rattle.model.proofs.Ages.{noted_for, noted-keeps, aged-at}
 use Rattle.laws.specs.Bounds.{root_work, scan_work, slot_work, grey_work, heap_work, held_work}
 
 -- ---- sums over lists
@@ -31,7 +35,7 @@ pub record SameWork (cycle : ℕ) (h g : Heap) : Type 0 where
   pub roots : root_work g ≡ root_work h
   pub width : length g.slots ≡ length h.slots
 
-pub same-refl : (cycle : ℕ) (h : Heap) → SameWork cycle h h
+same-refl : (cycle : ℕ) (h : Heap) → SameWork cycle h h
 same-refl cycle h = record { work = refl; held = refl; roots = refl; width = refl }
 
 pub same-through : {cycle : ℕ} {f g h : Heap} → SameWork cycle f g → SameWork cycle g h
@@ -91,6 +95,55 @@ module _ (h : Heap) (r : Ref) (f : Object → Object)
     roots = refl;
     width = length-set h.slots r.slot new_slot;
   }
+
+pub shared-same : (cycle own : ℕ) (rs : List Ref) (h : Heap)
+    → SameWork cycle h (share_all own h rs)
+shared-same cycle own [] h = same-refl cycle h
+shared-same cycle own (r ∷ rs) h =
+    same-through
+    (cond_both (r.node == own) (with_rewritten h r sharing) h (SameWork cycle h)
+    (λ _. rewritten-same h r sharing (λ o. refl) cycle (λ o. refl)) (λ _. same-refl cycle h))
+    (shared-same cycle own rs (cond (r.node == own) (with_rewritten h r sharing) h))
+
+-- a place is written
+pub placed-same : (cycle own : ℕ) (h : Heap) (r : Ref) (place : ℕ) (v : Option Ref)
+    → SameWork cycle h (with_place own h r place v)
+placed-same cycle own h r place v =
+    same-through
+    (noted-keeps (SameWork cycle h) own h r v
+    (λ z. rewritten-same h z remembering (λ o. refl) cycle (λ o. refl)) (same-refl cycle h))
+    (rewritten-same (noted_for own h r v) r (placing place v)
+    (λ o. length-set o.places place v) cycle (λ o. refl))
+
+-- objects become old
+
+pub aged-same : (cycle : ℕ) (h : Heap) → SameWork cycle h (aged h)
+aged-same cycle h = record {
+  work =
+      ap (λ (z : ℕ). z + sum_by (grey_work (aged h)) h.grey)
+      (sum-aged (slot_work cycle) slot h.slots)
+      ∙ ap (λ (z : ℕ). sum_by (slot_work cycle) h.slots + z)
+      (sum-by_same (grey_work (aged h)) (grey_work h) h.grey
+      (λ k. ap scan_work (aged-at h k) ∙ scan (slot_at h k)));
+  held = sum-aged held_work held h.slots;
+  roots = refl;
+  width = length-map h.slots slot_aged;
+}
+  where
+    scan : (s : Slot) → scan_work (slot_aged s) ≡ scan_work s
+    scan (Free g) = refl
+    scan (Occupied g o) = refl
+    scan Retired = refl
+
+    slot : (s : Slot) → slot_work cycle (slot_aged s) ≡ slot_work cycle s
+    slot (Free g) = refl
+    slot (Occupied g o) = refl
+    slot Retired = refl
+
+    held : (s : Slot) → held_work (slot_aged s) ≡ held_work s
+    held (Free g) = refl
+    held (Occupied g o) = refl
+    held Retired = refl
 
 -- ---- an object turns grey
 

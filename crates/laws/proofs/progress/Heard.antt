@@ -1,6 +1,6 @@
 -- What a node still has to hear is in flight: that marking has ended, and at node 0 that a node has
 -- swept. No node sends anything to itself, and no cursor of a sweep is past the slots.
-use Rattle.std.proofs.Common.{◌≡◌, ◌≢◌, ℕ, zero, suc, ◌+◌, ◌≤◌, ◌==◌, ltb, Bool, true, cond, List, [], ◌∷◌, length, option_to_list, refl, sym, ap, ◌∙◌, subst, ⊎_elim, arith, length-set, length-append, eqb-true, get_or, ◌<◌, ◌⊎◌, false, ◌++◌, map, set, inl, inr, get_or-set_other}
+use Rattle.std.proofs.Common.{◌≡◌, ◌≢◌, ℕ, zero, suc, ◌+◌, ◌≤◌, ◌==◌, ltb, Bool, true, not, cond, List, [], ◌∷◌, length, option_to_list, refl, sym, ap, ◌∙◌, subst, ⊎_elim, arith, length-set, length-append, eqb-true, get_or, ◌<◌, ◌⊎◌, false, ◌++◌, map, set, inl, inr, get_or-set_other}
 use Rattle.std.specs.List.{AllByRecursion}
 use Rattle.std.proofs.lemmas.Bool.{cond_both, eqb-false, not-true, and_parts, cases_eq, cond-true, cond-false, ne_eqb, and_from, not_from_false}
 use Rattle.ids.specs.Limits.{Shaped}
@@ -10,14 +10,17 @@ use Rattle.msg.specs.declared.body.Message.{Message}
 use Rattle.model.specs.declared.event.Event.{Event}
 use Rattle.model.specs.Checks.{AllPass}
 use Rattle.model.specs.State.{Object, Slot, Occupied, Retired, LocalState, slot_at, Phases, NodeState, sent_to}
-use Rattle.model.specs.Heaps.{object_at, place_of, place_loaded, rewritten, slots_with, next_generation, new_object, named}
+use Rattle.model.specs.Heaps.{object_at, place_of, place_loaded, rewritten, with_rewritten, sharing, slots_with, next_generation, new_object, named}
 use Rattle.model.specs.Effects.{Work, at_rest, then, Effect}
 use Rattle.model.specs.Counting.{append, stamped, announce, to_others}
 use Rattle.model.specs.Shading.{is_open, see_to, unasked, marks_for, filled, roots, enter, join, joined, last_grey, without_last_grey}
 use Rattle.model.specs.Collecting.{is_concluded, probe, begun, places_in, scan, scanned, conclude, judged, handed_on, passed, swept_slots, sweeping, sweeps_last, looked_at, reports_sweep}
-use Rattle.model.specs.Steps.{is_own, tests, made, carried, count_in, take_carried, take_body, settled, taken_in, append_all}
+use Rattle.std.proofs.lemmas.List.{length-map}
+use Rattle.model.specs.Reclaiming.{reclaiming, slot_aged}
+use Rattle.model.specs.Steps.{is_own, tests, made, carried, count_in, take_carried, take_body, settled, taken_in, append_all, post}
 use Rattle.model.proofs.Asking.{unasked-others, marks-others}
-use Rattle.model.proofs.Walk.{Walks, own-walks, taken-walks, join-walks, joined-walks, carried-walks}
+use Rattle.model.proofs.Freeing.{freed-reclaiming}
+use Rattle.model.proofs.Walk.{Collects, Walks, place-walks, post-walks, own-walks, taken-walks, join-walks, joined-walks, carried-walks}
 use Rattle.model.proofs.Leaving.{stands-walks, own-stands}
 use Rattle.laws.proofs.Sweeps.{swept-some}
 use Rattle.model.proofs.References.{all-append}
@@ -64,7 +67,7 @@ body-others from stamp (body.Mark target) p other = sees-others true (target ∷
 body-others from stamp (body.Get target place label) p other =
     let rs : List Ref = option_to_list (place_of (object_at p.heap target) place) in
     others-both p.own (see_to true rs p)
-    (append from (body.Give label (place_of (object_at p.heap target) place))) refl
+    (post from (body.Give label (place_of (object_at p.heap target) place))) refl
     (sees-others true rs p) (other, tt)
 body-others from stamp b p other = tt
 
@@ -157,29 +160,40 @@ object-wider [] slots o = omega (arith, length-append slots (Occupied 1 o ∷ []
 object-wider (k ∷ ks) slots o =
     omega (arith, length-set slots k (Occupied (next_generation (get_or slots k Retired)) o))
 
-placed-walks : Walks (λ _. Unit {0}) KeepsPlaced
+placed-collects : Collects KeepsPlaced
 unfolding see_to enter append announce
+placed-collects = record {
+  rest = λ p h. h;
+  both = λ p w f first second h. second (first h);
+  sees = λ due rs p h.
+      (omega (arith, (grey-all p.own p.phases.cycle p.heap (cond (is_open p) rs [])).width, h));
+  enters = λ p cycle later h. omega arith;
+  rings = λ p r h. h;
+  ends = λ p h. h;
+  hears = λ p reports h. h;
+  scans = λ p h. h;
+  sends = λ to b p quiet h. h;
+  tells = λ b p quiet h. h;
+}
+
+rewritten-placed : (p : LocalState) (r : Ref) (f : Object → Object)
+    → KeepsPlaced p (at_rest (record p { heap = with_rewritten p.heap r f }))
+rewritten-placed p r f h =
+    let e = length-set p.heap.slots r.slot (rewritten f r.generation (slot_at p.heap r.slot)) in
+    omega (arith, e, h)
+
+placed-walks : Walks (λ _. Unit {0}) KeepsPlaced
+unfolding append
 placed-walks = record {
-  collects = record {
-    rest = λ p h. h;
-    both = λ p w f first second h. second (first h);
-    sees = λ due rs p h.
-        (omega (arith, (grey-all p.own p.phases.cycle p.heap (cond (is_open p) rs [])).width, h));
-    enters = λ p cycle later h. omega arith;
-    rings = λ p r h. h;
-    ends = λ p h. h;
-    hears = λ p reports h. h;
-    scans = λ p h. h;
-    sends = λ to b p quiet h. h;
-    tells = λ b p quiet h. h;
-  };
+  collects = placed-collects;
   roots = λ p registers letters h. h;
-  rewrites = λ p r f h.
-      (let e = length-set p.heap.slots r.slot (rewritten f r.generation (slot_at p.heap r.slot)) in
-      omega (arith, e, h));
+  rewrites = λ p r f quiet. rewritten-placed p r f;
+  places = place-walks placed-collects (λ p r f shared. rewritten-placed p r f);
   makes = λ p register places ready h.
-      (omega (arith, object-wider p.heap.free p.heap.slots (new_object p.phases.cycle places), h));
-  gives = λ to b p h. h;
+      (let o : Object = new_object (not p.shape.wide) p.phases.cycle places in
+      omega (arith, object-wider p.heap.free p.heap.slots o, h));
+  gives = λ to b p carries.
+      post-walks placed-collects (λ q r. rewritten-placed q r sharing) to b p (λ h. h);
   sweeps = λ p count h.
       (let wide : length (sweeping p count).heap.slots ≡ length p.heap.slots =
       (swept-some p.phases.cycle p.phases.cursor (looked_at p count)
@@ -187,6 +201,10 @@ placed-walks = record {
       cond_both (sweeps_last p count) 0 (p.phases.cursor + looked_at p count)
       (λ z. z ≤ length (sweeping p count).heap.slots)
       (λ _. omega arith) (λ _. omega (arith, wide, h)));
+  reclaims = λ p scope h.
+      (let e = (freed-reclaiming scope p.own p.heap).width in
+      let f = length-map (reclaiming scope p.own p.heap).heap.slots slot_aged in
+      omega (arith, e, f, h));
 }
 
 pub own-placed : (p : LocalState) (counts : List ℕ) (e : Event) → is_own e ≡ true → IsPlaced p

@@ -12,8 +12,9 @@ use Rattle.model.specs.Heaps.{object_at, place_of}
 use Rattle.model.specs.Effects.{Work, at_rest, then}
 use Rattle.model.specs.Counting.{is_reference, reference_balance, balance_of, counted_up, counted_down, counted_marks, append}
 use Rattle.model.specs.Shading.{is_in, is_open, is_unmarked, wakes, make_grey, make_all_grey, unasked, marks_for, see_to, join, joined}
-use Rattle.model.specs.Steps.{carried, count_in, counted, take_carried, take_body, settled, taken_in}
+use Rattle.model.specs.Steps.{post, carried, count_in, counted, take_carried, take_body, settled, taken_in}
 use Rattle.model.specs.Agreement.{is_counted, Terminated}
+use Rattle.model.proofs.Ages.{noted-keeps}
 use Rattle.model.proofs.Shading.{marks-none, see_to-none, see_to-open}
 use Rattle.laws.specs.Bounds.{cost_of, flight, HasRoom}
 use Rattle.laws.proofs.progress.Costs.{cost_sent, is_token}
@@ -29,6 +30,7 @@ use Rattle.laws.proofs.Turns.{Turn, at_turn, flew}
 use Rattle.laws.proofs.Acting.{latest}
 use Rattle.laws.proofs.Counts.{reference-counts}
 use Rattle.laws.proofs.Inner.{marking-open}
+use Rattle.laws.proofs.Slots.{shared-rest}
 use Rattle.laws.proofs.Invariant.{place_of_spot, phases_of, cycle_of, Marking, StampFits, BodyFits, Covered, is_marked, is_asked, Holds, holds_marked, holds_asked, Spot, at_node, on_way, IsAt, is_held, is_sent, Inv}
 use Rattle.laws.specs.Strategy.{now, next_steps}
 use Rattle.laws.specs.Progress.{HasEnded}
@@ -182,10 +184,10 @@ body-quiet from (body.Get target place label) p is h reads =
     let give : Body = body.Give label v in
     let balance : balance_of p.phases.cycle p.phases.cycle give ≡ Some Recent =
     balance-now p.phases.cycle give refl in
-    subst (λ (w : Work). Quiet (body.Get target place label) p (then w (append from give)).local
-    (then w (append from give)).sends) (sym rest)
+    subst (λ (w : Work). Quiet (body.Get target place label) p (then w (post from give)).local
+    (then w (post from give)).sends) (sym rest)
     (record {
-      grey = refl;
+      grey = ap (λ (z : Heap). z.grey) (shared-rest p.own (option_to_list v) p.heap);
       cycle = refl;
       colour = ap (λ (z : Option Balance). (counted_up z p.ring).colour) balance;
       owes = ap (λ (z : Option Balance). (counted_up z p.ring).earlier) balance;
@@ -193,6 +195,11 @@ body-quiet from (body.Get target place label) p is h reads =
       sends = omega arith;
       uncounted = (le-ltb p.phases.cycle p.phases.cycle (omega arith), tt);
     })
+body-quiet from (body.Put target place reference) p is h reads =
+    idle-quiet
+    (noted-keeps (λ (z : Heap). z.grey ≡ p.heap.grey) p.own p.heap target reference (λ _. refl)
+    refl)
+    refl refl (omega arith)
 body-quiet from body.Begin p is h reads = absurd cc
 body-quiet from (body.Token t) p is h reads = absurd cc
 body-quiet from (body.Mark target) p is h reads = absurd cc

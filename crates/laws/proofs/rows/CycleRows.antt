@@ -6,7 +6,7 @@ use Rattle.msg.specs.declared.body.Colour.TheVariants.{White, Black}
 use Rattle.model.specs.State.{slot_at, node_at}
 use Rattle.model.specs.Counting.{append, announce}
 use Rattle.model.specs.Shading.{make_grey, see_to, enter, join}
-use Rattle.model.specs.Collecting.{probe, begun, scan, scanned, conclude, passed, sweep_one, swept_slots}
+use Rattle.model.specs.Collecting.{probe, begun, scan, scanned, conclude, passed, free_one, swept_slots}
 use Rattle.model.specs.Steps.{act, receive, count_in, take_body, settled, taken_in}
 use Rattle.model.specs.World.{take_step, new_world}
 use Rattle.laws.proofs.rows.Rows.{object, space, alloc, drop_register, give, accept, made, sent, letter, received, done, refused}
@@ -47,7 +47,7 @@ empty_space =
 
 pub empty-space-prints : Prints (space 2 4 16) empty_space
 unfolding int_wrap take_step act receive append announce see_to make_grey enter join begun probe
-    conclude passed sweep_one swept_slots count_in take_body settled taken_in
+    conclude passed free_one swept_slots count_in take_body settled taken_in
 empty-space-prints = refl
 
 -- Two objects of two nodes name each other, and register 0 of node 0 names one of them.
@@ -84,7 +84,7 @@ ring_freed = building ++ drop_register 0 0 gives ok ∷ ring_swept
 
 pub ring-freed-prints : Prints (space 2 4 16) ring_freed
 unfolding int_wrap take_step act receive append announce see_to make_grey enter join begun probe
-    conclude passed sweep_one swept_slots count_in take_body settled taken_in
+    conclude passed free_one swept_slots count_in take_body settled taken_in
 ring-freed-prints = refl
 
 -- that register isn't emptied, and both stay
@@ -114,7 +114,7 @@ ring_kept =
 
 pub ring-kept-prints : Prints (space 2 4 16) ring_kept
 unfolding int_wrap take_step act receive append announce see_to make_grey enter join begun probe
-    scan scanned conclude passed sweep_one swept_slots count_in take_body settled taken_in
+    scan scanned conclude passed free_one swept_slots count_in take_body settled taken_in
 ring-kept-prints = refl
 
 -- both are then marked with the cycle
@@ -127,5 +127,5 @@ mark_at node =
 
 pub ring-kept-marked : (mark_at 0 ≡ 1) × (mark_at 1 ≡ 1)
 unfolding int_wrap take_step act receive append announce see_to make_grey enter join begun probe
-    scan scanned conclude passed sweep_one swept_slots count_in take_body settled taken_in
+    scan scanned conclude passed free_one swept_slots count_in take_body settled taken_in
 ring-kept-marked = (refl, refl)

@@ -1,17 +1,18 @@
 -- A worked example of old garbage: two objects of two nodes that name each other. Both nodes have
 -- saved them, and they are reachable in no cut. After the next cycle's sweeps they are gone.
-use Rattle.std.proofs.Common.{◌≡◌, ℕ, zero, suc, ◌<◌, ◌≤◌, Bool, List, [], ◌∷◌, ◌++◌, Option, None, Some, slice_get, refl, sym, ◌∙◌, subst, arith}
+use Rattle.std.proofs.Common.{◌≡◌, ℕ, zero, suc, ◌<◌, ◌≤◌, Bool, List, [], ◌∷◌, ◌++◌, Option, None, Some, slice_get, refl, sym, ◌∙◌, subst, arith, true}
 use Rattle.std.proofs.lemmas.Bool.{cond_both}
 use Rattle.std.specs.Int.{int_wrap}
 use Rattle.ids.specs.declared.names.Ref.{Ref}
 use Rattle.msg.specs.declared.body.Colour.TheVariants.{}
 use Rattle.msg.specs.declared.body.Message.{Message}
+use Rattle.model.specs.declared.age.Age.TheVariants.{Old}
 use Rattle.model.specs.declared.event.Letter.{Letter}
 use Rattle.msg.specs.declared.body.Body.TheVariants as body
 use Rattle.model.specs.State.{Occupied, NodeState, new_phases, new_ring, no_node, node_at, sent_to, got_from, register_at}
 use Rattle.model.specs.Counting.{append, announce}
 use Rattle.model.specs.Shading.{make_grey, see_to, enter, join}
-use Rattle.model.specs.Collecting.{probe, begun, conclude, passed, sweep_one, swept_slots}
+use Rattle.model.specs.Collecting.{probe, begun, conclude, passed, free_one, swept_slots}
 use Rattle.model.specs.Steps.{act, receive, count_in, take_body, settled, taken_in}
 use Rattle.model.specs.World.{World, take_step, new_world}
 use Rattle.model.specs.Cuts.{cut, taken, IsInFlight, Reachable, in_register, in_letter, in_message, in_place}
@@ -25,7 +26,7 @@ ring_left = building ++ drop_register 0 0 gives ok ∷ save 0 gives done ∷ []
 
 pub ring-swept-prints : Prints (space 2 4 16) (ring_left ++ ring_swept)
 unfolding int_wrap take_step act receive append announce see_to make_grey enter join begun probe
-    conclude passed sweep_one swept_slots count_in take_body settled taken_in
+    conclude passed free_one swept_slots count_in take_body settled taken_in
 ring-swept-prints = refl
 
 -- node i, which holds nothing, and whose object names that of node j
@@ -35,7 +36,16 @@ half i j sent got = record {
     shape = space 2 4 16;
     own = i;
     heap = record {
-      slots = Occupied 1 (record { word = 0; bytes = []; places = Some (object j 0 1) ∷ []; mark = 0 }) ∷ [];
+      slots =
+          Occupied 1 (record {
+            word = 0;
+            bytes = [];
+            places = Some (object j 0 1) ∷ [];
+            mark = 0;
+            shared = true;
+            age = Old;
+          })
+          ∷ [];
       free = [];
       registers = None ∷ None ∷ None ∷ None ∷ [];
       letters = [];
@@ -63,7 +73,7 @@ left = record { current = n0 ∷ n1 ∷ []; saved = n0 ∷ n1 ∷ [] }
 
 left-is : after (new_world (space 2 4 16)) ring_left ≡ left
 unfolding int_wrap take_step act receive append announce see_to make_grey enter join begun probe
-    conclude passed sweep_one swept_slots count_in take_body settled taken_in
+    conclude passed free_one swept_slots count_in take_body settled taken_in
 left-is = refl
 
 -- what holds of both nodes' states, and of the default node past the end, holds in every cut
@@ -144,12 +154,26 @@ ring-is-garbage node inside =
   where
     by : (i : ℕ) → i < 2 → OldGarbage left (object i 0 1)
     by zero below = record {
-      object = record { word = 0; bytes = []; places = Some (object 1 0 1) ∷ []; mark = 0 };
+      object = record {
+        word = 0;
+        bytes = [];
+        places = Some (object 1 0 1) ∷ [];
+        mark = 0;
+        shared = true;
+        age = Old;
+      };
       saved = refl;
       unreachable = λ choice reached. unreachable choice (object 0 0 1) reached;
     }
     by (suc zero) below = record {
-      object = record { word = 0; bytes = []; places = Some (object 0 0 1) ∷ []; mark = 0 };
+      object = record {
+        word = 0;
+        bytes = [];
+        places = Some (object 0 0 1) ∷ [];
+        mark = 0;
+        shared = true;
+        age = Old;
+      };
       saved = refl;
       unreachable = λ choice reached. unreachable choice (object 1 0 1) reached;
     }

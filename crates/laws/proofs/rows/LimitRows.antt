@@ -7,6 +7,7 @@ use Rattle.ids.specs.declared.refusal.Refusal.{Refusal}
 use Rattle.ids.specs.declared.refusal.Refusal.TheVariants.{LinkSpent, CyclesSpent, NotDirector, CycleRunning}
 use Rattle.msg.specs.declared.body.Colour.{Colour}
 use Rattle.msg.specs.declared.body.Colour.TheVariants.{White, Black}
+use Rattle.model.specs.declared.age.Age.TheVariants.{Old}
 use Rattle.model.specs.declared.event.Event.TheVariants as event
 use Rattle.model.specs.declared.event.Answer.{Answer}
 use Rattle.model.specs.declared.event.Answer.TheVariants as answer
@@ -14,7 +15,7 @@ use Rattle.model.specs.State.{Object, Free, Occupied, Retired, LocalState, new_l
 use Rattle.model.specs.Effects.{Effect}
 use Rattle.model.specs.Counting.{append, announce}
 use Rattle.model.specs.Shading.{make_grey, see_to, enter, join}
-use Rattle.model.specs.Collecting.{probe, begun, scan, scanned, conclude, passed, sweep_one, swept_slots}
+use Rattle.model.specs.Collecting.{probe, begun, scan, scanned, conclude, passed, free_one, swept_slots}
 use Rattle.model.specs.Steps.{effect, is_memory_free}
 use Rattle.laws.proofs.rows.Rows.{Answers, effect_answer, object, space}
 
@@ -70,6 +71,8 @@ scanning =
               bytes = [];
               places = Some (object 1 0 1) ∷ Some (object 1 1 1) ∷ [];
               mark = 1;
+              shared = true;
+              age = Old;
             })
             ∷ [];
         grey = 0 ∷ [];
@@ -143,10 +146,10 @@ verdicts = refl
 -- ---- generations
 
 abbrev unmarked : Object
-unmarked = record { word = 0; bytes = []; places = []; mark = 0 }
+unmarked = record { word = 0; bytes = []; places = []; mark = 0; shared = true; age = Old }
 
 abbrev marked : Object
-marked = record { word = 0; bytes = []; places = []; mark = 1 }
+marked = record { word = 0; bytes = []; places = []; mark = 1; shared = true; age = Old }
 
 -- a node that is to sweep cycle 1: an object of the greatest generation, one of the generation
 -- before it, a marked one, and a free slot
@@ -179,7 +182,7 @@ pub generations : (swept.answer ≡ answer.Freed 2 true)
     × (swept.local.heap.slots
     ≡ Retired ∷ Free GREATEST_GENERATION ∷ Occupied 4 marked ∷ Free 2 ∷ [])
     × (swept.local.heap.free ≡ 1 ∷ 3 ∷ [])
-unfolding sweep_one swept_slots
+unfolding free_one swept_slots
 generations = (refl, refl, refl)
 
 -- A sweep appends a message, and so may allocate, only if it is the last one of a node other than
@@ -201,5 +204,5 @@ pub reports : Answers (
     ∷ (sweeps 1 4, Err LinkSpent)
     ∷ (sweeps 0 4, Ok (answer.Freed 2 true))
     ∷ [])
-unfolding sweep_one swept_slots
+unfolding free_one swept_slots
 reports = refl

@@ -5,7 +5,7 @@ use Rattle.ids.specs.declared.refusal.Refusal.TheVariants.{NotDirector, CycleRun
 use Rattle.msg.specs.declared.body.Colour.TheVariants.{White}
 use Rattle.model.specs.Counting.{append, announce}
 use Rattle.model.specs.Shading.{make_grey, see_to, enter, join}
-use Rattle.model.specs.Collecting.{probe, begun, scan, scanned, conclude, passed, sweep_one, swept_slots}
+use Rattle.model.specs.Collecting.{probe, begun, scan, scanned, conclude, passed, free_one, swept_slots}
 use Rattle.model.specs.Steps.{act, receive, count_in, take_body, settled, taken_in}
 use Rattle.model.specs.World.{take_step}
 use Rattle.laws.proofs.rows.Rows.{object, space, alloc, drop_register, made, received, done, no_frame, refused}
@@ -27,7 +27,7 @@ next_cycle =
 
 pub next-cycle-prints : Prints (space 2 4 16) next_cycle
 unfolding int_wrap take_step act receive append announce see_to make_grey enter join begun probe
-    scan scanned conclude passed sweep_one swept_slots count_in take_body settled taken_in
+    scan scanned conclude passed free_one swept_slots count_in take_body settled taken_in
 next-cycle-prints = refl
 
 -- The next cycle begins when node 0 has swept this one, and both others have reported their sweeps.
@@ -57,7 +57,7 @@ all_reported =
 
 pub all-reported-prints : Prints (space 3 4 16) all_reported
 unfolding int_wrap take_step act receive append announce see_to make_grey enter join begun probe
-    conclude passed sweep_one swept_slots count_in take_body settled taken_in
+    conclude passed free_one swept_slots count_in take_body settled taken_in
 all-reported-prints = refl
 
 -- A restart takes back a cycle that wasn't saved, and the same cycle begins again.

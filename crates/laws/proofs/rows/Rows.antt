@@ -1,6 +1,6 @@
 -- Worked examples, computed: the definitions answer what they should. A run of a new space is a
 -- table, with a row for each step and its outcome.
-use Rattle.std.proofs.Common.{◌≡◌, ℕ, ◌-◌, List, [], ◌∷◌, map, Option, Some, None, Result, Ok, Err, refl}
+use Rattle.std.proofs.Common.{◌≡◌, ℕ, ◌-◌, List, [], ◌∷◌, map, Option, Some, None, Result, Ok, Err, refl, true}
 use Rattle.ids.specs.Limits.{Shaped, plain_shape}
 use Rattle.ids.specs.declared.names.Ref.{Ref}
 use Rattle.ids.specs.declared.limits.TheConstants.{GREATEST_NUMBER}
@@ -8,6 +8,7 @@ use Rattle.ids.specs.declared.refusal.Refusal.{Refusal}
 use Rattle.ids.specs.declared.refusal.Refusal.TheVariants.{NoLetter, NoRegister, EmptyRegister, TooManyFields, ArenaFull, NoNode, SelfSend, LinkSpent, OutOfOrder, WrongNode}
 use Rattle.msg.specs.declared.body.Body.TheVariants as body
 use Rattle.msg.specs.declared.frame.Data.{Data}
+use Rattle.model.specs.declared.age.Age.TheVariants.{Old}
 use Rattle.model.specs.declared.event.Event.TheVariants as event
 use Rattle.model.specs.declared.event.Answer.{Answer}
 use Rattle.model.specs.declared.event.Answer.TheVariants as answer
@@ -272,10 +273,18 @@ freed =
 
 -- the slot that was freed last is used first, under its next generation; the object's mark is the
 -- node's cycle
-pub reuse : heap_alloc 3 8 1 5 freed 0 2
+pub reuse : heap_alloc (space 2 1 3) 1 5 freed 0 2
     ≡ Ok (
       record {
-        slots = Occupied 7 (record { word = 0; bytes = []; places = None ∷ None ∷ []; mark = 5 })
+        slots =
+            Occupied 7 (record {
+              word = 0;
+              bytes = [];
+              places = None ∷ None ∷ [];
+              mark = 5;
+              shared = true;
+              age = Old;
+            })
             ∷ Retired ∷ Free 4 ∷ [];
         free = 2 ∷ [];
         registers = Some (object 1 0 7) ∷ [];
@@ -296,10 +305,10 @@ abbrev reference_of : Result (Heap × Ref) Refusal → Result Ref Refusal
 reference_of (Ok x) = Ok x.1
 reference_of (Err e) = Err e
 
-pub fresh : reference_of (heap_alloc 3 8 1 5 used_up 0 2) ≡ Ok (object 1 2 1)
+pub fresh : reference_of (heap_alloc (space 2 1 3) 1 5 used_up 0 2) ≡ Ok (object 1 2 1)
 unfolding heap_alloc
 fresh = refl
 
-pub none-left : reference_of (heap_alloc 2 8 1 5 used_up 0 2) ≡ Err ArenaFull
+pub none-left : reference_of (heap_alloc (space 2 1 2) 1 5 used_up 0 2) ≡ Err ArenaFull
 unfolding heap_alloc
 none-left = refl

@@ -6,7 +6,7 @@ use Rattle.ids.specs.declared.refusal.Refusal.TheVariants.{NothingToDo}
 use Rattle.msg.specs.declared.body.Colour.TheVariants.{White, Black}
 use Rattle.model.specs.Counting.{append, announce}
 use Rattle.model.specs.Shading.{make_grey, see_to, enter, join}
-use Rattle.model.specs.Collecting.{probe, begun, scan, scanned, conclude, passed, sweep_one, swept_slots}
+use Rattle.model.specs.Collecting.{probe, begun, scan, scanned, conclude, passed, free_one, swept_slots}
 use Rattle.model.specs.Steps.{act, receive, count_in, take_body, settled, taken_in}
 use Rattle.model.specs.World.{take_step}
 use Rattle.laws.proofs.rows.Rows.{object, space, alloc, drop_register, give, accept, made, sent, letter, received, done, no_frame, refused}
@@ -251,5 +251,5 @@ asked_again =
 
 pub asked-again-prints : Prints (space 2 4 16) asked_again
 unfolding int_wrap take_step act receive append announce see_to make_grey enter join begun probe
-    scan scanned conclude passed sweep_one swept_slots count_in take_body settled taken_in
+    scan scanned conclude passed free_one swept_slots count_in take_body settled taken_in
 asked-again-prints = refl

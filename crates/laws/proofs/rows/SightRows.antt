@@ -10,7 +10,7 @@ use Rattle.model.specs.declared.step.Step.{Step}
 use Rattle.model.specs.declared.step.Step.TheVariants as step
 use Rattle.model.specs.Counting.{append, announce}
 use Rattle.model.specs.Shading.{make_grey, see_to, enter, join}
-use Rattle.model.specs.Collecting.{probe, begun, conclude, passed, sweep_one, swept_slots}
+use Rattle.model.specs.Collecting.{probe, begun, conclude, passed, free_one, swept_slots}
 use Rattle.model.specs.Steps.{act, receive, count_in, take_body, settled, taken_in}
 use Rattle.model.specs.World.{take_step, new_world}
 use Rattle.laws.specs.Objects.{new_space, Sight, told, came, IsRun}
@@ -66,7 +66,7 @@ rows =
 
 pub sights-print : Prints (space 2 4 16) rows
 unfolding int_wrap take_step act receive append announce see_to make_grey enter join begun probe
-    conclude passed sweep_one swept_slots count_in take_body settled taken_in
+    conclude passed free_one swept_slots count_in take_body settled taken_in
 sights-print = refl
 
 abbrev steps_in : List Row → List Step
@@ -112,11 +112,11 @@ after_sweep =
 pub saved-sights : observed_in_cut (new_world (space 2 4 16)) (steps_in rows) (λ _. true)
     ≡ before_saves
 unfolding int_wrap take_step act receive append announce see_to make_grey enter join begun probe
-    conclude passed sweep_one swept_slots count_in take_body settled taken_in
+    conclude passed free_one swept_slots count_in take_body settled taken_in
 saved-sights = refl
 
 pub current-sights : observed_in_cut (new_world (space 2 4 16)) (steps_in rows) (λ _. false)
     ≡ before_saves ++ after_sweep
 unfolding int_wrap take_step act receive append announce see_to make_grey enter join begun probe
-    conclude passed sweep_one swept_slots count_in take_body settled taken_in
+    conclude passed free_one swept_slots count_in take_body settled taken_in
 current-sights = refl

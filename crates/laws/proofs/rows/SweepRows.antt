@@ -5,7 +5,7 @@ use Rattle.ids.specs.declared.refusal.Refusal.TheVariants.{CycleRunning, Nothing
 use Rattle.msg.specs.declared.body.Colour.TheVariants.{White}
 use Rattle.model.specs.Counting.{append, announce}
 use Rattle.model.specs.Shading.{make_grey, see_to, enter, join}
-use Rattle.model.specs.Collecting.{probe, begun, scan, scanned, conclude, passed, sweep_one, swept_slots}
+use Rattle.model.specs.Collecting.{probe, begun, scan, scanned, conclude, passed, free_one, swept_slots}
 use Rattle.model.specs.Steps.{act, receive, count_in, take_body, settled, taken_in}
 use Rattle.model.specs.World.{take_step}
 use Rattle.laws.proofs.rows.Rows.{object, space, alloc, drop_register, made, received, done, refused}
@@ -36,7 +36,7 @@ slots_again =
 
 pub slots-again-prints : Prints (space 2 4 16) slots_again
 unfolding int_wrap take_step act receive append announce see_to make_grey enter join begun probe
-    conclude passed sweep_one swept_slots count_in take_body settled taken_in
+    conclude passed free_one swept_slots count_in take_body settled taken_in
 slots-again-prints = refl
 
 -- Of the slots that one sweep frees, the last one is used first.
@@ -51,7 +51,7 @@ freed_last_first =
 
 pub freed-last-first-prints : Prints (space 2 4 16) freed_last_first
 unfolding int_wrap take_step act receive append announce see_to make_grey enter join begun probe
-    conclude passed sweep_one swept_slots count_in take_body settled taken_in
+    conclude passed free_one swept_slots count_in take_body settled taken_in
 freed-last-first-prints = refl
 
 -- A sweep looks at no more slots than the given number. That number may be 0, which ends the sweep
@@ -82,7 +82,7 @@ swept_in_parts =
 
 pub swept-in-parts-prints : Prints (space 2 4 16) swept_in_parts
 unfolding int_wrap take_step act receive append announce see_to make_grey enter join begun probe
-    scan scanned conclude passed sweep_one swept_slots count_in take_body settled taken_in
+    scan scanned conclude passed free_one swept_slots count_in take_body settled taken_in
 swept-in-parts-prints = refl
 
 -- An object that is made while marking goes on is marked, and stays.
@@ -98,7 +98,7 @@ made_marked =
 
 pub made-marked-prints : Prints (space 2 4 16) made_marked
 unfolding int_wrap take_step act receive append announce see_to make_grey enter join begun probe
-    conclude passed sweep_one swept_slots count_in take_body settled taken_in
+    conclude passed free_one swept_slots count_in take_body settled taken_in
 made-marked-prints = refl
 
 -- What is loaded is shaded, so it stays if its place is emptied before the object is scanned.
@@ -121,7 +121,7 @@ load_shades =
 
 pub load-shades-prints : Prints (space 2 4 16) load_shades
 unfolding int_wrap take_step act receive append announce see_to make_grey enter join begun probe
-    scan scanned conclude passed sweep_one swept_slots count_in take_body settled taken_in
+    scan scanned conclude passed free_one swept_slots count_in take_body settled taken_in
 load-shades-prints = refl
 
 -- The next cycle waits for node 0's own sweep, though all others have reported theirs.
@@ -141,5 +141,5 @@ own_sweep =
 
 pub own-sweep-prints : Prints (space 2 4 16) own_sweep
 unfolding int_wrap take_step act receive append announce see_to make_grey enter join begun probe
-    conclude passed sweep_one swept_slots count_in take_body settled taken_in
+    conclude passed free_one swept_slots count_in take_body settled taken_in
 own-sweep-prints = refl

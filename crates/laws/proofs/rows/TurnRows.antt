@@ -9,6 +9,7 @@ use Rattle.msg.specs.declared.body.Body.{Body}
 use Rattle.msg.specs.declared.body.Body.TheVariants as body
 use Rattle.msg.specs.declared.body.Colour.TheVariants.{White, Black}
 use Rattle.msg.specs.declared.body.Token.{Token}
+use Rattle.model.specs.declared.age.Age.TheVariants.{Old}
 use Rattle.model.specs.declared.event.Answer.{Answer}
 use Rattle.model.specs.declared.event.Answer.TheVariants as answer
 use Rattle.model.specs.State.{Occupied, LocalState, new_local, slot_at}
@@ -36,7 +37,17 @@ abbrev with_object : ℕ → LocalState → LocalState
 with_object mark p =
     record p {
       heap = record p.heap {
-        slots = Occupied 2 (record { word = 0; bytes = []; places = []; mark = mark }) ∷ [];
+        slots =
+            Occupied 2
+            (record {
+              word = 0;
+              bytes = [];
+              places = [];
+              mark = mark;
+              shared = true;
+              age = Old;
+            })
+            ∷ [];
       };
     }
 

@@ -1,5 +1,6 @@
 //! The events that send a message to another node. The last test is whether a number is left for
-//! the message. The message is appended before anything else changes.
+//! the message. The message is appended before anything else changes. What it carries then becomes
+//! shared.
 ghost use Rattle.std.specs.Prelude.{false};
 ghost use Rattle.model.specs.View.{Performed, view_act};
 ghost use Rattle.model.specs.declared.event.Event.TheVariants as event;
@@ -23,6 +24,7 @@ impl Core {
         }
         let reference = self.heap.register(register)?;
         let number = self.send(to, Body::Give { label, reference })?;
+        self.share(reference);
         Ok(Answer::Sent(number))
     }
 
@@ -48,6 +50,7 @@ impl Core {
             reference,
         };
         let number = self.send(target.node, body)?;
+        self.share(reference);
         Ok(Answer::Sent(number))
     }
 

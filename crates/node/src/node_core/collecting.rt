@@ -194,7 +194,8 @@ fn copy_places(heap: &Heap, slot: u32, into: &mut [Option<Ref>; PLACES]) -> Opti
     ensures value { IfSome result (λ count.
         take count into.new ≡ places_in (slot_at heap.now.heap slot)) }
     ensures few { IfSome result (λ count. count ≤ PLAIN_PLACES) }
-    ensures many { result ≡ None ↔ (PLAIN_PLACES < length (places_in (slot_at heap.now.heap slot))) }
+    ensures many { result ≡ None
+        ↔ (PLAIN_PLACES < length (places_in (slot_at heap.now.heap slot))) }
 {
     let held = heap.places(slot);
     if held.len() > PLACES {

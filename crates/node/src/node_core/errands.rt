@@ -132,9 +132,10 @@ impl Core {
         ensures unchanged { OnErr result (self.new ≡ self.old) }
     {
         let cycle = self.phases.cycle();
+        let balance = balance_of(cycle, cycle, &body);
         let message = Message { stamp: cycle, body };
         let number = self.links.append(to, message)?;
-        self.ring.count_sent(balance_of(cycle, cycle, body));
+        self.ring.count_sent(balance);
         Ok(number)
     }
 
@@ -155,7 +156,7 @@ impl Core {
         ensures width { length self.old.links ≡ self.old.local.shape.nodes }
     {
         let stamp = self.phases.cycle();
-        self.links.announce(self.own, Message { stamp, body })?;
+        self.links.announce(self.own, &Message { stamp, body })?;
         Ok(())
     }
 }
@@ -298,7 +299,7 @@ fn send_begins(links: &mut Links, own: u8, cycle: u64) -> Result<(), Refusal>
         stamp: cycle,
         body: Body::Begin,
     };
-    if let Err(refusal) = links.announce(own, begin) {
+    if let Err(refusal) = links.announce(own, &begin) {
         links.retract(last);
         return Err(refusal);
     }
@@ -350,7 +351,7 @@ pub(super) fn count(ring: &mut Ring, cycle: u64, marks: usize, extra: Extra)
             label,
             reference,
             ..
-        } => ring.count_sent(balance_of(cycle, cycle, Body::Give { label, reference })),
+        } => ring.count_sent(balance_of(cycle, cycle, &Body::Give { label, reference })),
         Extra::Begins => {
             ring.probe();
         }

@@ -19,8 +19,8 @@ impl Core {
         ensures { Performed false result self.old self.new
             (view_act self.old (event.Alloc register places)) }
     {
-        let (own, cycle, most) = (self.own, self.phases.cycle(), self.shape.places());
-        let reference = self.heap.alloc(own, cycle, most, register, places)?;
+        let (shape, own, cycle) = (self.shape, self.own, self.phases.cycle());
+        let reference = self.heap.alloc(shape, own, cycle, register, places)?;
         Ok(Answer::New(reference))
     }
 

@@ -1,7 +1,7 @@
 //! Reads of a node from outside: the roots of its program, its objects, and how many messages it
 //! has received. Nothing here allocates memory or changes the node.
 ghost use Rattle.std.specs.Prelude.{◌≡◌, ℕ, ◌<◌, length, slice_index_or, is_some, None};
-ghost use Rattle.std.specs.Prelude.{Ok, Err, IfOk, IfErr};
+ghost use Rattle.std.specs.Prelude.{Ok, Err, IfOk, IfErr, option_copied};
 ghost use Rattle.model.specs.State.{got_from, slot_at};
 ghost use Rattle.model.specs.Heaps.{object_at, heap_bytes, heap_bytes_len};
 ghost use Rattle.model.specs.Shading.{roots};
@@ -83,8 +83,8 @@ impl Core {
 
     /// The message with this number for the node `to`, released or not, while the node keeps it.
     /// `None` if the node keeps no such message, or if there is no such node.
-    pub fn message(&self, to: u8, number: u64) -> Option<Message>
-        ensures { result ≡ message_of (link_to self.now to) number }
+    pub fn message(&self, to: u8, number: u64) -> Option<&Message>
+        ensures { option_copied result ≡ message_of (link_to self.now to) number }
     {
         if to < self.shape.nodes() {
             self.links.message(to, number)

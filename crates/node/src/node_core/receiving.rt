@@ -17,11 +17,11 @@ impl Core {
     /// Receives a message that the node may receive, in its turn: all of that before the message
     /// counts.
     #[inline(always)]
-    pub(super) fn receive(&mut self, from: u8, stamp: u64, body: Body) -> Result<(), Refusal>
-        requires { IsTakable self.old.local from stamp body }
-        ensures { Runs result (followed from stamp body self.old.local) self.old self.new }
+    pub(super) fn receive(&mut self, from: u8, stamp: u64, body: &Body) -> Result<(), Refusal>
+        requires { IsTakable self.old.local from stamp body.now }
+        ensures { Runs result (followed from stamp body.now self.old.local) self.old self.new }
     {
-        match body {
+        match *body {
             Body::Begin => self.receive_begin(from, stamp),
             Body::Token(token) => self.receive_token(from, stamp, token),
             Body::Mark { target } => self.receive_mark(from, stamp, target),
@@ -116,7 +116,8 @@ impl Core {
         Ok(())
     }
 
-    /// A Get: its object and what the object's place holds are shaded, and the latter is sent back.
+    /// A Get: its object and what the object's place holds are shaded. The latter is sent back, and
+    /// becomes shared.
     #[tactic(auto, using(crate::proofs::Receiving::following))]
     fn receive_get(
         &mut self,
@@ -136,7 +137,9 @@ impl Core {
             label,
             reference,
         };
-        self.run(stamp, true, &[Some(target), reference], answer)
+        self.run(stamp, true, &[Some(target), reference], answer)?;
+        self.share(reference);
+        Ok(())
     }
 
     /// Ended: the node knows that marking has ended.

@@ -134,17 +134,17 @@ impl Core {
         self.heap.set_register(register, value);
     }
 
-    /// Sets a place of an object of this node. If there is no such place or object, nothing
-    /// changes.
+    /// Sets a place of an object of this node, as [`heap::Heap::set_place`] does.
     pub(super) fn put_place(&mut self, object: Ref, place: u8, value: Option<Ref>)
         requires { IfAny (IsWithin self.old.local.shape) value }
         ensures { self.new ≡ record self.old {
           local = record self.old.local {
-            heap = with_place self.old.local.heap object place value;
+            heap = with_place self.old.local.own self.old.local.heap object place value;
           };
         } }
     {
-        self.heap.set_place(object, place, value);
+        let own = self.own;
+        self.heap.set_place(own, object, place, value);
     }
 
     /// Sets the node's part of the ring. It has no token any more, and may otherwise differ only in
@@ -258,10 +258,10 @@ impl Core {
     /// Counts the next message from a node as received.
     #[inline(always)]
     #[tactic(auto, unfolding(model::specs::Steps::count_in))]
-    pub(super) fn count_in(&mut self, from: u8, stamp: u64, body: Body)
+    pub(super) fn count_in(&mut self, from: u8, stamp: u64, body: &Body)
         requires { IsSender self.old.local from }
         ensures { self.new ≡ record self.old {
-          local = count_in from (got_from self.old.local from + 1) stamp body self.old.local;
+          local = count_in from (got_from self.old.local from + 1) stamp body.now self.old.local;
         } }
     {
         self.links.take_next(from);

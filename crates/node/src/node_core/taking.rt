@@ -28,10 +28,10 @@ use msg::{Ack, Body, Data};
 
 impl Core {
     #[tactic(auto, unfolding(model::specs::View::view_act, model::specs::Steps::taken_in))]
-    pub(crate) fn take_in(&mut self, frame: Data) -> Result<Answer, Refusal>
+    pub(crate) fn take_in(&mut self, frame: &Data) -> Result<Answer, Refusal>
         ensures performed { Performed true result self.old self.new
-            (view_act self.old (event.Data frame)) }
-        ensures memory_free { IsTrue (is_memory_free self.old.local (event.Data frame))
+            (view_act self.old (event.Data frame.now)) }
+        ensures memory_free { IsTrue (is_memory_free self.old.local (event.Data frame.now))
             → IfErr result (λ e. e ≢ Memory) }
     {
         if !self.is_addressed(frame.from, frame.to) {
@@ -45,8 +45,8 @@ impl Core {
         if !self.may_take(frame.from, frame.stamp, &frame.body) {
             return Err(Refusal::WrongNode);
         }
-        self.receive(frame.from, frame.stamp, frame.body)?;
-        self.count_in(frame.from, frame.stamp, frame.body);
+        self.receive(frame.from, frame.stamp, &frame.body)?;
+        self.count_in(frame.from, frame.stamp, &frame.body);
         Ok(Answer::Received)
     }
 

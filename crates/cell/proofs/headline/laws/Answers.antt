@@ -1,7 +1,7 @@
 use Rattle.cell.proofs.Blank.{blank-new}
 use Rattle.cell.proofs.AlikeCuts.{alike-reach}
 use Rattle.cell.proofs.Applied.{balances-add-up, nodes-agree, garbage-goes, old-garbage-goes, reach-is-live}
-use Rattle.cell.proofs.Composed.{cells-free-none-reachable, cells-refuse-none-in-turn}
+use Rattle.cell.proofs.Composed.{cells-free-none-reachable, cells-reclaim-garbage, cells-reclaim-none-reachable, cells-reclaim-young, cells-refuse-none-in-turn, private-is-hidden}
 use Rattle.cell.proofs.Acks.{cells-refuse-no-ack}
 use Rattle.cell.proofs.Dues.{next-taken-in}
 use Rattle.cell.proofs.Left.{left-opened, restarted-reached}
@@ -15,6 +15,18 @@ returns-clause-new c = new-reached
 
 pub returns-clause-frees_none_reachable : goal.returns-clause-frees_none_reachable
 returns-clause-frees_none_reachable c = cells-free-none-reachable
+
+pub returns-clause-reclaims_free_none_reachable : goal.returns-clause-reclaims_free_none_reachable
+returns-clause-reclaims_free_none_reachable c = cells-reclaim-none-reachable
+
+pub returns-clause-private_garbage : goal.returns-clause-private_garbage
+returns-clause-private_garbage c = cells-reclaim-garbage
+
+pub returns-clause-young_garbage : goal.returns-clause-young_garbage
+returns-clause-young_garbage c = cells-reclaim-young
+
+pub returns-clause-private : goal.returns-clause-private
+returns-clause-private c = private-is-hidden
 
 pub returns-clause-in_turn : goal.returns-clause-in_turn
 returns-clause-in_turn c = cells-refuse-none-in-turn

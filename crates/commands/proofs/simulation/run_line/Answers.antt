@@ -3,8 +3,7 @@ use Rattle.model.specs.declared.step.Outcome.TheVariants as outcome
 use Rattle.model.specs.declared.step.Step.{Step}
 use Rattle.script.specs.declared.line.Line.{Line}
 use Rattle.script.specs.declared.line.Line.TheVariants as line
-use Rattle.script.specs.Grammar.{line_of, words_of}
-use Rattle.script.specs.Words.{last_of}
+use Rattle.script.specs.Grammar.{line_of, plain, words_of}
 use Rattle.commands.specs.Freed.{KeepsSums, freed_in, freed_with}
 use Rattle.commands.specs.Script.{PrintsReply, ShowsHeld, TakesLine}
 use Rattle.commands.specs.declared.simulation.Reply.TheVariants as reply
@@ -14,7 +13,7 @@ use Rattle.commands.proofs.simulation.run_line.Goals as goal
 use Rattle.commands.proofs.simulation.run_line.Goals.{Else-is_none}
 
 read : (g : given.Over) (c : Else-is_none g)
-    → Some c.read.new.self ≡ line_of (words_of c.args.text.now)
+    → Some (plain c.read.new.self) ≡ line_of (words_of c.args.text.now)
 read g c =
     read_some c.read.result c.read.new.self _ c.read.ensures.reads
     (c.is_none.ensures ∙ ap not c.if-is_none.false)
@@ -22,7 +21,7 @@ read g c =
 -- the line says a step
 step_read : (g : given.Over) (c : Else-is_none g) {s : Step} → c.read.new.self ≡ line.Step s
     → line_of (words_of c.args.text.now) ≡ Some (line.Step s)
-step_read g c is = sym (read g c) ∙ ap (λ (l : Line). Some l) is
+step_read g c is = sym (read g c) ∙ ap (λ (l : Line). Some (plain l)) is
 
 -- the line is outside the grammar
 pub returns-then-is_none : goal.returns-then-is_none
@@ -101,7 +100,7 @@ returns-in_default-step g c =
 pub returns-in_default : goal.returns-in_default
 returns-in_default g c =
     subst (λ (l : Option Line). IfOk c.run_other.result (PrintsReply
-    (λ h r later. TakesLine h l (last_of (words_of c.args.text.now) []) r later) c.args.number
+    (λ h r later. TakesLine h l r later) c.args.number
     c.args.state.now c.run_other.new.state
     (g.W.Write.contents c.args.out.now) (g.W.Write.contents c.run_other.new.out)))
     (read g (goal.at.returns-in_default g c).Else-is_none) c.run_other.ensures

@@ -1,30 +1,27 @@
-use Rattle.std.proofs.Common.{List, [], Some, ℕ, refl}
-use Rattle.script.specs.Grammar.{words_of}
-use Rattle.script.specs.Words.{last_of}
+use Rattle.std.proofs.Common.{Some, refl}
+use Rattle.script.specs.Grammar.{plain}
 use Rattle.commands.specs.Script.{Moves, TakesLine}
 use Rattle.commands.proofs.Replies.{printed_as}
 use Rattle.commands.proofs.simulation.run_other.Goals as goal
-use Rattle.commands.proofs.simulation.run_other.Goals.{in-Blank, in-Space, in-Wide, in-SetBytes, in-Patch, in-Bytes, in-State, in-Report}
+use Rattle.commands.proofs.simulation.run_other.Goals.{in-Blank, in-Space, in-Wide, in-SetBytes, in-Patch, in-Bytes, in-Reclaim, in-State, in-Report}
 
 pub returns : goal.returns
 returns g c =
     let ran = c.match-said in
-    let word : List ℕ = last_of (words_of c.args.text.now) [] in
-    let moves : Moves (λ h later. TakesLine h (Some c.args.said.now) word ran.reply later)
+    let moves : Moves (λ h later. TakesLine h (Some (plain c.args.said.now)) ran.reply later)
     c.args.state.now ran.state = elim ran.branch [
       | in-Blank w ↦
           rw (w.state-is, w.reply-is, w.in-Blank.is) (λ h shown. (h, (refl, refl), shown))
       | in-Space w ↦
-          rw (w.state-is, w.reply-is, w.in-Space.is) (w.take_space-reply.ensures word)
+          rw (w.state-is, w.reply-is, w.in-Space.is) w.take_space-reply.ensures
       | in-Wide w ↦
-          rw (w.state-is, w.reply-is, w.in-Wide.is) (w.take_wide-reply.ensures word)
+          rw (w.state-is, w.reply-is, w.in-Wide.is) w.take_wide-reply.ensures
       | in-SetBytes w ↦
-          rw (w.state-is, w.reply-is, w.in-SetBytes.is, ← w.last_word.ensures)
-          w.write-reply.ensures
+          rw (w.state-is, w.reply-is, w.in-SetBytes.is) w.write-reply.ensures
       | in-Patch w ↦
-          rw (w.state-is, w.reply-is, w.in-Patch.is, ← w.last_word-in-Patch.ensures)
-          w.write-reply-in-Patch.ensures
+          rw (w.state-is, w.reply-is, w.in-Patch.is) w.write-reply-in-Patch.ensures
       | in-Bytes w ↦ rw (w.state-is, w.reply-is, w.in-Bytes.is) w.read-reply.ensures
+      | in-Reclaim w ↦ rw (w.state-is, w.reply-is, w.in-Reclaim.is) w.reclaim-reply.ensures
       | in-State w ↦
           rw (w.state-is, w.reply-is, w.in-State.is) w.show_state-reply.ensures
       | in-Report w ↦

@@ -1,4 +1,4 @@
-use Rattle.std.proofs.Common.{◌≡◌, ◌∙◌, None, sym, arith}
+use Rattle.std.proofs.Common.{◌≡◌, ◌∙◌, None, ap, option_copied, sym, arith}
 use Rattle.std.proofs.lemmas.List.{get_or_default}
 use Rattle.std.proofs.lemmas.Option.{same_Some}
 use Rattle.link.specs.Links.{link_at}
@@ -19,14 +19,14 @@ overflow_add-base-2 c =
 pub unreachable-requires : goal.unreachable-requires
 unreachable-requires c =
     let there = message_kept (link_at c.args.links.now c.args.to) c.base.result c.args.place
-    c.message.result c.base.ensures c.requires.kept c.message.ensures.value in
-    let none : c.message.result ≡ None = c.in-None.is in
+    (option_copied c.message.result) c.base.ensures c.requires.kept c.message.ensures.value in
+    let none : option_copied c.message.result ≡ None = ap option_copied c.in-None.is in
     absurd cc
 
 pub returns : goal.returns
 returns c =
     let messages = (link_at c.args.links.now c.args.to).unacknowledged in
-    same_Some _ _ (sym c.in-Some.is
+    same_Some _ _ (sym (ap option_copied c.in-Some.is)
     ∙ message_kept (link_at c.args.links.now c.args.to) c.base.result c.args.place
-    c.message.result c.base.ensures c.requires.kept c.message.ensures.value)
-    ∙ get_or_default messages c.args.place no_message c.in-Some.message c.requires.kept
+    (option_copied c.message.result) c.base.ensures c.requires.kept c.message.ensures.value)
+    ∙ get_or_default messages c.args.place no_message c.in-Some.message.now c.requires.kept

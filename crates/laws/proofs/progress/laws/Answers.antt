@@ -1,4 +1,5 @@
 use Rattle.laws.proofs.progress.Theorems.{marking-can-end, cycle-can-end, garbage-can-go, end-is-found-soon}
+use Rattle.laws.proofs.progress.LocalWork.{reclaims-add-no-work}
 use Rattle.laws.proofs.progress.laws.Goals as goal
 
 pub returns-clause-marking : goal.returns-clause-marking
@@ -12,3 +13,6 @@ returns-clause-garbage c = garbage-can-go
 
 pub returns-clause-soon : goal.returns-clause-soon
 returns-clause-soon c = end-is-found-soon
+
+pub returns-clause-reclaims : goal.returns-clause-reclaims
+returns-clause-reclaims c = reclaims-add-no-work

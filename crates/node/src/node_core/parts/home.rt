@@ -22,7 +22,7 @@ ghost use Rattle.node.specs.Parts.{
 use super::NodeParts;
 use heap::{Object, Slot, Slots};
 use ids::{Ref, Shape};
-use model::Letter;
+use model::{Age, Letter};
 use std::collections::VecDeque;
 
 /// Whether all of this may be a saved node's.
@@ -111,6 +111,7 @@ fn is_object(shape: Shape, cycle: u64, object: &Object) -> bool
 {
     let places = object.contents();
     object.marked_by() <= cycle
+        && (shape.is_wide() || (object.is_shared() && object.age() == Age::Old))
         && places.len() <= usize::from(shape.places())
         && object.bytes().len() <= shape.bytes() as usize
         && are_any_named(shape, places)

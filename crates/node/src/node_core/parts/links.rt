@@ -64,20 +64,20 @@ fn are_messages(shape: Shape, cycle: u64, messages: &VecDeque<Message>) -> bool
 {
     messages
         .iter()
-        .all(|message| is_message(shape, cycle, *message))
+        .all(|message| is_message(shape, cycle, message))
 }
 
-fn is_message(shape: Shape, cycle: u64, message: Message) -> bool
-    ensures { result ≡ is_message shape cycle message }
+fn is_message(shape: Shape, cycle: u64, message: &Message) -> bool
+    ensures { result ≡ is_message shape cycle message.now }
 {
-    message.stamp <= cycle && are_named(shape, message.body) && is_placed(shape, message.body)
+    message.stamp <= cycle && are_named(shape, &message.body) && is_placed(shape, &message.body)
 }
 
 // Whether every reference in the body is within the shape.
-fn are_named(shape: Shape, body: Body) -> bool
-    ensures { result ≡ list_all (is_named shape) (mentioned body) }
+fn are_named(shape: Shape, body: &Body) -> bool
+    ensures { result ≡ list_all (is_named shape) (mentioned body.now) }
 {
-    match body {
+    match *body {
         Body::Begin | Body::Token(_) | Body::Ended | Body::Swept => true,
         Body::Mark { target } | Body::Get { target, .. } => is_named(shape, target),
         Body::Give { reference, .. } => is_any_named(shape, reference),
@@ -90,10 +90,10 @@ fn are_named(shape: Shape, body: Body) -> bool
 }
 
 // Whether an object of the space may have the place that the body names.
-fn is_placed(shape: Shape, body: Body) -> bool
-    ensures { result ≡ is_placed shape body }
+fn is_placed(shape: Shape, body: &Body) -> bool
+    ensures { result ≡ is_placed shape body.now }
 {
-    match body {
+    match *body {
         Body::Put { place, .. } | Body::Get { place, .. } => place < shape.places(),
         _ => true,
     }

@@ -11,12 +11,13 @@ use Rattle.node_store.proofs.acting.act_noting.Goals as goal
 pub returns-then-is_old-clause-notes : goal.returns-then-is_old-clause-notes
 returns-then-is_old-clause-notes c =
     let old = c.args.node.now in
-    let is_old : is_old_ack old.core (met old.early c.args.event) ≡ true =
-    ap (is_old_ack old.core) (sym c.meant-meant.ensures) ∙ sym c.is_old_ack-is_old.ensures
+    let is_old : is_old_ack old.core (met old.early c.args.event.now) ≡ true =
+    ap (is_old_ack old.core) (sym (c.meant-meant.ensures ∙ c.turned-turned.ensures))
+    ∙ sym c.is_old_ack-is_old.ensures
     ∙ c.if-is_old.true in
     record {
       logged = λ first logged bytes is. subst (Logged bytes first)
-          (sym (old-same old.core c.act.new.self.core (met old.early c.args.event)
+          (sym (old-same old.core c.act.new.self.core (met old.early c.args.event.now)
           c.in_ok-answer.answer c.in_ok-answer.ensures.performs is_old)) (logged bytes is);
       still = tt;
     }
@@ -25,10 +26,11 @@ pub returns-then-is_change-clause-notes : goal.returns-then-is_change-clause-not
 returns-then-is_change-clause-notes c =
     let old = c.args.node.now in
     let new = c.act.new.self in
-    let e = c.meant-meant.result in
+    let e = c.meant-meant.result.now in
     let done : IsDone old.core e new.core = record {
       answer = c.in_ok-answer.answer;
-      acts = ap (view_act old.core) c.meant-meant.ensures ∙ c.in_ok-answer.ensures.performs;
+      acts = ap (view_act old.core) (c.meant-meant.ensures ∙ c.turned-turned.ensures)
+          ∙ c.in_ok-answer.ensures.performs;
       now = sym c.is_change.ensures ∙ c.if-is_change.true;
     } in
     record {
@@ -47,7 +49,7 @@ returns-else-is_change-clause-notes c =
     sym c.is_change.ensures ∙ c.if-is_change.false in
     record {
       logged = λ first logged bytes is. subst (Logged bytes first)
-          (sym (quiet-same old.core new.core (met old.early c.args.event) c.in_ok-answer.answer
+          (sym (quiet-same old.core new.core (met old.early c.args.event.now) c.in_ok-answer.answer
           c.in_ok-answer.ensures.performs early)) (logged bytes is);
       still = tt;
     }

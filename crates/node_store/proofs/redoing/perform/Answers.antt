@@ -20,8 +20,8 @@ returns-in-Err c =
       alone = tt;
       refused = λ _. (
         refl,
-        λ m. not-done (is_shading (met c.args.node.now.early c.args.event))
-            (met-same c.args.event c.requires) other c.in-Err.ensures.performs,
+        λ m. not-done (is_shading (met c.args.node.now.early c.args.event.now))
+            (met-same c.args.event.now c.requires) other c.in-Err.ensures.performs,
       );
     }
 
@@ -32,7 +32,7 @@ returns-then-not-is_change c =
       alone = tt;
       refused = λ _. (
         refl,
-        λ m. quiet-not-done (met-same c.args.event c.requires) c.in-Ok.ensures.performs
+        λ m. quiet-not-done (met-same c.args.event.now c.requires) c.in-Ok.ensures.performs
             (sym c.is_change.ensures ∙ c.if-not-is_change.true),
       );
     }
@@ -42,8 +42,8 @@ returns c =
     let said = c.in-Ok.ensures in
     let now = sym c.is_change.ensures ∙ c.if-not-is_change.false in
     record {
-      done = done-alone c.args.event c.in-Ok.answer c.requires said.performs now;
-      alone = alone-after c.args.event c.in-Ok.answer c.requires said.early
+      done = done-alone c.args.event.now c.in-Ok.answer c.requires said.performs now;
+      alone = alone-after c.args.event.now c.in-Ok.answer c.requires said.early
           c.act.ensures.leaves.shape now;
       refused = tt;
     }

@@ -1,6 +1,6 @@
 use Rattle.std.proofs.Common.{◌≡◌, None, Some, ap, slice_index_or, ◌∙◌}
 use Rattle.std.proofs.lemmas.Bool.{cond-true}
-use Rattle.msg.specs.Frames.{ack_frame, plain}
+use Rattle.msg.specs.Frames.{ack_frame, plain_ref}
 use Rattle.model.specs.View.{is_other}
 use Rattle.wire.specs.Sending.{frame_or_ack, place_after}
 use Rattle.wire.proofs.sending.due.Goals as goal
@@ -17,7 +17,7 @@ returns-clause-frame c =
     let n = c.args.node.now.core in
     let to = c.args.to in
     let ack = ack_frame n.local.own to (slice_index_or n.acks to 0) in
-    let told : Some (plain c.in-Some-ack_for.frame) ≡ Some ack =
+    let told : Some (plain_ref c.in-Some-ack_for.frame) ≡ Some ack =
     c.in-Some-ack_for.ensures ∙ cond-true (is_other n.local to) (Some ack) None c.requires in
     ap (frame_or_ack n to) told ∙ ap (frame_or_ack n to) c.in_default.ensures
 

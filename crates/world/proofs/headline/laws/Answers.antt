@@ -2,10 +2,13 @@ use Rattle.laws.proofs.NoEvent.{only-events-change}
 use Rattle.laws.proofs.Cuts.{cuts-extend}
 use Rattle.laws.proofs.Live.{reach-is-live, sweeps-free-none-reachable, nodes-agree, balances-add-up}
 use Rattle.laws.proofs.OldGarbage.{garbage-goes, old-garbage-goes}
+use Rattle.laws.proofs.Privacy.{private-is-unknown, reclaims-free-none-reachable}
+use Rattle.laws.proofs.Reclaims.{private-garbage-goes, young-garbage-goes}
 use Rattle.laws.proofs.Deliveries.{targets-are-live, none-refused-in-turn}
 use Rattle.laws.proofs.Net.{net-grows, none-beyond, acknowledgements-go-through, hands-go-through, acknowledged-is-taken-in}
 use Rattle.laws.proofs.Transparent.{collector-is-unseen}
 use Rattle.laws.proofs.progress.Theorems.{marking-can-end, cycle-can-end, garbage-can-go, end-is-found-soon}
+use Rattle.laws.proofs.progress.LocalWork.{reclaims-add-no-work}
 use Rattle.world.proofs.Answers.{answers-are-unseen}
 use Rattle.world.proofs.Plays.{played-is-answered}
 use Rattle.world.proofs.headline.laws.Goals as goal
@@ -39,6 +42,18 @@ returns-clause-old_garbage c = old-garbage-goes
 
 pub returns-clause-garbage_goes : goal.returns-clause-garbage_goes
 returns-clause-garbage_goes c = garbage-goes
+
+pub returns-clause-private : goal.returns-clause-private
+returns-clause-private c = private-is-unknown
+
+pub returns-clause-private_garbage : goal.returns-clause-private_garbage
+returns-clause-private_garbage c = private-garbage-goes
+
+pub returns-clause-young_garbage : goal.returns-clause-young_garbage
+returns-clause-young_garbage c = young-garbage-goes
+
+pub returns-clause-reclaims_free_none_reachable : goal.returns-clause-reclaims_free_none_reachable
+returns-clause-reclaims_free_none_reachable c = reclaims-free-none-reachable
 
 pub returns-clause-targets : goal.returns-clause-targets
 returns-clause-targets c = targets-are-live
@@ -75,3 +90,6 @@ returns-clause-soon c = end-is-found-soon
 
 pub returns-clause-played : goal.returns-clause-played
 returns-clause-played c = played-is-answered
+
+pub returns-clause-reclaims : goal.returns-clause-reclaims
+returns-clause-reclaims c = reclaims-add-no-work

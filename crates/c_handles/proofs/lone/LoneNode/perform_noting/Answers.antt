@@ -25,5 +25,5 @@ returns-then-is_change c =
     gave_noted
     (acts_by said.performs said.states said.unchanged said.leaves said.memory_free said.early
     said.turn)
-    (sym c.is_change.ensures ∙ c.if-is_change.true) c.meant-meant.ensures
+    (sym c.is_change.ensures ∙ c.if-is_change.true) (c.meant.ensures ∙ c.turned-turned.ensures)
     c.note-lost.ensures.noted

@@ -1,12 +1,12 @@
 use Rattle.std.proofs.Common.{◌≡◌, ◌∙◌, ap, length, subst}
-use Rattle.msg.specs.Frames.{plain}
+use Rattle.msg.specs.Frames.{plain_ref}
 use Rattle.c_handles.specs.Frames.{Holds, Packed, pack, packed}
 use Rattle.c_handles.proofs.Packs.{above_next, above_skipped, more, part_fits, part_within}
 use Rattle.c_handles.proofs.packing.Packing.add_above.Goals as goal
 
 pub add-requires : goal.add-requires
 add-requires c = record {
-  room = part_fits c.args.self.now.needed c.as_slice.result.now (plain c.in-Some.frame)
+  room = part_fits c.args.self.now.needed c.as_slice.result.now (plain_ref c.in-Some.frame)
       (c.as_slice.ensures ∙ c.packed.ensures) c.requires.room;
   few = c.requires.few;
 }
@@ -21,7 +21,7 @@ returns-in_default c =
 
 pub returns-then-after-number_of : goal.returns-then-after-number_of
 returns-then-after-number_of c =
-    let f = plain c.in-Some.frame in
+    let f = plain_ref c.in-Some.frame in
     let part = c.as_slice.result.now in
     let same : part ≡ packed f = c.as_slice.ensures ∙ c.packed.ensures in
     rw c.in-Some.is (record {
@@ -40,7 +40,8 @@ returns-else-after-number_of c =
     rw c.in-Some.is (record {
       added = λ whole p h.
           subst (λ (q : Packed). Holds whole q c.args.self.now c.args.buffer.now)
-          (above_skipped (length whole) c.args.after c.number_of.result p (plain c.in-Some.frame)
+          (above_skipped (length whole) c.args.after c.number_of.result p
+          (plain_ref c.in-Some.frame)
           c.number_of.ensures c.if-after-number_of.false) h;
       needed = more c.args.self.now.needed 58;
       count = more c.args.self.now.count 1;

@@ -21,7 +21,7 @@ invariant_of-self-inside-2 g c =
     let given = c.act-answered.ensures.given in
     let same = ap (λ d. d.saved) c.act-answered.ensures.stays in
     let first = cell.origin.value in (
-      given-dropped given (own-none cell.desk.node.early c.args.event c.requires.own)
+      given-dropped given (own-none cell.desk.node.early c.args.event.now c.requires.own)
           cell.dropped,
       (
         dropped-as first v w cell.desk.saved desk.saved (given-took given) same
@@ -34,8 +34,8 @@ invariant_of-self-inside-2 g c =
 pub returns-clause-closed : goal.returns-clause-closed
 returns-clause-closed g c =
     let old = c.self.inside.desk.node in (
-      λ closed. absurd (never-closed (is_shading (met old.early c.args.event))
-          (met old.early c.args.event) old.core c.act-answered.new.self.node.core
+      λ closed. absurd (never-closed (is_shading (met old.early c.args.event.now))
+          (met old.early c.args.event.now) old.core c.act-answered.new.self.node.core
           c.act-answered.result c.act-answered.ensures.given.acted.performs closed),
       λ shut. (let never : ◌≡◌ {A = Bool} true false =
           sym c.if-not-is_ready.false ∙ c.is_ready.ensures.ready

@@ -8,7 +8,6 @@ use Rattle.ids.specs.declared.limits.TheConstants.{TRACE_EVENTS}
 use Rattle.msg.specs.Frames.{plain}
 use Rattle.model.specs.Steps.{is_memory_free}
 use Rattle.node.specs.Keeping.{WholeNode}
-use Rattle.cell.specs.Lines.{call_of}
 use Rattle.wire.specs.Rule.{sender}
 use Rattle.wire.specs.Views.{Known}
 use Rattle.wire.specs.Readers.{inbox, known}
@@ -99,7 +98,7 @@ returns-clause-took g c =
           (sym (ap (λ d. d.node) c.take.ensures.stays)) free);
       traced = c.push.ensures
           ∙ (λ i. keep_last TRACE_EVENTS (cell.trace ++ record {
-            call = (c.of.ensures ∙ ap call_of c.event_of.ensures) i;
+            call = c.call_for-call.ensures i;
             outcome = c.outcome.ensures i;
           } ∷ []));
     }

@@ -22,33 +22,33 @@ use Rattle.cell.proofs.Waiting.{acted-taken, taken-after}
 use Rattle.cell.proofs.desk.Desk.perform.Goals as goal
 
 pub invariant_of-self-inside : goal.invariant_of-self-inside
-invariant_of-self-inside c =
+invariant_of-self-inside g c =
     let desk = c.self.inside in
     facts desk.at
     (subst (λ (m : NodeView). StandsAt desk.own desk.nodes (known desk.seat).pair m)
     (sym c.in_err-answer.ensures.acts.unchanged) desk.stands)
     desk.was desk.ended_is desk.unsaved
     (subst (AreTaken (known desk.seat).taken) (sym c.in_err-answer.ensures.acts.early)
-    (taken-after (known desk.seat).taken desk.node.core.local desk.node.early c.args.event _
-    desk.taken (rw (← c.self.view_is) at c.requires.taken)))
+    (taken-after (known desk.seat).taken desk.node.core.local desk.node.early c.args.event.now _
+    desk.taken (rw (← c.self.view_is) at c.requires.1.1.0)))
     (∥∥₁_map desk.logged (c.in_err-answer.ensures.notes.logged desk.saved.value))
 
 pub invariant_of-self-inside-2 : goal.invariant_of-self-inside-2
-invariant_of-self-inside-2 c =
+invariant_of-self-inside-2 g c =
     let desk = c.self.inside in
     let v = known desk.seat in
     let a = c.in_ok-answer.answer in
-    let e = met desk.node.early c.args.event in
+    let e = met desk.node.early c.args.event.now in
     let found = c.in_ok-answer.ensures.acts.states v.pair.current desk.stands.shows in
-    let known_is : known c.enter-counts.new.seat ≡ known_after e c.args.step (Ok a) v =
+    let known_is : known c.enter-counts.new.seat ≡ known_after e g.was.0 (Ok a) v =
     c.enter-counts.ensures.known
-    ∙ ap (λ (m : Event). known_after m c.args.step (Ok a) v)
-    (rw (← c.self.view_is) at c.requires.met) in
-    let may = subst (λ (m : Event). MayAct v m c.args.step)
-    (rw (← c.self.view_is) at c.requires.met) (rw (← c.self.view_is) at c.requires.may) in
+    ∙ ap (λ (m : Event). known_after m g.was.0 (Ok a) v)
+    (rw (← c.self.view_is) at c.requires.1.0) in
+    let may = subst (λ (m : Event). MayAct v m g.was.0)
+    (rw (← c.self.view_is) at c.requires.1.0) (rw (← c.self.view_is) at c.requires.1.1.1.0) in
     let pair_is =
     ap (λ (w : Known). w.pair) known_is
-    ∙ pair-after e c.args.step a v found.0 found.1 (may.quiet found.0 a found.1) in
+    ∙ pair-after e g.was.0 a v found.0 found.1 (may.quiet found.0 a found.1) in
     let after = (known c.enter-counts.new.seat).pair in
     facts {B = StandsAt desk.own desk.nodes after c.act.new.node.core}
     (record {
@@ -66,35 +66,39 @@ invariant_of-self-inside-2 c =
     (may.quiet found.0 a found.1)
     (c.is_unsaved_after-self-inside.ensures
     ∙ ap (λ (b : Bool). cond b true desk.is_unsaved) c.enter-counts.ensures.changed)))
-    (acted-taken desk.node.core.local c.args.event (Ok a) desk.taken
-    (rw (← c.self.view_is) at c.requires.taken) c.in_ok-answer.ensures.acts.early
-    (ap (λ (w : Known). w.taken) known_is ∙ taken-then e c.args.step a v))
+    (acted-taken desk.node.core.local c.args.event.now (Ok a) desk.taken
+    (rw (← c.self.view_is) at c.requires.1.1.0) c.in_ok-answer.ensures.acts.early
+    (ap (λ (w : Known). w.taken) known_is ∙ taken-then e g.was.0 a v))
     (∥∥₁_map desk.logged (c.in_ok-answer.ensures.notes.logged desk.saved.value))
 
-pub enter-counts-requires-clause-event : goal.enter-counts-requires-clause-event
-enter-counts-requires-clause-event c counts =
+pub enter-counts-requires : goal.enter-counts-requires
+enter-counts-requires g c =
     let v = known c.self.inside.seat in
     let found = c.in_ok-answer.ensures.acts.states v.pair.current c.self.inside.stands.shows in
-    let answered : act v.pair.current c.args.meant.now ≡ Ok (found.0, c.in_ok-answer.answer) =
-    ap (act v.pair.current) (rw (← c.self.view_is) at c.requires.met) ∙ found.1 in
-    subst (Happens v c.args.step)
-    (sym (ap (λ (r : Result (NodeState × Answer) Refusal).
-    let q : Pair = record { current = state_of v.pair.current r; saved = v.pair.saved } in q)
-    answered))
-    ((rw (← c.self.view_is) at c.requires.may).happens found.0 c.in_ok-answer.answer answered
-    counts)
+    let answered : act v.pair.current g.was.1 ≡ Ok (found.0, c.in_ok-answer.answer) =
+    ap (act v.pair.current) (rw (← c.self.view_is) at c.requires.1.0) ∙ found.1 in (
+      rw (← c.self.view_is) at c.requires.0,
+      λ counts.
+          subst (Happens v g.was.0)
+          (sym (ap (λ (r : Result (NodeState × Answer) Refusal).
+          let q : Pair = record { current = state_of v.pair.current r; saved = v.pair.saved } in q)
+          answered))
+          ((rw (← c.self.view_is) at c.requires.1.1.1.0).happens found.0
+          c.in_ok-answer.answer answered
+          counts),
+    )
 
 pub returns-in_err-answer : goal.returns-in_err-answer
-returns-in_err-answer c =
+returns-in_err-answer g c =
     let p = err_from_is_err_and c.from_residual.result c.from_residual.ensures.1 in
     let desk = c.self.inside in
     let v = known desk.seat in
     let e = c.in_err-answer.field-0.0 in
     let said = c.in_err-answer.ensures.acts in
-    let meant = rw (← c.self.view_is) at c.requires.met in
+    let meant = rw (← c.self.view_is) at c.requires.1.0 in
     rw (p.1, p.2, ← c.self.view_is) (record {
       given = subst (λ (m : Event).
-          Given c.args.event m c.args.step (Err e) desk.node c.act.new.node v v) (sym meant)
+          Given c.args.event.now m g.was.0 (Err e) desk.node c.act.new.node v v) (sym meant)
           record {
             acted = record {
               performs = said.performs;
@@ -106,7 +110,7 @@ returns-in_err-answer c =
             early = said.early;
             turn = said.turn;
             due = λ from d next is.
-                (rw (← c.self.view_is) at c.requires.due) from d next (meant ∙ is);
+                (rw (← c.self.view_is) at c.requires.1.1.1.1) from d next (meant ∙ is);
           };
       memory_free = λ free. said.memory_free
           (subst (λ (m : Event). IsTrue (is_memory_free desk.node.core.local m)) meant free);
@@ -116,14 +120,14 @@ returns-in_err-answer c =
     })
 
 pub returns : goal.returns
-returns c =
+returns g c =
     let desk = c.self.inside in
     let v = known desk.seat in
     let a = c.in_ok-answer.answer in
     let said = c.in_ok-answer.ensures.acts in
-    let meant = rw (← c.self.view_is) at c.requires.met in
+    let meant = rw (← c.self.view_is) at c.requires.1.0 in
     rw (← c.self.view_is) (record {
-      given = subst (λ (m : Event). Given c.args.event m c.args.step (Ok a) desk.node
+      given = subst (λ (m : Event). Given c.args.event.now m g.was.0 (Ok a) desk.node
           c.act.new.node v (known c.enter-counts.new.seat)) (sym meant)
           record {
             acted = record {
@@ -131,13 +135,13 @@ returns c =
               states = said.states v.pair.current desk.stands.shows;
               unchanged = tt;
               known = c.enter-counts.ensures.known
-                  ∙ ap (λ (m : Event). known_after m c.args.step (Ok a) v) meant;
+                  ∙ ap (λ (m : Event). known_after m g.was.0 (Ok a) v) meant;
               entered = c.enter-counts.ensures.entered;
             };
             early = said.early;
             turn = said.turn;
             due = λ from d next is.
-                (rw (← c.self.view_is) at c.requires.due) from d next (meant ∙ is);
+                (rw (← c.self.view_is) at c.requires.1.1.1.1) from d next (meant ∙ is);
           };
       memory_free = λ _. tt;
       unsaved = c.is_unsaved_after-self-inside.ensures

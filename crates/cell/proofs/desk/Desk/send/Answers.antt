@@ -39,7 +39,7 @@ send-is_sent-requires-clause-to c =
 
 pub send-is_sent-requires-clause-spelled : goal.send-is_sent-requires-clause-spelled
 send-is_sent-requires-clause-spelled c =
-    subst (λ (f : Plain). Spells f c.in_ok-bytes.bytes.items) c.due-frame.ensures.frame
+    subst (λ (f : Plain). Spells f c.in_ok-bytes.bytes.items) c.due-next.ensures.frame
     c.in_ok-bytes.ensures.spelled
 
 pub send-is_sent-requires-clause-receiver : goal.send-is_sent-requires-clause-receiver
@@ -86,7 +86,7 @@ returns-then-is_sent c =
       same = c.send-is_sent.ensures.same;
       sent = sent-by desk c.args.to _ _ c.from.ensures c.send-is_sent.ensures.sent;
       places = placed desk.node.core c.args.to desk.places c.if-is_sent.true c.from.ensures
-          c.from-then-is_sent.ensures c.due-frame.ensures.next;
+          c.from-then-is_sent.ensures c.due-next.ensures.next;
       refused = tt;
       stays = refl;
     })

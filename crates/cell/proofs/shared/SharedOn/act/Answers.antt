@@ -9,7 +9,7 @@ returns g c =
     let locked : IsLocked g.D.Disk.may_leave g.W.Naming.wire old =
     record { sound = c.node-node.ensures.sound; name = held.named } in
     record {
-      answered = was-answered c.args.event c.act.result old.is_open
+      answered = was-answered c.args.event.now c.act.result old.is_open
           (λ ready. record {
             before = old;
             after = c.act.new.self;

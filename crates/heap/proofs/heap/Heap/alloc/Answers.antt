@@ -1,7 +1,12 @@
-use Rattle.std.proofs.Common.{refl, sym, ◌∙◌, arith}
+use Rattle.std.proofs.Common.{Bool, not, refl, sym, ap, ◌∙◌, arith}
+use Rattle.std.proofs.lemmas.List.{length-set}
 use Rattle.std.proofs.lemmas.Result.{err_from_is_err_and}
+use Rattle.model.specs.declared.age.Age.{Age}
+use Rattle.model.specs.Heaps.{is_old}
 use Rattle.model.specs.Checks.{by_memory}
-use Rattle.heap.proofs.Allocation.{heap_alloc-stored}
+use Rattle.heap.proofs.Allocation.{CanAlloc, heap_alloc-stored}
+use Rattle.heap.proofs.Ages.{new-recent}
+use Rattle.heap.proofs.Flags.{status_of, covers-more, covers-inserted, inserted-limit}
 use Rattle.heap.proofs.heap.Heap.alloc.Goals as goal
 
 -- there was room, so only Memory is possible
@@ -9,9 +14,9 @@ pub returns-in_err-object-clause-refused : goal.returns-in_err-object-clause-ref
 returns-in_err-object-clause-refused c =
     let a = c.args in
     let room = sym c.is_full.ensures ∙ c.if-is_full.false in
-    let done =
-    heap_alloc-stored c.self.inside a.most a.own a.cycle a.register a.places (omega arith)
-    (omega arith) room in
+    let can : CanAlloc c.self.inside a.shape a.register a.places =
+    record { there = omega arith; few = omega arith; room = room } in
+    let done = heap_alloc-stored c.self.inside a.shape a.own a.cycle a.register a.places can in
     let p = err_from_is_err_and c.from_residual.result c.from_residual.ensures.1 in
     rw (p.1, p.2, c.in_err-object.ensures.refused, ← c.self.view_is)
     (by_memory refl (rw done refl))
@@ -19,6 +24,37 @@ returns-in_err-object-clause-refused c =
 pub returns-clause-done : goal.returns-clause-done
 returns-clause-done c =
     let room = sym c.is_full.ensures ∙ c.if-is_full.false in
-    let done = heap_alloc-stored c.self.inside _ _ _ _ _ (omega arith) (omega arith) room in
+    let a = c.args in
+    let can : CanAlloc c.self.inside a.shape a.register a.places =
+    record { there = omega arith; few = omega arith; room = room } in
+    let done = heap_alloc-stored c.self.inside a.shape _ _ _ _ can in
     let object = c.in_ok-object.ensures.made in
-    rw (← c.self.view_is, c.in-Ok.ensures.done, c.in-Ok.ensures.key, object) done
+    rw (
+      ← c.self.view_is,
+      c.in-Ok.ensures.done,
+      c.in-Ok.ensures.key,
+      object,
+      c.is_wide-shared.ensures.value,
+    ) done
+
+pub invariant_of-self-2 : goal.invariant_of-self-2
+invariant_of-self-2 c =
+    let h = c.self.inside in
+    let o = c.in_ok-object.object in
+    let made = ap status_of c.in_ok-object.ensures.made in
+    let shared = ap (λ (s : Bool × Age). s.0) (sym made) in
+    let recent = ap (λ (s : Bool × Age). not (is_old s.1)) (sym made) in
+    let key = sym c.in-Ok.ensures.key in
+    let limit = inserted-limit h.objects o in
+    let covers-shared = covers-more c.self.invariant.shared c.note_if.ensures.keeps in
+    let covers-recent = covers-more c.self.invariant.recent c.note_if-2.ensures.keeps in
+    record {
+      limit = rw (c.in-Ok.ensures.done, limit) c.self.invariant.limit;
+      registers = rw length-set c.self.invariant.registers;
+      shared = rw (c.in-Ok.ensures.done)
+          (covers-inserted h.objects o covers-shared refl
+          (λ g is. rw key (c.note_if.ensures.noted (shared ∙ is))));
+      recent = rw (c.in-Ok.ensures.done)
+          (covers-inserted h.objects o covers-recent refl
+          (λ g is. rw key (c.note_if-2.ensures.noted (sym (new-recent _) ∙ recent ∙ is))));
+    }

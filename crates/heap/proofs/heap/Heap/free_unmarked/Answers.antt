@@ -1,25 +1,25 @@
-use Rattle.std.proofs.Common.{◌≡◌, true, false, sym, ◌∙◌, arith}
+use Rattle.std.proofs.Common.{sym, ◌∙◌}
 use Rattle.model.specs.State.{slot_at}
 use Rattle.model.specs.Collecting.{is_garbage}
-use Rattle.heap.proofs.Frees.{removed-slots, swept-stored, swept-none}
+use Rattle.heap.specs.Stored.{view_of}
+use Rattle.heap.proofs.Flags.{discarded-is}
+use Rattle.heap.proofs.Frees.{discards, freed-none, garbage-goes}
 use Rattle.heap.proofs.heap.Heap.free_unmarked.Goals as goal
 
-pub returns-then-not-is_garbage-clause-done : goal.returns-then-not-is_garbage-clause-done
-returns-then-not-is_garbage-clause-done c freed =
-    let kept : is_garbage c.args.cycle (slot_at c.args.self.now.heap c.args.slot) ≡ false =
-    grind arith in
-    swept-none c.args.self.now.heap c.args.slot c.args.cycle freed kept
+pub invariant_of-self : goal.invariant_of-self
+invariant_of-self c = rw c.discard.ensures.done (discarded-is c.args.slot c.self.invariant)
 
-pub returns-in-Some-clause-done : goal.returns-in-Some-clause-done
-returns-in-Some-clause-done c freed =
+pub returns-then-is_garbage-clause-done : goal.returns-then-is_garbage-clause-done
+returns-then-is_garbage-clause-done c freed =
     let h = c.self.inside in
-    let here = sym c.in-Some.is ∙ c.key_at.ensures in
-    let found : is_garbage c.args.cycle (slot_at c.args.self.now.heap c.args.slot) ≡ true =
-    grind arith in
-    let garbage = rw (← c.self.view_is) at found in
-    let swept = swept-stored h c.in-Some.key c.args.slot c.args.cycle freed here garbage in
-    rw (c.remove.ensures.done, ← c.self.view_is) swept
+    let found = sym c.is_garbage.ensures ∙ c.if-is_garbage.true in
+    let goes = garbage-goes c.args.cycle (slot_at (view_of h).heap c.args.slot)
+    (rw (← c.self.view_is) at found) in
+    rw (c.discard.ensures.done, c.discard.ensures.there, ← c.self.view_is)
+    (discards (λ _. is_garbage c.args.cycle) h c.args.slot freed goes)
 
-pub returns-in-Some-clause-slots : goal.returns-in-Some-clause-slots
-returns-in-Some-clause-slots c =
-    rw (c.remove.ensures.done, ← c.self.view_is) (removed-slots c.self.inside c.in-Some.key)
+pub returns-else-is_garbage-clause-done : goal.returns-else-is_garbage-clause-done
+returns-else-is_garbage-clause-done c freed =
+    let h = c.args.self.now.heap in
+    let kept = sym c.is_garbage.ensures ∙ c.if-is_garbage.false in
+    rw c.if-is_garbage.false (freed-none (λ _. is_garbage c.args.cycle) h c.args.slot freed kept)

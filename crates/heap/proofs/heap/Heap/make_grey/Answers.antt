@@ -1,6 +1,9 @@
 use Rattle.std.proofs.Common.{◌≡◌, true, false, sym, ◌∙◌}
 use Rattle.heap.proofs.Writes.{IsStored}
 use Rattle.heap.proofs.Greys.{IsPushed, turns-grey, stays-marked, stays-absent}
+use Rattle.heap.specs.Stored.{IsHeap}
+use Rattle.heap.proofs.Flags.{status_of, written-is}
+use Rattle.std.proofs.Common.{ap}
 use Rattle.heap.proofs.heap.Heap.make_grey.Goals.{in-Some, in-None}
 use Rattle.heap.proofs.heap.Heap.make_grey.Goals as goal
 
@@ -35,4 +38,27 @@ returns-else-marked c =
           let absent = w.in-None.ensures.value in
           let stays = stays-absent h c.args.object c.key.result c.args.cycle c.key.ensures absent in
           rw (w.self-inside-is, ← c.self.view_is) stays
+    ]
+
+pub invariant_of-self : goal.invariant_of-self
+invariant_of-self c =
+    let is : IsHeap c.match-get_mut.self-inside = elim c.match-get_mut.branch [
+      | in-Some w ↦
+          let stored : IsStored c.self.inside c.args.object c.key.result w.in-Some.object.now =
+          record { name = c.key.ensures; there = w.in-Some.ensures.value } in
+          rw (w.self-inside-is)
+          (written-is _ stored (ap status_of w.mark-marked.ensures.done) c.self.invariant)
+      | in-None w ↦ rw (w.self-inside-is) c.self.invariant
+    ] in
+    record { limit = is.limit; registers = is.registers; shared = is.shared; recent = is.recent }
+
+pub invariant_of-self-else-marked : goal.invariant_of-self-else-marked
+invariant_of-self-else-marked c =
+    elim c.match-get_mut.branch [
+      | in-Some w ↦
+          let stored : IsStored c.self.inside c.args.object c.key.result w.in-Some.object.now =
+          record { name = c.key.ensures; there = w.in-Some.ensures.value } in
+          rw (w.self-inside-is)
+          (written-is _ stored (ap status_of w.mark-marked.ensures.done) c.self.invariant)
+      | in-None w ↦ rw (w.self-inside-is) c.self.invariant
     ]

@@ -1,5 +1,7 @@
 use Rattle.model.specs.Heaps.{patching}
 use Rattle.heap.proofs.Writes.{IsStored, rewritten-stored, absent-stored}
+use Rattle.heap.proofs.Flags.{status_of, written-is}
+use Rattle.std.proofs.Common.{ap}
 use Rattle.heap.proofs.heap.Heap.overwrite.Goals.{in-Some, in-None}
 use Rattle.heap.proofs.heap.Heap.overwrite.Goals as goal
 
@@ -18,4 +20,15 @@ returns c =
       | in-None w ↦
           let done = absent-stored h r _ f name w.in-None.ensures.value in
           rw (w.self-inside-is, ← c.self.view_is) done
+    ]
+
+pub invariant_of-self : goal.invariant_of-self
+invariant_of-self c =
+    elim c.match-get_mut.branch [
+      | in-Some w ↦
+          let stored : IsStored c.self.inside c.args.object c.key.result w.in-Some.object.now =
+          record { name = c.key.ensures; there = w.in-Some.ensures.value } in
+          rw (w.self-inside-is) (written-is _ stored (ap status_of w.patch.ensures)
+          c.self.invariant)
+      | in-None w ↦ rw (w.self-inside-is) c.self.invariant
     ]

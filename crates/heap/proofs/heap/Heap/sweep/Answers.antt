@@ -1,8 +1,8 @@
-use Rattle.std.proofs.Common.{◌≡◌, ℕ, ◌+◌, ◌-◌, ◌≤◌, ◌<◌, ◌^◌, cond, min, length, sym, ap, ◌∙◌, arith}
+use Rattle.std.proofs.Common.{◌≡◌, ℕ, ◌+◌, ◌-◌, ◌≤◌, ◌<◌, ◌^◌, cond, min, length, sym, ap, refl, ◌∙◌, arith}
 use Rattle.std.proofs.Math.Nat.{min-le_left}
-use Rattle.model.specs.Collecting.{Sweeping, sweep_some}
+use Rattle.model.specs.Collecting.{Sweeping, is_garbage, sweep_some}
 use Rattle.heap.specs.Heap.{HeapView, swept}
-use Rattle.heap.proofs.Frees.{stops-after, swept-next, swept-past}
+use Rattle.heap.proofs.Frees.{stops-after, freed-next, freed-past}
 use Rattle.heap.proofs.heap.Heap.sweep.Goals.{then-free_unmarked, else-free_unmarked}
 use Rattle.heap.proofs.heap.Heap.sweep.Goals as goal
 
@@ -27,7 +27,7 @@ loop-slot-preserved c =
     record {
       left = ap (λ (n : ℕ). some (record { heap = h; freed = n })) count
           ∙ ap some (sym (c.free_unmarked.ensures.done loop.freed))
-          ∙ sym (swept-next cycle loop.slot last _ before)
+          ∙ sym (freed-next (λ _. is_garbage cycle) loop.slot last _ before)
           ∙ old.left;
       slots = c.free_unmarked.ensures.slots ∙ old.slots;
       few = elim c.if-free_unmarked.branch [
@@ -50,7 +50,7 @@ is-swept c ended =
     let past : min (min last (2 ^ 32 - 1)) used ≤ loop.slot =
     rw (loop.invariant.slots, ← c.slots.ensures, ← c.saturating_add.ensures, ← c.min-end.ensures)
     ended in
-    sym (swept-past c.args.cycle loop.slot (last - loop.slot) _
+    sym (freed-past (λ _. is_garbage c.args.cycle) (λ k. refl) loop.slot (last - loop.slot) _
     (λ left. stops-after last (2 ^ 32 - 1) used loop.slot within past (omega (arith, left))))
     ∙ loop.invariant.left
 

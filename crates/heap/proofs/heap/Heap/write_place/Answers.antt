@@ -1,6 +1,8 @@
 use Rattle.std.proofs.Common.{set, refl}
 use Rattle.model.specs.State.{Object}
 use Rattle.heap.proofs.Writes.{IsStored, rewritten-stored, absent-stored, placeless-stored}
+use Rattle.heap.proofs.Flags.{status_of, written-is}
+use Rattle.std.proofs.Common.{ap}
 use Rattle.heap.proofs.heap.Heap.write_place.Goals.{in-Some, in-None}
 use Rattle.heap.proofs.heap.Heap.write_place.Goals as goal
 
@@ -32,4 +34,15 @@ returns-clause-unchanged c =
           let kept = placeless-stored h c.args.object _ _ c.args.place c.args.value stored in
           rw (w.result-is, w.set_place.ensures.answer, done, ← c.self.view_is) kept
       | in-None w ↦ rw (w.result-is, w.self-inside-is, ← c.self.view_is) refl
+    ]
+
+pub invariant_of-self : goal.invariant_of-self
+invariant_of-self c =
+    elim c.match-get_mut.branch [
+      | in-Some w ↦
+          let stored : IsStored c.self.inside c.args.object c.key.result w.in-Some.object.now =
+          record { name = c.key.ensures; there = w.in-Some.ensures.value } in
+          rw (w.self-inside-is) (written-is _ stored (ap status_of w.set_place.ensures.done)
+          c.self.invariant)
+      | in-None w ↦ rw (w.self-inside-is) c.self.invariant
     ]

@@ -7,10 +7,10 @@ use Rattle.link.proofs.early.EarlyFrames.for_nodes.Goals as goal
 pub loop-node-preserved : goal.loop-node-preserved
 loop-node-preserved c =
     c.in_ok-push.ensures.items
-    ∙ ap (λ (es : List (List (Option Data))). es ++ c.in_ok-holding.field-0 ∷ [])
+    ∙ ap (λ (es : List (List (Option Data))). es ++ c.in_ok-new.field-0 ∷ [])
     c.loop-node.invariant
     ∙ ap (λ (e : List (Option Data)). replicate c.loop-node._node no_early ++ e ∷ [])
-    c.in_ok-holding.ensures.made
+    c.in_ok-new.ensures.made
     ∙ replicate_more c.loop-node._node no_early
 
 pub returns-clause-made : goal.returns-clause-made

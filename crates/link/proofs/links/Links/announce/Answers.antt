@@ -10,12 +10,12 @@ loop-to-preserved c =
     let own = c.args.own in
     let to = c.loop-to.to in
     let with = λ (w : LinksView). record w {
-      links = append_to w.links (for_other own c.args.message to);
+      links = append_to w.links (for_other own c.args.message.now to);
     } in
     record {
       last = old.last;
       below = c.in-Ok.ensures.done
           ∙ ap with old.below
-          ∙ sym (announced-next c.args.self.now own to c.args.message);
+          ∙ sym (announced-next c.args.self.now own to c.args.message.now);
       sound = c.append_other.ensures.sound old.sound;
     }

@@ -1,4 +1,4 @@
-use Rattle.std.proofs.Common.{◌∙◌, ap, sym, Ok}
+use Rattle.std.proofs.Common.{◌∙◌, ap, sym, Ok, option_copied}
 use Rattle.model.specs.declared.event.Event.TheVariants as event
 use Rattle.node.specs.Keeping.{Rings, waiting}
 use Rattle.node.proofs.Held.{handled-kept, next-handled, emptied-kept}
@@ -8,7 +8,7 @@ pub invariant_of-self : goal.invariant_of-self
 invariant_of-self c =
     let one =
     sym (ap (λ (es : Rings). waiting es c.args.from) c.deref.ensures.value)
-    ∙ sym c.front.ensures ∙ c.in-Some.is in
+    ∙ sym c.front.ensures ∙ ap option_copied c.in-Some.is in
     handled-kept _ _ (event.Next c.args.from) (Ok c.in-Ok.answer)
     (next-handled c.self.invariant one c.in-Ok.ensures.performed c.in-Ok.ensures.memory_free
     c.shift.ensures)

@@ -9,7 +9,7 @@ pub invariant_of-self-2 : goal.invariant_of-self-2
 invariant_of-self-2 c =
     handled-kept (whole_of c.self.inside)
     (record { core = c.take_in.new.self; early = c.keep.new.early.items })
-    (event.Data c.args.frame) (Ok c.in_ok-answer.answer)
+    (event.Data c.args.frame.now) (Ok c.in_ok-answer.answer)
     (record {
       before = c.self.invariant;
       performed = c.in_ok-answer.ensures.performed;
@@ -17,6 +17,6 @@ invariant_of-self-2 c =
       early = c.keep.ensures
           ∙ ap
           (λ (k : ℕ).
-          after_data k c.self.inside.early.items c.args.frame (Ok c.in_ok-answer.answer))
+          after_data k c.self.inside.early.items c.args.frame.now (Ok c.in_ok-answer.answer))
           c.taken_from-taken.ensures;
     })

@@ -9,10 +9,10 @@ invariant_of-self c = heap-back c.self.invariant c.in_err-reference.ensures.unch
 pub invariant_of-self-2 : goal.invariant_of-self-2
 invariant_of-self-2 c =
     let left = c.in_ok-reference.ensures in
-    let made : Allocates (view_of c.self.inside) _ _ _ _ _ _ _ = record {
+    let done = rw c.self.invariant.limit at left.done in
+    let made : Allocates (view_of c.self.inside) _ _ _ _ _ = record {
       now = c.cycle-cycle.ensures.value;
-      most_is = c.places-most.ensures.value;
-      done = left.done;
+      done = done;
       slot = omega (arith, left.within.0, c.self.invariant.limit);
       generation = left.within.1;
     } in

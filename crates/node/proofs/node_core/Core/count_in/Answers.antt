@@ -11,7 +11,7 @@ invariant_of-self c =
     let left = c.take_next.ensures in
     record {
       node = rw (left.done, c.count_received.ensures, c.balance_of.ensures, c.cycle.ensures.value)
-          (node-counted (view_of c.self.inside) c.args.from c.args.stamp c.args.body
+          (node-counted (view_of c.self.inside) c.args.from c.args.stamp c.args.body.now
           c.self.invariant.node (rw (← c.self.view_is) at c.requires)
           (rw left.done at left.sound));
       limit = c.self.invariant.limit;

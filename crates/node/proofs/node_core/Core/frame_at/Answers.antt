@@ -7,4 +7,4 @@ pub frame-requires-clause-sendable : goal.frame-requires-clause-sendable
 frame-requires-clause-sendable c =
     rw (← c.self.view_is)
     (released-sendable (view_of c.self.inside) c.self.invariant.node c.args.to
-    c.in_ok-message.message _ (sym c.in_ok-message.ensures.value))
+    c.in_ok-message.message.now _ (sym c.in_ok-message.ensures.value))

@@ -15,7 +15,7 @@ invariant_of-self-2 c =
     let left = c.in_ok-number.ensures in
     let same = c.cycle-cycle.ensures.value in
     record {
-      node = rw (left.done, c.count_sent.ensures, c.balance_of.ensures, same)
+      node = rw (left.done, c.count_sent.ensures, c.balance_of-balance.ensures, same)
           (node-sent (view_of c.self.inside) c.args.to c.args.body c.self.invariant.node
           (rw (← c.self.view_is) at c.requires.there)
           (rw (← c.self.view_is) at c.requires.other)

@@ -17,28 +17,28 @@ use Rattle.node.proofs.node_core.Core.take_in.Goals.{In-Next}
 -- ---- what both goals need
 
 addressed : (c : In-Next)
-    → is_addressed c.args.self.now.local c.args.frame.from c.args.frame.to ≡ true
+    → is_addressed c.args.self.now.local c.args.frame.now.from c.args.frame.now.to ≡ true
 addressed c = sym c.is_addressed.ensures ∙ c.if-not-is_addressed.false
 
 -- the links answered Next for its number, so it is the message that comes next
 comes-next : (c : In-Next)
     → c.offer.result
-    ≡ offered (got_from (view_of c.self.inside).local c.args.frame.from) c.args.frame.number
-    → c.args.frame.number ≡ got_from c.args.self.now.local c.args.frame.from + 1
+    ≡ offered (got_from (view_of c.self.inside).local c.args.frame.now.from) c.args.frame.now.number
+    → c.args.frame.now.number ≡ got_from c.args.self.now.local c.args.frame.now.from + 1
 comes-next c asked =
     let n : NodeView = view_of c.self.inside in
     let next =
-    offered-next (got_from n.local c.args.frame.from) _
+    offered-next (got_from n.local c.args.frame.now.from) _
     (sym asked ∙ c.in_ok-offer.was ∙ ap (λ (o : Offer). Ok o) c.in-Next.is) in
     let turn =
-    next ∙ ap (λ (v : NodeView). got_from v.local c.args.frame.from + 1) c.self.view_is in
+    next ∙ ap (λ (v : NodeView). got_from v.local c.args.frame.now.from + 1) c.self.view_is in
     omega (arith, turn)
 
 -- ---- the goals
 
 pub returns-then-not-is_addressed : goal.returns-then-not-is_addressed
 returns-then-not-is_addressed c =
-    let refused = not-addressed c.args.self.now c.args.frame
+    let refused = not-addressed c.args.self.now c.args.frame.now
     (sym c.is_addressed.ensures ∙ c.if-not-is_addressed.true) in
     record { performed = refused.0; memory_free = refused.1 }
 
@@ -46,29 +46,30 @@ pub returns-in_err-offer : goal.returns-in_err-offer
 returns-in_err-offer c =
     let r = err_from_is_err_and c.from_residual.result c.from_residual.ensures.1 in
     let far = subst
-    (λ (n : NodeView). offered (got_from n.local c.args.frame.from) c.args.frame.number
+    (λ (n : NodeView). offered (got_from n.local c.args.frame.now.from) c.args.frame.now.number
     ≡ Err c.in_err-offer.field-0.0) c.self.view_is (sym c.offer.ensures ∙ c.in_err-offer.was) in
-    let refused = not-ordered c.args.self.now c.args.frame
+    let refused = not-ordered c.args.self.now c.args.frame.now
     (sym c.is_addressed.ensures ∙ c.if-not-is_addressed.false) far in
     rw (r.1, r.2) (record { performed = refused.0; memory_free = refused.1 })
 
 pub returns-then-not-may_take : goal.returns-then-not-may_take
 returns-then-not-may_take c =
     let at = (goal.at.returns-then-not-may_take c).In-Next in
-    let refused = not-takable c.args.self.now c.args.frame (addressed at)
+    let refused = not-takable c.args.self.now c.args.frame.now (addressed at)
     (comes-next at c.offer.ensures) (sym c.may_take.ensures ∙ c.if-not-may_take.true) in
     record { performed = refused.0; memory_free = refused.1 }
 
 pub returns-in_err-receive-clause-memory_free : goal.returns-in_err-receive-clause-memory_free
 returns-in_err-receive-clause-memory_free c = λ free.
     let at = (goal.at.returns-in_err-receive-clause-memory_free c).In-Next in
-    absurd (busy c.args.self.now c.args.frame (addressed at) (comes-next at c.offer.ensures) free)
+    absurd (busy c.args.self.now c.args.frame.now (addressed at)
+    (comes-next at c.offer.ensures) free)
 
 pub receive-requires : goal.receive-requires
 receive-requires c =
     let m : NodeView = c.args.self.now in
     let at = (goal.at.receive-requires c).In-Next in
-    takable m.local c.args.frame (addressed at) (comes-next at c.offer.ensures)
+    takable m.local c.args.frame.now (addressed at) (comes-next at c.offer.ensures)
     (sym c.may_take.ensures ∙ c.if-not-may_take.false)
 
 pub returns-in_err-receive-clause-performed : goal.returns-in_err-receive-clause-performed
@@ -79,18 +80,18 @@ returns-in_err-receive-clause-performed c =
     c.from_residual-in_err-receive.ensures.1 in
     rw (r.1, r.2)
     (subst (Performed true (Err c.in_err-receive.field-0.0) m c.receive.new.self)
-    (sym (view-taken_in m c.args.frame (addressed at) (comes-next at c.offer.ensures)
+    (sym (view-taken_in m c.args.frame.now (addressed at) (comes-next at c.offer.ensures)
     (sym c.may_take.ensures ∙ c.if-not-may_take.false)))
-    (taken-refused m c.args.frame.from c.args.frame.stamp c.args.frame.body
+    (taken-refused m c.args.frame.now.from c.args.frame.now.stamp c.args.frame.now.body
     c.in_err-receive.ensures))
 
 pub count_in-requires : goal.count_in-requires
 count_in-requires c =
     let m : NodeView = c.args.self.now in
     let at = (goal.at.count_in-requires c).In-Next in
-    let takes = takable m.local c.args.frame (addressed at) (comes-next at c.offer.ensures)
+    let takes = takable m.local c.args.frame.now (addressed at) (comes-next at c.offer.ensures)
     (sym c.may_take.ensures ∙ c.if-not-may_take.false) in
-    run-sender m c.args.frame.from c.args.frame.stamp c.args.frame.body
+    run-sender m c.args.frame.now.from c.args.frame.now.stamp c.args.frame.now.body
     c.in_ok-receive.ensures.done takes.sender
 
 pub returns-clause-performed : goal.returns-clause-performed
@@ -98,7 +99,7 @@ returns-clause-performed c =
     let m : NodeView = c.args.self.now in
     let at = (goal.at.returns-clause-performed c).In-Next in
     subst (Performed true (Ok answer.Received) m c.count_in.new.self)
-    (sym (view-taken_in m c.args.frame (addressed at) (comes-next at c.offer.ensures)
+    (sym (view-taken_in m c.args.frame.now (addressed at) (comes-next at c.offer.ensures)
     (sym c.may_take.ensures ∙ c.if-not-may_take.false)))
-    (taken-performed m c.args.frame.from c.args.frame.stamp c.args.frame.body
+    (taken-performed m c.args.frame.now.from c.args.frame.now.stamp c.args.frame.now.body
     c.in_ok-receive.ensures.done c.count_in.ensures)

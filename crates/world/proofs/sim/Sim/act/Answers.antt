@@ -18,7 +18,7 @@ invariant_of-self c =
 
 pub returns-clause-stepped : goal.returns-clause-stepped
 returns-clause-stepped c =
-    acted-space c.args.event
+    acted-space c.args.event.now
     (given-space c.self.inside.sites.items c.self.view_is c.from.ensures
     (omega (arith, c.if-node-count.false, c.count.ensures.value)) c.index_mut-site.ensures.value
     c.act.ensures)
@@ -27,7 +27,7 @@ returns-clause-stepped c =
 pub returns-clause-small : goal.returns-clause-small
 returns-clause-small c =
     acted-small c.act.result
-    (acted-space c.args.event
+    (acted-space c.args.event.now
     (given-space c.self.inside.sites.items c.self.view_is c.from.ensures
     (omega (arith, c.if-node-count.false, c.count.ensures.value)) c.index_mut-site.ensures.value
     c.act.ensures)

@@ -1,0 +1,234 @@
+"""Each field of each value that crosses has a number of its own, so that none can show another's.
+
+The images and frames are spelled here as docs/FORMATS.md of the repository says.
+"""
+import unittest
+from typing import NamedTuple
+
+from markring import Age, Batch, Ended, Freed, Image, Letter, Link, Node, Object, Passed, Ref, Shape, Space, State, Taken
+from markring import errors
+
+from .spelling import spelled
+
+LABEL, WORD, GENERATION = 0xA1B2C3D4, 0x0102030405060708, 1 << 40
+# The last message that node 2 has acknowledged.
+FAR = 0x060708090A0B
+
+
+class Phase(NamedTuple):
+    """What the images below differ in."""
+
+    ended: int
+    black: bool
+    has_token: bool
+    grey: int
+
+
+MARKING, WITH_TOKEN, MARKED = Phase(40, True, False, 2), Phase(40, False, True, 0), Phase(41, True, False, 0)
+
+
+def slots() -> bytes:
+    """Four objects: one with places and bytes, one that is shared and remembered, two young ones."""
+    first = spelled((4, 5), (1, 3), (8, GENERATION), (8, 41), (8, WORD), (4, 6)) + b"abcdef"
+    places = spelled((1, 5), (4, 0), (1, 1), (1, 2), (4, 65_999), (8, 33))
+    second = spelled((1, 7), (8, 78), (8, 40), (8, 11), (4, 2), (2, 0), (1, 1), (1, 0))
+    free = spelled((1, 0), (8, 90))
+    fourth = spelled((1, 4), (8, 79), (8, 41), (8, 13), (4, 0), (1, 0))
+    fifth = spelled((1, 4), (8, 80), (8, 40), (8, 14), (4, 0), (1, 0))
+    return first + places + second + free + fourth + fifth + spelled((4, 1), (4, 2))
+
+
+def image(phase: Phase) -> bytes:
+    """Node 1 of three in a wide space, in cycle 41."""
+    sizes = spelled((3, 0x4D5204), (1, 9), (4, 17), (1, 3), (1, 1), (2, 300), (4, 70_000))
+    phases = spelled((8, 41), (8, phase.ended), (8, 40), (4, 0), (1, phase.black), (8, -23), (8, 29))
+    # The token is white, and its sum is 1,000.
+    token = spelled((1, 1), (1, 0), (8, 1_000)) if phase.has_token else bytes(1)
+    registers = bytes(299) + spelled((1, 1), (1, 2), (4, 66_001), (8, 34))
+    grey = spelled((4, phase.grey), *[(4, 0), (4, 3)][: phase.grey])
+    letters = spelled((4, 7), (1, 2), (4, LABEL), (1, 1), (1, 0), (4, 66_002), (8, 35))
+    letters += spelled((1, 0), (4, 8), (1, 0)) * 6
+    # Two letters without a reference wait for node 0.
+    links = spelled((8, 50), (4, 2)) + spelled((8, 41), (1, 4), (4, 1), (1, 0)) * 2
+    links += spelled((8, 60), (8, FAR), (4, 0), (8, 200))
+    return sizes + phases + token + registers + slots() + grey + bytes(4) + letters + links
+
+
+def frame(number: int) -> bytes:
+    """A letter without a reference, from node 0."""
+    return spelled((1, 0x45), (1, 0), (1, 1), (8, number), (8, 41), (1, 4), (4, 6), (1, 0))
+
+
+STATE = State(
+    nodes=3,
+    own=1,
+    black=True,
+    has_token=False,
+    registers=300,
+    slots=70_000,
+    live=4,
+    cycle=41,
+    ended=40,
+    swept=40,
+    earlier=-23,
+    recent=29,
+    grey=2,
+    letters=7,
+    places=9,
+    bytes=17,
+    is_wide=True,
+)
+OBJECTS = [
+    Object(Ref(1, 0, GENERATION), WORD, 5, 6, True, False, Age.OLD),
+    Object(Ref(1, 1, 78), 11, 1, 2, False, True, Age.REMEMBERED),
+    None,
+    Object(Ref(1, 3, 79), 13, 0, 0, True, False, Age.YOUNG),
+    Object(Ref(1, 4, 80), 14, 0, 0, False, False, Age.YOUNG),
+    None,
+]
+
+
+class Fields(unittest.TestCase):
+    def node(self, phase: Phase) -> Node:
+        node = Node.from_image(image(phase))
+        self.addCleanup(node.close)
+        return node
+
+    def test_a_state_shows_each_number_of_the_image(self) -> None:
+        self.assertEqual(self.node(MARKING).state(), STATE)
+        self.assertEqual(self.node(WITH_TOKEN).state(), STATE._replace(black=False, has_token=True, grey=0))
+        self.assertEqual(self.node(MARKED).state(), STATE._replace(ended=41, grey=0))
+        # Node 0 of a plain space becomes white when it sends the token on.
+        with Node(5, 7, 11, 0) as plain:
+            plain.begin()
+            state = plain.state()
+        self.assertEqual(state[:10], (5, 0, False, False, 7, 11, 0, 1, 0, 0))
+        self.assertEqual(state[10:], (0, 0, 0, 0, 8, 0, False))
+
+    def test_the_fields_have_their_order(self) -> None:
+        names = "nodes own black has_token registers slots live cycle ended swept earlier recent grey letters"
+        self.assertEqual(" ".join(State._fields), f"{names} places bytes is_wide")
+        self.assertEqual(" ".join(Link._fields), "appended released acknowledged received received_saved")
+        self.assertEqual(" ".join(Object._fields), "reference word places bytes is_marked is_shared age")
+
+    def test_an_object_shows_each_number_of_the_image(self) -> None:
+        node = self.node(MARKING)
+        self.assertEqual([node.object(slot) for slot in range(6)], OBJECTS)
+        self.assertEqual(list(node.objects()), [it for it in OBJECTS if it])
+        self.assertEqual(node.slots(), 5)
+        self.assertEqual(node.places(0), [None] * 4 + [Ref(2, 65_999, 33)])
+        self.assertEqual((node.read_bytes_at(0, 2, 3), node.read_bytes_at(0, 4)), (b"cde", b"ef"))
+        self.assertEqual((node.register(299), node.register(298)), (Ref(2, 66_001, 34), None))
+        # The new object gets the slot and the generation of the free one.
+        self.assertEqual(node.alloc(7, 3), Ref(1, 2, 90))
+
+    def test_a_letter_shows_each_number_of_the_image(self) -> None:
+        node = self.node(MARKED)
+        self.assertEqual(node.accept(5), Letter(sender=2, label=LABEL, reference=Ref(node=0, slot=66_002, generation=35)))
+        self.assertEqual(node.register(5), Ref(0, 66_002, 35))
+        self.assertEqual(node.accept(5), Letter(sender=0, label=8, reference=None))
+
+    def test_a_link_shows_each_number_of_its_own(self) -> None:
+        node = self.node(MARKED)
+        self.assertEqual([node.give(0, 3, 1) for _ in range(3)], [53, 54, 55])
+        self.assertEqual([node.take(frame(number)) for number in range(61, 65)], [Taken.RECEIVED] * 4)
+        expected = Link(appended=55, released=52, acknowledged=50, received=64, received_saved=60)
+        self.assertEqual(node.link(0), expected)
+        self.assertEqual(node.link(2), Link(FAR, FAR, FAR, 200, 200))
+        self.assertEqual([number for number, _ in node.frames(0)], [51, 52])
+        self.assertEqual([number for number, _ in node.frames(0, 51)], [52])
+        self.assertEqual(node.frame_at(0, 1), node.frames(0)[1][1])
+        self.assertEqual(node.ack_for(0), spelled((1, 0x42), (1, 1), (1, 0), (8, 60)))
+        self.assertEqual(node.give(2, 3, 1), FAR + 1)
+        node.release()
+        self.assertEqual(node.frames(2, FAR)[0][0], FAR + 1)
+        self.assertEqual([node.take(frame(66)), node.take(frame(65))], [Taken.EARLY, Taken.RECEIVED])
+        self.assertEqual((node.waiting(0), node.waiting(2)), (66, None))
+
+    def test_an_answer_shows_each_number_of_its_own(self) -> None:
+        # The token's sum was 1,000, and the node's `earlier` is -23.
+        self.assertEqual(self.node(WITH_TOKEN).pass_token(), Passed(black=False, sum=977))
+        # Of the slots up to the fourth, the second has an object without the mark of cycle 41.
+        node = self.node(MARKED)
+        self.assertEqual([node.sweep(4), node.sweep(9)], [Freed(count=1, done=False), Freed(count=1, done=True)])
+        self.assertEqual(self.node(MARKED).sweep(5), Freed(count=2, done=True))
+        # No root leads to the private objects: an old one and two young ones.
+        self.assertEqual((self.node(MARKED).reclaim(), self.node(MARKED).reclaim_young()), (3, 2))
+
+    def test_an_end_and_a_begin_show_their_cycles(self) -> None:
+        # Node 0 of two in cycle 5, which it has swept, as the other one.
+        swept = spelled((3, 0x4D5202), (1, 2), (1, 0), (2, 1), (4, 1), (8, 5), (8, 5), (8, 5), (4, 0))
+        rest = spelled((1, 0), (8, 0), (8, 0), (1, 0), (8, 5), (1, 0), *[(4, 0)] * 5, (8, 0), (4, 0), (8, 0))
+        with Node.from_image(swept + rest) as node:
+            self.assertEqual(node.begin(), 6)
+            # Begin is followed by the token.
+            self.assertEqual(node.link(1).appended, 2)
+        # The same in cycle 6, with a white token of sum 0.
+        marking = spelled((3, 0x4D5202), (1, 2), (1, 0), (2, 1), (4, 1), (8, 6), (8, 5), (8, 5), (4, 0))
+        token = spelled((1, 0), (8, 0), (8, 0), (1, 1), (1, 0), (8, 0))
+        rest = spelled((8, 5), (1, 0), *[(4, 0)] * 5, (8, 0), (4, 0), (8, 0))
+        with Node.from_image(marking + token + rest) as node:
+            self.assertEqual(node.pass_token(), Ended(cycle=6))
+
+    def test_a_shape_keeps_each_number(self) -> None:
+        shape = Shape.wide(nodes=6, registers=301, slots=70_001, places=10, bytes=18)
+        self.assertEqual(shape, Shape(6, 301, 70_001, 10, 18, True))
+        self.assertEqual(Shape.plain(nodes=6, registers=33, slots=70), Shape(6, 33, 70, 8, 0, False))
+        with Node.with_shape(shape, 4, 2) as node, Space.with_shape(shape) as space:
+            cell = space.open()[4]
+            for state in (node.state(), cell.state()):
+                sizes = state.nodes, state.registers, state.slots, state.places, state.bytes, state.is_wide
+                self.assertEqual((sizes, state.own), (tuple(shape), 4))
+        with Node(6, 33, 70, 4, 2) as node, Space(6, 33, 70) as space:
+            cell = space.open()[4]
+            for state in (node.state(), cell.state()):
+                self.assertEqual((state.nodes, state.registers, state.slots, state.own), (6, 33, 70, 4))
+
+    def test_an_image_and_a_batch_have_their_marks(self) -> None:
+        with Node(2, 1, 1, 0) as node:
+            node.log()
+            data = node.image().data
+            self.assertEqual([node.image() for _ in range(2)], [Image(data=data, mark=2), Image(data=data, mark=3)])
+            node.kept(3)
+            self.assertEqual(node.batch(), Batch(data=bytes(8), mark=4))
+
+    def test_the_nodes_that_are_apart_are_named_in_their_order(self) -> None:
+        """Node 2 has received a letter of node 1 that the image of node 1 hasn't sent."""
+        with Space(3, 2, 4) as space, Space(3, 2, 4) as later:
+            cells = space.open()
+            for node in range(2):
+                later.disk(node, cells[node].image().data)
+            cells[1].give(2, 9, 0)
+            cells[1].save(cells[1].image().mark)
+            self.assertEqual([cells[1].send(2), cells[1].send(2)], [True, False])
+            self.assertEqual([cells[2].receive(it) for it in (0, 1)], [None, Taken.RECEIVED])
+            self.assertTrue(cells[1].send(2))
+            later.disk(2, cells[2].image().data)
+            with self.assertRaises(errors.Ages) as caught:
+                later.open()
+            self.assertEqual((caught.exception.sender, caught.exception.receiver), (1, 2))
+
+    def test_a_cell_shows_what_a_node_shows(self) -> None:
+        def idle(own: int, to_one: int, from_one: int) -> bytes:
+            """Node 0 or 2 of the same space, with what node 1 counts as acknowledged."""
+            sizes = spelled((3, 0x4D5204), (1, 9), (4, 17), (1, 3), (1, own), (2, 300), (4, 70_000))
+            phases = spelled((8, 40), (8, 40), (8, 40), (4, 0), (1, 0), (8, 0), (8, 0), (1, 0))
+            reports = spelled((8, 40), (8, 40)) if own == 0 else b""
+            links = [spelled((8, to_one), (4, 0), (8, from_one)), bytes(20)]
+            return sizes + phases + reports + bytes(300 + 5 * 4) + b"".join(links if own == 0 else links[::-1])
+
+        with Space.with_shape(Shape.wide(3, 300, 70_000, 9, 17), watches=2) as space:
+            for node, stored in enumerate([idle(0, 60, 50), image(MARKING), idle(2, 200, FAR)]):
+                space.disk(node, stored)
+            zero, one, _two = space.open()
+            watches = [space.watch(), space.watch()]
+            self.assertIsNone(space.watch())
+        self.assertEqual(one.state(), STATE)
+        self.assertEqual(one.link(0), Link(52, 52, 50, 60, 60))
+        self.assertEqual([one.object(slot) for slot in range(6)], OBJECTS)
+        self.assertEqual(zero.raise_board(), 40)
+        self.assertEqual([watch.look() for watch in watches if watch], [40, 40])
+
+
+if __name__ == "__main__":
+    unittest.main()
