@@ -8,7 +8,7 @@ use Rattle.std.proofs.lemmas.List.{append-nil, append_assoc, get_or-drop}
 use Rattle.ids.specs.Limits.{Shaped}
 use Rattle.ids.specs.declared.names.Ref.{Ref}
 use Rattle.model.specs.declared.event.Letter.{Letter}
-use Rattle.model.specs.State.{Object, Slot, Free, Occupied, Retired, Heap, slot_at, new_heap}
+use Rattle.model.specs.State.{Object, Slot, Free, Occupied, Retired, Heap, register_at, slot_at, new_heap}
 use Rattle.model.specs.Heaps.{remembering, sharing, share_all, with_register, with_object, new_object, next_generation, slots_with, object_of, object_at, place_of, rewritten, with_rewritten, with_place, with_word, with_letter, with_letters, no_letter, oldest_letter, letter_taken, letters_taken, more_letters, letters_of, contents}
 use Rattle.model.specs.Shading.{is_unmarked, with_mark, make_grey, make_all_grey, filled, reference_of, roots, without_last_grey}
 use Rattle.model.specs.Collecting.{places_in}
@@ -262,12 +262,17 @@ any-take P (suc n) [] h k = tt
 any-take P (suc n) (o ∷ os) h zero = h zero
 any-take P (suc n) (o ∷ os) h (suc k) = any-take P n os (λ i. h (suc i)) k
 
+pub contents-any : (P : Ref → Type 0) (h : Heap) (first count : ℕ)
+    → ((k : ℕ) → IfAny P (register_at h k)) → (k : ℕ)
+    → IfAny P (get_or (contents h first count) k None)
+contents-any P h first count all =
+    any-take P count (drop first h.registers)
+    (λ k. subst (IfAny P) (sym (get_or-drop first h.registers k None)) (all (first + k)))
+
 pub holds-contents : (P : Ref → Type 0) (h : Heap) (first count : ℕ) → HoldsOnly P h
     → AllByRecursion P (filled (contents h first count))
 holds-contents P h first count all =
-    holds-filled P (contents h first count)
-    (any-take P count (drop first h.registers)
-    (λ k. subst (IfAny P) (sym (get_or-drop first h.registers k None)) (all.registers (first + k))))
+    holds-filled P (contents h first count) (contents-any P h first count all.registers)
 
 letter-references : (P : Ref → Type 0) (ls : List Letter)
     → ((k : ℕ) → IfAny P (get_or ls k no_letter).reference) → (k : ℕ)

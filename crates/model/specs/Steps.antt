@@ -7,7 +7,7 @@ use Rattle.ids.specs.declared.names.Ref.{Ref}
 use Rattle.ids.specs.declared.limits.TheConstants.{GREATEST_LETTER, GREATEST_NUMBER, WINDOW}
 use Rattle.ids.specs.declared.refusal.Refusal.{Refusal}
 use Rattle.ids.specs.declared.refusal.Refusal.TheVariants.{NoNode, SelfSend, LinkSpent, OutOfOrder, NothingToDo, WrongNode}
-use Rattle.msg.specs.Limits.{fetch_fits}
+use Rattle.msg.specs.Limits.{fetch_fits, is_post}
 use Rattle.msg.specs.declared.body.Body.{Body}
 use Rattle.msg.specs.declared.body.Body.TheVariants as body
 use Rattle.msg.specs.declared.body.Message.{Message}
@@ -433,8 +433,9 @@ is_shading event.Scan = true
 is_shading (event.Data d) = true
 is_shading e = false
 
--- An event that never fails for lack of memory. A message may allocate only in its turn, and a
--- sweep only to report that it is done.
+-- An event that never fails for lack of memory. A message may allocate only in its turn, or if it
+-- is a letter with references and bytes that comes early; and a sweep only to report that it is
+-- done.
 abbrev pub is_memory_free : LocalState → Event → Bool
 is_memory_free p (event.Copy register source) = true
 is_memory_free p (event.Drop register) = true
@@ -446,6 +447,7 @@ is_memory_free p (event.Patch object offset bytes) = true
 is_memory_free p (event.Accept register) = true
 is_memory_free p (event.Sweep count) = not (reports_sweep p count)
 is_memory_free p (event.Next from) = true
-is_memory_free p (event.Data d) = not (is_next p d.from d.number)
+is_memory_free p (event.Data d) =
+    not (is_next p d.from d.number) && not (is_post d.body && is_early p d.from d.number)
 is_memory_free p (event.Ack a) = true
 is_memory_free p e = false

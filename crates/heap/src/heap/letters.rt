@@ -5,7 +5,8 @@ ghost use Rattle.std.specs.Prelude.{◌≡◌, ◌+◌, ◌-◌, ◌^◌, ◌<�
 ghost use Rattle.ids.specs.declared.limits.TheConstants.{GREATEST_PLACES};
 ghost use Rattle.model.specs.Checks.{guarded};
 ghost use Rattle.model.specs.Heaps.{with_letter, with_letters, more_letters, letters_of, heap_accept};
-ghost use Rattle.model.specs.Heaps.{letter_taken, letters_taken, oldest_letter, told_of};
+ghost use Rattle.model.specs.Heaps.{heap_letter, heap_letter_bytes, heap_letter_part};
+ghost use Rattle.model.specs.Heaps.{letter_taken, letters_taken, told_of};
 ghost use Rattle.heap.specs.Heap.{KeepsRoom, entries};
 ghost use Rattle.heap.specs.Tests.{letter_tests};
 
@@ -128,14 +129,46 @@ impl Heap {
         self.letters.len()
     }
 
-    /// The bytes of the oldest letter; none if no letter waits.
-    pub fn letter_bytes(&self) -> &[u8]
-        ensures { result.now ≡ (oldest_letter self.now.heap).bytes }
+    /// What the program is told when it accepts the oldest letter. It fails with
+    /// [`Refusal::NoLetter`] if no letter waits.
+    #[tactic(auto, unfolding(model::specs::Heaps::heap_letter))]
+    pub fn oldest_letter(&self) -> Result<Accepted, Refusal>
+        ensures { result ≡ heap_letter self.now.heap }
     {
         match self.letters.front() {
-            Some(letter) => letter.bytes.as_slice(),
-            None => &[],
+            Some(letter) => Ok(told_of(letter)),
+            None => Err(Refusal::NoLetter),
         }
+    }
+
+    /// The bytes of the oldest letter. It fails with [`Refusal::NoLetter`] if no letter waits.
+    #[tactic(auto, unfolding(model::specs::Heaps::heap_letter_bytes))]
+    pub fn letter_bytes(&self) -> Result<&[u8], Refusal>
+        ensures value { IfOk result (λ b. heap_letter_bytes self.now.heap ≡ Ok b.now) }
+        ensures refused { IfErr result (λ e. heap_letter_bytes self.now.heap ≡ Err e) }
+    {
+        match self.letters.front() {
+            Some(letter) => Ok(letter.bytes.as_slice()),
+            None => Err(Refusal::NoLetter),
+        }
+    }
+
+    /// The first bytes of the oldest letter, this many of them. It fails with
+    /// [`Refusal::NoLetter`] if no letter waits, and with [`Refusal::NoBytes`] if the letter has
+    /// fewer bytes.
+    #[tactic(auto, unfolding(model::specs::Heaps::heap_letter_part))]
+    pub fn letter_part(&self, count: usize) -> Result<&[u8], Refusal>
+        ensures value { IfOk result (λ b. heap_letter_part self.now.heap count ≡ Ok b.now) }
+        ensures refused { IfErr result (λ e. heap_letter_part self.now.heap count ≡ Err e) }
+    {
+        let Some(letter) = self.letters.front() else {
+            return Err(Refusal::NoLetter);
+        };
+        let bytes = letter.bytes.as_slice();
+        if count > bytes.len() {
+            return Err(Refusal::NoBytes);
+        }
+        Ok(&bytes[..count])
     }
 
     // Tests whether as many more of a letter's references wait, and whether there are registers for
