@@ -1,7 +1,7 @@
 -- Each change of a node's heap keeps what is true of the heap of every node.
 use Rattle.std.proofs.Common.{⊎_elim, filter, ◌≡◌, ◌≢◌, ℕ, zero, suc, ◌+◌, ◌-◌, ◌<◌, ◌≤◌, ◌==◌, Bool, true, false, eqb, List, [], ◌∷◌, ◌++◌, length, map, take, drop, get_or, Option, Some, None, refl, sym, ap, ◌∙◌, subst, arith, get_or-set_same}
 use Rattle.std.specs.List.{AllByRecursion, IsDistinct}
-use Rattle.std.proofs.lemmas.Bool.{cond_both, cond-true, leb-true, eqb-true, eqb-false, eq-eqb, ne_eqb, not-true}
+use Rattle.std.proofs.lemmas.Bool.{cond_both, cond-true, true≢false, leb-true, eqb-true, eqb-false, eq-eqb, ne_eqb, not-true}
 use Rattle.std.proofs.lemmas.List.{length-append, length-drop, length-set, length-replicate, length-take-le, get_or_append_left}
 use Rattle.ids.specs.Limits.{Shaped}
 use Rattle.ids.specs.declared.limits.TheConstants.{GREATEST_GENERATION}
@@ -11,7 +11,7 @@ use Rattle.model.specs.declared.age.Age.TheVariants.{Young, Old}
 use Rattle.model.specs.declared.age.Scope.{Scope}
 use Rattle.model.specs.declared.event.Letter.{Letter}
 use Rattle.model.specs.State.{Object, Slot, Free, Occupied, Retired, Heap, LocalState, slot_at, new_heap}
-use Rattle.model.specs.Heaps.{sharing, share_all, with_register, with_object, new_object, next_generation, slots_with, object_at, rewritten, with_rewritten, with_place, placing, remembered, remembering, with_word, with_letters, oldest_letter, letter_taken, letters_taken, more_letters, letters_of, filling, patching, has_range, overwritten}
+use Rattle.model.specs.Heaps.{sharing, share_all, with_register, with_object, new_object, next_generation, slots_with, object_at, rewritten, with_rewritten, with_place, placing, remembered, remembering, with_word, with_letters, oldest_letter, letter_taken, letters_taken, more_letters, letters_of, simple_letter, filling, patching, has_range, overwritten}
 use Rattle.model.specs.Shading.{is_open, is_unmarked, with_mark, make_grey, make_all_grey, is_calm, without_last_grey}
 use Rattle.model.specs.Collecting.{is_garbage, generation_in, vacated_slot, Sweeping, sweep_some}
 use Rattle.model.specs.Reclaiming.{is_occupied, reclaiming, left_grey, slot_aged, aged, freed_within, reclaimed}
@@ -98,10 +98,11 @@ module _ (shape : Shaped) (own : ℕ) where
   letters-append : (ls ms : List Letter) → AreLetters shape own ls → AreLetters shape own ms
       → AreLetters shape own (ls ++ ms)
   letters-append [] ms first second = second
-  letters-append (l ∷ ls) ms first second =
-      (first.0,
-      omega (arith, first.1, length-append ls ms),
-      letters-append ls ms first.2 second)
+  letters-append (l ∷ ls) ms first second = (
+    first.0,
+    (omega (arith, first.1.0, length-append ls ms), first.1.1),
+    letters-append ls ms first.2 second,
+  )
 
   letters-rest : (ls : List Letter) → AreLetters shape own ls → AreLetters shape own (drop 1 ls)
   letters-rest [] all = tt
@@ -112,18 +113,34 @@ module _ (shape : Shaped) (own : ℕ) where
   length-more from label [] = refl
   length-more from label (r ∷ rs) = ap suc (length-more from label rs)
 
-  more-letters : (from label : ℕ) (rs : List (Option Ref)) → IsOther shape own from
-      → AreLetters shape own (more_letters from label rs)
-  more-letters from label [] other = tt
-  more-letters from label (r ∷ rs) other =
-      (other, omega (arith, length-more from label rs), more-letters from label rs other)
+  in-wide : {P : Type 0} → shape.wide ≡ true → shape.wide ≡ false → P
+  in-wide wide plain = absurd (true≢false (sym wide ∙ plain))
+
+  more-letters : (from label : ℕ) (rs : List (Option Ref)) → shape.wide ≡ true
+      → IsOther shape own from → AreLetters shape own (more_letters from label rs)
+  more-letters from label [] wide other = tt
+  more-letters from label (r ∷ rs) wide other = (
+    other,
+    (omega (arith, length-more from label rs), in-wide wide),
+    more-letters from label rs wide other,
+  )
 
   -- a letter as it waits
   pub new-letters : (from label : ℕ) (rs : List (Option Ref)) (bytes : List ℕ)
-      → IsOther shape own from → AreLetters shape own (letters_of from label rs bytes)
-  new-letters from label [] bytes other = (other, omega arith, tt)
-  new-letters from label (r ∷ rs) bytes other =
-      (other, omega (arith, length-more from label rs), more-letters from label rs other)
+      → shape.wide ≡ true → IsOther shape own from
+      → AreLetters shape own (letters_of from label rs bytes)
+  new-letters from label [] bytes wide other =
+      (other, (omega arith, in-wide wide), tt)
+  new-letters from label (r ∷ rs) bytes wide other = (
+    other,
+    (omega (arith, length-more from label rs), in-wide wide),
+    more-letters from label rs wide other,
+  )
+
+  -- a letter with at most one reference, and no bytes
+  pub new-letter : (from label : ℕ) (r : Option Ref) → IsOther shape own from
+      → AreLetters shape own (simple_letter from label r ∷ [])
+  new-letter from label r other = (other, (omega arith, λ plain. (refl, refl)), tt)
 
 -- ---- a new heap
 

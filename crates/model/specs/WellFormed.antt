@@ -39,11 +39,16 @@ HasMarked cycle (Free g) = ⊥
 HasMarked cycle (Occupied g o) = o.mark ≡ cycle
 HasMarked cycle Retired = ⊥
 
+-- a letter behind which this many letters wait; in a plain space it has at most one reference, and
+-- no bytes
+abbrev pub IsFollowed : Shaped → ℕ → Letter → Type 0
+IsFollowed shape n l = (l.more ≤ n) × (shape.wide ≡ false → (l.more ≡ 0) × (l.bytes ≡ []))
+
 -- the letters that wait: each is another node's, and as many follow as it says
 abbrev pub AreLetters : Shaped → ℕ → List Letter → Type 0
 AreLetters shape own [] = Unit {0}
 AreLetters shape own (l ∷ ls) =
-    IsOther shape own l.from × (l.more ≤ length ls) × AreLetters shape own ls
+    IsOther shape own l.from × IsFollowed shape (length ls) l × AreLetters shape own ls
 
 -- The heap of a node: its registers, its letters, its slots, and its grey objects. Once marking has
 -- ended there are no grey objects.
