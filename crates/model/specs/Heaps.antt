@@ -399,6 +399,22 @@ unfoldable pub heap_accept : Heap → ℕ → Result (Heap × Accepted) Refusal
 heap_accept h register =
     guarded (accept_tests h register) (accepting h register, told_of (oldest_letter h))
 
+-- what the program is told of the oldest letter before it accepts it; the letter's bytes, and the
+-- first ones of them
+abbrev pub letter_tests : Heap → List (Bool × Refusal)
+letter_tests h = (nat_lt 0 (length h.letters), NoLetter) ∷ []
+
+unfoldable pub heap_letter : Heap → Result Accepted Refusal
+heap_letter h = guarded (letter_tests h) (told_of (oldest_letter h))
+
+unfoldable pub heap_letter_bytes : Heap → Result (List ℕ) Refusal
+heap_letter_bytes h = guarded (letter_tests h) (oldest_letter h).bytes
+
+unfoldable pub heap_letter_part : Heap → ℕ → Result (List ℕ) Refusal
+heap_letter_part h count =
+    guarded (letter_tests h ++ (nat_le count (length (oldest_letter h).bytes), NoBytes) ∷ [])
+    (take count (oldest_letter h).bytes)
+
 unfoldable pub heap_register : Heap → ℕ → Result (Option Ref) Refusal
 heap_register h register = guarded (register_tests h register) (register_at h register)
 
