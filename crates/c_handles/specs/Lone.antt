@@ -71,6 +71,9 @@ owner_of None = None
 -- the node that the program's message would go to
 abbrev pub receiver_of : LocalState → Event → Option ℕ
 receiver_of p (event.Give to label register) = Some to
+receiver_of p (event.Post to label first count bytes) = Some to
+receiver_of p (event.Fetch object label offset count) =
+    owner_of (slice_get p.heap.registers object)
 receiver_of p (event.Put object place register) = owner_of (slice_get p.heap.registers object)
 receiver_of p (event.Get object place label) = owner_of (slice_get p.heap.registers object)
 receiver_of p e = None

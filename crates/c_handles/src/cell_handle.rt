@@ -12,6 +12,7 @@ ghost use Rattle.node.specs.Summaries.{summary_of};
 ghost use Rattle.c_handles.specs.Cells.{CellActs, HandleImaged, Raised, Received, Reopened, Saved};
 ghost use Rattle.c_handles.specs.Cells.{Sent, SizedSame};
 
+mod letters;
 mod objects;
 
 use crate::Marked;

@@ -9,6 +9,7 @@ ghost use Rattle.c_handles.specs.Lone.{lone, receiver_of, unacknowledged};
 mod batches;
 mod images;
 mod logging;
+mod letters;
 mod objects;
 pub(crate) mod reading;
 pub(crate) mod reopening;
@@ -103,8 +104,10 @@ impl LoneNode {
         ensures { result ≡ receiver_of self.now.node.core.local event.now }
     {
         match event {
-            Event::Give { to, .. } => Some(*to),
-            Event::Put { object, .. } | Event::Get { object, .. } => {
+            Event::Give { to, .. } | Event::Post { to, .. } => Some(*to),
+            Event::Put { object, .. }
+            | Event::Get { object, .. }
+            | Event::Fetch { object, .. } => {
                 let register = usize::from(*object);
                 let held = self.node.core().heap().registers().get(register)?;
                 let reference: Ref = (*held)?;

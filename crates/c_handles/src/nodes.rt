@@ -17,6 +17,7 @@ ghost use Rattle.c_handles.specs.Logs.{logs_in};
 ghost use Rattle.c_handles.specs.Lone.{Made, NodeActs, Read, TookIn};
 ghost use Rattle.c_handles.specs.Reads.{link_of, object_bytes, object_len, register_of, waiting_number};
 
+mod letters;
 mod objects;
 
 use crate::Marked;

@@ -189,7 +189,7 @@ impl Links {
         ensures sound { IsLinks self.old → IsLinks self.new }
     {
         if to != own {
-            self.append(to, message.copy())?;
+            self.append(to, message.copy()?)?;
         }
         Ok(())
     }

@@ -6,6 +6,7 @@ use Rattle.ids.specs.Limits.{Shaped}
 use Rattle.ids.specs.declared.refusal.Refusal.{Refusal}
 use Rattle.ids.specs.declared.refusal.Refusal.TheVariants.{NoNode, AckBeyond, WrongNode, ImageTooLarge}
 use Rattle.msg.specs.Frames.{Plain, data_frame, ack_frame}
+use Rattle.msg.specs.Limits.{is_post}
 use Rattle.msg.specs.declared.body.Message.{Message}
 use Rattle.model.specs.declared.event.Answer.{Answer}
 use Rattle.model.specs.declared.step.Step.{Step}
@@ -133,6 +134,12 @@ is_shading_step (step.Restart i) = false
 is_shading_step (step.Deliver from to number) = true
 is_shading_step (step.Hand from to) = false
 
+-- A message that isn't received, or doesn't exist, needs no memory, unless it is a letter with
+-- references and bytes.
+abbrev pub is_free_message : Bool → Option Message → Bool
+is_free_message next None = true
+is_free_message next (Some x) = not next && not (is_post x.body)
+
 -- a step that never fails for lack of memory
 abbrev pub is_step_memory_free : World → Step → Bool
 is_step_memory_free w (step.Act i e) =
@@ -141,8 +148,7 @@ is_step_memory_free w (step.Save i) = not (is_node w i)
 is_step_memory_free w (step.Restart i) = not (is_node w i)
 is_step_memory_free w (step.Deliver from to number) =
     not (is_node w from && is_node w to)
-    || (not (is_some (released w from to number))
-    || not (is_next (node_at w.current to).local from number))
+    || is_free_message (is_next (node_at w.current to).local from number) (released w from to number)
 is_step_memory_free w (step.Hand from to) = true
 
 -- Why a step was refused: for the first reason that applies. The definitions can't say that a

@@ -111,6 +111,7 @@
 //! the same word and places. A program that asks about an object has a reference to it, so the
 //! object is reachable and hence live: both spaces make the same tests and give the same answer.
 
+mod letters;
 mod node;
 mod node_core;
 mod roots;

@@ -10,6 +10,7 @@ mod collecting;
 mod errands;
 mod frames;
 mod joining;
+mod letters;
 mod objects;
 mod parts;
 mod reading;

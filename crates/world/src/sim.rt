@@ -13,6 +13,8 @@ ghost use Rattle.world.specs.Shows.{
   ShowsWorld,
   IsAckOf,
   bytes_read,
+  letter_bytes_read,
+  letter_read,
   frame_at,
   site_at,
   summary_at,
@@ -29,7 +31,7 @@ use crate::site::Site;
 use cycles::Phases;
 use frames::decode;
 use ids::{NodeId, Refusal, Shape};
-use model::{Answer, Event, Outcome, Step};
+use model::{Accepted, Answer, Event, Outcome, Step};
 use msg::{Ack, Frame};
 use node::{Node, Summary};
 use std::alloc::Global;
@@ -219,6 +221,30 @@ impl Sim {
     {
         match self.node(number) {
             Some(node) => node.bytes(object, offset, count),
+            None => Err(Refusal::NoNode),
+        }
+    }
+
+    /// What a program is told of the oldest letter of the node before it accepts it. It fails with
+    /// `NoNode` if the space has no such node, and with `NoLetter` if no letter waits.
+    pub fn letter(&self, number: u8) -> Result<Accepted, Refusal>
+        ensures { (w : World) → ShowsSpace self.now w → result ≡ letter_read w number }
+    {
+        match self.node(number) {
+            Some(node) => node.letter(),
+            None => Err(Refusal::NoNode),
+        }
+    }
+
+    /// The bytes of the oldest letter of the node. It fails as [`Sim::letter`] does.
+    pub fn letter_bytes(&self, number: u8) -> Result<&[u8], Refusal>
+        ensures value { IfOk result (λ b. (w : World) → ShowsSpace self.now w
+            → letter_bytes_read w number ≡ Ok b.now) }
+        ensures refused { IfErr result (λ e. (w : World) → ShowsSpace self.now w
+            → letter_bytes_read w number ≡ Err e) }
+    {
+        match self.node(number) {
+            Some(node) => node.letter_bytes(),
             None => Err(Refusal::NoNode),
         }
     }
