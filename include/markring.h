@@ -155,6 +155,8 @@ enum markring_limit {
     MARKRING_WIDE_SLOTS = 16777216,
     MARKRING_WIDE_PLACES = 255,
     MARKRING_WIDE_BYTES = 16777216,
+    // The bytes of a letter.
+    MARKRING_LETTER_BYTES = 65535,
     // The bytes of an image of a plain space.
     MARKRING_PLAIN_IMAGE = 67108864,
     // How many messages markring_node_frames offers, and how many bytes it writes.
@@ -211,9 +213,10 @@ enum markring_answer_kind {
     MARKRING_ANSWER_VALUE = 2,
     // Word. `number`: the object's word.
     MARKRING_ANSWER_WORD = 3,
-    // Give, Put, Get. `number`: the number of the message on its link.
+    // Give, Post, Put, Get, Fetch. `number`: the number of the message on its link.
     MARKRING_ANSWER_SENT = 4,
-    // Accept. `node`: the sender; `label`; `reference`: a reference or nothing.
+    // Accept. `node`: the sender; `label`; `reference`: a reference or nothing, the first one;
+    // `count`: how many registers were written; `number`: how many bytes the letter had.
     MARKRING_ANSWER_LETTER = 5,
     // Begin. `number`: the cycle that begins.
     MARKRING_ANSWER_BEGUN = 6,
@@ -443,10 +446,36 @@ int markring_node_patch(markring_node *node, uint16_t object, uint32_t offset,
 int markring_node_give(markring_node *node, uint8_t to, uint32_t label, uint16_t reg,
     markring_answer *answer);
 
-// Removes the oldest letter that waits; the register gets its content. Answer: LETTER. It takes no
-// memory.
-// MARKRING_NO_REGISTER; MARKRING_NO_LETTER.
+// Sends a letter with the label, the contents of `count` registers from `first` on, each a reference
+// or nothing, and these bytes to the node `to`, in a wide space. A letter has at most as many
+// references as an object of the space has places, and as many bytes as an object has bytes, but no
+// more than 65,535. Answer: SENT.
+// MARKRING_CONGESTED; MARKRING_NO_NODE; MARKRING_SELF_SEND; MARKRING_NO_REGISTER: there are fewer
+// registers; MARKRING_TOO_MANY_FIELDS; MARKRING_TOO_MANY_BYTES; MARKRING_LINK_SPENT.
+int markring_node_post(markring_node *node, uint8_t to, uint32_t label, uint16_t first,
+    uint8_t count, const uint8_t *bytes, size_t length, markring_answer *answer);
+
+// Removes the oldest letter that waits; the register gets its content, and if the letter has several
+// references, the registers that follow it get the others. Its bytes are gone then: read them before,
+// or use markring_node_accept_into. Answer: LETTER. It takes no memory.
+// MARKRING_NO_REGISTER; MARKRING_NO_LETTER; MARKRING_NO_REGISTER: fewer registers follow than the
+// letter has references. The letter stays.
 int markring_node_accept(markring_node *node, uint16_t reg, markring_answer *answer);
+
+// What markring_node_accept would answer to the oldest letter. It changes nothing.
+// MARKRING_NO_LETTER.
+int markring_node_letter(markring_node *node, markring_answer *letter);
+
+// Writes the bytes of the oldest letter. `*needed` is how many there are. It changes nothing.
+// MARKRING_NO_LETTER; MARKRING_SHORT_BUFFER.
+int markring_node_letter_bytes(markring_node *node, uint8_t *buffer, size_t length,
+    size_t *needed);
+
+// Writes the bytes of the oldest letter as markring_node_letter_bytes does, and then accepts it as
+// markring_node_accept does. If it fails, the letter stays; the buffer may have its bytes.
+// MARKRING_NO_LETTER; MARKRING_SHORT_BUFFER; MARKRING_NO_REGISTER.
+int markring_node_accept_into(markring_node *node, uint16_t reg, uint8_t *buffer, size_t length,
+    size_t *needed, markring_answer *answer);
 
 // Asks the owner of another node's object to put the content of the register, a reference or
 // nothing, into the object's place. Answer: SENT.
@@ -459,6 +488,15 @@ int markring_node_put(markring_node *node, uint16_t object, uint8_t place, uint1
 // MARKRING_CONGESTED; far place; MARKRING_LINK_SPENT.
 int markring_node_get(markring_node *node, uint16_t object, uint8_t place, uint32_t label,
     markring_answer *answer);
+
+// Asks the owner of another node's object for the object's word and `count` of its bytes, from
+// `offset` on, in a wide space. They come in a letter with this label and without references: the
+// word in 8 bytes, big-endian, and then the bytes. If the object hasn't all of these, the letter has
+// the word alone, and if the object is gone, no bytes. Answer: SENT.
+// MARKRING_CONGESTED; far place, without the place; MARKRING_TOO_MANY_BYTES: `count` is above 65,527,
+// or the space isn't wide; MARKRING_LINK_SPENT.
+int markring_node_fetch(markring_node *node, uint16_t object, uint32_t label, uint32_t offset,
+    uint32_t count, markring_answer *answer);
 
 // Frees the private objects that nothing needs any more, without the other nodes. An object of a
 // wide space is private until its node sends a reference to it; from then on only a cycle frees it.
@@ -764,11 +802,20 @@ int markring_cell_patch(markring_cell *cell, uint16_t object, uint32_t offset,
     const uint8_t *bytes, size_t length, markring_answer *answer);
 int markring_cell_give(markring_cell *cell, uint8_t to, uint32_t label, uint16_t reg,
     markring_answer *answer);
+int markring_cell_post(markring_cell *cell, uint8_t to, uint32_t label, uint16_t first,
+    uint8_t count, const uint8_t *bytes, size_t length, markring_answer *answer);
 int markring_cell_accept(markring_cell *cell, uint16_t reg, markring_answer *answer);
+int markring_cell_letter(markring_cell *cell, markring_answer *letter);
+int markring_cell_letter_bytes(markring_cell *cell, uint8_t *buffer, size_t length,
+    size_t *needed);
+int markring_cell_accept_into(markring_cell *cell, uint16_t reg, uint8_t *buffer, size_t length,
+    size_t *needed, markring_answer *answer);
 int markring_cell_put(markring_cell *cell, uint16_t object, uint8_t place, uint16_t reg,
     markring_answer *answer);
 int markring_cell_get(markring_cell *cell, uint16_t object, uint8_t place, uint32_t label,
     markring_answer *answer);
+int markring_cell_fetch(markring_cell *cell, uint16_t object, uint32_t label, uint32_t offset,
+    uint32_t count, markring_answer *answer);
 int markring_cell_reclaim(markring_cell *cell, markring_answer *answer);
 int markring_cell_reclaim_young(markring_cell *cell, markring_answer *answer);
 int markring_cell_begin(markring_cell *cell, markring_answer *answer);

@@ -70,21 +70,27 @@ impl Desk {
     }
 
     // Takes the frame in the mailbox from another node, and empties the mailbox. None if it wasn't
-    // full.
-    pub(crate) fn take(&mut self, wire: &Wire, from: u8) -> Option<Frame>
+    // full. It fails only with `Memory`, and the frame is lost then.
+    pub(crate) fn take(
+        &mut self,
+        wire: &Wire,
+        alloc: Global,
+        from: u8,
+    ) -> Result<Option<Frame>, Refusal>
         requires wire { IsSeatOf wire.now self.old.seat }
         requires other { IsTrue (is_other self.old.node.core.local from) }
         ensures same { IsSame self.old.seat self.new.seat }
         ensures inside { from < (known self.old.seat).nodes }
-        ensures taken { MatchOption result
+        ensures taken { IfOk result (λ o. MatchOption o
             (FindsOther (inbox self.old.seat from) 1 (known self.old.seat) (known self.new.seat))
-            (λ f. (sender (plain f) ≡ from) × (receiver (plain f) ≡ (known self.old.seat).me)
-            × Arrives (known self.old.seat) (plain f)
-            × ((taken : ℕ) × (cleared : ℕ) × (known self.new.seat ≡ emptied
-            (inbox self.old.seat from) taken cleared (plain f) (known self.old.seat)))) }
+            (λ f. TookOut (inbox self.old.seat from) from (plain f) (known self.old.seat)
+            (known self.new.seat))) }
+        ensures lost { IfErr result (λ e. (e ≡ Memory) × ((f : Plain)
+            × TookOut (inbox self.old.seat from) from f (known self.old.seat)
+            (known self.new.seat))) }
         ensures stays { self.new ≡ record self.old { seat = self.new.seat } }
     {
-        wire.receive(&mut self.seat, from)
+        wire.receive(alloc, &mut self.seat, from)
     }
 
     // Shows on the board the cycle that the saved state knows to have ended.

@@ -160,7 +160,7 @@ impl Sim {
             return Ok(None);
         };
         // Only messages are released, so the bytes here are never those of another frame.
-        let Frame::Data(message) = decode(bytes)? else {
+        let Frame::Data(message) = decode(self.alloc, bytes)? else {
             return Err(Refusal::BadFrame);
         };
         let site = &mut self.sites[usize::from(to)];
