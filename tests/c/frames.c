@@ -333,10 +333,10 @@ static void buffers(void)
         memset(buffer, 0x5A, sizeof buffer);
         count = 77;
         status = markring_node_frames(&zero, 1, 0, buffer, length, &count, &needed);
-        EQUAL(48 + 35, needed);
-        IS(length < 48 ? MARKRING_SHORT_BUFFER : MARKRING_OK, status);
-        EQUAL(length < 48 ? 77 : length < 83 ? 1 : 2, count);
-        size_t written = length < 48 ? 0 : length < 83 ? 48 : 83;
+        EQUAL(50 + 37, needed);
+        IS(length < 50 ? MARKRING_SHORT_BUFFER : MARKRING_OK, status);
+        EQUAL(length < 50 ? 77 : length < 87 ? 1 : 2, count);
+        size_t written = length < 50 ? 0 : length < 87 ? 50 : 87;
         HOLDS(memcmp(buffer + written, before, sizeof buffer - written) == 0);
 
         memset(buffer, 0x5A, sizeof buffer);
