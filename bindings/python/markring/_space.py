@@ -9,7 +9,7 @@ from typing import Any, Iterator, NamedTuple, NoReturn, Optional, TypeVar, Union
 from . import _library as c
 from .errors import Ages, BadArgument, NoField, check, found
 
-LENGTH, NUMBER = 2, 8
+LENGTH, NUMBER = 4, 8
 FRAME = 48
 WINDOW = 1_856
 PLACES = 32

@@ -16,7 +16,7 @@ const FRAME: usize = 48;
 const WINDOW: usize = 1_856;
 const PLACES: u8 = 32;
 // Before each frame of a window: its length, and its number.
-const LENGTH: usize = 2;
+const LENGTH: usize = 4;
 const NUMBER: usize = 8;
 
 // This many zeros, unless memory is refused.
