@@ -947,7 +947,9 @@ int markring_watch_free(markring_watch *watch);
 typedef struct markring_letter {
     uint8_t from;
     uint32_t label;
-    markring_ref reference; // a reference or nothing
+    markring_ref reference; // a reference or nothing, the first one
+    uint32_t registers; // how many were written
+    uint64_t bytes; // how many it had
 } markring_letter;
 
 // Whether a markring_ref is a reference and not nothing.
@@ -1009,6 +1011,8 @@ static inline int markring_answer_letter(const markring_answer *answer, markring
     letter->from = answer->node;
     letter->label = answer->label;
     letter->reference = answer->reference;
+    letter->registers = answer->count;
+    letter->bytes = answer->number;
     return 1;
 }
 
