@@ -8,8 +8,8 @@
 #include <markring_remote.h>
 
 enum {
-    // A window of frames is at most 1,856 bytes with lengths and numbers.
-    WINDOW_BYTES = 1856,
+    // A window of frames is at most 1,920 bytes with lengths and numbers.
+    WINDOW_BYTES = 1920,
     PACKET_HEAD = 67,
     PACKET_BYTES = PACKET_HEAD + 2 + 11 + WINDOW_BYTES,
     // Events in a request, and programs of a node.

@@ -1,7 +1,7 @@
 // What goes to other nodes, and the steps of the collector.
 #include "inside.h"
 
-enum { ACKNOWLEDGEMENT = 11, LENGTH = 2, NUMBER = 8, LEAST_REPORT = 64 };
+enum { ACKNOWLEDGEMENT = 11, LENGTH = 2, WINDOW_LENGTH = 4, NUMBER = 8, LEAST_REPORT = 64 };
 
 void send_again(host *it, uint8_t to)
 {
@@ -54,7 +54,7 @@ static uint64_t write_frames(reader *window, size_t count, writer *packet)
 {
     uint64_t number = 0;
     for (size_t i = 0; i < count; i++) {
-        size_t length = read_number(window, LENGTH);
+        size_t length = read_number(window, WINDOW_LENGTH);
         number = read_number(window, NUMBER);
         const uint8_t *frame = read_bytes(window, length);
         write_number(packet, length, LENGTH);

@@ -161,7 +161,7 @@ enum markring_limit {
     MARKRING_PLAIN_IMAGE = 67108864,
     // How many messages markring_node_frames offers, and how many bytes it writes.
     MARKRING_WINDOW = 32,
-    MARKRING_WINDOW_BYTES = 1856,
+    MARKRING_WINDOW_BYTES = 1920,
     // The bytes of a frame at most, and those of an acknowledgement.
     MARKRING_FRAME_BYTES = 48,
     MARKRING_ACK_BYTES = 11,
@@ -559,7 +559,8 @@ int markring_node_take(markring_node *node, const uint8_t *bytes, size_t length,
 // has the message after the last one that `to` has acknowledged.
 // MARKRING_BAD_ARGUMENT: the place isn't below 32. MARKRING_NO_NODE: `to` isn't another node of the
 // space. MARKRING_NOTHING: no released message is there. MARKRING_SHORT_BUFFER. They are tested in
-// this order. A frame has at most 48 bytes.
+// this order. MARKRING_MEMORY: for a frame of a letter with several references or bytes. Other frames
+// have at most 48 bytes; those have at most 29, and 14 for each reference, and the bytes.
 int markring_node_frame_at(markring_node *node, uint8_t to, uint8_t place, uint8_t *buffer,
     size_t length, size_t *needed);
 
@@ -571,10 +572,10 @@ int markring_node_ack_for(markring_node *node, uint8_t from, uint8_t *buffer, si
     size_t *needed);
 
 // Writes the frames in the window to the node `to` whose numbers are above `after`, in the order of
-// their numbers: as many as fit into the buffer. Each frame follows its length (2 bytes) and its
+// their numbers: as many as fit into the buffer. Each frame follows its length (4 bytes) and its
 // number (8 bytes), both big-endian. `*count` is how many frames were written, and `*needed` how
 // many bytes all frames above `after` take, with their lengths and numbers: all were written if
-// `*needed` is at most `length`. A window takes at most 1,856 bytes.
+// `*needed` is at most `length`. A window of frames of at most 48 bytes takes at most 1,920 bytes.
 // MARKRING_NO_NODE: `to` isn't another node of the space. MARKRING_NOTHING: there is no such frame.
 // MARKRING_SHORT_BUFFER: not even the first fits; `*needed` is as above, and `*count` is unchanged.
 int markring_node_frames(markring_node *node, uint8_t to, uint64_t after, uint8_t *buffer,
@@ -946,7 +947,9 @@ int markring_watch_free(markring_watch *watch);
 typedef struct markring_letter {
     uint8_t from;
     uint32_t label;
-    markring_ref reference; // a reference or nothing
+    markring_ref reference; // a reference or nothing, the first one
+    uint32_t registers; // how many were written
+    uint64_t bytes; // how many it had
 } markring_letter;
 
 // Whether a markring_ref is a reference and not nothing.
@@ -1008,6 +1011,8 @@ static inline int markring_answer_letter(const markring_answer *answer, markring
     letter->from = answer->node;
     letter->label = answer->label;
     letter->reference = answer->reference;
+    letter->registers = answer->count;
+    letter->bytes = answer->number;
     return 1;
 }
 
