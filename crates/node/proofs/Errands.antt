@@ -20,7 +20,7 @@ use Rattle.model.proofs.Appending.{append_to-append, length-append_to}
 use Rattle.model.proofs.Joining.{join-open}
 use Rattle.model.proofs.Shading.{seen-none}
 use Rattle.model.proofs.References.{any-list, holds-with_letter, holds-with_letters, new-references, holds-without_last_grey}
-use Rattle.model.proofs.Stocks.{stocked-letters, new-letters, stocked-scanned}
+use Rattle.model.proofs.Stocks.{stocked-letters, new-letter, new-letters, stocked-scanned}
 use Rattle.cycles.specs.Phases.{IsPhases, in_cycle}
 use Rattle.cycles.specs.Balances.{IsBounded}
 use Rattle.cycles.proofs.Bounds.{bounded_more}
@@ -90,16 +90,17 @@ module _ (n : NodeView) (old : IsNode n) where
       let l : Letter = simple_letter from label reference in
       node-heap n _ old
       (holds-with_letter (IsWithin n.local.shape) n.local.heap l old.references fit.1)
-      (stocked-letters old.stocked (l ∷ []) (fit.0, omega arith, tt))
+      (stocked-letters old.stocked (l ∷ [])
+      (new-letter n.local.shape n.local.own from label reference fit.0))
       (le_refl (length n.local.heap.slots))
   node-extra (extra.Letters from label references bytes) fit links =
       let s = n.local.shape in
       let ls : List Letter = letters_of from label references.now bytes.now in
       node-heap n _ old
       (holds-with_letters (IsWithin s) n.local.heap ls old.references
-      (new-references (IsWithin s) from label references.now bytes.now fit.1.1))
+      (new-references (IsWithin s) from label references.now bytes.now fit.1.1.0))
       (stocked-letters old.stocked ls
-      (new-letters s n.local.own from label references.now bytes.now fit.0))
+      (new-letters s n.local.own from label references.now bytes.now fit.1.1.1 fit.0))
       (le_refl (length n.local.heap.slots))
   node-extra (extra.Answer to label reference) fit links =
       node-sent n to (body.Give label reference) old fit.0.0 fit.0.1

@@ -137,6 +137,13 @@ post-few {vs = vs} t =
     leb-true (length vs) GREATEST_PLACES
     (and_parts (nat_le (length vs) GREATEST_PLACES) _ t.fits).0
 
+-- and only a wide space has such a letter
+pub post-wide : {p : LocalState} {from stamp label : ℕ} {vs : List (Option Ref)} {bs : List ℕ}
+    → IsTakable p from stamp (body.Post label vs bs) → p.shape.wide ≡ true
+post-wide {p} {vs = vs} {bs = bs} t =
+    (and_parts p.shape.wide
+    (nat_le (length vs) p.shape.places && nat_le (length bs) GREATEST_LETTER) (follows t)).0
+
 fetched-short : (o : Option Object) (offset count : ℕ)
     → length (fetched o offset count) ≤ WORD_BYTES + count
 fetched-short None offset count = omega arith

@@ -29,7 +29,7 @@ use Rattle.heap.specs.Heap.{IsBorn, IsHeapFor}
 use Rattle.link.specs.Links.{IsLinks, link_at}
 use Rattle.link_ends.specs.Senders.{IsLink}
 use Rattle.node.specs.Invariant.{IsBalanced, IsNode, links_of}
-use Rattle.node.specs.Parts.{is_named, is_any_named, is_foreign, is_letter, are_whole, is_slot, is_placed, is_message, is_marked, is_report, are_messages, AreHeard, AreParts}
+use Rattle.node.specs.Parts.{is_named, is_any_named, is_foreign, is_letter, is_modest, are_whole, is_slot, is_placed, is_message, is_marked, is_report, are_messages, AreHeard, AreParts}
 use Rattle.node.proofs.Listed.{listed-is, each-is, all-at, all-each, all-both, distinct-apart, apart-distinct, distinct-before, before-distinct}
 
 -- the next of several letters
@@ -143,12 +143,30 @@ module _ (shape : Shaped) where
 
   -- ---- letters, and what was asked for
 
+  abbrev IsModest : Letter → Type 0
+  IsModest l = shape.wide ≡ false → (l.more ≡ 0) × (l.bytes ≡ [])
+
+  modest-is : (l : Letter) → is_modest shape l ≡ true ↔ IsModest l
+  modest-is l = (to shape.wide l.more l.bytes, from shape.wide l.more l.bytes)
+    where
+      to : (a : Bool) (n : ℕ) (bs : List ℕ) → a || (n == 0 && length bs == 0) ≡ true → a ≡ false
+          → (n ≡ 0) × (bs ≡ [])
+      to true n bs is plain = absurd cc
+      to false n bs is plain =
+          let both = and_parts (n == 0) (length bs == 0) is in
+          (eqb-true n 0 both.0, nil_from_length bs (eqb-true (length bs) 0 both.1))
+
+      from : (a : Bool) (n : ℕ) (bs : List ℕ) → (a ≡ false → (n ≡ 0) × (bs ≡ []))
+          → a || (n == 0 && length bs == 0) ≡ true
+      from true n bs is = refl
+      from false n bs is = rw ((is refl).0, (is refl).1) refl
+
   module _ (own : ℕ) where
     abbrev IsFrom : Letter → Type 0
-    IsFrom l = IsOther shape own l.from × IfAny (IsWithin shape) l.reference
+    IsFrom l = IsOther shape own l.from × (IsModest l × IfAny (IsWithin shape) l.reference)
 
     letter-is : (l : Letter) → is_letter shape own l ≡ true ↔ IsFrom l
-    letter-is l = grind (arith, nat_tests, any-is l.reference)
+    letter-is l = grind (arith, nat_tests, modest-is l, any-is l.reference)
 
     -- as many follow each of them as it says
     letters-whole : (ls : List Letter)
@@ -163,13 +181,13 @@ module _ (shape : Shaped) where
               let last = and_parts (nat_le l.more (length ls)) (are_whole ls) both.1 in
               let after = rest.0 (first.1, last.1) in
               let one = (letter-is l).0 first.0 in
-              ((one.0, leb-true l.more (length ls) last.0, after.0), (one.1, after.1)),
+              ((one.0, (leb-true l.more (length ls) last.0, one.1.0), after.0), (one.1.1, after.1)),
           λ both.
               let after = rest.1 (both.0.2, both.1.1) in (
                 and_from (is_letter shape own l) (list_all (is_letter shape own) ls)
-                    ((letter-is l).1 (both.0.0, both.1.0)) after.0,
+                    ((letter-is l).1 (both.0.0, (both.0.1.1, both.1.0))) after.0,
                 and_from (nat_le l.more (length ls)) (are_whole ls)
-                    (le-leb l.more (length ls) both.0.1) after.1,
+                    (le-leb l.more (length ls) both.0.1.0) after.1,
               ),
         )
 

@@ -115,7 +115,7 @@ IsFit shape own (extra.Letter from label reference) =
 IsFit shape own (extra.Letters from label references bytes) =
     IsOther shape own from
     × ((length references.now ≤ GREATEST_PLACES)
-    × AllByRecursion (IsWithin shape) (filled references.now))
+    × (AllByRecursion (IsWithin shape) (filled references.now) × (shape.wide ≡ true)))
 IsFit shape own (extra.Answer to label reference) =
     IsOther shape own to × IfAny (IsWithin shape) reference
 IsFit shape own (extra.Report to label bytes) =

@@ -62,9 +62,14 @@ is_neighbour shape own i = nat_lt i shape.nodes && not (i == own)
 abbrev pub is_foreign : Shaped → ℕ → Ref → Bool
 is_foreign shape own r = is_named shape r && not (r.node == own)
 
+-- in a plain space a letter has at most one reference, and no bytes
+abbrev pub is_modest : Shaped → Letter → Bool
+is_modest shape l = shape.wide || (l.more == 0 && length l.bytes == 0)
+
 -- a letter that came from another node
 abbrev pub is_letter : Shaped → ℕ → Letter → Bool
-is_letter shape own l = is_neighbour shape own l.from && is_any_named shape l.reference
+is_letter shape own l =
+    is_neighbour shape own l.from && (is_modest shape l && is_any_named shape l.reference)
 
 -- after each letter as many follow as it says
 abbrev pub are_whole : List Letter → Bool

@@ -13,6 +13,7 @@ ghost use Rattle.node.specs.Parts.{
   is_named,
   is_any_named,
   is_letter,
+  is_modest,
   are_whole,
   is_object,
   is_slot,
@@ -87,10 +88,19 @@ pub(super) fn are_any_named(shape: Shape, references: &[Option<Ref>]) -> bool
         .all(|reference| is_any_named(shape, *reference))
 }
 
+// Whether the letter has at most one reference and no bytes, if the space is plain.
+fn is_modest(shape: Shape, letter: &Letter) -> bool
+    ensures { result ≡ is_modest shape letter.now }
+{
+    shape.is_wide() || (letter.more == 0 && letter.bytes.len() == 0)
+}
+
 fn is_letter(shape: Shape, own: u8, letter: &Letter) -> bool
     ensures { result ≡ is_letter shape own letter.now }
 {
-    letter.from < shape.nodes() && letter.from != own && is_any_named(shape, letter.reference)
+    letter.from < shape.nodes()
+        && letter.from != own
+        && (is_modest(shape, letter) && is_any_named(shape, letter.reference))
 }
 
 fn are_letters(shape: Shape, own: u8, letters: &VecDeque<Letter>) -> bool

@@ -1,4 +1,4 @@
-use Rattle.node.proofs.Receiving.{post-few}
+use Rattle.node.proofs.Receiving.{post-few, post-wide}
 use Rattle.node.proofs.node_core.Core.receive_post.Goals as goal
 
 pub run-requires-clause-few : goal.run-requires-clause-few
@@ -7,4 +7,4 @@ run-requires-clause-few c = rw (c.as_slice-references.ensures) (post-few c.requi
 pub run-requires-clause-extra : goal.run-requires-clause-extra
 run-requires-clause-extra c =
     rw (c.as_slice-references.ensures)
-    ((c.requires.sender.there, c.requires.sender.other), (post-few c.requires, c.requires.within))
+    ((c.requires.sender.there, c.requires.sender.other), (post-few c.requires, (c.requires.within, post-wide c.requires)))
