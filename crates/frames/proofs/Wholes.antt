@@ -2,6 +2,8 @@
 use Rattle.std.proofs.Common.{◌≡◌, ℕ, Bool, true, false, List, [], ◌∷◌, Option, Some, None}
 use Rattle.std.proofs.Common.{Result, Ok, Err, refl, sym, ap, subst, ◌∙◌}
 use Rattle.std.specs.Prelude.{IfOk, IfErr}
+use Rattle.std.specs.Option.{option_map}
+use Rattle.std.specs.Result.{result_ok}
 use Rattle.std.proofs.lemmas.Bool.{false≢true}
 use Rattle.codec.specs.Formats as codec
 use Rattle.codec.specs.Formats.{Format, Behind, ◌&◌, ◌>>=◌, byte, byte_at, number8, behind, tagged, tagged_at, whole_at}
@@ -41,6 +43,8 @@ module _ {A : Type 0} (read : codec.Reader A) (a b : Reader) (o : Option A) (too
     by : (p : Option (List ℕ)) → left a ≡ p → (p >>= whole_at read) ≡ None
     by None is = refl
     by (Some bytes) is = not_all_read read bytes a b o is took whole
+
+pub ruleset left_taken = (left_read, left_over)
 
 -- ---- a message for which plain spaces have no room
 
@@ -165,16 +169,25 @@ lacking_decodes {e = e} took whole fits letter lacks =
     subst (Decodes (Err e)) (sym (wide_whole took whole fits)) (lacks, letter)
 
 -- a first byte, and what is behind it
+pub first_whole : {a b : Reader} {t : ℕ} (bytes : List ℕ) → left a ≡ Some bytes → Reads byte a b t
+    → (left b >>= whole_at (behind frames t)) ≡ whole_at frame.read bytes
+unfolding frame whole_at
+first_whole {b = b} {t = t} bytes all took = by (left b) (rw all at took.is) where
+  by : (q : Option (List ℕ)) → byte_at bytes ≡ with_rest t q
+      → (q >>= whole_at (behind frames t)) ≡ whole_at frame.read bytes
+  by None e = rw e refl
+  by (Some rest) e = rw e refl
+
 pub wide_first : {a b : Reader} {t : ℕ} (bytes : List ℕ) → left a ≡ Some bytes → Reads byte a b t
     → t ≡ 0x46 → wide_frame b ≡ whole_at frame.read bytes
 unfolding frame whole_at
-wide_first {a = a} {b = b} {t = t} bytes all took is = by (left b) (rw all at took.is) where
+wide_first {b = b} {t = t} bytes all took is = by (left b) (rw all at took.is) where
   by : (q : Option (List ℕ)) → byte_at bytes ≡ with_rest t q
       → (q >>= whole_at (data_at false)) ≡ whole_at frame.read bytes
   by None e = rw e refl
   by (Some rest) e = rw (e, is) refl
 
-pub first_taken : {a b c : Reader} {t : ℕ} {o : Option Plain} → Reads byte a b t
-    → Takes (behind frames t) b c o → Takes frame.read a c o
-unfolding frame
-first_taken took others = behind_tag frames took others
+pub plain_decodes : (r : Result Frame Refusal) (o : Option Plain)
+    → o ≡ option_map plain (result_ok r) → IfErr r (λ e. e ≡ BadFrame) → Decodes r o
+plain_decodes (Ok f) o is refused = is
+plain_decodes (Err e) o is refused = subst (Decodes (Err e)) (sym is) refused

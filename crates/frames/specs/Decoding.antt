@@ -2,13 +2,13 @@
 use Rattle.std.specs.Prelude.{ℕ, ◌≡◌, true, false, List, Option, Some, None, Result, Ok, Err}
 use Rattle.ids.specs.declared.refusal.Refusal.{Refusal}
 use Rattle.ids.specs.declared.refusal.Refusal.TheVariants.{Memory, BadFrame}
-use Rattle.codec.specs.Formats.{◌&◌, byte, number8, whole_at, ◌>>=◌}
+use Rattle.codec.specs.Formats.{◌&◌, behind, byte, number8, whole_at, ◌>>=◌}
 use Rattle.codec.specs.declared.reader.Reader.{Reader}
 use Rattle.codec.specs.Readers.{left, Reads}
 use Rattle.msg.specs.declared.frame.Frame.{Frame}
 use Rattle.msg.specs.Frames.{Plain, plain}
 use Rattle.frames.specs.Formats.{Head, head}
-use Rattle.frames.specs.Grammar.{Fits, spelling, is_letter, data_at}
+use Rattle.frames.specs.Grammar.{Fits, spelling, is_letter, data_at, frames}
 
 -- What a function returned is the frame that is to be read, or there is none. Memory runs out only
 -- at a letter with references and bytes.
@@ -25,6 +25,10 @@ IsDecoded f (Err e) = (e ≡ Memory) × (is_letter f ≡ true)
 -- the bytes are those of a letter with references and bytes
 abbrev pub SpellLetter : List ℕ → Type 0
 SpellLetter bytes = (f : Plain) × Fits f × (is_letter f ≡ true) × (bytes ≡ spelling f)
+
+-- the frame of all that was left behind this first byte
+abbrev pub frame_behind : ℕ → Reader → Option Plain
+frame_behind first r = left r >>= whole_at (behind frames first)
 
 -- the frame of all that was left, of a message for which plain spaces have no room
 abbrev pub wide_frame : Reader → Option Plain

@@ -8,8 +8,10 @@ ghost use Rattle.frames.specs.Formats.{generation, reference, optional, colour, 
 ghost use Rattle.frames.specs.Formats.{give_at, put_at, get_at, post, post_at, fetch_at};
 ghost use Rattle.frames.specs.Formats.{plain_bodies, bodies, body_format, head, is_framed};
 ghost use Rattle.frames.specs.Grammar.{Fits, spelling, data_at, ack_at, frame, frames};
-ghost use Rattle.frames.specs.Decoding.{Decodes, DecodesBehind, IsDecoded, SpellLetter, wide_frame};
+ghost use Rattle.frames.specs.Decoding.{Decodes, DecodesBehind, IsDecoded, SpellLetter};
+ghost use Rattle.frames.specs.Decoding.{frame_behind, wide_frame};
 ghost use Rattle.codec.specs.Formats.{behind, byte, counted, many, whole_at};
+ghost use Rattle.std.specs.Result.{result_ok};
 ghost use Rattle.codec.specs.Readers.{Reads, Takes};
 ghost use Rattle.msg.specs.Frames.{Plain, data_frame, plain, plain_ack};
 ghost use Rattle.msg.specs.Limits.{data_fits, letter_fits, optional_fits};
@@ -478,6 +480,25 @@ fn read_frame(tag: u8, reader: &mut Reader) -> Option<Frame>
     }
 }
 
+// The frame that all of the bytes spell, behind its first byte.
+#[tactic(auto, using(crate::proofs::Wholes::left_taken))]
+#[inline(always)]
+fn whole_behind(tag: u8, start: Reader) -> Result<Frame, Refusal>
+    requires { tag ≢ 0x46 }
+    ensures value { frame_behind tag start.entry ≡ option_map plain (result_ok result) }
+    ensures refused { IfErr result (λ e. e ≡ BadFrame) }
+{
+    let mut reader = start;
+    let frame = read_frame(tag, &mut reader);
+    if !reader.finish() {
+        return Err(Refusal::BadFrame);
+    }
+    match frame {
+        Some(frame) => Ok(frame),
+        None => Err(Refusal::BadFrame),
+    }
+}
+
 // The frame that all of the bytes spell.
 #[inline(always)]
 fn whole(alloc: Global, bytes: &[u8]) -> Result<Frame, Refusal>
@@ -488,14 +509,7 @@ fn whole(alloc: Global, bytes: &[u8]) -> Result<Frame, Refusal>
     if tag == WIDE_DATA {
         return whole_wide(alloc, reader);
     }
-    let frame = read_frame(tag, &mut reader);
-    if !reader.finish() {
-        return Err(Refusal::BadFrame);
-    }
-    match frame {
-        Some(frame) => Ok(frame),
-        None => Err(Refusal::BadFrame),
-    }
+    whole_behind(tag, reader)
 }
 
 /// The frame that the bytes spell, all of them. Only the references and bytes of a letter are
