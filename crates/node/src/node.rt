@@ -265,6 +265,7 @@ fn front(early: &[EarlyFrames], from: u8) -> Option<&Data>
     early.get(usize::from(from))?.at(0)
 }
 
+#[inline(always)]
 fn shift(early: &mut Vec<EarlyFrames>, from: u8)
     ensures { early.new.items ≡ shifted_at early.old.items from }
 {
