@@ -81,7 +81,7 @@ impl Heap {
     {
         match references.split_first() {
             Some((first, rest)) => {
-                self.add_entry(Letter {
+                self.add_letter(Letter {
                     from,
                     label,
                     reference: *first,
@@ -90,7 +90,7 @@ impl Heap {
                 });
                 self.add_more(from, label, rest);
             }
-            None => self.add_entry(Letter {
+            None => self.add_letter(Letter {
                 from,
                 label,
                 reference: None,
@@ -112,28 +112,13 @@ impl Heap {
         let mut more = references.len();
         for reference in references {
             more -= 1;
-            self.add_entry(Letter {
+            self.add_letter(Letter {
                 from,
                 label,
                 reference: *reference,
                 more: more as u8,
                 bytes: Frozen::empty(),
             });
-        }
-    }
-
-    // The same as `add_letter`. (Its own call, so that the one of `add_letter` is the only one of its
-    // kind and is inlined.)
-    #[inline(never)]
-    fn add_entry(&mut self, letter: Letter)
-        requires { 0 < self.old.letter_room }
-        ensures { self.new ≡ record self.old {
-          heap = with_letter self.old.heap letter;
-          letter_room = self.old.letter_room - 1;
-        } }
-    {
-        if self.letters.push_back(letter).is_err() {
-            unreachable!();
         }
     }
 
