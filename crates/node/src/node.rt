@@ -228,8 +228,8 @@ impl Node {
         self.core.bytes_len(object)
     }
 
-    /// The bytes of the oldest letter that waits; none if no letter waits. `Accept` takes the letter
-    /// with its bytes, so read them before.
+    /// The bytes of the oldest letter that waits; none if no letter waits. `Accept` takes the
+    /// letter with its bytes, so read them before.
     pub fn letter_bytes(&self) -> &[u8]
         ensures { result.now ≡ (oldest_letter self.now.core.local.heap).bytes }
     {
@@ -291,8 +291,8 @@ fn put(early: &mut Vec<EarlyFrames>, from: u8, place: usize, frame: Data)
 }
 
 /// Updates the early messages after this message got this answer. Before it, `taken` messages of
-/// its sender had been received. It fails with `Memory` if the message is early and can't be copied,
-/// which only happens to a letter with references and bytes.
+/// its sender had been received. It fails with `Memory` if the message is early and can't be
+/// copied, which only happens to a letter with references and bytes.
 fn keep(early: &mut Vec<EarlyFrames>, taken: u64, frame: &Data, told: Answer) -> Result<(), Refusal>
     ensures done { OnOk result
         (early.new.items ≡ after_data taken early.old.items frame.now (Ok told)) }
