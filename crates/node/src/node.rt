@@ -256,6 +256,7 @@ fn front(early: &[EarlyFrames], from: u8) -> Option<&Data>
     early.get(usize::from(from))?.at(0)
 }
 
+#[inline(always)]
 fn shift(early: &mut Vec<EarlyFrames>, from: u8)
     ensures { early.new.items ≡ shifted_at early.old.items from }
 {
@@ -281,8 +282,8 @@ fn put(early: &mut Vec<EarlyFrames>, from: u8, place: usize, frame: Data)
 }
 
 /// Updates the early messages after this message got this answer. Before it, `taken` messages of
-/// its sender had been received. It fails with `Memory` if the message is early and can't be copied,
-/// which only happens to a letter with references and bytes.
+/// its sender had been received. It fails with `Memory` if the message is early and can't be
+/// copied, which only happens to a letter with references and bytes.
 fn keep(early: &mut Vec<EarlyFrames>, taken: u64, frame: &Data, told: Answer) -> Result<(), Refusal>
     ensures done { OnOk result
         (early.new.items ≡ after_data taken early.old.items frame.now (Ok told)) }

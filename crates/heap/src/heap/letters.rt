@@ -51,6 +51,7 @@ impl Heap {
 
     /// Adds a letter behind those that wait. It allocates nothing: the room was made by
     /// [`Heap::make_room`].
+    #[inline(always)]
     pub fn add_letter(&mut self, letter: Letter)
         requires { 0 < self.old.letter_room }
         ensures { self.new ≡ record self.old {
