@@ -1,6 +1,6 @@
-use Rattle.std.proofs.Common.{inl, inr}
+use Rattle.std.proofs.Common.{inl}
 use Rattle.msg.specs.Frames.{plain}
-use Rattle.commands.specs.Frames.{frame, no_frame}
+use Rattle.commands.specs.Frames.{frame}
 use Rattle.commands.proofs.Replies.{printed_as}
 use Rattle.commands.proofs.decoding.print_spelled.Goals as goal
 
