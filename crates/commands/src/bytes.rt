@@ -11,9 +11,14 @@ use std::alloc::{AllocError, Global};
 #[derive(Clone, Copy)]
 pub enum Writing {
     /// The object gets them in place of all that it has.
-    All { object: u16 },
+    All {
+        object: u16,
+    },
     /// They overwrite a part of the object's, from this offset on.
-    Part { object: u16, offset: u32 },
+    Part {
+        object: u16,
+        offset: u32,
+    },
     /// They are sent in a letter, with the references of this many registers, from the first one
     /// on.
     Letter {

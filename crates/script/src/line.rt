@@ -1,8 +1,9 @@
 //! One line of a script. Its words are read one after another; anything outside the grammar is
 //! rejected.
-ghost use Rattle.std.specs.Prelude.{◌≡◌, false, IfSome, IsTrue, option_and_then, option_map};
+ghost use Rattle.std.specs.Prelude.{◌≡◌, false, Some, IfSome, IsTrue, option_and_then, option_map};
 ghost use Rattle.script.specs.Grammar.{command_of, delivery_of, hand_of, is_own_line, line_of, node_line_of, numbered_of, only_wide, reclaim_of, set_bytes_of, patch_of, bytes_of, post_of, fetch_of, letter_of, plain, report_of, space_of, stepped, u8_of, u16_of, u32_of, wide_of, words_of};
 ghost use Rattle.script.specs.Operands.{read, spelled};
+ghost use Rattle.script.specs.declared.line.Line.TheVariants as said;
 ghost use Rattle.script.specs.Words.{IsTrimmed, behind, starts_number, word_of};
 
 use crate::asking::{alone, say, with_one, with_three, with_two};
@@ -119,15 +120,23 @@ fn line_in<'a>(line: &mut Line<'a>, text: &'a str) -> Option<()>
     ensures { read result line.new ≡ line_of (words_of text.now) }
 {
     let Some(first) = text.as_bytes().first() else {
-        return say(line, Line::Blank);
+        return blank(line);
     };
     if *first == b'#' {
-        return say(line, Line::Blank);
+        return blank(line);
     }
     if first.is_ascii_digit() {
         return node_line(line, text);
     }
     command(line, text)
+}
+
+/// The meaning of a line without words, and of a comment.
+#[inline(never)]
+fn blank(line: &mut Line) -> Option<()>
+    ensures { read result line.new ≡ Some said.Blank }
+{
+    say(line, Line::Blank)
 }
 
 /// The meaning of a line that begins with a node's number.
