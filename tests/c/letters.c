@@ -299,10 +299,10 @@ static void wrong_frames(void)
     right.at[0] = 0x45;
     REFUSED(MARKRING_BAD_FRAME, markring_node_take(&nodes[0], right.at, right.length, &answer));
     drop_bytes(&right);
-    // More references or bytes than the space has, a slot that it hasn't, another node's object.
+    // More references than the space has, a slot that it hasn't, another node's object.
     const markring_ref far = {1, SLOTS, 1}, other = {1, 0, 1}, own_object = {0, 0, 1};
-    bytes wrong[] = {post_frame(1, 7, sent, 4, 0), post_frame(1, 7, sent, 0, 11),
-        post_frame(1, 7, &far, 1, 0), fetch_frame(1, other, 7, 0, 0)};
+    bytes wrong[] = {post_frame(1, 7, sent, 4, 0), post_frame(1, 7, &far, 1, 0),
+        fetch_frame(1, other, 7, 0, 0)};
     for (size_t i = 0; i < sizeof wrong / sizeof *wrong; i++) {
         REFUSED(MARKRING_WRONG_NODE,
             markring_node_take(&nodes[0], wrong[i].at, wrong[i].length, &answer));

@@ -489,8 +489,8 @@ class Node(_Events):
     _kind = "node"
 
     def __init__(self, nodes: int, registers: int, slots: int, own: int, limit: int = 0) -> None:
-        """Makes node `own` of `nodes`, in a plain space. If `limit` isn't 0, `give`, `put` and `get` raise `Congested`
-        while that many messages to the receiver aren't acknowledged."""
+        """Makes node `own` of `nodes`, in a plain space. If `limit` isn't 0, `give`, `post`, `put`, `get` and `fetch` raise
+        `Congested` while that many messages to the receiver aren't acknowledged."""
         super().__init__()
         self._call("new", nodes, registers, slots, own, limit)
 

@@ -110,8 +110,8 @@ impl Node {
         Node::with_limit(nodes, registers, slots, own, 0)
     }
 
-    /// Makes a new node that refuses Give, Put and Get with `Congested` while this many of its
-    /// messages to the receiver, or more, aren't acknowledged. 0 is no limit.
+    /// Makes a new node that refuses Give, Post, Put, Get and Fetch with `Congested` while this many
+    /// of its messages to the receiver, or more, aren't acknowledged. 0 is no limit.
     ///
     /// # Errors
     ///
