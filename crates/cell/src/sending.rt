@@ -14,11 +14,11 @@ ghost use Rattle.std.specs.Prelude.{
   Some,
 };
 ghost use Rattle.ids.specs.declared.refusal.Refusal.TheVariants.{Memory};
-ghost use Rattle.msg.specs.Frames.{plain};
+ghost use Rattle.msg.specs.Frames.{Plain, plain};
 ghost use Rattle.model.specs.Steps.{is_memory_free};
 ghost use Rattle.model.specs.View.{is_other};
 ghost use Rattle.wire.specs.Rule.{receiver, sender, Spells};
-ghost use Rattle.wire.specs.Plays.{Arrives, Releases};
+ghost use Rattle.wire.specs.Plays.{Releases};
 ghost use Rattle.wire.specs.Views.{FindsOther, raises};
 ghost use Rattle.wire.specs.Readers.{
   known,
@@ -33,7 +33,7 @@ ghost use Rattle.wire.specs.Readers.{
   IsSame,
 };
 ghost use Rattle.cell.specs.Desks.{GoesOnAt};
-ghost use Rattle.wire.specs.Sending.{emptied, frame_due, places_after, IsSent};
+ghost use Rattle.wire.specs.Sending.{frame_due, places_after, IsSent, TookOut};
 ghost use Rattle.cell.specs.Events.{event_of, Handled, IsMarked};
 
 use crate::desk::Desk;

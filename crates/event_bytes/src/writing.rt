@@ -1,9 +1,7 @@
 //! Writes events as bytes. Each event has one spelling. It is put together in a piece, which
 //! allocates nothing; the bytes that an event brings follow the piece as they are. Only a letter
 //! with references and bytes that was received doesn't fit into a piece.
-ghost use Rattle.std.specs.Prelude.{◌≡◌, ◌≤◌, ◌<◌, ◌+◌, ◌^◌, ◌∷◌, IfErr, IfOk, None, Some, false, length};
-ghost use Rattle.std.specs.Prelude.{true};
-ghost use Rattle.std.specs.Option.{option_map};
+ghost use Rattle.std.specs.Prelude.{◌≡◌, ◌≤◌, ◌<◌, ◌+◌, ◌^◌, ◌∷◌, IfErr, IfOk, IfSome, IsSome, IsTrue, ◌↔◌, false, length};
 ghost use Rattle.ids.specs.declared.refusal.Refusal.TheVariants.{Memory};
 ghost use Rattle.codec.specs.Formats.{Fits, byte, number2, number4, ◌&◌};
 ghost use Rattle.codec.specs.Writing.{Puts};
@@ -338,9 +336,8 @@ pub fn tail<'a>(event: &Event<'a>) -> &'a [u8]
 /// [`encode_letter`].
 #[inline(always)]
 pub fn letter_of<'a>(event: &'a Event) -> Option<&'a Data>
-    ensures none { is_letter event.now ≡ false → result ≡ None }
-    ensures some { is_letter event.now ≡ true
-        → option_map (λ d. received_of d.now) result ≡ Some (entry_of event.now) }
+    ensures some { IfSome result (λ d. entry_of event.now ≡ received_of d.now) }
+    ensures letter { IsSome result ↔ IsTrue (is_letter event.now) }
 {
     match event {
         Event::Data(message) if is_post(&message.body) => Some(message),
