@@ -25,6 +25,7 @@ static void OF(accept_letter)(uint32_t label, const markring_ref *sent, uint8_t 
     blot(&waiting);
     OK(CALL(letter)(one, &waiting));
     HOLDS(same_answer(&expected, &waiting));
+    memset(found, 0x5A, sizeof found);
     OK(CALL(letter_bytes)(one, found, sizeof found, &needed));
     HOLDS(needed == length && found_given(length));
     blot(&answer);
@@ -179,7 +180,6 @@ static void OF(accept_refusals)(void)
     REFUSED(MARKRING_NO_REGISTER, CALL(accept_into)(one, 18, found, 1000, &needed, &answer));
     REFUSED(MARKRING_NO_REGISTER, CALL(accept_into)(one, 20, found, 1000, &needed, &answer));
     HOLDS(needed == 1000 && found[1000] == 0x5A);
-    memset(found, 0x5A, sizeof found);
     OF(accept_letter)(77, sent, 3, 1000, 1);
     // The last registers.
     SENT(2, CALL(post)(&BOTH[0], 1, 78, 0, 3, given, 0, &answer));
