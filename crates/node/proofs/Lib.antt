@@ -10,6 +10,7 @@ mod Seeing
 mod Errands
 mod Runs
 mod Places
+mod Posting
 mod Receiving
 mod Shading
 mod Messages

@@ -1,13 +1,14 @@
 //! A node together with its early messages. These are kept apart from what is saved, and are in no
 //! state. So each clause about the core is about the event that reaches the core.
-ghost use Rattle.std.specs.Prelude.{◌≡◌, ◌≢◌, ℕ, ◌<◌, ◌≤◌, IsTrue, Ok, Err, Some, option_copied, IfOk, IfErr, OnErr};
+ghost use Rattle.std.specs.Prelude.{◌≡◌, ◌≢◌, ℕ, ◌<◌, ◌≤◌, IsTrue, Ok, Err, Some, true, option_copied, IfOk, IfErr, OnOk, OnErr};
 ghost use Rattle.std.specs.Option.{option_map};
 ghost use Rattle.ids.specs.declared.refusal.Refusal.TheVariants.{Memory, NoNode};
 ghost use Rattle.msg.specs.Frames.{plain_ref};
+ghost use Rattle.msg.specs.Limits.{is_post};
 ghost use Rattle.msg.specs.declared.frame.Data.{Data};
-ghost use Rattle.model.specs.Heaps.{heap_bytes, heap_bytes_len};
+ghost use Rattle.model.specs.Heaps.{oldest_letter, heap_bytes, heap_bytes_len};
 ghost use Rattle.model.specs.State.{NodeState};
-ghost use Rattle.model.specs.Steps.{act, is_memory_free, is_shading};
+ghost use Rattle.model.specs.Steps.{act, is_shading};
 ghost use Rattle.model.specs.View.{Shows, Follows, Performs, Leaves, view_act};
 ghost use Rattle.model.specs.declared.event.Answer.TheVariants as answer;
 ghost use Rattle.model.specs.declared.event.Event.TheVariants as event;
@@ -21,6 +22,7 @@ ghost use Rattle.node.specs.Keeping.{
   alone,
   early_after,
   emptied_at,
+  is_spared,
   kept_whole,
   kept_whole_with,
   met,
@@ -98,8 +100,9 @@ impl Node {
     ///
     /// These never fail with `Memory`: `Copy`, `Drop`, `Store`, `Clear`, `Word`, `SetWord`,
     /// `Patch`, `Accept`, `Ack`, a `Sweep` that leaves slots or is node 0's, a `Next` for which no
-    /// message waits, and a message that isn't the next one. `Word`, a repeated message and an
-    /// early one also leave the core as it was.
+    /// message waits, and a message that isn't the next one, unless it is early and a letter with
+    /// references and bytes. `Word`, a repeated message and an early one also leave the core as it
+    /// was.
     ///
     /// An early message is kept, unless its place is taken already. `Next` receives the message
     /// that waits, as if it arrived now, and fails with `NothingToDo` if none does. If that message
@@ -114,8 +117,8 @@ impl Node {
             (act s (met self.old.early event.now)) }
         ensures unchanged { OnErr result (self.new.core ≡ self.old.core) }
         ensures leaves { Leaves self.old.core self.new.core (met self.old.early event.now) }
-        ensures memory_free { IsTrue (is_memory_free self.old.core.local
-            (met self.old.early event.now)) → IfErr result (λ e. e ≢ Memory) }
+        ensures memory_free { IsTrue (is_spared self.old.core.local self.old.early event.now)
+            → IfErr result (λ e. e ≢ Memory) }
         ensures early { self.new.early
             ≡ early_after self.old.core.local self.old.early event.now result }
         ensures turn { met self.old.early event.now ≢ event.now
@@ -153,7 +156,7 @@ impl Node {
     {
         let taken = self.core.taken_from(frame.from);
         let answer = self.core.take_in(frame)?;
-        keep(&mut self.early, taken, frame, answer);
+        keep(&mut self.early, taken, frame, answer)?;
         Ok(answer)
     }
 
@@ -225,6 +228,14 @@ impl Node {
         self.core.bytes_len(object)
     }
 
+    /// The bytes of the oldest letter that waits; none if no letter waits. `Accept` takes the letter
+    /// with its bytes, so read them before.
+    pub fn letter_bytes(&self) -> &[u8]
+        ensures { result.now ≡ (oldest_letter self.now.core.local.heap).bytes }
+    {
+        self.core.letter_bytes()
+    }
+
     /// The node in numbers.
     pub fn state(&self) -> Summary
         ensures value { result ≡ summary_of self.now.core.local }
@@ -279,16 +290,22 @@ fn put(early: &mut Vec<EarlyFrames>, from: u8, place: usize, frame: Data)
 }
 
 /// Updates the early messages after this message got this answer. Before it, `taken` messages of
-/// its sender had been received.
-fn keep(early: &mut Vec<EarlyFrames>, taken: u64, frame: &Data, answer: Answer)
-    ensures { early.new.items ≡ after_data taken early.old.items frame.now (Ok answer) }
+/// its sender had been received. It fails with `Memory` if the message is early and can't be copied,
+/// which only happens to a letter with references and bytes.
+fn keep(early: &mut Vec<EarlyFrames>, taken: u64, frame: &Data, told: Answer) -> Result<(), Refusal>
+    ensures done { OnOk result
+        (early.new.items ≡ after_data taken early.old.items frame.now (Ok told)) }
+    ensures refused { IfErr result (λ e. (e ≡ Memory) × (told ≡ answer.Early)) }
+    ensures letter { OnErr result (is_post frame.now.body ≡ true) }
+    ensures unchanged { OnErr result (early.new.items ≡ early.old.items) }
 {
-    match answer {
+    match told {
         Answer::Received => shift(early, frame.from),
         Answer::Early => {
             let place = frame.number.saturating_sub(taken).saturating_sub(1);
-            put(early, frame.from, place as usize, frame.copy());
+            put(early, frame.from, place as usize, frame.copy()?);
         }
         _ => {}
     }
+    Ok(())
 }

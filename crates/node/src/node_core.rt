@@ -134,6 +134,13 @@ impl Core {
                 label,
                 register,
             } => self.give(to, label, register),
+            Event::Post {
+                to,
+                label,
+                first,
+                count,
+                bytes,
+            } => self.post(to, label, first, count, bytes),
             Event::Accept { register } => self.accept(register),
             Event::Put {
                 object,
@@ -145,6 +152,12 @@ impl Core {
                 place,
                 label,
             } => self.get(object, place, label),
+            Event::Fetch {
+                object,
+                label,
+                offset,
+                count,
+            } => self.fetch(object, label, offset, count),
             Event::Reclaim { scope } => self.reclaim(scope),
             Event::Begin => self.begin(),
             Event::Scan => self.scan(),
