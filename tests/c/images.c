@@ -17,8 +17,8 @@ typedef struct image {
     uint16_t registers;
     uint32_t slots, most_bytes, cursor, used, free_count, grey_count, asked_count, letter_count;
     uint32_t free[2], grey[2];
-    // In a wide space: how many entries of the same letter follow each, and how many bytes the first
-    // one has. What a Post or a Fetch in the links has; each byte is 7.
+    // In a wide space: how many entries of the same letter follow each, and how many bytes the
+    // first one has. What a Post or a Fetch in the links has; each byte is 7.
     uint8_t letter_more[3], post_count;
     uint32_t letter_bytes, post_bytes, fetch_count;
     uint64_t cycle, ended, swept, reports[NODES - 1], base[NODES], received[NODES], stamp;
