@@ -12,7 +12,7 @@ use Rattle.model.specs.declared.event.Answer.{Answer}
 use Rattle.model.specs.declared.event.Answer.TheVariants as answer
 use Rattle.model.specs.State.{got_from}
 use Rattle.model.specs.Checks.{IsOkOrSpent, by_memory}
-use Rattle.model.specs.Steps.{is_addressed, is_early, is_memory_free, is_shading}
+use Rattle.model.specs.Steps.{is_addressed, is_early, is_memory_free, is_next, is_shading}
 use Rattle.model.specs.View.{NodeView, Performed, view_act}
 use Rattle.model.proofs.Shown.{act-shown}
 use Rattle.model.proofs.Leaving.{Turned, again, ahead, due, got_after, act-got, act-leaves, data-turned}
@@ -250,7 +250,7 @@ pub data-handled : {n m : NodeView} {es fs : Rings} {d : Data} {r : Result Answe
 data-handled {n} {m} {es} {fs} {d} {r} h p free kept = record {
   before = h;
   performed = p;
-  memory_free = λ safe. free (and_parts (is_memory_free n.local (event.Data d)) _ safe).0;
+  memory_free = free;
   early = kept;
 }
 
@@ -288,9 +288,9 @@ module _ (n m : NodeView) (d : Data) (a : Answer)
       unchanged = ahead-both.1;
     };
     memory_free = λ safe _.
-        let never : not (is_early n.local d.from d.number && is_post d.body) ≡ true =
-        (and_parts (is_memory_free n.local (event.Data d)) _ safe).1 in
-        let yes : not true ≡ true = rw (ahead-both.0, post) at never in
+        let never : not (is_post d.body && is_early n.local d.from d.number) ≡ true =
+        (and_parts (not (is_next n.local d.from d.number)) _ safe).1 in
+        let yes : not true ≡ true = rw (post, ahead-both.0) at never in
         absurd cc;
     early = kept;
   }

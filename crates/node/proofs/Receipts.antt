@@ -20,7 +20,7 @@ use Rattle.model.specs.Effects.{Work, at_rest}
 use Rattle.model.specs.Shading.{filled, is_calm, join, joined, roots, stays_calm}
 use Rattle.model.specs.declared.event.Answer.TheVariants as answer
 use Rattle.model.specs.declared.event.Event.TheVariants as event
-use Rattle.model.specs.Steps.{is_addressed, is_marking, is_memory_free, is_within, are_within, mentioned, may_reach, may_take}
+use Rattle.model.specs.Steps.{is_addressed, is_marking, is_memory_free, is_within, are_within, mentioned, may_reach, may_take, is_next}
 use Rattle.model.specs.View.{NodeView, Performed, view_act}
 use Rattle.model.specs.References.{IsWithin}
 use Rattle.model.proofs.Joining.{join-calm, join-phases, join-token}
@@ -221,7 +221,8 @@ module _ (n : NodeView) (d : Data) where
     pub busy : IsTrue (is_memory_free n.local (event.Data d)) → ⊥
     busy free =
         let never : not true ≡ true =
-        subst (λ (b : Bool). not b ≡ true) (eq-eqb d.number (got + 1) turn) free in
+        subst (λ (b : Bool). not b ≡ true) (eq-eqb d.number (got + 1) turn)
+        (and_parts (not (is_next n.local d.from d.number)) _ free).0 in
         absurd cc
 
 pub ruleset joining = (joined-token, joined-swept, marks-later, calm-later)

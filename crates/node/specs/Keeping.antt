@@ -1,9 +1,8 @@
 -- What a node keeps in addition to its core: early messages of other nodes.
-use Rattle.std.specs.Prelude.{◌≡◌, ℕ, ◌+◌, ◌-◌, Bool, ◌&&◌, not, List, length, replicate, Option, Some, None, Result, Ok, Err, IfErr, IsTrue, ◌≢◌, slice_index_or, slice_set}
+use Rattle.std.specs.Prelude.{◌≡◌, ℕ, ◌+◌, ◌-◌, List, length, replicate, Option, Some, None, Result, Ok, Err, IfErr, IsTrue, ◌≢◌, slice_index_or, slice_set}
 use Rattle.ids.specs.Limits.{Shaped}
 use Rattle.ids.specs.declared.refusal.Refusal.{Refusal}
 use Rattle.ids.specs.declared.refusal.Refusal.TheVariants.{Memory}
-use Rattle.msg.specs.Limits.{is_post}
 use Rattle.msg.specs.declared.frame.Data.{Data}
 use Rattle.model.specs.declared.event.Event.{Event}
 use Rattle.model.specs.declared.event.Event.TheVariants as event
@@ -12,7 +11,7 @@ use Rattle.model.specs.declared.event.Answer.TheVariants as answer
 use Rattle.model.specs.declared.step.Step.{Step}
 use Rattle.model.specs.declared.step.Step.TheVariants as step
 use Rattle.model.specs.State.{LocalState, got_from}
-use Rattle.model.specs.Steps.{is_early, is_memory_free, is_shading}
+use Rattle.model.specs.Steps.{is_memory_free, is_shading}
 use Rattle.model.specs.View.{NodeView, Performed, new_view, kept_view, kept_with, view_act}
 use Rattle.link.specs.Early.{no_early, place_at, placed, shifted, emptied}
 
@@ -68,15 +67,6 @@ next_step own from (Some d) = step.Deliver from own d.number
 abbrev pub own_step : Rings → ℕ → Event → Step
 own_step es own (event.Next from) = next_step own from (waiting es from)
 own_step es own e = step.Act own e
-
--- The message comes early, and a copy of it may fail: it is a letter with references and bytes.
-abbrev pub is_copied : LocalState → Data → Bool
-is_copied p d = is_early p d.from d.number && is_post d.body
-
--- an event that never fails for lack of memory at a node that keeps early messages
-abbrev pub is_spared : LocalState → Rings → Event → Bool
-is_spared p es (event.Data d) = is_memory_free p (event.Data d) && not (is_copied p d)
-is_spared p es e = is_memory_free p (met es e)
 
 -- ---- what is kept afterwards
 
@@ -146,6 +136,6 @@ pub record Handled (old new : WholeNode) (e : Event) (r : Result Answer Refusal)
   pub before : AreKeptIn old
   pub performed : Performed (is_shading (met old.early e)) r old.core new.core
       (view_act old.core (met old.early e))
-  pub memory_free : IsTrue (is_spared old.core.local old.early e)
+  pub memory_free : IsTrue (is_memory_free old.core.local (met old.early e))
       → IfErr r (λ f. f ≢ Memory)
   pub early : new.early ≡ early_after old.core.local old.early e r

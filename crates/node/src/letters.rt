@@ -13,7 +13,7 @@ impl Node {
     pub fn letter(&self) -> Result<Accepted, Refusal>
         ensures { result ≡ heap_letter self.now.core.local.heap }
     {
-        self.core.letter()
+        self.core().letter()
     }
 
     /// The bytes of the oldest letter. It fails as [`Node::letter`] does.
@@ -21,7 +21,7 @@ impl Node {
         ensures value { IfOk result (λ b. heap_letter_bytes self.now.core.local.heap ≡ Ok b.now) }
         ensures refused { IfErr result (λ e. heap_letter_bytes self.now.core.local.heap ≡ Err e) }
     {
-        self.core.letter_bytes()
+        self.core().letter_bytes()
     }
 
     /// The first bytes of the oldest letter, this many of them. It fails as [`Node::letter`] does,
@@ -30,6 +30,6 @@ impl Node {
         ensures value { IfOk result (λ b. heap_letter_part self.now.core.local.heap count ≡ Ok b.now) }
         ensures refused { IfErr result (λ e. heap_letter_part self.now.core.local.heap count ≡ Err e) }
     {
-        self.core.letter_part(count)
+        self.core().letter_part(count)
     }
 }

@@ -6,9 +6,9 @@ ghost use Rattle.ids.specs.declared.refusal.Refusal.TheVariants.{Memory, NoNode}
 ghost use Rattle.msg.specs.Frames.{plain_ref};
 ghost use Rattle.msg.specs.Limits.{is_post};
 ghost use Rattle.msg.specs.declared.frame.Data.{Data};
-ghost use Rattle.model.specs.Heaps.{oldest_letter, heap_bytes, heap_bytes_len};
+ghost use Rattle.model.specs.Heaps.{heap_bytes, heap_bytes_len};
 ghost use Rattle.model.specs.State.{NodeState};
-ghost use Rattle.model.specs.Steps.{act, is_shading};
+ghost use Rattle.model.specs.Steps.{act, is_memory_free, is_shading};
 ghost use Rattle.model.specs.View.{Shows, Follows, Performs, Leaves, view_act};
 ghost use Rattle.model.specs.declared.event.Answer.TheVariants as answer;
 ghost use Rattle.model.specs.declared.event.Event.TheVariants as event;
@@ -22,7 +22,6 @@ ghost use Rattle.node.specs.Keeping.{
   alone,
   early_after,
   emptied_at,
-  is_spared,
   kept_whole,
   kept_whole_with,
   met,
@@ -117,8 +116,8 @@ impl Node {
             (act s (met self.old.early event.now)) }
         ensures unchanged { OnErr result (self.new.core ≡ self.old.core) }
         ensures leaves { Leaves self.old.core self.new.core (met self.old.early event.now) }
-        ensures memory_free { IsTrue (is_spared self.old.core.local self.old.early event.now)
-            → IfErr result (λ e. e ≢ Memory) }
+        ensures memory_free { IsTrue (is_memory_free self.old.core.local
+            (met self.old.early event.now)) → IfErr result (λ e. e ≢ Memory) }
         ensures early { self.new.early
             ≡ early_after self.old.core.local self.old.early event.now result }
         ensures turn { met self.old.early event.now ≢ event.now
@@ -226,14 +225,6 @@ impl Node {
         ensures { let p = self.now.core.local in result ≡ heap_bytes_len p.own p.heap object }
     {
         self.core.bytes_len(object)
-    }
-
-    /// The bytes of the oldest letter that waits; none if no letter waits. `Accept` takes the letter
-    /// with its bytes, so read them before.
-    pub fn letter_bytes(&self) -> &[u8]
-        ensures { result.now ≡ (oldest_letter self.now.core.local.heap).bytes }
-    {
-        self.core.letter_bytes()
     }
 
     /// The node in numbers.

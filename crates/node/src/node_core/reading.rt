@@ -3,7 +3,7 @@
 ghost use Rattle.std.specs.Prelude.{◌≡◌, ℕ, ◌<◌, length, slice_index_or, is_some, None};
 ghost use Rattle.std.specs.Prelude.{Ok, Err, IfOk, IfErr, option_copied};
 ghost use Rattle.model.specs.State.{got_from, slot_at};
-ghost use Rattle.model.specs.Heaps.{object_at, oldest_letter, heap_bytes, heap_bytes_len};
+ghost use Rattle.model.specs.Heaps.{object_at, heap_bytes, heap_bytes_len};
 ghost use Rattle.model.specs.Shading.{roots};
 ghost use Rattle.model.specs.Collecting.{places_in};
 ghost use Rattle.model.specs.View.{link_to, message_of};
@@ -68,13 +68,6 @@ impl Core {
         ensures { let p = self.now.local in result ≡ heap_bytes_len p.own p.heap object }
     {
         self.heap.bytes_len(self.own, object)
-    }
-
-    /// The bytes of the oldest letter that waits; none if no letter waits.
-    pub fn letter_bytes(&self) -> &[u8]
-        ensures { result.now ≡ (oldest_letter self.now.local.heap).bytes }
-    {
-        self.heap.letter_bytes()
     }
 
     /// The number of messages received from the node `from`; 0 if there is no such node.
