@@ -144,8 +144,8 @@ static unsigned long crashes, cycles, answers, lost;
 // Objects that the cycles of checkpoints freed, and those that were reached there.
 static unsigned long freed, kept;
 static unsigned long written, patched, read, reclaimed, young, looked_at;
-// Letters with several references, letters with bytes, and fetched ranges of bytes.
-static unsigned long several, with_bytes, fetched;
+// Letters with several references, letters with bytes, fetched words, and ranges of bytes.
+static unsigned long several, with_bytes, fetched, ranges;
 
 static message *sent_by(model *it, uint8_t to, size_t index)
 {
@@ -398,10 +398,11 @@ static void fetch(uint8_t own_number, uint16_t object)
     uint8_t to = now->registers[object].node;
     int congested = markring_ref_is_some(now->registers[object]) && is_congested(own_number, to);
     message it = {.tag = 10, .label = (uint32_t)draw(&seed), .about = now->registers[object]};
-    it.offset = below(&seed, 4) != 0 ? below(&seed, BYTES + 2) : (uint32_t)draw(&seed);
-    it.count = below(&seed, 4) != 0 ? below(&seed, BYTES + 2) : below(&seed, 2) << 31;
+    // More often than not a range that the object may have.
+    it.offset = below(&seed, 3) != 0 ? below(&seed, 4) : below(&seed, BYTES + 2);
+    it.count = below(&seed, 4) != 0 ? below(&seed, 8) : below(&seed, 2) << 31;
     int expected = congested ? MARKRING_CONGESTED : far_place(own_number, object, 0);
-    if (expected == MARKRING_OK && (!is_wide || it.count > BYTES + 1)) {
+    if (expected == MARKRING_OK && (!is_wide || it.count >= UINT32_C(1) << 31)) {
         expected = MARKRING_TOO_MANY_BYTES;
     }
     if (IS(expected, markring_node_fetch(&sites[own_number].node, object, it.label, it.offset,
@@ -558,7 +559,7 @@ static void program(uint8_t own_number)
     uint8_t more = is_wide && below(&seed, 2) != 0 ? PLACES - 2 : 0;
     uint8_t place = (uint8_t)(more + below(&seed, 3));
     answers++;
-    switch (below(&seed, 15)) {
+    switch (below(&seed, 16)) {
     case 0:
     case 1:
         alloc(own_number, (uint16_t)(reg + below(&seed, 8) / 7),
@@ -574,7 +575,8 @@ static void program(uint8_t own_number)
     case 9: put_or_get(own_number, reg, place, other, 0); break;
     case 10:
     case 11: use_bytes(own_number, reg); break;
-    case 12: fetch(own_number, reg); break;
+    case 12:
+    case 13: fetch(own_number, reg); break;
     default: read_and_write(own_number, reg, place, other);
     }
 }
@@ -587,17 +589,17 @@ static message fetched_of(const message *it, const object *about)
 {
     message answer = {.tag = 9, .label = it->label};
     content *in = &answer.content;
-    HOLDS(about != NULL);
-    if (about == NULL) {
+    if (!HOLDS(about != NULL)) {
         return answer;
     }
+    fetched++;
     for (int i = 0; i < WORD; i++) {
         in->bytes[in->length++] = (uint8_t)(about->word >> 8 * (WORD - 1 - i));
     }
     if (it->offset <= about->length && it->count <= about->length - it->offset) {
         memcpy(in->bytes + WORD, about->bytes + it->offset, it->count);
         in->length = (uint8_t)(in->length + it->count);
-        fetched += it->count > 0;
+        ranges += it->count > 0;
     }
     return answer;
 }
@@ -1178,11 +1180,12 @@ int main(int length, char **given)
     HOLDS(freed >= seeds && kept >= seeds);
     HOLDS(written > 0 && patched > 0 && read > 0 && reclaimed > 0 && young > 0);
     HOLDS(looked_at >= seeds && several > 0 && with_bytes > 0 && fetched > 0);
+    HOLDS(ranges > 0 || seeds < 20);
     printf("%lu events of programs, %lu crashes, %lu cycles, %lu frames lost, %lu objects freed, "
            "%lu and %lu reclaimed, %lu kept, %lu looked at; bytes set %lu times, patched %lu "
            "times, read %lu times; %lu letters with several references, %lu with bytes, %lu "
-           "ranges fetched\n",
+           "words and %lu ranges fetched\n",
         answers, crashes, cycles, lost, freed, young, reclaimed, kept, looked_at, written, patched,
-        read, several, with_bytes, fetched);
+        read, several, with_bytes, fetched, ranges);
     return report();
 }
