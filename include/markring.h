@@ -86,7 +86,7 @@ enum markring_status {
     MARKRING_NO_LETTER = 8,
     // The object has no such place, or no object can have it, or the object isn't live.
     MARKRING_NO_FIELD = 9,
-    // The object would have more places than the space allows.
+    // The object would have more places than the space allows, or the letter more references.
     MARKRING_TOO_MANY_FIELDS = 10,
     // The letter is for the node itself.
     MARKRING_SELF_SEND = 11,
@@ -116,7 +116,7 @@ enum markring_status {
     MARKRING_DISK = 23,
     // A cell's disk or a reopening failed, and no reopening has succeeded since.
     MARKRING_CLOSED = 24,
-    // An object would have more bytes than the space allows; in a plain space, any.
+    // An object or a letter would have more bytes than the space allows; in a plain space, any.
     MARKRING_TOO_MANY_BYTES = 25,
     // The object doesn't have all of these bytes.
     MARKRING_NO_BYTES = 26,
@@ -361,9 +361,9 @@ typedef struct markring_object {
 // Makes a new node of a plain space: node `own` of `nodes`, each with this many registers and
 // slots. At first nothing is allocated, sent or received, and nothing is unsaved.
 //
-// If `limit` isn't 0, the node refuses Give, Put and Get with MARKRING_CONGESTED, before any other
-// test, while `limit` or more of its messages to the receiver aren't acknowledged. Messages of the
-// collector and answers to a Get are never refused, so there may be more.
+// If `limit` isn't 0, the node refuses Give, Post, Put, Get and Fetch with MARKRING_CONGESTED, before
+// any other test, while `limit` or more of its messages to the receiver aren't acknowledged. Messages
+// of the collector and answers to a Get or a Fetch are never refused, so there may be more.
 //
 // MARKRING_IN_USE: the handle isn't empty. MARKRING_BAD_ARGUMENT: `nodes` isn't 2 to 64, or
 // `registers` 1 to 256, or `slots` 1 to 1,048,576. MARKRING_NO_NODE: `own` isn't below `nodes`.

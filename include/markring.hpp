@@ -413,20 +413,23 @@ public:
     // The frames in the window whose numbers are above `after`, in order.
     std::vector<Frame> frames(std::uint8_t to, std::uint64_t after = 0)
     {
-        std::uint8_t buffer[MARKRING_WINDOW_BYTES];
+        std::uint8_t window[MARKRING_WINDOW_BYTES];
+        Bytes longer;
+        const std::uint8_t *from = window;
         std::size_t count = 0, needed = 0;
-        std::vector<Frame> frames;
-        const int status = markring_node_frames(get(), to, after, buffer, sizeof buffer, &count,
-            &needed);
-        if (needed > sizeof buffer) {
-            return long_frames(to, after);
+        int status = markring_node_frames(get(), to, after, window, sizeof window, &count, &needed);
+        if (needed > sizeof window) {
+            // Letters with references or bytes.
+            longer.resize(needed);
+            from = longer.data();
+            status = markring_node_frames(get(), to, after, longer.data(), longer.size(), &count,
+                &needed);
         }
-        if (inside::found(status)) {
-            for (const std::uint8_t *from = buffer; frames.size() < count;) {
-                const std::size_t length = static_cast<std::size_t>(number(from, 2));
-                frames.push_back({number(from + 2, 8), Bytes(from + 10, from + 10 + length)});
-                from += 10 + length;
-            }
+        std::vector<Frame> frames;
+        while (inside::found(status) && frames.size() < count) {
+            const std::size_t length = static_cast<std::size_t>(number(from, 4));
+            frames.push_back({number(from + 4, 8), Bytes(from + 12, from + 12 + length)});
+            from += 12 + length;
         }
         return frames;
     }
@@ -460,22 +463,6 @@ private:
     int frame(std::uint8_t to, std::uint8_t place, Bytes &bytes, std::size_t &needed)
     {
         return markring_node_frame_at(get(), to, place, bytes.data(), bytes.size(), &needed);
-    }
-    // The frames one by one, if letters with references or bytes make the window long.
-    std::vector<Frame> long_frames(std::uint8_t to, std::uint64_t after)
-    {
-        std::vector<Frame> frames;
-        std::uint64_t number = link(to).acknowledged;
-        for (std::uint8_t place = 0; place < MARKRING_WINDOW; place++) {
-            std::optional<Bytes> bytes = frame_at(to, place);
-            if (!bytes) {
-                break;
-            }
-            if (++number > after) {
-                frames.push_back({number, std::move(*bytes)});
-            }
-        }
-        return frames;
     }
     // A big-endian number of this many bytes.
     static std::uint64_t number(const std::uint8_t *from, int length)

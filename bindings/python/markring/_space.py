@@ -11,8 +11,7 @@ from .errors import Ages, BadArgument, NoField, check, found
 
 LENGTH, NUMBER = 4, 8
 FRAME = 48
-WINDOW = 1_856
-PLACES = 32
+WINDOW = 1_920
 Own = TypeVar("Own", bound="_Handle")
 
 
@@ -490,8 +489,8 @@ class Node(_Events):
     _kind = "node"
 
     def __init__(self, nodes: int, registers: int, slots: int, own: int, limit: int = 0) -> None:
-        """Makes node `own` of `nodes`, in a plain space. If `limit` isn't 0, `give`, `put` and `get` raise `Congested`
-        while that many messages to the receiver aren't acknowledged."""
+        """Makes node `own` of `nodes`, in a plain space. If `limit` isn't 0, `give`, `post`, `put`, `get` and `fetch` raise
+        `Congested` while that many messages to the receiver aren't acknowledged."""
         super().__init__()
         self._call("new", nodes, registers, slots, own, limit)
 
@@ -567,7 +566,9 @@ class Node(_Events):
         count, needed = ctypes.c_size_t(), ctypes.c_size_t()
         status = self._status("frames", to, after, buffer, WINDOW, count, needed)
         if needed.value > WINDOW:
-            return self._long_frames(to, after)
+            # Letters with references or bytes.
+            buffer = ctypes.create_string_buffer(needed.value)
+            status = self._status("frames", to, after, buffer, len(buffer), count, needed)
         if not found(status):
             return []
         found_frames, rest = [], buffer.raw
@@ -577,12 +578,6 @@ class Node(_Events):
             found_frames.append((number, rest[:length]))
             rest = rest[length:]
         return found_frames
-
-    def _long_frames(self, to: int, after: int) -> list[tuple[int, bytes]]:
-        # The frames one by one, if letters with references or bytes make the window long.
-        first = self.link(to).acknowledged + 1
-        all_frames = ((first + place, self.frame_at(to, place)) for place in range(PLACES))
-        return [(number, frame) for number, frame in all_frames if frame is not None and number > after]
 
     def kept(self, mark: int) -> None:
         """Says that the image or batch with this mark is stored. What it holds counts as saved."""

@@ -162,7 +162,7 @@ pub trait Events {
     ///
     /// # Errors
     ///
-    /// `NoLetter`, `NoRegister`, `Memory`. The letter stays, and what the vector has isn't said.
+    /// `NoLetter`, `NoRegister`, `Memory`. The letter stays; the vector may have other bytes then.
     fn accept_into(&self, register: u16, bytes: &mut Vec<u8>) -> Result<Letter>;
 
     /// Accepts the oldest letter as [`accept`](Events::accept) does, and returns its bytes, too.

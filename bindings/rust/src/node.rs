@@ -11,10 +11,9 @@ use core::ffi::c_int;
 use core::fmt;
 
 // The greatest sizes of a frame, and of a window of frames with their lengths and numbers, unless
-// there are letters with references or bytes. How many frames a window has.
+// there are letters with references or bytes.
 const FRAME: usize = 48;
-const WINDOW: usize = 1_856;
-const PLACES: u8 = 32;
+const WINDOW: usize = 1_920;
 // Before each frame of a window: its length, and its number.
 const LENGTH: usize = 4;
 const NUMBER: usize = 8;
@@ -111,8 +110,8 @@ impl Node {
         Node::with_limit(nodes, registers, slots, own, 0)
     }
 
-    /// Makes a new node that refuses Give, Put and Get with `Congested` while this many of its
-    /// messages to the receiver, or more, aren't acknowledged. 0 is no limit.
+    /// Makes a new node that refuses Give, Post, Put, Get and Fetch with `Congested` while this many
+    /// of its messages to the receiver, or more, aren't acknowledged. 0 is no limit.
     ///
     /// # Errors
     ///
@@ -232,26 +231,18 @@ impl Node {
     /// `NoNode`, `Memory`.
     pub fn frames(&self, to: u8, after: u64) -> Result<Vec<Frame>> {
         let mut buffer = [0; WINDOW];
-        let (mut count, mut needed) = (0, 0);
-        // SAFETY: the buffer has the length that is passed.
-        let status = unsafe {
-            ffi::markring_node_frames(
-                self.at.get(),
-                to,
-                after,
-                buffer.as_mut_ptr(),
-                buffer.len(),
-                &mut count,
-                &mut needed,
-            )
-        };
-        if needed > buffer.len() {
-            return self.long_frames(to, after);
+        let (mut long_buffer, mut count, mut needed) = (Vec::new(), 0, 0);
+        let mut status = self.write_frames(to, after, &mut buffer, &mut count, &mut needed);
+        let mut rest = &buffer[..];
+        if needed > WINDOW {
+            // Letters with references or bytes.
+            refill(&mut long_buffer, needed)?;
+            status = self.write_frames(to, after, &mut long_buffer, &mut count, &mut needed);
+            rest = &long_buffer;
         }
         if !found(status)? {
             return Ok(Vec::new());
         }
-        let mut rest = &buffer[..needed];
         let mut frames = Vec::new();
         frames
             .try_reserve_exact(count)
@@ -267,21 +258,19 @@ impl Node {
         Ok(frames)
     }
 
-    // The frames one by one, if letters with references or bytes make the window long.
-    fn long_frames(&self, to: u8, after: u64) -> Result<Vec<Frame>> {
-        let first = self.link(to)?.acknowledged + 1;
-        let mut frames = Vec::new();
-        for place in 0..PLACES {
-            let Some(bytes) = self.frame_at(to, place)? else {
-                break;
-            };
-            let number = first + u64::from(place);
-            if number > after {
-                frames.try_reserve(1).map_err(|_| Refusal::Memory)?;
-                frames.push(Frame { number, bytes });
-            }
-        }
-        Ok(frames)
+    // Writes frames of the window to the buffer, how many, and how many bytes all have. Returns the
+    // status.
+    fn write_frames(
+        &self,
+        to: u8,
+        after: u64,
+        buffer: &mut [u8],
+        count: &mut usize,
+        needed: &mut usize,
+    ) -> c_int {
+        let (start, length) = (buffer.as_mut_ptr(), buffer.len());
+        // SAFETY: the buffer has the length that is passed.
+        unsafe { ffi::markring_node_frames(self.at.get(), to, after, start, length, count, needed) }
     }
 
     /// The acknowledgement to the node `from` of all its messages up to the last one that a saved
