@@ -12,7 +12,7 @@ pub returns-then-is_old-clause-notes : goal.returns-then-is_old-clause-notes
 returns-then-is_old-clause-notes c =
     let old = c.args.node.now in
     let is_old : is_old_ack old.core (met old.early c.args.event.now) ≡ true =
-    ap (is_old_ack old.core) (sym (c.meant-meant.ensures ∙ c.turned-turned.ensures))
+    ap (is_old_ack old.core) (sym (c.meant-meant.ensures ∙ c.turned-turned.ensures.met))
     ∙ sym c.is_old_ack-is_old.ensures
     ∙ c.if-is_old.true in
     record {
@@ -29,7 +29,7 @@ returns-then-is_change-clause-notes c =
     let e = c.meant-meant.result.now in
     let done : IsDone old.core e new.core = record {
       answer = c.in_ok-answer.answer;
-      acts = ap (view_act old.core) (c.meant-meant.ensures ∙ c.turned-turned.ensures)
+      acts = ap (view_act old.core) (c.meant-meant.ensures ∙ c.turned-turned.ensures.met)
           ∙ c.in_ok-answer.ensures.performs;
       now = sym c.is_change.ensures ∙ c.if-is_change.true;
     } in
