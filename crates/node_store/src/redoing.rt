@@ -108,7 +108,9 @@ fn redo(node: &mut Node, batch: &[u8]) -> Result<(), Refusal>
         if !reader.is_open() {
             return Err(Refusal::BadImage);
         }
-        perform(node, &event)?;
+        let done = perform(node, &event);
+        drop(event);
+        done?;
     }
     node.mark_saved();
     Ok(())
