@@ -10,6 +10,7 @@ ghost use Rattle.c_handles.specs.Reads.{link_of, object_bytes, object_len, regis
 ghost use Rattle.c_values.specs.Bytes.{WroteIf};
 
 mod objects;
+mod working;
 
 use crate::Marked;
 use crate::lone::reading::{bytes_len_of, bytes_of, link_of, register_of};
