@@ -97,8 +97,8 @@ impl Work {
     }
 }
 
-/// Why the collector's share of a turn ended early, and what it had done. It becomes its refusal by
-/// `?`, where that is a [`Refusal`].
+/// Why the collector's share of a turn ended early, and what it had done. In a function that returns
+/// a [`Refusal`], `?` makes the refusal of it.
 #[derive(Clone, Copy, Debug, PartialEq, Eq, Hash)]
 pub struct Stopped {
     /// Why.
