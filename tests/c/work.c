@@ -333,7 +333,7 @@ static void sweeps(void)
     OK(markring_node_free(&nodes[1]));
 }
 
-// ## Refusals
+// ## Refusals and logs
 
 // Gives node 2 the frame of a letter without a reference: the sender, the number, the stamp.
 static int take_letter(markring_node *node, uint8_t from, uint64_t number, uint64_t stamp)
@@ -375,6 +375,34 @@ static void refused_message(void)
     OK(take_letter(&node, 1, 2, 0));
     expect_work(&node, 9, 9, (markring_work){.received = 1});
     OK(markring_node_free(&node));
+}
+
+// What work did is in the node's log, event by event: a batch leads to the same node.
+static void logged(void)
+{
+    static uint8_t image[4096], batch[4096];
+    markring_node node = {0}, again = {0};
+    size_t image_length = 0, batch_length = 0;
+    uint64_t mark = 0;
+    OK(markring_node_new(&node, 3, 4, 16, 2, 0));
+    OK(markring_node_alloc(&node, 0, 0, &answer));
+    OK(markring_node_alloc(&node, 1, 0, &answer));
+    OK(markring_node_log(&node, 1));
+    OK(markring_node_image(&node, image, sizeof image, &image_length, &mark));
+    OK(markring_node_kept(&node, mark));
+    OK(take_letter(&node, 0, 3, 0));
+    OK(take_letter(&node, 0, 2, 0));
+    OK(take_letter(&node, 0, 1, 1));
+    expect_work(&node, 1, 9, (markring_work){.received = 2, .scanned = 1, .more = 1});
+    expect_work(&node, 9, 9, (markring_work){.scanned = 1});
+    OK(markring_node_batch(&node, batch, sizeof batch, &batch_length, &mark));
+    OK(markring_node_from_batches(&again, image, image_length, batch, batch_length, 0));
+    bytes expected = image_of(&node), found = image_of(&again);
+    HOLDS(same_bytes(&expected, &found));
+    drop_bytes(&expected);
+    drop_bytes(&found);
+    OK(markring_node_free(&node));
+    OK(markring_node_free(&again));
 }
 
 // Memory is refused to each allocation of a scan in turn: what was scanned before is counted, and
@@ -509,6 +537,7 @@ int main(int count, char **words)
     limits();
     sweeps();
     refused_message();
+    logged();
     refused_memory();
     cells();
     for (unsigned long i = 1; i <= seeds; i++) {
