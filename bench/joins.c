@@ -86,12 +86,10 @@ static void send(uint8_t from, uint8_t to)
 static void end_cycle(void)
 {
     markring_state zero, one;
+    markring_work work;
     do {
         for (uint8_t node = 0; node < 2; node++) {
-            while (markring_node_scan(&nodes[node], &answer) == MARKRING_OK) {
-            }
-            (void)markring_node_pass(&nodes[node], &answer);
-            (void)markring_node_sweep(&nodes[node], SLOTS, &answer);
+            MUST(markring_node_work(&nodes[node], UINT32_MAX, SLOTS, &work));
             MUST(markring_node_release(&nodes[node]));
             send(node, 1 - node);
         }

@@ -93,12 +93,10 @@ static uint8_t *image(size_t *length)
 
 static void mark_all(uint32_t objects)
 {
-    uint32_t count = 0;
+    markring_work work;
     MUST(markring_node_begin(&node, &answer));
-    while (markring_node_scan(&node, &answer) == MARKRING_OK) {
-        count++;
-    }
-    if (count != objects) {
+    MUST(markring_node_work(&node, UINT32_MAX, 0, &work));
+    if (work.scanned != objects) {
         exit(1);
     }
 }

@@ -67,6 +67,7 @@ static int is_swept(void)
 static void collect(void)
 {
     markring_answer answer;
+    markring_work work;
     int status;
     while ((status = markring_node_begin(&nodes[0], &answer)) == MARKRING_CYCLE_RUNNING) {
         MUST(markring_node_release(&nodes[1]));
@@ -76,10 +77,7 @@ static void collect(void)
     cycles++;
     do {
         for (uint8_t node = 0; node < 2; node++) {
-            while (markring_node_scan(&nodes[node], &answer) == MARKRING_OK) {
-            }
-            (void)markring_node_pass(&nodes[node], &answer);
-            (void)markring_node_sweep(&nodes[node], SWEPT, &answer);
+            MUST(markring_node_work(&nodes[node], UINT32_MAX, SWEPT, &work));
             MUST(markring_node_release(&nodes[node]));
             send(node, (uint8_t)(1 - node));
         }

@@ -352,6 +352,16 @@ typedef struct markring_object {
     uint8_t age; // an enum markring_age
 } markring_object;
 
+// What the collector's share of a turn did.
+typedef struct markring_work {
+    uint64_t received; // early messages that were received; a cell's are 0
+    uint64_t scanned; // objects that were scanned
+    uint32_t freed; // objects that the sweep freed
+    uint8_t passed; // 1 if the token was passed, or node 0 decided; else 0
+    uint8_t swept; // 1 if slots were swept, else 0
+    uint8_t more; // 1 if grey objects are left, or slots to be swept; else 0
+} markring_work;
+
 // # Nodes
 //
 // Any thread may call these, one at a time for each handle. The caller moves frames between nodes
@@ -537,6 +547,17 @@ int markring_node_sweep(markring_node *node, uint32_t count, markring_answer *an
 // may offer it again.
 // MARKRING_NO_NODE; MARKRING_NOTHING_TO_DO: none waits; MARKRING_WRONG_NODE; MARKRING_LINK_SPENT.
 int markring_node_next(markring_node *node, uint8_t from, markring_answer *answer);
+
+// Does the collector's share of a turn, which is these events in this order:
+// - Next from each other node, ascending, until none waits there;
+// - Scan until no object is grey, at most `scans` times;
+// - Pass, once;
+// - Sweep of `slots` slots, once; none if that is 0.
+// What returns MARKRING_NOTHING_TO_DO is left out. At the first other refusal of an event the call
+// ends, and returns it. `*work` says what was done, then too. Begin and Reclaim are left to the
+// program.
+// MARKRING_WRONG_NODE: of an early message; MARKRING_LINK_SPENT.
+int markring_node_work(markring_node *node, uint32_t scans, uint32_t slots, markring_work *work);
 
 // Gives the node the event that `*event` describes; see the call of that event.
 // MARKRING_BAD_ARGUMENT: the kind isn't that of an event, whether or not the handle is empty; then
@@ -824,6 +845,11 @@ int markring_cell_scan(markring_cell *cell, markring_answer *answer);
 int markring_cell_pass(markring_cell *cell, markring_answer *answer);
 int markring_cell_sweep(markring_cell *cell, uint32_t count, markring_answer *answer);
 int markring_cell_next(markring_cell *cell, uint8_t from, markring_answer *answer);
+
+// Does the collector's share of a turn, as markring_node_work, but receives nothing: a cell's early
+// messages come by markring_cell_receive.
+// MARKRING_CLOSED; MARKRING_LINK_SPENT.
+int markring_cell_work(markring_cell *cell, uint32_t scans, uint32_t slots, markring_work *work);
 
 // Gives the cell the event that `*event` describes.
 // MARKRING_BAD_ARGUMENT: the kind isn't that of an event, whether or not the cell is open.

@@ -42,6 +42,17 @@ private:
     int status_;
 };
 
+// Why the collector's share of a turn ended early, and what it had done.
+class WorkError : public Error {
+public:
+    WorkError(int status, const markring_work &done) noexcept : Error(status), done_(done) {}
+
+    const markring_work &done() const noexcept { return done_; }
+
+private:
+    markring_work done_;
+};
+
 // An image or a batch: what to store, and the mark to pass to kept() or save() once it is stored.
 struct Image {
     Bytes bytes;
@@ -148,6 +159,7 @@ private:
         static constexpr auto pass = markring_##kind##_pass; \
         static constexpr auto sweep = markring_##kind##_sweep; \
         static constexpr auto next = markring_##kind##_next; \
+        static constexpr auto work = markring_##kind##_work; \
         static constexpr auto act = markring_##kind##_act; \
         static constexpr auto image_size = markring_##kind##_image_size; \
         static constexpr auto image = markring_##kind##_image; \
@@ -254,6 +266,16 @@ public:
         return {answer.count, answer.done != 0};
     }
     void next(std::uint8_t from) { ask(Calls::next, from); }
+    // It throws a WorkError.
+    markring_work work(std::uint32_t scans, std::uint32_t slots)
+    {
+        markring_work done{};
+        const int status = Calls::work(this->get(), scans, slots, &done);
+        if (status != MARKRING_OK) {
+            throw WorkError(status, done);
+        }
+        return done;
+    }
     markring_answer act(const markring_event &event) { return ask(Calls::act, &event); }
 
     std::size_t image_size() { return read<std::size_t>(Calls::image_size); }

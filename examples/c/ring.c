@@ -44,18 +44,13 @@ static void save_and_send(int from)
     MUST(markring_node_take(&nodes[from], frame, length, &answer));
 }
 
-// Does one step of each kind that the collector has for the node, if there is one.
+// Does the collector's share of a node's turn: at most 16 objects scanned, and 16 slots swept.
 static void collect(int node)
 {
-    markring_answer answer;
-    while (markring_node_scan(&nodes[node], &answer) == MARKRING_OK) {
-    }
-    if (markring_node_pass(&nodes[node], &answer) == MARKRING_OK
-        && answer.kind == MARKRING_ANSWER_ENDED) {
-        printf("the marking of cycle %llu has ended\n", (unsigned long long)answer.number);
-    }
-    if (markring_node_sweep(&nodes[node], 16, &answer) == MARKRING_OK) {
-        printf("node %d freed %u\n", node, (unsigned)answer.count);
+    markring_work work;
+    MUST(markring_node_work(&nodes[node], 16, 16, &work));
+    if (work.freed > 0) {
+        printf("node %d freed %u\n", node, (unsigned)work.freed);
     }
 }
 

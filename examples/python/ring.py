@@ -1,16 +1,14 @@
 """A ring of two objects on two nodes. Once no program holds it, one cycle frees both."""
-from markring import Node, errors
+from markring import Node
 
 nodes = [Node(nodes=2, registers=4, slots=16, own=own) for own in range(2)]
 
 def turn(own):
     """Collects, saves the node, and moves its frames to the other one."""
     node, peer = nodes[own], nodes[1 - own]
-    for step in (node.scan, node.pass_token, lambda: node.sweep(16)):
-        try:
-            print(f"node {own}: {step()}")
-        except errors.NothingToDo:
-            pass
+    work = node.work(scans=16, slots=16)
+    if work.freed:
+        print(f"node {own} freed {work.freed}")
     node.kept(node.image().mark)  # A real program stores the image first.
     for _, frame in node.frames(to=1 - own):
         peer.take(frame)

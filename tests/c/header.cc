@@ -261,6 +261,38 @@ void early()
     REFUSED(MARKRING_BAD_FRAME, one.take(nullptr, 0));
 }
 
+// The frame of a letter from node 0 to node 1, without a reference.
+Bytes letter_frame(std::uint8_t number, std::uint8_t stamp)
+{
+    return {0x45, 0, 1, 0, 0, 0, 0, 0, 0, 0, number, 0, 0, 0, 0, 0, 0, 0, stamp, 4, 0, 0, 0, 7, 0};
+}
+
+// What a turn of work did, also if a message ends it early.
+void work()
+{
+    Node zero(2, 4, 16, 0), one(2, 4, 16, 1);
+    zero.alloc(0, 0);
+    zero.alloc(1, 0);
+    zero.begin();
+    const markring_work first = zero.work(1, 16), rest = zero.work(9, 16);
+    HOLDS(first.scanned == 1 && first.more == 1 && rest.scanned == 1 && rest.more == 0);
+    HOLDS(!rest.passed && !rest.swept && rest.received == 0);
+    for (std::uint8_t number = 3; number > 0; number--) {
+        const Bytes frame = letter_frame(number, number == 3 ? 9 : 0);
+        HOLDS(one.take(frame.data(), frame.size())
+            == (number == 1 ? MARKRING_ANSWER_RECEIVED : MARKRING_ANSWER_EARLY));
+    }
+    try {
+        one.work(1, 1);
+        HOLDS(false);
+    } catch (const markring::WorkError &error) {
+        HOLDS(error.status() == MARKRING_WRONG_NODE && error.done().received == 1);
+    }
+    HOLDS(one.work(1, 1).received == 0);
+    Node none;
+    REFUSED(MARKRING_NO_HANDLE, none.work(1, 1));
+}
+
 void moves()
 {
     Node first(2, 4, 16, 0);
@@ -334,6 +366,7 @@ int main()
     bytes();
     images();
     early();
+    work();
     moves();
     cells();
     std::printf("%lu passed, %lu failed\n", passed, failed);

@@ -54,6 +54,7 @@ static void blot_buffer(void)
     NONE(markring_##type##_pass(at, answer)); \
     NONE(markring_##type##_sweep(at, 1, answer)); \
     NONE(markring_##type##_next(at, 1, answer)); \
+    NONE(markring_##type##_work(at, 1, 1, TO(markring_work))); \
     NONE(markring_##type##_act(at, &event, answer)); \
     NONE(markring_##type##_image_size(at, TO(size_t))); \
     NONE(markring_##type##_image(at, buffer, 512, TO(size_t), TO(uint64_t) + 1)); \

@@ -10,7 +10,7 @@ Calls keep the interpreter's lock, so any thread may use any of these objects.
 """
 from . import errors
 from ._space import Again, Age, Batch, Cell, Ended, Freed, Image, Letter, Link, Node, Object, Passed, Ref, Shape, Space, State
-from ._space import Taken, Watch
+from ._space import Taken, Watch, Work
 from .errors import Refusal
 
 __version__ = "0.1.0"
@@ -35,5 +35,6 @@ __all__ = [
     "State",
     "Taken",
     "Watch",
+    "Work",
     "errors",
 ]

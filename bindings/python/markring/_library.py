@@ -90,6 +90,17 @@ class RawObject(ctypes.Structure):
     ]
 
 
+class RawWork(ctypes.Structure):
+    _fields_ = [
+        ("received", c_uint64),
+        ("scanned", c_uint64),
+        ("freed", c_uint32),
+        ("passed", c_uint8),
+        ("swept", c_uint8),
+        ("more", c_uint8),
+    ]
+
+
 U8, U16, U32, U64, SIZE = c_uint8, c_uint16, c_uint32, c_uint64, c_size_t
 TO_SIZE, TO_NUMBER, TO_FLAG = POINTER(c_size_t), POINTER(c_uint64), POINTER(c_uint8)
 ANSWER, AT = POINTER(RawAnswer), POINTER(Handle)
@@ -124,6 +135,7 @@ EVENTS = {
 }
 BOTH = {
     **{name: (*words, ANSWER) for name, words in EVENTS.items()},
+    "work": (U32, U32, POINTER(RawWork)),
     "free": (),
     "image_size": (TO_SIZE,),
     "image": (c_char_p, SIZE, TO_SIZE, TO_NUMBER),

@@ -7,7 +7,7 @@ from types import TracebackType
 from typing import Any, Iterator, NamedTuple, NoReturn, Optional, TypeVar, Union
 
 from . import _library as c
-from .errors import Ages, BadArgument, NoField, check, found
+from .errors import Ages, BadArgument, NoField, Refusal, check, found
 
 LENGTH, NUMBER = 4, 8
 FRAME = 48
@@ -42,6 +42,20 @@ class Freed(NamedTuple):
 
     count: int
     done: bool
+
+
+class Work(NamedTuple):
+    """What the collector's share of a turn did.
+
+    How many early messages were received, which a cell doesn't, and objects scanned; whether the token was passed; how many
+    objects the sweep freed, or None if no slots were swept; and whether grey objects are left, or slots to be swept.
+    """
+
+    received: int
+    scanned: int
+    passed: bool
+    freed: Optional[int]
+    more: bool
 
 
 class Passed(NamedTuple):
@@ -390,6 +404,24 @@ class _Events(_Handle):
     def next(self, sender: int) -> None:
         """Receives the message from the sender that was early and is the next one now."""
         self._answer("next", sender)
+
+    def work(self, scans: int, slots: int) -> Work:
+        """Does the collector's share of a turn, without what fails with `NothingToDo`.
+
+        It receives the early messages whose turn has come, which a cell doesn't; scans at most `scans` objects; passes the
+        token, if that is due; and sweeps `slots` slots, unless these are 0. Raises `WrongNode` of an early message,
+        `LinkSpent` and `Memory`, whose `done` is what was done before.
+        """
+        raw = c.RawWork()
+        status = self._status("work", scans, slots, raw)
+        freed = raw.freed if raw.swept else None
+        done = Work(raw.received, raw.scanned, bool(raw.passed), freed, bool(raw.more))
+        try:
+            check(status)
+        except Refusal as refusal:
+            refusal.done = done
+            raise
+        return done
 
     def state(self) -> State:
         """The node in numbers."""

@@ -1,12 +1,21 @@
 """Refusals: why a call was refused. Each has a class of its own, below `Refusal`."""
 from __future__ import annotations
 
+from typing import TYPE_CHECKING, Optional
+
+if TYPE_CHECKING:
+    from ._space import Work
+
 
 class Refusal(Exception):
-    """A call was refused. It changed nothing, unless its documentation says otherwise."""
+    """A call was refused. It changed nothing, unless its documentation says otherwise.
+
+    `done` is what `work` had done, if that was refused.
+    """
 
     status: int = 0
     text: str = "the call was refused"
+    done: Optional[Work] = None
 
     def __init__(self) -> None:
         super().__init__(self.text)

@@ -59,6 +59,7 @@ def closed(cell: Cell) -> None:
         cell.pass_token,
         lambda: cell.sweep(1),
         lambda: cell.next(1),
+        lambda: cell.work(0, 0),
         lambda: cell.receive(1),
         lambda: cell.send(1),
         lambda: cell.save(1),

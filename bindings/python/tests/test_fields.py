@@ -5,7 +5,7 @@ The images and frames are spelled here as docs/FORMATS.md of the repository says
 import unittest
 from typing import NamedTuple
 
-from markring import Age, Batch, Ended, Freed, Image, Letter, Link, Node, Object, Passed, Ref, Shape, Space, State, Taken
+from markring import Age, Batch, Ended, Freed, Image, Letter, Link, Node, Object, Passed, Ref, Shape, Space, State, Taken, Work
 from markring import errors
 
 from .spelling import spelled
@@ -207,6 +207,45 @@ class Fields(unittest.TestCase):
         self.assertEqual(self.node(MARKED).sweep(5), Freed(count=2, done=True))
         # No root leads to the private objects: an old one and two young ones.
         self.assertEqual((self.node(MARKED).reclaim(), self.node(MARKED).reclaim_young()), (3, 2))
+
+    def take_early(self, node: Node) -> None:
+        """Takes two early frames of node 0, and the one that comes before them."""
+        self.assertEqual([node.take(frame(it)) for it in (63, 62, 61)], [Taken.EARLY, Taken.EARLY, Taken.RECEIVED])
+
+    def test_work_shows_each_number_of_its_own(self) -> None:
+        none = Work(received=0, scanned=0, passed=False, freed=None, more=False)
+        # Two objects are grey. Limits are whole numbers.
+        grey = self.node(MARKING)
+        self.take_early(grey)
+        self.assertEqual(grey.work(1, 9), none._replace(received=2, scanned=1, more=True))
+        self.assertEqual(grey.work(65_536, 65_536), none._replace(scanned=1))
+        self.assertEqual(grey.work(scans=9, slots=9), none)
+        self.assertEqual(self.node(MARKING).work(256, 9), none._replace(scanned=2))
+        self.assertEqual(self.node(MARKING).work(0, 9), none._replace(more=True))
+        self.assertEqual(self.node(WITH_TOKEN).work(9, 9), none._replace(passed=True))
+        marked = self.node(MARKED)
+        self.assertEqual(marked.work(9, 0), none._replace(more=True))
+        self.assertEqual(marked.work(9, 1), none._replace(freed=0, more=True))
+        self.assertEqual(marked.work(9, 3), none._replace(freed=1, more=True))
+        self.assertEqual(marked.work(9, 256), none._replace(freed=1))
+        for slots in (65_536, 2**32 - 1):
+            self.assertEqual(self.node(MARKED).work(9, slots), none._replace(freed=2))
+        self.assertEqual(" ".join(Work._fields), "received scanned passed freed more")
+
+    def test_work_that_is_refused_shows_what_it_did(self) -> None:
+        node = self.node(MARKING)
+        # The stamp of the third message is one that no node can have yet.
+        late = bytearray(frame(64))
+        late[18] = 99
+        self.assertEqual(node.take(bytes(late)), Taken.EARLY)
+        self.take_early(node)
+        with self.assertRaises(errors.WrongNode) as caught:
+            node.work(9, 9)
+        self.assertEqual(caught.exception.done, Work(received=2, scanned=0, passed=False, freed=None, more=True))
+        self.assertEqual(node.work(9, 9).scanned, 2)
+        with self.assertRaises(errors.NothingToDo) as other:
+            node.scan()
+        self.assertIsNone(other.exception.done)
 
     def test_an_end_and_a_begin_show_their_cycles(self) -> None:
         # Node 0 of two in cycle 5, which it has swept, as the other one.

@@ -254,6 +254,7 @@ class Limits(unittest.TestCase):
             for count in (0, 256, 2**32 - 1):
                 self.assertIs(refusal(node.sweep, count), errors.NothingToDo)
             wrong = [(node.set_word, (0, 2**64)), (node.set_word, (0, -1)), (node.sweep, (2**32,)), (node.sweep, (-1,))]
+            wrong += [(node.work, (2**32, 0)), (node.work, (-1, 0)), (node.work, (0, 2**32)), (node.work, (0, -1))]
             wrong += [(node.give, (1, 2**32, 0)), (node.give, (1, -1, 0)), (node.give, (256, 0, 0))]
             wrong += [(node.kept if isinstance(node, Node) else node.save, (2**64,))]
             if isinstance(node, Node):

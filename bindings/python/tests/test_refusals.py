@@ -183,11 +183,12 @@ def of_nodes() -> Rows:
     other.post(0, 0, 0, 2, b"7")
     other.release()
     wide.take(other.frames(0)[0][1])
-    early, forged = spent(1), spent(1)
+    early, forged, worked = spent(1), spent(1), spent(1)
     taken = [early.take(get_frame(2)), early.take(letter(1))]
     mark = spelled((1, 0x45), (1, 0), (1, 1), (8, 2), (8, 2), (1, 3), (1, 2), (4, 0), (8, 1))
-    taken += [forged.take(mark), forged.take(letter(1))]
-    assert taken == [Taken.EARLY, Taken.RECEIVED] * 2
+    for node in (forged, worked):
+        taken += [node.take(mark), node.take(letter(1))]
+    assert taken == [Taken.EARLY, Taken.RECEIVED] * 3
     return [
         *[(e.NoField, call) for call in without_place(dead(), 0)],
         (e.BadArgument, lambda: Node(1, 1, 1, 0)),
@@ -221,6 +222,7 @@ def of_nodes() -> Rows:
         (e.CyclesSpent, director(LAST, 0).begin),
         (e.LinkSpent, lambda: early.next(0)),
         (e.WrongNode, lambda: forged.next(0)),
+        (e.WrongNode, lambda: worked.work(1, 1)),
     ]
 
 
@@ -237,6 +239,9 @@ def without_number() -> list[Callable[[], Any]]:
         grey.scan,
         spent(1, token=True).pass_token,
         lambda: marked.sweep(9),
+        lambda: grey.work(1, 0),
+        lambda: spent(1, token=True).work(0, 0),
+        lambda: marked.work(0, 9),
         director(5, LAST).begin,
         lambda: marked.take(get_frame(1)),
     ]

@@ -1,20 +1,14 @@
 //! Two objects on two nodes refer to each other. Once no program holds either, a cycle frees both:
 //! `cargo run --example ring`.
 
-use markring::{Events, Node, Refusal, Result};
+use markring::{Events, Node, Result};
 
 // Does what the collector has to do at a node, saves the node, and moves its frames to the other.
 fn turn(nodes: &[Node; 2], own: u8) -> Result<()> {
     let (node, other) = (&nodes[usize::from(own)], 1 - own);
     let peer = &nodes[usize::from(other)];
-    while node.scan().is_ok() {}
-    match node.pass() {
-        Ok(passed) => println!("node {own}: {passed:?}"),
-        Err(Refusal::NothingToDo) => {}
-        Err(refusal) => return Err(refusal),
-    }
-    if let Ok(freed) = node.sweep(16) {
-        println!("node {own} freed {}", freed.count);
+    if let Some(freed @ 1..) = node.work(16, 16)?.freed {
+        println!("node {own} freed {freed}");
     }
     let image = node.image()?;
     // A real program stores `image.bytes` here.

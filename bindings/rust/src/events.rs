@@ -2,6 +2,7 @@
 
 use crate::node::filled;
 use crate::{Answer, Event, Freed, Letter, Link, Object, Objects, Passed, Ref, Result, State};
+use crate::{Stopped, Work};
 use alloc::vec::Vec;
 
 /// The events of a node, and calls that read it. [`Node`](crate::Node) has them, and
@@ -272,6 +273,16 @@ pub trait Events {
     /// its sender may offer it again.
     fn next(&self, from: u8) -> Result<()>;
 
+    /// Does the collector's share of a turn. It receives the early messages whose turn has come,
+    /// from each other node, ascending (not so a `Cell`). Then it scans at most `scans` objects,
+    /// passes the token, if that is due, and sweeps `slots` slots, unless that is 0. What fails
+    /// with `NothingToDo` is left out.
+    ///
+    /// # Errors
+    ///
+    /// `WrongNode` of an early message, `LinkSpent`, `Memory`; with what was done before.
+    fn work(&self, scans: u32, slots: u32) -> Result<Work, Stopped>;
+
     /// Gives the node an event as a value.
     ///
     /// # Errors
@@ -377,7 +388,7 @@ macro_rules! events {
         $set_word:ident $bytes_length:ident $bytes:ident $set_bytes:ident $patch:ident $give:ident
         $post:ident $accept:ident $letter:ident $letter_bytes:ident $accept_into:ident $put:ident
         $get:ident $fetch:ident $reclaim:ident $reclaim_young:ident $begin:ident $scan:ident
-        $pass:ident $sweep:ident $next:ident $act:ident $state:ident $link:ident $register:ident
+        $pass:ident $sweep:ident $next:ident $work:ident $act:ident $state:ident $link:ident $register:ident
         $slots:ident $object:ident $place:ident $bytes_at:ident
         $unsaved:ident $image_size:ident $image:ident
     }) => {
@@ -586,6 +597,15 @@ macro_rules! events {
             fn next(&self, from: u8) -> Result<()> {
                 self.answer(|at, answer| unsafe { ffi::$next(at, from, answer) })
                     .map(drop)
+            }
+
+            fn work(&self, scans: u32, slots: u32) -> Result<Work, Stopped> {
+                let mut work = ffi::RawWork::default();
+                let status = unsafe { ffi::$work(self.at.get(), scans, slots, &mut work) };
+                let done = Work::from_raw(&work);
+                checked(status)
+                    .map(|()| done)
+                    .map_err(|refusal| Stopped { refusal, done })
             }
 
             fn act(&self, event: Event) -> Result<Answer> {

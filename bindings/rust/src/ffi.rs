@@ -108,6 +108,17 @@ pub(crate) struct RawObject {
     pub(crate) age: u8,
 }
 
+#[repr(C)]
+#[derive(Clone, Copy, Default)]
+pub(crate) struct RawWork {
+    pub(crate) received: u64,
+    pub(crate) scanned: u64,
+    pub(crate) freed: u32,
+    pub(crate) passed: u8,
+    pub(crate) swept: u8,
+    pub(crate) more: u8,
+}
+
 type Place = *mut Handle;
 type Reply = *mut RawAnswer;
 
@@ -263,6 +274,7 @@ both! {
     markring_node_pass markring_cell_pass (answer: Reply);
     markring_node_sweep markring_cell_sweep (count: u32, answer: Reply);
     markring_node_next markring_cell_next (from: u8, answer: Reply);
+    markring_node_work markring_cell_work (scans: u32, slots: u32, work: *mut RawWork);
     markring_node_act markring_cell_act (event: *const RawEvent, answer: Reply);
     markring_node_image_size markring_cell_image_size (size: *mut usize);
     markring_node_image markring_cell_image

@@ -20,15 +20,12 @@
 //! Two objects refer to each other. Once no program holds either, a cycle frees both:
 //!
 //! ```
-//! use markring::{Events, Node, Refusal, Result};
+//! use markring::{Events, Node, Result};
 //!
 //! // Does what the collector has to do at this node, saves it, and sends its frames to the other.
 //! fn turn(node: &Node, own: u8, peer: &Node) -> Result<()> {
 //!     let other = 1 - own;
-//!     while node.scan().is_ok() {}
-//!     for refusal in [node.pass().err(), node.sweep(16).err()].into_iter().flatten() {
-//!         assert_eq!(refusal, Refusal::NothingToDo);
-//!     }
+//!     node.work(16, 16)?;
 //!     let image = node.image()?;
 //!     node.kept(image.mark)?;
 //!     for frame in node.frames(other, 0)? {
@@ -88,5 +85,5 @@ pub use root::{Accepted, Root, Roots};
 pub use space::{Cell, Space, Watch};
 pub use value::{
     Age, Answer, Batch, Colour, Event, Frame, Freed, Image, Letter, Link, Object, Objects, Passed,
-    Ref, Shape, State, Taken,
+    Ref, Shape, State, Stopped, Taken, Work,
 };

@@ -4,7 +4,7 @@ use crate::events::events;
 use crate::ffi;
 use crate::refusal::{checked, found, there};
 use crate::{Answer, Batch, Event, Events, Frame, Freed, Image, Letter, Link, Object, Passed, Ref};
-use crate::{Refusal, Result, Shape, State, Taken};
+use crate::{Refusal, Result, Shape, State, Stopped, Taken, Work};
 use alloc::vec::Vec;
 use core::cell::UnsafeCell;
 use core::ffi::c_int;
@@ -92,7 +92,7 @@ events! {
         markring_node_fetch
         markring_node_reclaim markring_node_reclaim_young markring_node_begin markring_node_scan
         markring_node_pass markring_node_sweep
-        markring_node_next markring_node_act markring_node_state markring_node_link
+        markring_node_next markring_node_work markring_node_act markring_node_state markring_node_link
         markring_node_register markring_node_slots markring_node_object markring_node_place
         markring_node_bytes_at markring_node_unsaved markring_node_image_size markring_node_image
     }

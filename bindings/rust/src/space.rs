@@ -6,7 +6,7 @@ use crate::node::{filled, refill};
 use crate::refusal::{checked, found, there};
 use crate::{
     Answer, Event, Events, Freed, Image, Letter, Link, Object, Passed, Ref, Refusal, Result, Shape,
-    State, Taken,
+    State, Stopped, Taken, Work,
 };
 use alloc::vec::Vec;
 use core::cell::UnsafeCell;
@@ -186,7 +186,7 @@ events! {
         markring_cell_fetch
         markring_cell_reclaim markring_cell_reclaim_young markring_cell_begin markring_cell_scan
         markring_cell_pass markring_cell_sweep
-        markring_cell_next markring_cell_act markring_cell_state markring_cell_link
+        markring_cell_next markring_cell_work markring_cell_act markring_cell_state markring_cell_link
         markring_cell_register markring_cell_slots markring_cell_object markring_cell_place
         markring_cell_bytes_at markring_cell_unsaved markring_cell_image_size markring_cell_image
     }

@@ -1,7 +1,7 @@
 //! Plain values: references, events, answers, objects, and a node in numbers.
 
-use crate::ffi::{RawAnswer, RawEvent, RawLink, RawObject, RawRef, RawShape, RawState};
-use crate::{Events, Result};
+use crate::ffi::{RawAnswer, RawEvent, RawLink, RawObject, RawRef, RawShape, RawState, RawWork};
+use crate::{Events, Refusal, Result};
 use core::fmt;
 use core::ops::Range;
 
@@ -73,6 +73,58 @@ pub struct Freed {
     /// Whether all slots are swept now.
     pub done: bool,
 }
+
+/// What the collector's share of a turn did.
+#[derive(Clone, Copy, Debug, PartialEq, Eq, Hash)]
+pub struct Work {
+    /// How many early messages were received. A cell's are 0.
+    pub received: u64,
+    /// How many objects were scanned.
+    pub scanned: u64,
+    /// Whether the token was passed, or node 0 decided.
+    pub passed: bool,
+    /// How many objects the sweep freed, if slots were swept.
+    pub freed: Option<u32>,
+    /// Whether grey objects are left, or slots to be swept.
+    pub more: bool,
+}
+
+impl Work {
+    pub(crate) fn from_raw(raw: &RawWork) -> Self {
+        Work {
+            received: raw.received,
+            scanned: raw.scanned,
+            passed: raw.passed != 0,
+            freed: (raw.swept != 0).then_some(raw.freed),
+            more: raw.more != 0,
+        }
+    }
+}
+
+/// Why the collector's share of a turn ended early, and what it had done. In a function that returns
+/// a [`Refusal`], `?` makes the refusal of it.
+#[derive(Clone, Copy, Debug, PartialEq, Eq, Hash)]
+pub struct Stopped {
+    /// Why.
+    pub refusal: Refusal,
+    /// What was done.
+    pub done: Work,
+}
+
+impl From<Stopped> for Refusal {
+    fn from(it: Stopped) -> Self {
+        it.refusal
+    }
+}
+
+impl fmt::Display for Stopped {
+    fn fmt(&self, f: &mut fmt::Formatter<'_>) -> fmt::Result {
+        self.refusal.fmt(f)
+    }
+}
+
+#[cfg(feature = "std")]
+impl std::error::Error for Stopped {}
 
 /// What became of the token.
 #[derive(Clone, Copy, Debug, PartialEq, Eq, Hash)]

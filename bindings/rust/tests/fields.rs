@@ -4,7 +4,7 @@
 use markring::{
     Age, Answer, Colour, Event, Events, Freed, Letter, Link, Node, Object, Passed, Ref,
 };
-use markring::{Result, Shape, Space, State, Taken};
+use markring::{Refusal, Result, Shape, Space, State, Stopped, Taken, Work};
 use spelling::spelled;
 
 mod spelling;
@@ -431,6 +431,84 @@ fn an_answer_shows_each_number_of_its_own() -> Result<()> {
     assert_eq!(again.act(all)?, Answer::Freed(freed(1, true)));
     let whole = Node::from_image(&image(&MARKED), 0)?;
     assert_eq!(whole.sweep(5)?, freed(2, true));
+    Ok(())
+}
+
+// Takes two early frames of node 0, and the one that comes before them.
+fn take_early(node: &Node) -> Result<()> {
+    for number in [63, 62, 61] {
+        node.take(&frame(number))?;
+    }
+    Ok(())
+}
+
+#[test]
+fn work_shows_each_number_of_its_own() -> Result<()> {
+    let none = Work {
+        received: 0,
+        scanned: 0,
+        passed: false,
+        freed: None,
+        more: false,
+    };
+    // Two objects are grey. Limits are whole numbers.
+    let grey = node(&MARKING)?;
+    take_early(&grey)?;
+    let some = Work {
+        received: 2,
+        scanned: 1,
+        more: true,
+        ..none
+    };
+    assert_eq!(grey.work(1, 9), Ok(some));
+    assert_eq!(grey.work(65_536, 65_536), Ok(Work { scanned: 1, ..none }));
+    assert_eq!(grey.work(9, 9), Ok(none));
+    let all = Work { scanned: 2, ..none };
+    assert_eq!(node(&MARKING)?.work(256, 9), Ok(all));
+    let nothing = Work { more: true, ..none };
+    assert_eq!(node(&MARKING)?.work(0, 9), Ok(nothing));
+    let passed = Work {
+        passed: true,
+        ..none
+    };
+    assert_eq!(node(&WITH_TOKEN)?.work(9, 9), Ok(passed));
+    let freed = |freed, more| Work {
+        freed: Some(freed),
+        more,
+        ..none
+    };
+    let marked = node(&MARKED)?;
+    assert_eq!(marked.work(9, 0), Ok(nothing));
+    assert_eq!(marked.work(9, 1), Ok(freed(0, true)));
+    assert_eq!(marked.work(9, 3), Ok(freed(1, true)));
+    assert_eq!(marked.work(9, 256), Ok(freed(1, false)));
+    for slots in [65_536, u32::MAX] {
+        assert_eq!(node(&MARKED)?.work(9, slots), Ok(freed(2, false)));
+    }
+    Ok(())
+}
+
+#[test]
+fn work_that_is_refused_shows_what_it_did() -> Result<()> {
+    let node = node(&MARKING)?;
+    // The stamp of the third message is one that no node can have yet.
+    let mut late = frame(64);
+    late[18] = 99;
+    assert_eq!(node.take(&late)?, Taken::Early);
+    take_early(&node)?;
+    let done = Work {
+        received: 2,
+        scanned: 0,
+        passed: false,
+        freed: None,
+        more: true,
+    };
+    let refusal = Refusal::WrongNode;
+    let stopped = Stopped { refusal, done };
+    assert_eq!(node.work(9, 9), Err(stopped));
+    assert_eq!(stopped.to_string(), refusal.to_string());
+    assert_eq!(Refusal::from(stopped), refusal);
+    assert_eq!(node.work(9, 9)?.scanned, 2);
     Ok(())
 }
 

@@ -60,7 +60,7 @@ fn refused(node: &impl Events) -> Result<()> {
     Ok(())
 }
 
-fn closed(cell: &Cell) -> [Option<Refusal>; 29] {
+fn closed(cell: &Cell) -> [Option<Refusal>; 30] {
     [
         cell.alloc(1, 0).err(),
         cell.copy(1, 0).err(),
@@ -85,6 +85,7 @@ fn closed(cell: &Cell) -> [Option<Refusal>; 29] {
         cell.pass().err(),
         cell.sweep(1).err(),
         cell.next(1).err(),
+        cell.work(0, 0).map_err(Refusal::from).err(),
         cell.act(Event::Scan).err(),
         cell.receive(1).err(),
         cell.send(1).err(),
@@ -124,7 +125,7 @@ fn without_memory_calls_are_refused() -> Result<()> {
     let saved = |room: usize| with_room(room * BYTES / 4, || cell.save(mark));
     let first = (0..40).map(saved).find(|it| *it != Err(Refusal::Memory));
     assert_eq!(first, Some(Err(Refusal::Disk)));
-    assert_eq!(closed(&cell), [Some(Refusal::Closed); 29]);
+    assert_eq!(closed(&cell), [Some(Refusal::Closed); 30]);
     // Registers that can't be emptied now are emptied before they are used again.
     drop((saved_root, lost_root));
     assert_eq!(roots.alloc(0).err(), Some(Refusal::Closed));

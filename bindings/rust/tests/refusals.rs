@@ -129,6 +129,9 @@ fn spent_rows() -> Result<Rows> {
         "scan" LinkSpent: grey.scan();
         "pass" LinkSpent: token.pass();
         "sweep" LinkSpent: marked.sweep(9);
+        "work" LinkSpent: grey.work(1, 0).map_err(Refusal::from);
+        "work" LinkSpent: token.work(0, 0).map_err(Refusal::from);
+        "work" LinkSpent: marked.work(0, 9).map_err(Refusal::from);
         "begin" LinkSpent: director(5, LAST)?.begin();
         "begin" CyclesSpent: director(LAST, 0)?.begin();
         "take" LinkSpent: marked.take(&get_frame(1));
@@ -164,19 +167,25 @@ fn spent_rows() -> Result<Rows> {
         (4, 0),
         (8, 1),
     ]);
-    let next = spent(&Spent {
-        ended: 1,
-        grey: false,
-        token: false,
-    })?;
-    assert_eq!(next.take(&forged)?, Taken::Early);
-    for number in 1..=2 {
-        let letter = [(8, number), (8, 2), (1, 4), (4, 9), (1, 0)];
-        next.take(&spelled(
-            &[&[(1, 0x45), (1, 0), (1, 1)], &letter[..]].concat(),
-        ))?;
+    for is_work in [false, true] {
+        let node = spent(&Spent {
+            ended: 1,
+            grey: false,
+            token: false,
+        })?;
+        assert_eq!(node.take(&forged)?, Taken::Early);
+        for number in 1..=2 {
+            let letter = [(8, number), (8, 2), (1, 4), (4, 9), (1, 0)];
+            node.take(&spelled(
+                &[&[(1, 0x45), (1, 0), (1, 1)], &letter[..]].concat(),
+            ))?;
+        }
+        rows.extend(if is_work {
+            rows! { "work" WrongNode: node.work(1, 1).map_err(Refusal::from); }
+        } else {
+            rows! { "next" WrongNode: node.next(0); }
+        });
     }
-    rows.extend(rows! { "next" WrongNode: next.next(0); });
     Ok(rows)
 }
 

@@ -4,7 +4,7 @@ use markring::{Accepted, Age, Answer, Batch, Cell, Colour, Event, Frame, Freed, 
 use markring::{
     Link, Node, Object, Objects, Passed, Ref, Refusal, Root, Roots, Shape, Space, State,
 };
-use markring::{Taken, Watch};
+use markring::{Stopped, Taken, Watch, Work};
 
 // Whether the type has the trait: the constant of the type itself hides that of the trait.
 macro_rules! has {
@@ -75,7 +75,7 @@ fn what_borrows_a_handle_stays_in_its_thread() {
 fn values_are_copied() {
     all_are(
         "send sync clone copy",
-        &traits![Ref, Colour, Letter, Freed, Passed, Taken, Event],
+        &traits![Ref, Colour, Letter, Freed, Passed, Taken, Event, Work, Stopped],
     );
     all_are(
         "send sync clone copy",

@@ -13,3 +13,4 @@ pub mod Given
 pub mod Lists
 pub mod Staying
 pub mod Sent
+pub mod Tries

@@ -10,3 +10,4 @@ pub mod Cells
 pub mod Opening
 pub mod Spaces
 pub mod Watches
+pub mod Work

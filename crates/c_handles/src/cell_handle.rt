@@ -11,6 +11,7 @@ ghost use Rattle.model.specs.Steps.{is_own};
 ghost use Rattle.node.specs.Summaries.{summary_of};
 ghost use Rattle.c_handles.specs.Cells.{CellActs, HandleImaged, Raised, Received, Reopened, Saved};
 ghost use Rattle.c_handles.specs.Cells.{Sent, SizedSame};
+ghost use Rattle.c_handles.specs.Work.{CellWorks, WorksIf};
 
 mod letters;
 mod objects;
@@ -18,7 +19,7 @@ mod objects;
 use crate::Marked;
 use crate::held::Held;
 use crate::seated::SeatedCell;
-use c_values::{CLink, Fault};
+use c_values::{CLink, CWork, Fault};
 use ids::Ref;
 use model::{Answer, Event};
 use node::Summary;
@@ -108,6 +109,25 @@ impl CellHandle {
         let answered = cell.act(event);
         self.put(alloc, cell);
         answered
+    }
+
+    /// Does the collector's share of a turn; see [`SeatedCell::work`].
+    pub fn work(
+        &mut self,
+        alloc: Global,
+        scans: u32,
+        slots: u32,
+        work: &mut CWork,
+    ) -> Result<(), Fault>
+        ensures { WorksIf (CellWorks scans slots) self.old.held self.new.held work.old work.new
+            result }
+    {
+        let Some(mut cell) = self.take(alloc) else {
+            return Err(Fault::NoHandle);
+        };
+        let worked = cell.work(scans, slots, work);
+        self.put(alloc, cell);
+        worked
     }
 
     /// Receives from another node; see [`SeatedCell::receive`].

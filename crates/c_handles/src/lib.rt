@@ -29,6 +29,7 @@ mod space;
 mod space_handle;
 mod watch_handle;
 mod watching;
+mod working;
 
 use c_values::Fault;
 pub use cell_handle::CellHandle;

@@ -14,6 +14,7 @@ mod objects;
 pub(crate) mod reading;
 pub(crate) mod reopening;
 mod sending;
+mod working;
 
 use c_values::{CShape, Fault};
 use frames::decode;

@@ -16,6 +16,7 @@ ghost use Rattle.c_handles.specs.Images.{HandleImaged, Kept, Logs, Released, Siz
 ghost use Rattle.c_handles.specs.Logs.{logs_in};
 ghost use Rattle.c_handles.specs.Lone.{Made, NodeActs, Read, TookIn};
 ghost use Rattle.c_handles.specs.Reads.{link_of, object_bytes, object_len, register_of, waiting_number};
+ghost use Rattle.c_handles.specs.Work.{NodeWorks, WorksIf};
 
 mod letters;
 mod objects;
@@ -23,7 +24,7 @@ mod objects;
 use crate::Marked;
 use crate::held::Held;
 use crate::lone::LoneNode;
-use c_values::{CLink, CShape, Fault};
+use c_values::{CLink, CShape, CWork, Fault};
 use ids::Ref;
 use model::{Answer, Event};
 use node::Summary;
@@ -192,6 +193,25 @@ impl NodeHandle {
         let answered = node.act(event);
         self.put(alloc, node);
         answered
+    }
+
+    /// Does the collector's share of a turn; see [`LoneNode::work`].
+    pub fn work(
+        &mut self,
+        alloc: Global,
+        scans: u32,
+        slots: u32,
+        work: &mut CWork,
+    ) -> Result<(), Fault>
+        ensures { WorksIf (NodeWorks scans slots) self.old.held self.new.held work.old work.new
+            result }
+    {
+        let Some(mut node) = self.take(alloc) else {
+            return Err(Fault::NoHandle);
+        };
+        let worked = node.work(scans, slots, work);
+        self.put(alloc, node);
+        worked
     }
 
     /// Gives the node the frame that the bytes spell; see [`LoneNode::take`].

@@ -11,6 +11,7 @@ ghost use Rattle.c_values.specs.Bytes.{WroteIf};
 
 mod letters;
 mod objects;
+mod working;
 
 use crate::Marked;
 use crate::lone::reading::{bytes_len_of, bytes_of, link_of, register_of};

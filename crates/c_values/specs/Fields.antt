@@ -20,6 +20,7 @@ use Rattle.c_values.specs.declared.fields.CAnswer.{CAnswer}
 use Rattle.c_values.specs.declared.fields.CEvent.{CEvent}
 use Rattle.c_values.specs.declared.fields.CShape.{CShape}
 use Rattle.c_values.specs.declared.fields.CState.{CState}
+use Rattle.c_values.specs.declared.fields.CWork.{CWork}
 
 abbrev pub bit : Bool → ℕ
 bit false = 0
@@ -100,6 +101,19 @@ answer_fields (answer.Reclaimed count) = record no_answer { kind = 15; count = c
 answer_fields answer.Received = record no_answer { kind = 12 }
 answer_fields answer.Repeat = record no_answer { kind = 13 }
 answer_fields answer.Early = record no_answer { kind = 14 }
+
+-- ---- Work
+
+-- nothing was done
+abbrev pub no_work : CWork
+no_work = record {
+  received = 0;
+  scanned = 0;
+  freed = 0;
+  passed = 0;
+  swept = 0;
+  more = 0;
+}
 
 -- ---- Events
 

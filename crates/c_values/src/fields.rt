@@ -110,6 +110,18 @@ pub struct CObject {
     pub age: u8,
 }
 
+/// What the collector's share of a turn did. A flag is 1 or 0.
+#[repr(C)]
+#[derive(Clone, Copy)]
+pub struct CWork {
+    pub received: u64,
+    pub scanned: u64,
+    pub freed: u32,
+    pub passed: u8,
+    pub swept: u8,
+    pub more: u8,
+}
+
 const NO_REFERENCE: CRef = CRef {
     node: 0,
     slot: 0,
@@ -163,6 +175,18 @@ fn colour_number(colour: Colour) -> u8
         Colour::White => 0,
         Colour::Black => 1,
     }
+}
+
+impl CWork {
+    /// Nothing was done.
+    pub const NONE: CWork = CWork {
+        received: 0,
+        scanned: 0,
+        freed: 0,
+        passed: 0,
+        swept: 0,
+        more: 0,
+    };
 }
 
 /// The number of an age.

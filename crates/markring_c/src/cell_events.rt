@@ -1,10 +1,11 @@
 //! The events of a cell's node.
 ghost use Rattle.model.specs.declared.age.Scope.TheVariants as scope;
 ghost use Rattle.model.specs.declared.event.Event.TheVariants as event;
-ghost use Rattle.markring_c.specs.Calls.{CellCalled};
+ghost use Rattle.c_handles.specs.Work.{CellWorks, WorksIf};
+ghost use Rattle.markring_c.specs.Calls.{CellCalled, Finishes};
 
 use c_handles::CellHandle;
-use c_values::{CAnswer, answered};
+use c_values::{CAnswer, CWork, answered, status};
 use model::{Event, Scope};
 use std::alloc::Global;
 
@@ -380,4 +381,19 @@ pub extern "C" fn markring_cell_next(
         answer.new }
 {
     answered(cell.act(alloc, Event::Next { from }), answer)
+}
+
+/// Does the collector's share of a turn, and writes what it did, also if a fault ended it.
+#[unsafe(no_mangle)]
+pub extern "C" fn markring_cell_work(
+    alloc: Global,
+    cell: &mut CellHandle,
+    scans: u32,
+    slots: u32,
+    work: &mut CWork,
+) -> i32
+    ensures { Finishes (WorksIf (CellWorks scans slots) cell.old.held cell.new.held work.old
+        work.new) result }
+{
+    status(cell.work(alloc, scans, slots, work))
 }

@@ -1,10 +1,11 @@
 //! The events of a node.
 ghost use Rattle.model.specs.declared.age.Scope.TheVariants as scope;
 ghost use Rattle.model.specs.declared.event.Event.TheVariants as event;
-ghost use Rattle.markring_c.specs.Calls.{NodeCalled};
+ghost use Rattle.c_handles.specs.Work.{NodeWorks, WorksIf};
+ghost use Rattle.markring_c.specs.Calls.{Finishes, NodeCalled};
 
 use c_handles::NodeHandle;
-use c_values::{CAnswer, answered};
+use c_values::{CAnswer, CWork, answered, status};
 use model::{Event, Scope};
 use std::alloc::Global;
 
@@ -390,4 +391,19 @@ pub extern "C" fn markring_node_next(
         answer.new }
 {
     act(alloc, node, Event::Next { from }, answer)
+}
+
+/// Does the collector's share of a turn, and writes what it did, also if a fault ended it.
+#[unsafe(no_mangle)]
+pub extern "C" fn markring_node_work(
+    alloc: Global,
+    node: &mut NodeHandle,
+    scans: u32,
+    slots: u32,
+    work: &mut CWork,
+) -> i32
+    ensures { Finishes (WorksIf (NodeWorks scans slots) node.old.held node.new.held work.old
+        work.new) result }
+{
+    status(node.work(alloc, scans, slots, work))
 }

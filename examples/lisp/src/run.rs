@@ -15,7 +15,7 @@ const REGISTERS: u16 = 10_000;
 const PLACES: u8 = 4;
 const BYTES: u32 = 1 << 20;
 // The most that a turn does for the collector: objects that it scans, slots that it sweeps.
-const SCANS: usize = 1_000;
+const SCANS: u32 = 1_000;
 const SWEEPS: u32 = 4_000;
 // A cycle is due if there are twice as many objects as the last one left, and these.
 const SPARE: u32 = 1_000;
@@ -92,21 +92,16 @@ impl Machine<'_> {
         if state.swept == state.cycle && state.live > 2 * self.left.get() + SPARE {
             self.ask_for_cycle();
         }
-        let begins = self.own == 0 && self.shared.due.swap(false, Ordering::SeqCst);
-        let swept = node.sweep(SWEEPS).map(|it| it.done);
-        for outcome in [
-            if begins { node.begin().map(drop) } else { Ok(()) },
-            (0..SCANS).try_for_each(|_| node.scan().map(drop)),
-            node.pass().map(drop),
-            swept.map(drop),
-        ] {
-            match outcome {
-                Ok(()) | Err(Refusal::NothingToDo | Refusal::CycleRunning) => {}
+        if self.own == 0 && self.shared.due.swap(false, Ordering::SeqCst) {
+            match node.begin() {
+                Ok(_) | Err(Refusal::CycleRunning) => {}
                 Err(refusal) => return Err(refusal.into()),
             }
         }
-        if swept == Ok(true) {
-            self.left.set(node.state()?.live);
+        node.work(SCANS, SWEEPS).map_err(Refusal::from)?;
+        let after = node.state()?;
+        if after.swept > state.swept {
+            self.left.set(after.live);
         }
         Ok(())
     }
