@@ -100,10 +100,27 @@ fn act_noting(node: &mut Node, log: &mut Log, event: &Event) -> Result<Answer, R
         → log.new ≡ log.old }
     ensures quiet { IfOk result (λ a. is_change a ≡ false → log.new ≡ log.old) }
 {
-    let Ok(turned) = turned(node, event) else {
-        return act_losing(node, log, event);
-    };
-    let meant = meant(&turned, event);
+    match turned(node, event) {
+        Ok(turned) => act_meaning(node, log, event, meant(&turned, event)),
+        Err(AllocError) => act_losing(node, log, event),
+    }
+}
+
+// The same, with what the event is to the node's core.
+fn act_meaning(
+    node: &mut Node,
+    log: &mut Log,
+    event: &Event,
+    meant: &Event,
+) -> Result<Answer, Refusal>
+    requires { meant.now ≡ met node.old.early event.now }
+    ensures acts { Acts node.old node.new event.now result }
+    ensures kept { AreKeptIn node.new }
+    ensures notes { Notes node.old node.new log.old log.new result }
+    ensures old { is_old_ack node.old.core (met node.old.early event.now) ≡ true
+        → log.new ≡ log.old }
+    ensures quiet { IfOk result (λ a. is_change a ≡ false → log.new ≡ log.old) }
+{
     let is_old = is_old_ack(node, meant);
     let answer = node.act(event)?;
     if is_old {

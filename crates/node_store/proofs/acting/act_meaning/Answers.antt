@@ -6,13 +6,13 @@ use Rattle.node_store.specs.Logs.{IsDone, Logged}
 use Rattle.node_store.specs.Acting.{is_old_ack}
 use Rattle.node_store.proofs.Quiet.{old-same, quiet-same}
 use Rattle.node_store.proofs.Ends.{logged_more}
-use Rattle.node_store.proofs.acting.act_noting.Goals as goal
+use Rattle.node_store.proofs.acting.act_meaning.Goals as goal
 
 pub returns-then-is_old-clause-notes : goal.returns-then-is_old-clause-notes
 returns-then-is_old-clause-notes c =
     let old = c.args.node.now in
     let is_old : is_old_ack old.core (met old.early c.args.event.now) ≡ true =
-    ap (is_old_ack old.core) (sym (c.meant-meant.ensures ∙ c.turned-turned.ensures.met))
+    ap (is_old_ack old.core) (sym c.requires)
     ∙ sym c.is_old_ack-is_old.ensures
     ∙ c.if-is_old.true in
     record {
@@ -26,10 +26,10 @@ pub returns-then-is_change-clause-notes : goal.returns-then-is_change-clause-not
 returns-then-is_change-clause-notes c =
     let old = c.args.node.now in
     let new = c.act.new.self in
-    let e = c.meant-meant.result.now in
+    let e = c.args.meant.now in
     let done : IsDone old.core e new.core = record {
       answer = c.in_ok-answer.answer;
-      acts = ap (view_act old.core) (c.meant-meant.ensures ∙ c.turned-turned.ensures.met)
+      acts = ap (view_act old.core) c.requires
           ∙ c.in_ok-answer.ensures.performs;
       now = sym c.is_change.ensures ∙ c.if-is_change.true;
     } in
