@@ -4,6 +4,7 @@ use Rattle.circular_buffer.specs.Buffer.{keep_last}
 use Rattle.ids.specs.declared.limits.TheConstants.{TRACE_EVENTS}
 use Rattle.ids.specs.declared.refusal.Refusal.{Refusal}
 use Rattle.ids.specs.declared.refusal.Refusal.TheVariants.{Memory}
+use Rattle.frames.specs.Grammar.{is_letter}
 use Rattle.msg.specs.Frames.{Plain, plain}
 use Rattle.msg.specs.declared.frame.Frame.{Frame}
 use Rattle.model.specs.declared.event.Answer.{Answer}
@@ -46,12 +47,13 @@ pub record TookIn (box from : ℕ) (result : Result Answer Refusal) (old new : W
   pub traced : after ≡ keep_last TRACE_EVENTS (before
       ++ record { call = call_of (event_of frame); outcome = outcome_of result } ∷ [])
 
--- The seat took a frame from that node, for which memory ran out before the node was given it. It
--- is lost, as a net may lose frames; nothing else happened.
+-- The seat took a letter with references and bytes from that node, and memory for it ran out before
+-- the node was given it. It is lost, as a net may lose frames; nothing else happened.
 pub record LostIn (box from : ℕ) (e : Refusal) (old new : WholeNode) (v w : Known)
     (before after : List TraceLine) : Type 0 where
   pub memory : e ≡ Memory
   pub frame : Plain
+  pub letter : is_letter frame ≡ true
   pub took : TookOut box from frame v w
   pub node : new ≡ old
   pub trace : after ≡ before

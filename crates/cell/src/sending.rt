@@ -4,6 +4,7 @@ ghost use Rattle.std.specs.Prelude.{
   ◌≡◌,
   ◌≢◌,
   ◌<◌,
+  true,
   IsTrue,
   IfErr,
   IfOk,
@@ -14,6 +15,7 @@ ghost use Rattle.std.specs.Prelude.{
   Some,
 };
 ghost use Rattle.ids.specs.declared.refusal.Refusal.TheVariants.{Memory};
+ghost use Rattle.frames.specs.Grammar.{is_letter};
 ghost use Rattle.msg.specs.Frames.{Plain, plain};
 ghost use Rattle.model.specs.Steps.{is_memory_free};
 ghost use Rattle.model.specs.View.{is_other};
@@ -85,7 +87,7 @@ impl Desk {
             (FindsOther (inbox self.old.seat from) 1 (known self.old.seat) (known self.new.seat))
             (λ f. TookOut (inbox self.old.seat from) from (plain f) (known self.old.seat)
             (known self.new.seat))) }
-        ensures lost { IfErr result (λ e. (e ≡ Memory) × ((f : Plain)
+        ensures lost { IfErr result (λ e. (e ≡ Memory) × ((f : Plain) × (is_letter f ≡ true)
             × TookOut (inbox self.old.seat from) from f (known self.old.seat)
             (known self.new.seat))) }
         ensures stays { self.new ≡ record self.old { seat = self.new.seat } }

@@ -1,7 +1,8 @@
 //! Frames between a node and its mailboxes. The window and the saved state determine what is due,
 //! so nothing leaves that a restart could take back.
-ghost use Rattle.std.specs.Prelude.{◌≡◌, ◌≢◌, ◌<◌, IfErr, IfOk, IsTrue, MatchOption};
+ghost use Rattle.std.specs.Prelude.{◌≡◌, ◌≢◌, ◌<◌, true, IfErr, IfOk, IsTrue, MatchOption};
 ghost use Rattle.ids.specs.declared.refusal.Refusal.TheVariants.{Memory};
+ghost use Rattle.frames.specs.Grammar.{is_letter};
 ghost use Rattle.msg.specs.Frames.{Plain, plain, plain_ref};
 ghost use Rattle.model.specs.View.{is_other};
 ghost use Rattle.wire.specs.Plays.{Releases};
@@ -81,7 +82,7 @@ impl Wire {
             (FindsOther (inbox seat.old from) 1 (known seat.old) (known seat.new))
             (λ f. TookOut (inbox seat.old from) from (plain f) (known seat.old)
             (known seat.new))) }
-        ensures lost { IfErr result (λ e. (e ≡ Memory) × ((f : Plain)
+        ensures lost { IfErr result (λ e. (e ≡ Memory) × ((f : Plain) × (is_letter f ≡ true)
             × TookOut (inbox seat.old from) from f (known seat.old) (known seat.new))) }
     {
         let Some(taken) = self.take(seat, from) else {
