@@ -85,6 +85,18 @@ letter-open h count (Err e) refused closed =
     letter-never-closed h count
     (subst (λ (f : Refusal). heap_letter_part h count ≡ Err f) same refused)
 
+-- as many as were asked for
+pub letter-count : (h : Heap) (count : ℕ) (bytes : List ℕ)
+    → heap_letter_part h count ≡ Ok bytes → length bytes ≡ count
+unfolding heap_letter_part
+letter-count h count bytes read =
+    let held : List ℕ = (oldest_letter h).bytes in
+    let tests = letter_tests h ++ (nat_le count (length held), NoBytes) ∷ [] in
+    let passed = guarded-passes tests (take count held) bytes read in
+    let there : count ≤ length held = leb-true _ _ passed.1.0 in
+    let same = guarded-ok tests (take count held) bytes read in
+    omega (arith, there, ap length same, length-take count held)
+
 -- the refusal of the first tests stays if further tests follow
 refused-first : {A : Type 0} {B : Type 0} (ts us : List (Bool × Refusal)) (x : A) (y : B)
     (e : Refusal) → guarded ts x ≡ Err e → guarded (ts ++ us) y ≡ Err e

@@ -22,7 +22,7 @@ use Rattle.cell.proofs.cell.Cell.take_in.Goals as goal
 pub invariant_of-self-inside : goal.invariant_of-self-inside
 invariant_of-self-inside g c =
     let cell = c.self.inside in
-    let missed = c.in_err-frame.ensures.taken.3 in
+    let missed = c.in-Ok-None.ensures.taken.3 in
     still-kept (g.D.Disk.may_leave (disk_of cell.store))
     (is-still cell.desk c.take.new.self
     (took-same _ _ (ap (λ v. v.me) missed) (ap (λ v. v.taken) missed)) c.take.ensures.stays)
@@ -39,8 +39,8 @@ invariant_of-self-inside-2 g c =
     let u = known cell.desk.seat in
     let v = known c.take.new.self.seat in
     let w = known desk.seat in
-    let f = c.in_ok-frame.frame in
-    let told = c.in_ok-frame.ensures.taken in
+    let f = c.in-Ok-Some.frame in
+    let told = c.in-Ok-Some.ensures.taken in
     let saved = ap (λ d. d.saved) said.stays ∙ ap (λ d. d.saved) took.stays in
     let more : TookMore u v = record {
       me = ap (λ (x : Known). x.me) told.3.2;
@@ -67,15 +67,15 @@ invariant_of-self-inside-2 g c =
 pub handle-answered-requires-clause-taken : goal.handle-answered-requires-clause-taken
 handle-answered-requires-clause-taken g c =
     at-last (known c.self.inside.desk.seat) (known c.take.new.self.seat)
-    (plain c.in_ok-frame.frame) (ap (λ (v : Known). v.taken) c.in_ok-frame.ensures.taken.3.2)
+    (plain c.in-Ok-Some.frame) (ap (λ (v : Known). v.taken) c.in-Ok-Some.ensures.taken.3.2)
 
 pub returns-clause-took : goal.returns-clause-took
 returns-clause-took g c =
     let cell = c.self.inside in
     let desk = c.handle-answered.new.self in
-    let f = c.in_ok-frame.frame in
+    let f = c.in-Ok-Some.frame in
     let result = c.handle-answered.result in
-    let taken = c.in_ok-frame.ensures.taken in
+    let taken = c.in-Ok-Some.ensures.taken in
     subst (λ (v : CellView g.row.D.Denot).
     TookIn (inbox v.seat c.args.from) c.args.from result v.node desk.node (known v.seat)
     (known desk.seat) v.trace c.push.new.self) c.self.view_is
@@ -105,15 +105,15 @@ returns-clause-took g c =
 
 pub handle-answered-requires-clause-sender : goal.handle-answered-requires-clause-sender
 handle-answered-requires-clause-sender g c =
-    let f = plain c.in_ok-frame.frame in
-    let taken = c.in_ok-frame.ensures.taken in
+    let f = plain c.in-Ok-Some.frame in
+    let taken = c.in-Ok-Some.ensures.taken in
     subst (λ (v : Known). sender f < v.nodes) (sym taken.3.2)
     (subst (λ (k : ℕ). k < (known c.self.inside.desk.seat).nodes) (sym taken.0)
     c.take.ensures.inside)
 
 pub handle-answered-requires-clause-receiver : goal.handle-answered-requires-clause-receiver
 handle-answered-requires-clause-receiver g c =
-    let taken = c.in_ok-frame.ensures.taken in
+    let taken = c.in-Ok-Some.ensures.taken in
     taken.1 ∙ sym (ap (λ (v : Known). v.me) taken.3.2)
 
 pub returns-clause-goes_on : goal.returns-clause-goes_on
@@ -129,7 +129,7 @@ returns-clause-goes_on g c =
       marked = subst (λ (b : Bool). IsMarked v (known desk.seat) b desk.unsaved)
           (ap (λ d. d.unsaved) took.stays)
           (subst (λ (u : Known). IsMarked u (known desk.seat) c.take.new.self.unsaved desk.unsaved)
-          c.in_ok-frame.ensures.taken.3.2 said.unsaved);
+          c.in-Ok-Some.ensures.taken.3.2 said.unsaved);
       stays = ap (cell_at cell.origin.value (disk_of cell.store) (is_ready_in cell.store)
           (logs_in cell.store) c.push.new.self)
           (said.stays ∙ ap (λ (d : DeskView). record d {
