@@ -22,7 +22,7 @@ loop-slot-preserved c =
     record {
       rooted = next-rooted old.rooted old.grows next finds;
       grows = subst (λ (z : Heap). Grows c.args.scope c.args.own c.args.self.now.heap z t)
-      (sym gone)
+          (sym gone)
           (next-grows old.rooted old.grows next finds);
       width = finds.width
           ∙ ap (λ (bs : List Bool). length bs) c.next.ensures.found
