@@ -151,7 +151,7 @@ abbrev pub CellWorks : ℕ → ℕ → SeatedCell → SeatedCell → CWork → R
 CellWorks scans slots old new work s =
     Works CellDoes (λ c. c.cell.node.core.local) (collects scans slots) old new work s
 
--- The same for what a handle holds. Of an empty one nothing is said.
+-- The same for what a handle holds. An empty one is refused, and nothing is counted.
 abbrev pub WorksIf : {X : Type 0} → (X → X → CWork → Result (Unit {0}) Fault → Type 0)
     → Option X → Option X → CWork → CWork → Result (Unit {0}) Fault → Type 0
 WorksIf Does (Some old) (Some new) before after s = Does old new after s

@@ -1,6 +1,6 @@
 use Rattle.std.proofs.Common.{sym, ap, ◌∙◌}
 use Rattle.model.specs.State.{Heap}
-use Rattle.model.specs.Heaps.{named, placing, with_rewritten}
+use Rattle.model.specs.Heaps.{placing, with_rewritten}
 use Rattle.model.specs.Reclaiming.{is_recent}
 use Rattle.heap.specs.Blocks.{Covers}
 use Rattle.heap.proofs.Ages.{noted-none, on-either}
