@@ -2,8 +2,10 @@
 // and a write with a sync. bench/processes runs it.
 //
 //     letters URL one-way BATCH COUNT   one program gives, another accepts
+//     letters URL posts BATCH COUNT BYTES   the same, of letters with this many bytes
 //     letters URL round COUNT           there and back, one letter at a time
 //     letters URL nats COUNT            request and reply of NATS, 64 bytes
+//     letters URL publish COUNT BYTES   messages of NATS, this many bytes each
 //     letters FOLDER disk COUNT BYTES   pwrite and fdatasync, over and over
 //
 // It prints the seconds that it took.
@@ -12,13 +14,14 @@
 
 #include <fcntl.h>
 #include <pthread.h>
+#include <stdbool.h>
 #include <stdio.h>
 #include <stdlib.h>
 #include <string.h>
 #include <time.h>
 #include <unistd.h>
 
-enum { TIMEOUT = 20000, ACCEPTS = 256 };
+enum { TIMEOUT = 20000 };
 
 static double seconds(void)
 {
@@ -46,64 +49,76 @@ static markring_remote *open_program(const char *url, uint8_t node)
     return program;
 }
 
-// Accepts letters until this many came.
-static void accept_letters(markring_remote *program, size_t count)
+// Performs events, of which the first `count` are alike, and returns how many were done.
+static size_t done_of(markring_remote *program, const markring_remote_event *events, size_t count)
 {
-    static const markring_event accept = {.kind = MARKRING_EVENT_ACCEPT, .reg = 0};
-    markring_event events[ACCEPTS];
-    markring_result results[ACCEPTS];
-    for (size_t i = 0; i < ACCEPTS; i++) {
-        events[i] = accept;
+    markring_result results[MARKRING_REMOTE_EVENTS];
+    size_t done = 0;
+    must(markring_remote_perform_bytes(program, events, count, results, TIMEOUT), "events");
+    while (done < count && results[done].status == MARKRING_OK) {
+        done++;
     }
+    return done;
+}
+
+static void repeat(markring_remote_event *events, const markring_remote_event *it)
+{
+    for (size_t i = 0; i < MARKRING_REMOTE_EVENTS; i++) {
+        events[i] = *it;
+    }
+}
+
+// Accepts letters until this many came, with their bytes if they have some.
+static void accept_letters(markring_remote *program, size_t count, uint32_t bytes)
+{
+    markring_remote_event events[MARKRING_REMOTE_EVENTS], accept = {{.reg = 0, .count = bytes}, NULL, 0};
+    accept.event.kind = bytes > 0 ? MARKRING_REMOTE_ACCEPT_INTO : MARKRING_EVENT_ACCEPT;
+    size_t room = bytes > 0 ? MARKRING_REMOTE_BYTES / bytes : MARKRING_REMOTE_EVENTS;
+    repeat(events, &accept);
     while (count > 0) {
         uint64_t letters = 0;
         must(markring_remote_wait(program, &letters, TIMEOUT), "wait");
         size_t most = letters < count ? (size_t)letters : count;
-        most = most < ACCEPTS ? most : ACCEPTS;
-        must(markring_remote_perform(program, events, most, results, TIMEOUT), "accept");
-        for (size_t i = 0; i < most; i++) {
-            count -= results[i].status == MARKRING_OK;
-        }
+        most = most < MARKRING_REMOTE_EVENTS ? most : MARKRING_REMOTE_EVENTS;
+        count -= done_of(program, events, most < room ? most : room);
     }
 }
 
-// Gives letters, this many in a request. What is refused as congested is given again.
-static void give_letters(markring_remote *program, uint8_t to, size_t batch, size_t count)
-{
-    markring_event events[MARKRING_REMOTE_EVENTS];
-    markring_result results[MARKRING_REMOTE_EVENTS];
-    for (size_t i = 0; i < batch; i++) {
-        events[i] = (markring_event){.kind = MARKRING_EVENT_GIVE, .node = to, .label = 1};
-    }
-    while (count > 0) {
-        size_t most = count < batch ? count : batch;
-        must(markring_remote_perform(program, events, most, results, TIMEOUT), "give");
-        for (size_t i = 0; i < most; i++) {
-            count -= results[i].status == MARKRING_OK;
-        }
-    }
-}
-
+// What is sent: letters, this many in a request, with bytes if they are posts.
 typedef struct giving {
     markring_remote *program;
     size_t batch, count;
+    bool posts;
+    uint32_t bytes;
 } giving;
+
+// What is refused as congested is given again.
+static void give_letters(const giving *it, uint8_t to)
+{
+    static uint8_t bytes[MARKRING_LETTER_BYTES];
+    markring_remote_event events[MARKRING_REMOTE_EVENTS], give = {{.node = to, .label = 1}, bytes, 0};
+    give.event.kind = it->posts ? MARKRING_REMOTE_POST : MARKRING_EVENT_GIVE;
+    give.length = it->bytes;
+    repeat(events, &give);
+    for (size_t left = it->count; left > 0;) {
+        left -= done_of(it->program, events, left < it->batch ? left : it->batch);
+    }
+}
 
 static void *give_all(void *context)
 {
-    giving *it = context;
-    give_letters(it->program, 1, it->batch, it->count);
+    give_letters(context, 1);
     return NULL;
 }
 
-static void one_way(const char *url, size_t batch, size_t count)
+static void one_way(const char *url, giving it)
 {
     pthread_t thread;
-    giving it = {open_program(url, 0), batch, count};
     markring_remote *receiver = open_program(url, 1);
+    it.program = open_program(url, 0);
     double began = seconds();
     must(pthread_create(&thread, NULL, give_all, &it), "thread");
-    accept_letters(receiver, count);
+    accept_letters(receiver, it.count, it.bytes);
     pthread_join(thread, NULL);
     printf("%f\n", seconds() - began);
 }
@@ -114,8 +129,8 @@ static void there_and_back(const char *url, size_t count)
     double began = seconds();
     for (size_t i = 0; i < count; i++) {
         for (uint8_t from = 0; from < 2; from++) {
-            give_letters(ends[from], (uint8_t)(1 - from), 1, 1);
-            accept_letters(ends[1 - from], 1);
+            give_letters(&(giving){ends[from], 1, 1, false, 0}, (uint8_t)(1 - from));
+            accept_letters(ends[1 - from], 1, 0);
         }
     }
     printf("%f\n", seconds() - began);
@@ -158,6 +173,28 @@ static void request_and_reply(const char *url, size_t count)
     printf("%f\n", seconds() - began);
 }
 
+static void publish(const char *url, size_t count, size_t length)
+{
+    natsSubscription *subscription = NULL;
+    natsConnection *receiver = connect_nats(url), *sender = connect_nats(url);
+    must(natsConnection_SubscribeSync(&subscription, receiver, "bytes"), "subscribe");
+    must(natsSubscription_SetPendingLimits(subscription, -1, -1), "limits");
+    must(natsConnection_Flush(receiver), "flush");
+    char *data = calloc(length + 1, 1);
+    double began = seconds();
+    for (size_t sent = 0, came = 0; came < count;) {
+        // (not more at once, or the server takes the receiver for a slow one)
+        for (; sent < count && (sent - came) * (length + 64) < 1000000; sent++) {
+            must(natsConnection_Publish(sender, "bytes", data, (int)length), "publish");
+        }
+        natsMsg *message = NULL;
+        must(natsSubscription_NextMsg(&message, subscription, TIMEOUT), "message");
+        natsMsg_Destroy(message);
+        came++;
+    }
+    printf("%f\n", seconds() - began);
+}
+
 static void write_and_sync(const char *folder, size_t count, size_t length)
 {
     char path[512];
@@ -182,9 +219,14 @@ int main(int count, char **given)
         return 2;
     }
     size_t first = strtoul(given[3], NULL, 10),
-           second = count > 4 ? strtoul(given[4], NULL, 10) : 0;
+           second = count > 4 ? strtoul(given[4], NULL, 10) : 0,
+           third = count > 5 ? strtoul(given[5], NULL, 10) : 0;
     if (strcmp(given[2], "one-way") == 0) {
-        one_way(given[1], first, second);
+        one_way(given[1], (giving){NULL, first, second, false, 0});
+    } else if (strcmp(given[2], "posts") == 0) {
+        one_way(given[1], (giving){NULL, first, second, true, (uint32_t)third});
+    } else if (strcmp(given[2], "publish") == 0) {
+        publish(given[1], first, second);
     } else if (strcmp(given[2], "round") == 0) {
         there_and_back(given[1], first);
     } else if (strcmp(given[2], "nats") == 0) {

@@ -116,8 +116,13 @@ bool is_tight(host *it)
 bool takes_messages(host *it)
 {
     markring_state state;
-    return markring_node_state(&it->node, &state) == MARKRING_OK
-        && state.letters < it->options.letters_most && !is_tight(it);
+    if (markring_node_state(&it->node, &state) != MARKRING_OK) {
+        return false;
+    }
+    // (an estimate, which this corrects)
+    it->letter_bytes = state.letters > 0 ? it->letter_bytes : 0;
+    return state.letters < it->options.letters_most
+        && it->letter_bytes < it->options.letter_bytes_most && !is_tight(it);
 }
 
 // A turn begins. The image is looked at if half of it may be new or gone, so that this takes no
@@ -150,6 +155,17 @@ void host_wrote(host *it, size_t bytes)
 uint64_t limit_of(const host *it)
 {
     return it->options.has_limit ? it->options.limit : it->shape.limit;
+}
+
+uint64_t byte_limit_of(const host *it)
+{
+    return it->options.has_byte_limit ? it->options.byte_limit : it->shape.byte_limit;
+}
+
+bool is_over_byte_limit(const host *it, uint8_t to)
+{
+    uint64_t limit = byte_limit_of(it);
+    return limit > 0 && to < NODES && it->peers[to].queue.bytes >= limit;
 }
 
 // ## Opening
@@ -230,6 +246,17 @@ static void begin_links(host *it)
     }
 }
 
+// Makes room for packets, which are longer in wide spaces.
+static bool make_packets(host *it)
+{
+    bool is_wide = it->shape.wide;
+    it->window_room = is_wide ? WIDE_WINDOW_BYTES : WINDOW_BYTES;
+    it->packet_room = is_wide ? WIDE_PACKET_BYTES : PACKET_BYTES;
+    it->window = malloc(it->window_room);
+    it->packet = malloc(it->packet_room);
+    return it->window != NULL && it->packet != NULL;
+}
+
 int host_open(host **opened, const store_value *value, uint64_t number, uint64_t nonce,
     const host_options *options, const host_calls *calls, uint64_t now)
 {
@@ -240,6 +267,9 @@ int host_open(host **opened, const store_value *value, uint64_t number, uint64_t
     it->options = *options;
     if (options->letters_most == 0) {
         it->options.letters_most = LETTERS_MOST;
+    }
+    if (options->letter_bytes_most == 0) {
+        it->options.letter_bytes_most = LETTER_BYTES_MOST;
     }
     if (options->entries_least == 0) {
         it->options.entries_least = ENTRIES_LEAST;
@@ -267,6 +297,10 @@ int host_open(host **opened, const store_value *value, uint64_t number, uint64_t
     if (options->image_tight == 0) {
         it->options.image_tight = it->shape.wide ? SIZE_MAX : IMAGE_TIGHT;
     }
+    if (!make_packets(it)) {
+        host_free(it);
+        return MARKRING_MEMORY;
+    }
     if (options->trusts_folder) {
         forget_processes(it);
         forget_line(it);
@@ -290,7 +324,13 @@ void host_free(host *it)
     }
     for (int i = 0; i < PROGRAMS; i++) {
         free(it->programs[i].results);
+        free(it->programs[i].letters);
     }
+    for (int i = 0; i < NODES; i++) {
+        free(it->peers[i].queue.parcels);
+    }
+    free(it->window);
+    free(it->packet);
     free(it->value.buffer);
     (void)markring_node_free(&it->node);
     free(it);

@@ -13,6 +13,8 @@ enum {
     RETRY = 100,
     // How soon another node is told of a save.
     TELL = 1000,
+    // How soon another Fetch of a node is taken that has too many letters to take.
+    FETCH_PAUSE = 1000,
     // Steps of the collector in one turn.
     SCANS = 256,
     SWEEPS = 4096,
@@ -24,6 +26,8 @@ enum {
     JOINING = 40,
     // What a place of an object adds, at most, if the object is scanned.
     SCAN_GROWTH = 40,
+    // What a reference in a letter adds, at most.
+    REFERENCE_BYTES = 14,
     // What an object without bytes and a message have in an image, about.
     OBJECT_BYTES = 64,
     MESSAGE_BYTES = 32,
@@ -33,6 +37,7 @@ enum {
     SCAN_MESSAGES = 32768,
     HELD_ANSWERS = 1024,
     HELD_BYTES = 16 << 20, // in them
+    WINDOW = MARKRING_WINDOW,
     LINE = 256,
     REGISTERS_MOST = UINT16_MAX, // of a node
     PLAIN_PLACES = 8,            // that an object of a plain space has at most
@@ -64,9 +69,37 @@ typedef struct notes {
     uint64_t slow_at, slow_count, slowest;
 } notes;
 
+// The letters with bytes that a node has for another one, as far as this process knows: of each,
+// the number of its message, and how many bytes of the image it has. The first one is the oldest.
+typedef struct parcel {
+    uint64_t number;
+    size_t bytes;
+} parcel;
+
+typedef struct queue {
+    parcel *parcels; // `room` of them, of which `count` are used, from `first` on and around
+    size_t first, count, room;
+    size_t bytes; // of all
+} queue;
+
+// What a message of a wide space means for the host: how many bytes of a letter it brings, and how
+// many it asks for.
+typedef struct load {
+    uint64_t number;
+    uint32_t brings, asks;
+} load;
+
 typedef struct peer {
     process known, saved_known; // now, and in the last save
     uint64_t sent;         // the last message that was sent since the window was last sent again
+    // The bytes of the messages that were sent since, of each by its number modulo WINDOW, and of
+    // all. `is_blocked`: the next one has to wait until some of them are acknowledged.
+    uint32_t sizes[WINDOW];
+    size_t flight;
+    bool is_blocked;
+    queue queue;
+    load early[WINDOW]; // what came early, by its number modulo WINDOW
+    uint64_t fetch_at;  // before this time, no Fetch is taken while too many bytes wait
     uint64_t acknowledged; // as it was at the last turn
     uint64_t saved;        // what was received and saved, at the last turn
     uint64_t resend_at, pause; // 0: no timer runs
@@ -87,6 +120,8 @@ typedef struct program {
     uint64_t saved_session, saved_round, saved_number;
     uint8_t *results; // those of the last request
     uint16_t count;
+    uint8_t *letters; // that it accepted with their bytes
+    size_t letters_length;
     // The registers that it has for itself, if any. They are given once.
     uint16_t first_register, registers;
     uint64_t due; // the image that holds the last request
@@ -108,7 +143,7 @@ typedef struct held {
     uint8_t bytes[];
 } held;
 
-struct host {
+struct markring_host {
     host_shape shape;
     host_options options;
     host_calls calls;
@@ -131,6 +166,11 @@ struct host {
     // Images are numbered by this host. `images` were taken, and what the one numbered `kept`
     // holds is stored.
     uint64_t images, kept, mark;
+    // Room for the frames of a packet, and for a packet.
+    uint8_t *window, *packet;
+    size_t window_room, packet_room;
+    // The bytes of letters that wait, as far as this process has received them.
+    size_t letter_bytes;
     bool changed, saving, stopping, has_work;
     uint64_t save_at, work_at; // not before these times
     store_value value;
@@ -181,6 +221,18 @@ uint64_t count_unacknowledged(host *it);
 // Whether the node takes messages: if not, programs have to accept letters or to clear places.
 bool takes_messages(host *it);
 
+// What a letter with this many references and bytes has in an image, about.
+size_t parcel_bytes(size_t references, size_t bytes);
+
+// Makes room for one more letter in a queue. Returns whether there is memory.
+bool make_room_in_queue(queue *it);
+// Adds a letter, for which there is room.
+void add_to_queue(queue *it, uint64_t number, size_t bytes);
+// Drops what was acknowledged.
+void trim_queue(queue *it, uint64_t acknowledged);
+// Whether the letters for this node have more bytes than they may.
+bool is_over_byte_limit(const host *it, uint8_t to);
+
 // An event that was Ok has changed the node. `grown` is how many bytes the image has got, at most;
 // `gone`, about how many it has lost.
 void note_change(host *it, size_t grown, size_t gone);
@@ -218,8 +270,10 @@ int read_saved(host *it, const store_value *value);
 // Whether more is known of other nodes' processes than in the last save.
 bool knows_more(const host *it);
 
-// The limit of unacknowledged messages, of the folder or of this process.
+// The limits of unacknowledged messages and of the bytes of letters in them, of the folder or of
+// this process.
 uint64_t limit_of(const host *it);
+uint64_t byte_limit_of(const host *it);
 
 // Notes for the operator: what has changed in a turn, a packet that came, a link as it is now, a
 // save that is over.

@@ -48,6 +48,27 @@ bool read_packet_head(reader *from, packet_head *it)
         && it->sender.run <= it->sender.saves && it->needs_cycle <= 1;
 }
 
+void write_frame(writer *to, const uint8_t *frame, size_t length)
+{
+    if (length < LONG_FRAME) {
+        write_number(to, length, 2);
+    } else {
+        write_number(to, LONG_FRAME, 2);
+        write_number(to, length, 4);
+    }
+    write_bytes(to, frame, length);
+}
+
+const uint8_t *read_frame(reader *from, size_t *length)
+{
+    *length = (size_t)read_number(from, 2);
+    if (*length == LONG_FRAME) {
+        *length = (size_t)read_number(from, 4);
+        from->ok = from->ok && *length >= LONG_FRAME;
+    }
+    return read_bytes(from, *length);
+}
+
 void write_request_head(writer *to, const request_head *it)
 {
     write_bytes(to, REQUEST, sizeof REQUEST);
@@ -98,7 +119,13 @@ void read_event(reader *from, markring_event *it)
 
 bool has_bytes(uint8_t kind)
 {
-    return kind == MARKRING_REMOTE_SET_BYTES || kind == MARKRING_REMOTE_PATCH;
+    return kind == MARKRING_REMOTE_SET_BYTES || kind == MARKRING_REMOTE_PATCH
+        || kind == MARKRING_REMOTE_POST;
+}
+
+size_t room_of(const markring_event *it)
+{
+    return it->kind == MARKRING_REMOTE_ACCEPT_INTO ? it->count : 0;
 }
 
 void write_remote_event(writer *to, const markring_remote_event *it)
@@ -184,4 +211,18 @@ void read_result(reader *from, markring_result *it)
     it->answer.reference.node = (uint8_t)read_number(from, 1);
     it->answer.reference.slot = (uint32_t)read_number(from, 4);
     it->answer.reference.generation = read_number(from, 8);
+}
+
+void write_letter_head(writer *to, uint16_t result, size_t length)
+{
+    write_number(to, result, 2);
+    write_number(to, length, 4);
+}
+
+bool read_letter(reader *from, letter_bytes *it)
+{
+    it->result = (uint16_t)read_number(from, 2);
+    it->length = (uint32_t)read_number(from, 4);
+    it->bytes = read_bytes(from, it->length);
+    return it->bytes != NULL;
 }

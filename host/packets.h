@@ -8,10 +8,19 @@
 #include <markring_remote.h>
 
 enum {
-    // A window of frames is at most 1,856 bytes with lengths and numbers.
-    WINDOW_BYTES = 1856,
+    // A window of frames of a plain space is at most 1,920 bytes with lengths and numbers. In a
+    // wide space, letters are longer: a packet has at most this many bytes of frames, which is
+    // enough for the longest one; and a window, this many.
+    WINDOW_BYTES = 1920,
+    WIDE_WINDOW_BYTES = 1 << 17,
+    FLIGHT_BYTES = 1 << 20,
     PACKET_HEAD = 67,
-    PACKET_BYTES = PACKET_HEAD + 2 + 11 + WINDOW_BYTES,
+    // A frame follows its length, of 2 bytes; or if it is longer than that can say, LONG_FRAME and
+    // its length, of 4 bytes.
+    LONG_FRAME = UINT16_MAX,
+    PACKET_ACK = 2 + 11,
+    PACKET_BYTES = PACKET_HEAD + PACKET_ACK + WINDOW_BYTES,
+    WIDE_PACKET_BYTES = PACKET_HEAD + PACKET_ACK + WIDE_WINDOW_BYTES,
     // Events in a request, and programs of a node.
     REQUEST_EVENTS = MARKRING_REMOTE_EVENTS,
     PROGRAMS = 64,
@@ -19,13 +28,15 @@ enum {
     EVENT_BYTES = 25,
     ANSWER_HEAD = 49,
     RESULT_BYTES = 43,
-    // The longest request and answer without bytes of objects; and with them, which is less than
-    // the 1,048,576 bytes that servers take, unless they are told otherwise.
+    // The number of a result and the length of its letter's bytes, before these.
+    LETTER_HEAD = 2 + 4,
+    // The longest request and answer without bytes of objects and letters; and with them, which is
+    // less than the 1,048,576 bytes that servers take, unless they are told otherwise.
     REQUEST_BYTES = REQUEST_HEAD + REQUEST_EVENTS * EVENT_BYTES,
     ANSWER_BYTES = ANSWER_HEAD + REQUEST_EVENTS * RESULT_BYTES,
     BYTES_MOST = MARKRING_REMOTE_BYTES,
     LONGEST_REQUEST = REQUEST_BYTES + REQUEST_EVENTS * 4 + BYTES_MOST,
-    LONGEST_ANSWER = ANSWER_HEAD + RESULT_BYTES + BYTES_MOST,
+    LONGEST_ANSWER = ANSWER_BYTES + REQUEST_EVENTS * LETTER_HEAD + BYTES_MOST,
     SPACE_ID = 8
 };
 
@@ -58,6 +69,10 @@ enum { NO_WORD = 1 };
 void write_packet_head(writer *to, const packet_head *it);
 bool read_packet_head(reader *from, packet_head *it);
 
+// A frame after its length. Reading returns NULL if no whole one follows.
+void write_frame(writer *to, const uint8_t *frame, size_t length);
+const uint8_t *read_frame(reader *from, size_t *length);
+
 typedef enum request_kind {
     // A process begins to speak for a program. The number is the next round.
     REQUEST_OPEN = 1,
@@ -69,7 +84,10 @@ typedef enum request_kind {
     REQUEST_OPEN_APART = 5,
     // Bytes of one object: its register (2), the offset (4) and how many (4) follow the head. The
     // answer has one result, and behind it the bytes.
-    REQUEST_READ_BYTES = 6
+    REQUEST_READ_BYTES = 6,
+    // As REQUEST_OPEN and REQUEST_OPEN_APART; the answer has the letters of the last request, too.
+    REQUEST_OPEN_LETTERS = 7,
+    REQUEST_OPEN_APART_LETTERS = 8
 } request_kind;
 
 enum { READ_BYTES = 2 + 4 + 4 };
@@ -89,6 +107,8 @@ void read_event(reader *from, markring_event *it);
 // An event, with its bytes if it is one that has some: they follow it, after their length (4). What
 // is read points into the request.
 bool has_bytes(uint8_t kind);
+// How many bytes of a letter the event may bring, at most.
+size_t room_of(const markring_event *it);
 void write_remote_event(writer *to, const markring_remote_event *it);
 void read_remote_event(reader *from, markring_remote_event *it);
 
@@ -104,7 +124,7 @@ typedef enum verdict {
     VERDICT_MALFORMED = 4,
     // The program has other registers, or another program has one of these, or the node hasn't.
     VERDICT_REGISTERS = 5,
-    // The request or its answer would carry more than BYTES_MOST bytes of objects.
+    // The request or its answer would carry more than BYTES_MOST bytes of objects and letters.
     VERDICT_TOO_LONG = 6
 } verdict;
 
@@ -125,5 +145,16 @@ bool read_answer_head(reader *from, answer_head *it);
 
 void write_result(writer *to, const markring_result *it);
 void read_result(reader *from, markring_result *it);
+
+// The bytes of a letter that was accepted, as they follow the results: after the number of its
+// result, and their length. What is read points into the answer.
+typedef struct letter_bytes {
+    uint16_t result;
+    uint32_t length;
+    const uint8_t *bytes;
+} letter_bytes;
+
+void write_letter_head(writer *to, uint16_t result, size_t length);
+bool read_letter(reader *from, letter_bytes *it);
 
 #endif

@@ -34,18 +34,28 @@ static void refuse(host *it, const request_head *request, verdict why, const cha
     hold_answer(it, due_image(it), reply, bytes, to.length);
 }
 
-// Writes the answer to the last request of a program, with this kind and number.
-static size_t write_last(const host *it, const request_head *request, uint8_t *bytes, size_t room)
+// Makes the answer to the last request of a program, with this kind and number. The caller frees
+// it. Returns NULL if there is no memory.
+static uint8_t *make_last(
+    const host *it, const request_head *request, bool has_letters, size_t *length)
 {
     const program *at = &it->programs[request->program];
-    writer to = writer_of(bytes, room);
+    size_t results = at->count * (size_t)RESULT_BYTES;
+    size_t letters = has_letters ? at->letters_length : 0;
+    uint8_t *bytes = malloc(ANSWER_HEAD + results + letters);
+    if (bytes == NULL) {
+        return NULL;
+    }
+    writer to = writer_of(bytes, ANSWER_HEAD + results + letters);
     answer_head head;
     fill_head(it, request, &head);
     head.verdict = VERDICT_DONE;
     head.count = at->count;
     write_answer_head(&to, &head);
-    write_bytes(&to, at->results, at->count * (size_t)RESULT_BYTES);
-    return to.length;
+    write_bytes(&to, at->results, results);
+    write_bytes(&to, at->letters, letters);
+    *length = to.length;
+    return bytes;
 }
 
 bool give_registers(host *it, uint8_t number, uint16_t first, uint16_t count)
@@ -69,7 +79,8 @@ bool give_registers(host *it, uint8_t number, uint16_t first, uint16_t count)
 static verdict judge_opening(host *it, const request_head *request, reader *from)
 {
     const program *at = &it->programs[request->program];
-    bool is_apart = request->kind == REQUEST_OPEN_APART;
+    bool is_apart =
+        request->kind == REQUEST_OPEN_APART || request->kind == REQUEST_OPEN_APART_LETTERS;
     uint16_t first = is_apart ? (uint16_t)read_number(from, 2) : 0;
     uint16_t count = is_apart ? (uint16_t)read_number(from, 2) : 0;
     if (request->session == 0 || (is_apart && (!from->ok || from->left > 0 || count == 0))) {
@@ -87,7 +98,6 @@ static verdict judge_opening(host *it, const request_head *request, reader *from
 // A process begins to speak for a program: what an earlier one asks from now on is refused.
 static void open_program(host *it, const request_head *request, reader *from, const char *reply)
 {
-    uint8_t bytes[ANSWER_BYTES];
     program *at = &it->programs[request->program];
     verdict why = judge_opening(it, request, from);
     if (why != VERDICT_DONE) {
@@ -100,15 +110,29 @@ static void open_program(host *it, const request_head *request, reader *from, co
         at->waits = false;
         it->changed = true;
     }
-    size_t length = write_last(it, request, bytes, sizeof bytes);
-    hold_answer(it, due_image(it), reply, bytes, length);
+    bool has_letters =
+        request->kind == REQUEST_OPEN_LETTERS || request->kind == REQUEST_OPEN_APART_LETTERS;
+    size_t length = 0;
+    uint8_t *bytes = make_last(it, request, has_letters, &length);
+    if (bytes != NULL) {
+        hold_answer(it, due_image(it), reply, bytes, length);
+    } else {
+        it->counts.dropped++;
+    }
+    free(bytes);
 }
 
 // ## Events
 
 static bool is_of_program(uint8_t kind)
 {
-    return (kind >= MARKRING_EVENT_ALLOC && kind <= MARKRING_EVENT_GET) || has_bytes(kind);
+    return (kind >= MARKRING_EVENT_ALLOC && kind <= MARKRING_EVENT_GET) || has_bytes(kind)
+        || kind == MARKRING_REMOTE_FETCH || kind == MARKRING_REMOTE_ACCEPT_INTO;
+}
+
+static bool is_accept(uint8_t kind)
+{
+    return kind == MARKRING_EVENT_ACCEPT || kind == MARKRING_REMOTE_ACCEPT_INTO;
 }
 
 // How many bytes an event of a program adds to the image, at most, and how many of it may be gone:
@@ -128,9 +152,12 @@ static moves moves_of(uint8_t kind)
     case MARKRING_EVENT_STORE: return (moves){16, 0};
     case MARKRING_EVENT_CLEAR: return (moves){0, 16};
     case MARKRING_EVENT_GIVE: return (moves){32, 0};
-    case MARKRING_EVENT_ACCEPT: return (moves){0, 32};
+    case MARKRING_EVENT_ACCEPT:
+    case MARKRING_REMOTE_ACCEPT_INTO: return (moves){0, 32};
     case MARKRING_EVENT_PUT: return (moves){48, 0};
     case MARKRING_EVENT_GET: return (moves){32, 0};
+    case MARKRING_REMOTE_POST:
+    case MARKRING_REMOTE_FETCH: return (moves){48, 0};
     default: return (moves){0, 0};
     }
 }
@@ -141,11 +168,20 @@ static size_t more_places(const markring_event *event)
     return event->kind == MARKRING_EVENT_ALLOC && event->place > PLAIN_PLACES ? event->place : 0;
 }
 
+// What a letter with bytes has in an image, about.
+static size_t parcel_of(const markring_remote_event *post)
+{
+    return parcel_bytes(post->event.count, post->length);
+}
+
 // How many bytes the event adds to the image, at most. (What an object had before goes.)
 static size_t growth_of(const markring_remote_event *event)
 {
-    size_t bytes = event->event.kind == MARKRING_REMOTE_SET_BYTES ? event->length : 0;
-    return moves_of(event->event.kind).grown + more_places(&event->event) + bytes;
+    uint8_t kind = event->event.kind;
+    size_t bytes = kind == MARKRING_REMOTE_SET_BYTES ? event->length
+        : kind == MARKRING_REMOTE_POST               ? parcel_of(event)
+                                                     : 0;
+    return moves_of(kind).grown + more_places(&event->event) + bytes;
 }
 
 // How many bytes the event replaces, if it replaces those of an object.
@@ -177,34 +213,142 @@ static bool may_use(const host *it, uint8_t number, uint16_t reg)
     return reg >= it->shape.registers || it->owners[reg] == owner;
 }
 
-// Whether the program may use all registers that the event uses.
-static bool may_use_all(const host *it, uint8_t number, const markring_event *event)
+// How many registers the event uses from `reg` on: those that a letter has references for, or one.
+static uint32_t registers_of(host *it, const markring_event *event)
 {
     uint8_t kind = event->kind;
-    bool has_register = kind <= MARKRING_EVENT_STORE || kind == MARKRING_EVENT_GIVE
-        || kind == MARKRING_EVENT_ACCEPT || kind == MARKRING_EVENT_PUT;
-    bool has_object = (kind >= MARKRING_EVENT_LOAD && kind <= MARKRING_EVENT_SET_WORD)
-        || kind == MARKRING_EVENT_PUT || kind == MARKRING_EVENT_GET || has_bytes(kind);
-    return (!has_register || may_use(it, number, event->reg))
-        && (!has_object || may_use(it, number, event->object))
-        && (kind != MARKRING_EVENT_COPY || may_use(it, number, event->source));
+    markring_answer letter;
+    if (kind == MARKRING_REMOTE_POST) {
+        return event->count;
+    }
+    if (is_accept(kind) && it->shape.wide
+        && markring_node_letter(&it->node, &letter) == MARKRING_OK) {
+        return letter.count;
+    }
+    return kind <= MARKRING_EVENT_STORE || kind == MARKRING_EVENT_GIVE || is_accept(kind)
+        || kind == MARKRING_EVENT_PUT;
 }
 
-static int act(host *it, const markring_remote_event *event, markring_answer *answer)
+// Whether the program may use all registers that the event uses.
+static bool may_use_all(host *it, uint8_t number, const markring_event *event)
 {
-    uint16_t object = event->event.object;
-    switch (event->event.kind) {
+    uint8_t kind = event->kind;
+    uint32_t count = registers_of(it, event);
+    bool has_object = (kind >= MARKRING_EVENT_LOAD && kind <= MARKRING_EVENT_SET_WORD)
+        || kind == MARKRING_EVENT_PUT || kind == MARKRING_EVENT_GET || kind == MARKRING_REMOTE_FETCH
+        || kind == MARKRING_REMOTE_SET_BYTES || kind == MARKRING_REMOTE_PATCH;
+    bool may = (!has_object || may_use(it, number, event->object))
+        && (kind != MARKRING_EVENT_COPY || may_use(it, number, event->source));
+    for (uint32_t i = 0; may && i < count && event->reg + i < it->shape.registers; i++) {
+        may = may_use(it, number, (uint16_t)(event->reg + i));
+    }
+    return may;
+}
+
+// The letters of a request that were accepted with their bytes, as they follow its results.
+typedef struct pile {
+    uint8_t *bytes;
+    size_t length, room;
+} pile;
+
+// Makes room for this many more bytes. Returns whether there is memory.
+static bool make_room_on(pile *it, size_t length)
+{
+    if (it->room - it->length >= length) {
+        return true;
+    }
+    size_t room = it->length + length + it->length / 2;
+    uint8_t *bytes = realloc(it->bytes, room);
+    if (bytes == NULL) {
+        return false;
+    }
+    it->bytes = bytes;
+    it->room = room;
+    return true;
+}
+
+// Accepts the oldest letter, and puts its bytes on the pile, as those of the result with this
+// number. If it has more bytes than the event has room for, the answer has their number.
+static int accept_into(host *it, const markring_event *event, uint16_t result, pile *letters,
+    markring_answer *answer)
+{
+    markring_answer letter;
+    size_t needed = 0;
+    int status = markring_node_letter(&it->node, &letter);
+    if (status != MARKRING_OK) {
+        return status;
+    }
+    if (letter.number > room_of(event)) {
+        answer->number = letter.number;
+        return MARKRING_SHORT_BUFFER;
+    }
+    size_t length = (size_t)letter.number;
+    if (!make_room_on(letters, LETTER_HEAD + length)) {
+        return MARKRING_MEMORY;
+    }
+    writer to = writer_of(letters->bytes + letters->length, LETTER_HEAD);
+    write_letter_head(&to, result, length);
+    status = markring_node_accept_into(&it->node, event->reg,
+        letters->bytes + letters->length + LETTER_HEAD, length, &needed, answer);
+    letters->length += status == MARKRING_OK ? LETTER_HEAD + length : 0;
+    return status;
+}
+
+// Posts a letter, unless the letters for its receiver have too many bytes.
+static int post(host *it, const markring_remote_event *event, markring_answer *answer)
+{
+    uint8_t to = event->event.node;
+    queue *waiting = &it->peers[to < NODES ? to : it->shape.own].queue;
+    if (is_over_byte_limit(it, to)) {
+        return MARKRING_CONGESTED;
+    }
+    if (!make_room_in_queue(waiting)) {
+        return MARKRING_MEMORY;
+    }
+    if (event->event.count > UINT8_MAX) {
+        return MARKRING_TOO_MANY_FIELDS;
+    }
+    int status = markring_node_post(&it->node, to, event->event.label, event->event.reg,
+        (uint8_t)event->event.count, event->bytes, event->length, answer);
+    if (status == MARKRING_OK) {
+        add_to_queue(waiting, answer->number, parcel_of(event));
+    }
+    return status;
+}
+
+static int act(host *it, const markring_remote_event *event, uint16_t result, pile *letters,
+    markring_answer *answer)
+{
+    const markring_event *of = &event->event;
+    switch (of->kind) {
     case MARKRING_REMOTE_SET_BYTES:
-        return markring_node_set_bytes(&it->node, object, event->bytes, event->length, answer);
+        return markring_node_set_bytes(&it->node, of->object, event->bytes, event->length, answer);
     case MARKRING_REMOTE_PATCH:
         return markring_node_patch(
-            &it->node, object, event->event.count, event->bytes, event->length, answer);
-    default: return markring_node_act(&it->node, &event->event, answer);
+            &it->node, of->object, of->count, event->bytes, event->length, answer);
+    case MARKRING_REMOTE_POST: return post(it, event, answer);
+    case MARKRING_REMOTE_FETCH:
+        return of->word > UINT32_MAX
+            ? MARKRING_BAD_ARGUMENT
+            : markring_node_fetch(
+                  &it->node, of->object, of->label, (uint32_t)of->word, of->count, answer);
+    case MARKRING_REMOTE_ACCEPT_INTO: return accept_into(it, of, result, letters, answer);
+    default: return markring_node_act(&it->node, of, answer);
     }
 }
 
-static int perform_event(
-    host *it, uint8_t number, const markring_remote_event *event, markring_answer *answer)
+// About how many bytes a letter had in the image, besides what `moves_of` says.
+static size_t letter_of(host *it, uint8_t kind, const markring_answer *answer)
+{
+    size_t bytes = is_accept(kind) && it->shape.wide
+        ? REFERENCE_BYTES * (size_t)answer->count + (size_t)answer->number
+        : 0;
+    it->letter_bytes -= bytes < it->letter_bytes ? bytes : it->letter_bytes;
+    return bytes;
+}
+
+static int perform_event(host *it, uint8_t number, const markring_remote_event *event,
+    uint16_t result, pile *letters, markring_answer *answer)
 {
     uint8_t kind = event->event.kind;
     size_t growth = growth_of(event);
@@ -218,16 +362,16 @@ static int perform_event(
         return MARKRING_IMAGE_TOO_LARGE;
     }
     // Answers to Get become letters here. If they aren't taken, they pile up at the other node.
-    if (kind == MARKRING_EVENT_GET && !takes_messages(it)) {
+    if ((kind == MARKRING_EVENT_GET || kind == MARKRING_REMOTE_FETCH) && !takes_messages(it)) {
         return MARKRING_CONGESTED;
     }
     size_t gone = moves_of(kind).gone + replaced_by(it, event);
-    int status = act(it, event, answer);
+    int status = act(it, event, result, letters, answer);
     if (status == MARKRING_ARENA_FULL && reclaim_if_full(it)) {
-        status = act(it, event, answer);
+        status = act(it, event, result, letters, answer);
     }
     if (status == MARKRING_OK && kind != MARKRING_EVENT_WORD) {
-        note_change(it, growth, gone);
+        note_change(it, growth, gone + letter_of(it, kind, answer));
     }
     if (status == MARKRING_ARENA_FULL) {
         note_full(it);
@@ -236,7 +380,8 @@ static int perform_event(
 }
 
 // Performs the events up to the first one that is refused.
-static void perform_events(host *it, const request_head *request, reader *from, writer *to)
+static void perform_events(
+    host *it, const request_head *request, reader *from, writer *to, pile *letters)
 {
     int status = MARKRING_OK;
     for (uint16_t i = 0; i < request->count; i++) {
@@ -244,9 +389,10 @@ static void perform_events(host *it, const request_head *request, reader *from, 
         markring_result done = {MARKRING_NOT_DONE, {0}};
         read_remote_event(from, &event);
         if (status == MARKRING_OK) {
-            status = done.status = perform_event(it, request->program, &event, &done.answer);
+            status = done.status =
+                perform_event(it, request->program, &event, i, letters, &done.answer);
         }
-        if (done.status != MARKRING_OK) {
+        if (done.status != MARKRING_OK && done.status != MARKRING_SHORT_BUFFER) {
             memset(&done.answer, 0, sizeof done.answer);
         }
         write_result(to, &done);
@@ -259,14 +405,18 @@ static void perform(host *it, const request_head *request, reader *from)
     program *at = &it->programs[request->program];
     size_t length = request->count * (size_t)RESULT_BYTES;
     uint8_t *results = malloc(length + 1);
+    pile letters = {NULL, 0, 0};
     if (results == NULL) {
         it->counts.dropped++;
         return;
     }
     writer to = writer_of(results, length);
-    perform_events(it, request, from, &to);
+    perform_events(it, request, from, &to, &letters);
     free(at->results);
+    free(at->letters);
     at->results = results;
+    at->letters = letters.bytes;
+    at->letters_length = letters.length;
     at->count = request->count;
     at->number = request->number;
     it->changed = true;
@@ -291,16 +441,17 @@ static verdict judge(const program *at, const request_head *request)
 // known of all.
 static verdict judge_events(const request_head *request, reader from)
 {
-    size_t bytes = 0;
+    size_t bytes = 0, room = 0;
     for (uint16_t i = 0; i < request->count; i++) {
         markring_remote_event event;
         read_remote_event(&from, &event);
         bytes += event.length;
+        room += room_of(&event.event);
     }
     if (!from.ok || from.left > 0) {
         return VERDICT_MALFORMED;
     }
-    return bytes > BYTES_MOST ? VERDICT_TOO_LONG : VERDICT_DONE;
+    return bytes > BYTES_MOST || room > BYTES_MOST ? VERDICT_TOO_LONG : VERDICT_DONE;
 }
 
 static void perform_once(host *it, uint64_t now, const request_head *request, reader *from,
@@ -445,7 +596,9 @@ void host_request(host *it, uint64_t now, const uint8_t *bytes, size_t length, c
     }
     switch (head.kind) {
     case REQUEST_OPEN:
-    case REQUEST_OPEN_APART: open_program(it, &head, &from, reply); break;
+    case REQUEST_OPEN_APART:
+    case REQUEST_OPEN_LETTERS:
+    case REQUEST_OPEN_APART_LETTERS: open_program(it, &head, &from, reply); break;
     case REQUEST_PERFORM: perform_once(it, now, &head, &from, reply); break;
     case REQUEST_READ: read_registers(it, &head, &from, reply); break;
     case REQUEST_READ_BYTES: read_object(it, &head, &from, reply); break;
@@ -504,14 +657,19 @@ void answer_programs(host *it, uint64_t now)
     announce_letters(it);
     answer_held(it);
     for (uint8_t i = 0; i < PROGRAMS; i++) {
-        uint8_t bytes[ANSWER_BYTES];
         program *at = &it->programs[i];
         if (!at->waits || at->due > it->kept) {
             continue;
         }
         request_head request = {REQUEST_PERFORM, i, at->session, at->number, at->count};
-        size_t length = write_last(it, &request, bytes, sizeof bytes);
+        size_t length = 0;
+        uint8_t *bytes = make_last(it, &request, true, &length);
+        if (bytes == NULL) {
+            it->counts.dropped++;
+            continue;
+        }
         it->calls.answer(it->calls.context, at->reply, bytes, length);
+        free(bytes);
         observe(&it->requests, now - at->asked_at);
         at->waits = false;
     }

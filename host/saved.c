@@ -6,11 +6,13 @@
 
 // A value begins with its version, which isn't the length of a name; one of the first version has
 // none. Its entries are of the same version.
-enum { VERSION = 0x82, FIXED = 1 + 1 + SPACE_ID + 1 + 1 + 8, KNOWN = 24, RECORD = 31, PART = 16 };
+typedef enum version { FIRST = 0, SECOND = 0x82, THIRD = 0x83 } version;
+
+enum { FIXED = 1 + 1 + SPACE_ID + 1 + 1 + 8 + 8, KNOWN = 24, RECORD = 31 + 4, PART = 16 };
 
 static size_t program_size(const program *at)
 {
-    return RECORD + at->count * (size_t)RESULT_BYTES;
+    return RECORD + at->count * (size_t)RESULT_BYTES + at->letters_length;
 }
 
 static bool is_opened(const program *at)
@@ -89,6 +91,8 @@ static void write_programs(const host *it, writer *to, bool (*meets)(const progr
             write_number(to, at->registers, 2);
             write_number(to, at->count, 2);
             write_bytes(to, at->results, at->count * (size_t)RESULT_BYTES);
+            write_number(to, at->letters_length, 4);
+            write_bytes(to, at->letters, at->letters_length);
         }
     }
 }
@@ -161,13 +165,14 @@ int write_entry(host *it, writer *to, size_t batch)
 int write_saved(host *it, writer *to, size_t image)
 {
     size_t name = strlen(it->shape.name), needed = 0;
-    write_number(to, VERSION, 1);
+    write_number(to, THIRD, 1);
     write_number(to, name, 1);
     write_bytes(to, it->shape.name, name);
     write_bytes(to, it->shape.space, SPACE_ID);
     write_number(to, it->shape.own, 1);
     write_number(to, it->shape.nodes, 1);
     write_number(to, it->shape.limit, 8);
+    write_number(to, it->shape.byte_limit, 8);
     for (int i = 0; i < it->shape.nodes; i++) {
         write_known(to, &it->peers[i].known);
     }
@@ -187,7 +192,7 @@ int write_saved(host *it, writer *to, size_t image)
     return status;
 }
 
-static bool read_shape(host_shape *it, reader *from)
+static bool read_shape(host_shape *it, version of, reader *from)
 {
     size_t name = read_number(from, 1);
     const uint8_t *text = name <= HOST_NAME ? read_bytes(from, name) : NULL;
@@ -200,6 +205,7 @@ static bool read_shape(host_shape *it, reader *from)
     it->own = (uint8_t)read_number(from, 1);
     it->nodes = (uint8_t)read_number(from, 1);
     it->limit = read_number(from, 8);
+    it->byte_limit = of == THIRD ? read_number(from, 8) : BYTE_LIMIT;
     return from->ok && it->nodes <= NODES && it->own < it->nodes;
 }
 
@@ -229,46 +235,64 @@ static int read_line(host *it, reader *from)
     return from->ok ? MARKRING_OK : MARKRING_BAD_IMAGE;
 }
 
+// Reads bytes into a block of their own, which replaces another one.
+static int read_block(uint8_t **block, size_t length, reader *from)
+{
+    const uint8_t *bytes = read_bytes(from, length);
+    if (bytes == NULL) {
+        return MARKRING_BAD_IMAGE;
+    }
+    free(*block);
+    *block = length > 0 ? malloc(length) : NULL;
+    if (*block != NULL) {
+        memcpy(*block, bytes, length);
+    }
+    return *block == NULL && length > 0 ? MARKRING_MEMORY : MARKRING_OK;
+}
+
+// Reads the results of a program's last request, and its letters.
+static int read_results(program *at, version of, reader *from)
+{
+    uint16_t count = (uint16_t)read_number(from, 2);
+    at->count = 0;
+    at->letters_length = 0;
+    if (count > REQUEST_EVENTS) {
+        return MARKRING_BAD_IMAGE;
+    }
+    int status = read_block(&at->results, count * (size_t)RESULT_BYTES, from);
+    size_t letters = status == MARKRING_OK && of == THIRD ? (size_t)read_number(from, 4) : 0;
+    status = status == MARKRING_OK ? read_block(&at->letters, letters, from) : status;
+    if (status == MARKRING_OK) {
+        at->count = count;
+        at->letters_length = letters;
+    }
+    return status;
+}
+
 // Reads a program, which replaces what was read of it before. One of the first version has no
 // registers for itself.
-static int read_program(host *it, bool is_new, reader *from)
+static int read_program(host *it, version of, reader *from)
 {
     uint64_t number = read_number(from, 1);
     program *at = &it->programs[number < PROGRAMS ? number : 0];
     if (number >= PROGRAMS) {
         return MARKRING_BAD_IMAGE;
     }
-    free(at->results);
-    at->results = NULL;
-    at->count = 0;
     at->session = read_number(from, 8);
     at->round = read_number(from, 8);
     at->number = read_number(from, 8);
-    at->first_register = is_new ? (uint16_t)read_number(from, 2) : 0;
-    at->registers = is_new ? (uint16_t)read_number(from, 2) : 0;
-    uint16_t count = (uint16_t)read_number(from, 2);
-    size_t length = count * (size_t)RESULT_BYTES;
-    const uint8_t *results = read_bytes(from, length);
-    if (results == NULL || at->session == 0 || count > REQUEST_EVENTS) {
-        return MARKRING_BAD_IMAGE;
-    }
-    if (count > 0) {
-        at->results = malloc(length);
-        if (at->results == NULL) {
-            return MARKRING_MEMORY;
-        }
-        memcpy(at->results, results, length);
-    }
-    at->count = count;
-    return MARKRING_OK;
+    at->first_register = of != FIRST ? (uint16_t)read_number(from, 2) : 0;
+    at->registers = of != FIRST ? (uint16_t)read_number(from, 2) : 0;
+    int status = read_results(at, of, from);
+    return status == MARKRING_OK && at->session == 0 ? MARKRING_BAD_IMAGE : status;
 }
 
-static int read_programs(host *it, bool is_new, reader *from)
+static int read_programs(host *it, version of, reader *from)
 {
     uint64_t count = read_number(from, 1);
     int status = MARKRING_OK;
     for (uint64_t i = 0; i < count && status == MARKRING_OK; i++) {
-        status = read_program(it, is_new, from);
+        status = read_program(it, of, from);
     }
     return status;
 }
@@ -281,7 +305,7 @@ static const uint8_t *read_last(reader *from, size_t *length)
 }
 
 // Reads an entry, whose batch goes behind the others. One of the first version has no line.
-static int read_entry(host *it, reader *from, bool is_new, writer *batches)
+static int read_entry(host *it, reader *from, version of, writer *batches)
 {
     size_t length = 0;
     uint64_t count = read_number(from, 1);
@@ -292,8 +316,8 @@ static int read_entry(host *it, reader *from, bool is_new, writer *batches)
         }
         read_known(it, node, from);
     }
-    int status = is_new ? read_line(it, from) : MARKRING_OK;
-    status = status == MARKRING_OK ? read_programs(it, is_new, from) : status;
+    int status = of != FIRST ? read_line(it, from) : MARKRING_OK;
+    status = status == MARKRING_OK ? read_programs(it, of, from) : status;
     const uint8_t *batch = status == MARKRING_OK ? read_last(from, &length) : NULL;
     if (status == MARKRING_OK && batch == NULL) {
         return MARKRING_BAD_IMAGE;
@@ -328,7 +352,7 @@ static int read_node(host *it, const uint8_t *image, size_t length, const writer
 
 // Reads the entries behind a value, and makes the node.
 static int read_entries(
-    host *it, const store_value *value, bool is_new, const uint8_t *image, size_t length)
+    host *it, const store_value *value, version of, const uint8_t *image, size_t length)
 {
     size_t at = 0, size = 0;
     int status = MARKRING_OK;
@@ -340,7 +364,7 @@ static int read_entries(
     const uint8_t *entry = store_next(value, &at, &size);
     while (entry != NULL && status == MARKRING_OK) {
         reader from = reader_of(entry, size);
-        status = read_entry(it, &from, is_new, &batches);
+        status = read_entry(it, &from, of, &batches);
         entry = store_next(value, &at, &size);
     }
     if (status == MARKRING_OK) {
@@ -354,27 +378,26 @@ int read_saved(host *it, const store_value *value)
 {
     size_t image_length = 0;
     reader from = reader_of(value->buffer + STORE_HEAD, value->length);
-    bool is_new = value->length > 0 && *from.at == VERSION;
-    if (is_new) {
-        (void)read_number(&from, 1);
-    }
-    if (!read_shape(&it->shape, &from)) {
+    version of = value->length > 0 && (*from.at == SECOND || *from.at == THIRD)
+        ? (version)read_number(&from, 1)
+        : FIRST;
+    if (!read_shape(&it->shape, of, &from)) {
         return MARKRING_BAD_IMAGE;
     }
     for (int i = 0; i < it->shape.nodes; i++) {
         read_known(it, (uint64_t)i, &from);
     }
-    int status = is_new ? read_line(it, &from) : MARKRING_OK;
-    status = status == MARKRING_OK ? read_programs(it, is_new, &from) : status;
+    int status = of != FIRST ? read_line(it, &from) : MARKRING_OK;
+    status = status == MARKRING_OK ? read_programs(it, of, &from) : status;
     const uint8_t *image = status == MARKRING_OK ? read_last(&from, &image_length) : NULL;
     if (status == MARKRING_OK && image == NULL) {
         status = MARKRING_BAD_IMAGE;
     }
     it->whole = value->length;
-    it->whole_due = value->whole > 0 || is_new ? value->whole : 1;
+    it->whole_due = value->whole > 0 || of == THIRD ? value->whole : 1;
     it->entries = value->end - STORE_HEAD - value->length - STORE_TAIL;
     if (status == MARKRING_OK) {
-        status = read_entries(it, value, is_new, image, image_length);
+        status = read_entries(it, value, of, image, image_length);
     }
     for (uint8_t i = 0; i < PROGRAMS && status == MARKRING_OK; i++) {
         const program *at = &it->programs[i];

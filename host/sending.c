@@ -1,14 +1,23 @@
 // What goes to other nodes, and the steps of the collector.
 #include "inside.h"
 
-enum { ACKNOWLEDGEMENT = 11, LENGTH = 2, NUMBER = 8, LEAST_REPORT = 64 };
+enum { ACKNOWLEDGEMENT = 11, WINDOW_LENGTH = 4, NUMBER = 8, LEAST_REPORT = 64 };
+
+// What isn't acknowledged is sent from its begin on.
+static void go_back(peer *at)
+{
+    at->sent = at->acknowledged;
+    at->flight = 0;
+    at->is_blocked = false;
+}
 
 void send_again(host *it, uint8_t to)
 {
     markring_link link;
     peer *at = &it->peers[to];
     if (markring_node_link(&it->node, to, &link) == MARKRING_OK) {
-        at->sent = at->acknowledged = link.acknowledged;
+        at->acknowledged = link.acknowledged;
+        go_back(at);
     }
     at->pause = FIRST_PAUSE;
     at->resend_at = 0;
@@ -44,53 +53,82 @@ static void write_acknowledgement(host *it, uint8_t to, writer *packet)
     uint8_t frame[ACKNOWLEDGEMENT];
     size_t needed = 0;
     if (markring_node_ack_for(&it->node, to, frame, sizeof frame, &needed) == MARKRING_OK) {
-        write_number(packet, needed, LENGTH);
-        write_bytes(packet, frame, needed);
+        write_frame(packet, frame, needed);
     }
 }
 
-// Copies frames from a window, without their numbers. Returns the last number.
-static uint64_t write_frames(reader *window, size_t count, writer *packet)
+// Whether a frame of this length may be sent: not if too many bytes would be on their way. One may
+// always be.
+static bool may_send(const peer *at, size_t length)
 {
-    uint64_t number = 0;
+    return at->flight == 0 || length <= FLIGHT_BYTES - at->flight;
+}
+
+// The frame was sent, or will be with this packet.
+static void note_sent(peer *at, uint64_t number, size_t length)
+{
+    at->sizes[number % WINDOW] = (uint32_t)length;
+    at->flight += length;
+    at->sent = number;
+}
+
+// Copies frames from a window, without their numbers, as long as they may be sent. Returns how many.
+static size_t write_frames(reader *window, size_t count, peer *at, writer *packet)
+{
     for (size_t i = 0; i < count; i++) {
-        size_t length = read_number(window, LENGTH);
-        number = read_number(window, NUMBER);
+        size_t length = (size_t)read_number(window, WINDOW_LENGTH);
+        uint64_t number = read_number(window, NUMBER);
         const uint8_t *frame = read_bytes(window, length);
-        write_number(packet, length, LENGTH);
-        write_bytes(packet, frame, frame != NULL ? length : 0);
+        at->is_blocked = !may_send(at, length);
+        if (frame == NULL || at->is_blocked) {
+            return i;
+        }
+        write_frame(packet, frame, length);
+        note_sent(at, number, length);
     }
-    return number;
+    return count;
 }
 
-// Sends one packet: the acknowledgement if one is due, and the frames that weren't sent yet.
-static void send_packet(host *it, uint8_t to)
+// Sends a packet, if there is something for it: the acknowledgement if one is due, and frames that
+// weren't sent yet. Returns whether it has frames.
+static bool send_packet(host *it, uint8_t to)
 {
-    uint8_t window[WINDOW_BYTES], bytes[PACKET_BYTES];
     peer *at = &it->peers[to];
-    size_t count = 0, needed = 0;
-    int status =
-        markring_node_frames(&it->node, to, at->sent, window, sizeof window, &count, &needed);
-    if (status != MARKRING_OK && !at->due) {
-        return;
+    size_t count = 0, needed = 0, written = 0;
+    bool has_frames = !at->is_blocked
+        && markring_node_frames(
+               &it->node, to, at->sent, it->window, it->window_room, &count, &needed)
+            == MARKRING_OK;
+    if (!has_frames && !at->due) {
+        return false;
     }
-    writer packet = writer_of(bytes, sizeof bytes);
+    writer packet = writer_of(it->packet, it->packet_room);
     write_head(it, to, &packet);
     if (at->due) {
         write_acknowledgement(it, to, &packet);
     }
-    if (status == MARKRING_OK) {
-        reader frames = reader_of(window, sizeof window);
-        at->sent = write_frames(&frames, count, &packet);
-        it->counts.frames_out += count;
+    if (has_frames) {
+        reader frames = reader_of(it->window, it->window_room);
+        written = write_frames(&frames, count, at, &packet);
     }
-    if (packet.ok) {
+    if (packet.ok && (at->due || written > 0)) {
         at->due = false;
         at->told = it->stored;
         at->tell_at = 0;
+        it->counts.frames_out += written;
         it->counts.packets_out++;
         it->counts.bytes_out += packet.length;
-        it->calls.send(it->calls.context, to, bytes, packet.length);
+        it->calls.send(it->calls.context, to, it->packet, packet.length);
+    }
+    return written > 0;
+}
+
+// Sends all that may be sent: one packet in a plain space, whose windows are short.
+static void send_window(host *it, uint8_t to)
+{
+    bool has_more = true;
+    for (int i = 0; has_more && i < WINDOW; i++) {
+        has_more = send_packet(it, to) && it->shape.wide;
     }
 }
 
@@ -104,12 +142,26 @@ static void tell_in_time(const host *it, peer *at, uint64_t now)
     at->due = at->due || (at->tell_at != 0 && now >= at->tell_at);
 }
 
+// Messages up to this number aren't on their way any more, and are gone. (The window has at most
+// WINDOW that were sent.)
+static void note_acknowledged(host *it, peer *at, uint64_t number)
+{
+    size_t bytes = at->queue.bytes;
+    for (uint64_t sent = at->acknowledged + 1; sent <= number && sent <= at->sent; sent++) {
+        size_t length = at->sizes[sent % WINDOW];
+        at->flight -= length < at->flight ? length : at->flight;
+    }
+    at->is_blocked = false;
+    trim_queue(&at->queue, number);
+    it->moved += MESSAGE_BYTES * (size_t)(number - at->acknowledged) + bytes - at->queue.bytes;
+    at->acknowledged = number;
+}
+
 // Goes back to the window's begin if its time has come.
 static void run_timer(host *it, peer *at, const markring_link *link, uint64_t now)
 {
     if (link->acknowledged != at->acknowledged) {
-        it->moved += MESSAGE_BYTES * (size_t)(link->acknowledged - at->acknowledged);
-        at->acknowledged = link->acknowledged;
+        note_acknowledged(it, at, link->acknowledged);
         at->pause = FIRST_PAUSE;
         at->resend_at = 0;
     }
@@ -120,7 +172,7 @@ static void run_timer(host *it, peer *at, const markring_link *link, uint64_t no
         at->resend_at = 0;
     } else if (at->resend_at != 0 && now >= at->resend_at) {
         it->counts.resends++;
-        at->sent = link->acknowledged;
+        go_back(at);
         at->pause = 2 * at->pause < LONGEST_PAUSE ? 2 * at->pause : LONGEST_PAUSE;
         at->resend_at = 0;
     }
@@ -157,7 +209,7 @@ void send_packets(host *it, uint64_t now)
         run_timer(it, at, &link, now);
         tell_in_time(it, at, now);
         note_link(it, to, &link, now);
-        send_packet(it, to);
+        send_window(it, to);
         if (link.released != link.acknowledged && at->resend_at == 0) {
             at->resend_at = now + at->pause;
         }

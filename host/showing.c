@@ -19,14 +19,22 @@ const host_number HOST_NUMBER[] = {
     NUMBER("limit", limit, "message_limit",
         "Unacknowledged messages to one node, from which on programs can send it nothing; 0 for "
         "any number"),
+    NUMBER("byte_limit", byte_limit, "byte_limit",
+        "Bytes of unacknowledged letters to one node, from which on programs can post it nothing; 0 "
+        "for any number"),
     NUMBER("cycle", cycle, "cycle", "The last collection cycle that the node has joined"),
     NUMBER("ended", ended, "cycle_ended", "The last cycle whose marking the node knows to be over"),
     NUMBER("swept", swept, "cycle_swept", "The last cycle that the node has swept"),
     NUMBER("token", token, "token", "Whether the node has the token of the cycle's marking"),
     NUMBER("live", live, "objects", "Objects of the node"),
     NUMBER("letters", letters, "letters", "Letters that wait for programs"),
+    NUMBER("letter_bytes", letter_bytes, "letter_bytes",
+        "About how many bytes these letters have, of those that came since the process began"),
     NUMBER("unacknowledged", unacknowledged, "unacknowledged_messages",
         "Messages that other nodes haven't acknowledged"),
+    NUMBER("queued_bytes", queued_bytes, "queued_bytes",
+        "About how many bytes letters have that other nodes haven't acknowledged, of those sent "
+        "since the process began"),
     NUMBER("image", image, "image_bytes", "The node's image, when it was measured last"),
     NUMBER("save", save, "save", "The number of the last save"),
     TIME("saved_ago", saved_ago, "save_age_seconds", "Time since the last save"),
@@ -77,6 +85,7 @@ static void look_at_links(host *it, uint64_t now, host_view *to)
             seen->is_seen = it->peers[other].notes.is_seen;
             seen->is_late = is_late(&it->peers[other], now);
             to->unacknowledged += seen->unacknowledged;
+            to->queued_bytes += it->peers[other].queue.bytes;
         }
     }
 }
@@ -95,6 +104,8 @@ void host_look(host *it, uint64_t now, host_view *to)
     to->bytes = it->shape.bytes;
     to->wide = it->shape.wide;
     to->limit = limit_of(it);
+    to->byte_limit = byte_limit_of(it);
+    to->letter_bytes = state.letters > 0 ? it->letter_bytes : 0;
     to->cycle = state.cycle;
     to->ended = state.ended;
     to->swept = state.swept;

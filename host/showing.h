@@ -30,6 +30,7 @@ typedef struct host_peer_view {
 typedef struct host_view {
     char space[HOST_NAME + 1];
     uint64_t own, nodes, registers, slots, places, bytes, wide, limit;
+    uint64_t byte_limit, letter_bytes, queued_bytes;
     uint64_t cycle, ended, swept, token, live, letters, unacknowledged;
     uint64_t image, save, saved_ago, save_took, run;
     host_counts counts;

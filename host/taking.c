@@ -3,6 +3,10 @@
 
 enum { DATA_FRAME = 0x45, WIDE_DATA_FRAME = 0x46, FRAME_ADDRESSES = 3 };
 
+// A message of wide spaces: its first byte, the addresses, its number (8), its stamp (8), its tag.
+// In a Fetch, how many bytes it asks for comes last.
+enum { FRAME_NUMBER = FRAME_ADDRESSES, FRAME_TAG = 19, POST = 9, FETCH = 10, FETCH_BYTES = 45 };
+
 // ## The processes that ran this node
 //
 // Each process begins with a save, so the numbers of saves are one line, in which each process has
@@ -152,27 +156,66 @@ static bool is_for_us(const host *it, uint8_t from, const packet_head *head)
         && head->to == it->shape.own && from < it->shape.nodes && from != it->shape.own;
 }
 
+static load load_of(const uint8_t *frame, size_t length)
+{
+    load it = {0, 0, 0};
+    if (frame[0] != WIDE_DATA_FRAME || length <= FRAME_TAG) {
+        return it;
+    }
+    reader from = reader_of(frame + FRAME_NUMBER, 8);
+    it.number = read_number(&from, 8);
+    it.brings = frame[FRAME_TAG] == POST ? (uint32_t)length : 0;
+    if (frame[FRAME_TAG] == FETCH && length == FETCH_BYTES) {
+        from = reader_of(frame + length - 4, 4);
+        it.asks = (uint32_t)read_number(&from, 4);
+    }
+    return it;
+}
+
+// Whether there is room for the letter that the message asks for.
+static bool has_room_for(host *it, uint8_t from, const load *what)
+{
+    return what->asks == 0 || make_room_in_queue(&it->peers[from].queue);
+}
+
+// A message was received, and the letter that it asks for was sent.
+static void note_received(host *it, uint8_t from, const load *what)
+{
+    markring_link link;
+    note_change(it, MESSAGE_GROWTH + (size_t)what->brings + what->asks, 0);
+    it->letter_bytes += what->brings;
+    if (what->asks > 0 && markring_node_link(&it->node, from, &link) == MARKRING_OK) {
+        add_to_queue(&it->peers[from].queue, link.appended, parcel_bytes(0, what->asks));
+    }
+}
+
 // Messages that were early, and whose turn has come.
 static void receive_early(host *it, uint8_t from)
 {
     markring_answer answer;
     uint64_t number;
     while (markring_node_waiting(&it->node, from, &number) == MARKRING_OK) {
-        if (markring_node_next(&it->node, from, &answer) != MARKRING_OK) {
+        const load *noted = &it->peers[from].early[number % WINDOW];
+        load what = noted->number == number ? *noted : (load){number, 0, 0};
+        if (!has_room_for(it, from, &what)
+            || markring_node_next(&it->node, from, &answer) != MARKRING_OK) {
             return;
         }
-        note_change(it, MESSAGE_GROWTH, 0);
+        note_received(it, from, &what);
     }
 }
 
-static void note_taken(host *it, uint8_t from, int status, const markring_answer *answer)
+static void note_taken(
+    host *it, uint8_t from, int status, const load *what, const markring_answer *answer)
 {
     switch (status) {
     case MARKRING_OK:
         it->counts.frames_in++;
         it->moved++;
         if (answer->kind == MARKRING_ANSWER_RECEIVED) {
-            note_change(it, MESSAGE_GROWTH, 0);
+            note_received(it, from, what);
+        } else if (answer->kind == MARKRING_ANSWER_EARLY && what->number > 0) {
+            it->peers[from].early[what->number % WINDOW] = *what;
         } else if (answer->kind == MARKRING_ANSWER_REPEAT) {
             it->counts.repeats++;
             it->peers[from].due = true;
@@ -192,18 +235,42 @@ static void note_taken(host *it, uint8_t from, int status, const markring_answer
     }
 }
 
-static void take_frame(host *it, uint8_t from, const uint8_t *frame, size_t length)
+// Whether the letter that a Fetch asks for may be sent. While too many bytes wait for the node that
+// asks, that is so only now and then, and of the next message alone: never would be too little,
+// since that node may do the same.
+static bool may_answer(host *it, uint8_t from, const load *what, uint64_t now)
+{
+    markring_link link;
+    peer *at = &it->peers[from];
+    if (what->asks == 0 || markring_node_link(&it->node, from, &link) != MARKRING_OK
+        || what->number <= link.received) {
+        return true;
+    }
+    bool is_next = what->number == link.received + 1;
+    bool may = !is_over_byte_limit(it, from) || (is_next && now >= at->fetch_at);
+    at->fetch_at = may && is_next ? now + FETCH_PAUSE : at->fetch_at;
+    return may;
+}
+
+static void take_frame(host *it, uint64_t now, uint8_t from, const uint8_t *frame, size_t length)
 {
     markring_answer answer;
     if (length < FRAME_ADDRESSES || frame[1] != from || frame[2] != it->shape.own) {
         it->counts.malformed++;
         return;
     }
-    if ((frame[0] == DATA_FRAME || frame[0] == WIDE_DATA_FRAME) && !takes_messages(it)) {
+    load what = load_of(frame, length);
+    bool is_message = frame[0] == DATA_FRAME || frame[0] == WIDE_DATA_FRAME;
+    if (is_message && !(takes_messages(it) && may_answer(it, from, &what, now))) {
         it->counts.full++;
         return;
     }
-    note_taken(it, from, markring_node_take(&it->node, frame, length, &answer), &answer);
+    if (!has_room_for(it, from, &what)) {
+        it->counts.dropped++;
+        return;
+    }
+    int status = markring_node_take(&it->node, frame, length, &answer);
+    note_taken(it, from, status, &what, &answer);
 }
 
 void host_packet(host *it, uint64_t now, uint8_t from, const uint8_t *bytes, size_t length)
@@ -225,13 +292,13 @@ void host_packet(host *it, uint64_t now, uint8_t from, const uint8_t *bytes, siz
     it->peers[from].live = head.live;
     it->peers[from].needs_cycle = head.needs_cycle != 0;
     while (rest.left > 0 && it->end == HOST_RUNS) {
-        size_t size = read_number(&rest, 2);
-        const uint8_t *frame = read_bytes(&rest, size);
+        size_t size = 0;
+        const uint8_t *frame = read_frame(&rest, &size);
         if (frame == NULL) {
             it->counts.malformed++;
             break;
         }
-        take_frame(it, from, frame, size);
+        take_frame(it, now, from, frame, size);
     }
     receive_early(it, from);
 }

@@ -86,7 +86,7 @@ enum markring_status {
     MARKRING_NO_LETTER = 8,
     // The object has no such place, or no object can have it, or the object isn't live.
     MARKRING_NO_FIELD = 9,
-    // The object would have more places than the space allows.
+    // The object would have more places than the space allows, or the letter more references.
     MARKRING_TOO_MANY_FIELDS = 10,
     // The letter is for the node itself.
     MARKRING_SELF_SEND = 11,
@@ -116,7 +116,7 @@ enum markring_status {
     MARKRING_DISK = 23,
     // A cell's disk or a reopening failed, and no reopening has succeeded since.
     MARKRING_CLOSED = 24,
-    // An object would have more bytes than the space allows; in a plain space, any.
+    // An object or a letter would have more bytes than the space allows; in a plain space, any.
     MARKRING_TOO_MANY_BYTES = 25,
     // The object doesn't have all of these bytes.
     MARKRING_NO_BYTES = 26,
@@ -144,7 +144,8 @@ enum markring_status {
     MARKRING_NO_LOG = 110
 };
 
-// The limits of docs/RULES.md and docs/FORMATS.md. The sizes of a space are those of markring_shape.
+// The limits of docs/RULES.md and docs/FORMATS.md. The sizes of a space are those of
+// markring_shape.
 enum markring_limit {
     MARKRING_LEAST_NODES = 2,
     MARKRING_MOST_NODES = 64,
@@ -155,12 +156,15 @@ enum markring_limit {
     MARKRING_WIDE_SLOTS = 16777216,
     MARKRING_WIDE_PLACES = 255,
     MARKRING_WIDE_BYTES = 16777216,
+    // The bytes of a letter.
+    MARKRING_LETTER_BYTES = 65535,
     // The bytes of an image of a plain space.
     MARKRING_PLAIN_IMAGE = 67108864,
-    // How many messages markring_node_frames offers, and how many bytes it writes.
+    // How many messages markring_node_frames offers, and how many bytes it writes if none of them
+    // is a letter with several references or bytes.
     MARKRING_WINDOW = 32,
-    MARKRING_WINDOW_BYTES = 1856,
-    // The bytes of a frame at most, and those of an acknowledgement.
+    MARKRING_WINDOW_BYTES = 1920,
+    // The bytes of a frame at most, except for such letters, and those of an acknowledgement.
     MARKRING_FRAME_BYTES = 48,
     MARKRING_ACK_BYTES = 11,
     // The bytes of a log of events.
@@ -211,9 +215,10 @@ enum markring_answer_kind {
     MARKRING_ANSWER_VALUE = 2,
     // Word. `number`: the object's word.
     MARKRING_ANSWER_WORD = 3,
-    // Give, Put, Get. `number`: the number of the message on its link.
+    // Give, Post, Put, Get, Fetch. `number`: the number of the message on its link.
     MARKRING_ANSWER_SENT = 4,
-    // Accept. `node`: the sender; `label`; `reference`: a reference or nothing.
+    // Accept. `node`: the sender; `label`; `reference`: a reference or nothing, the first one;
+    // `count`: how many registers were written; `number`: how many bytes the letter had.
     MARKRING_ANSWER_LETTER = 5,
     // Begin. `number`: the cycle that begins.
     MARKRING_ANSWER_BEGUN = 6,
@@ -368,9 +373,10 @@ typedef struct markring_work {
 // Makes a new node of a plain space: node `own` of `nodes`, each with this many registers and
 // slots. At first nothing is allocated, sent or received, and nothing is unsaved.
 //
-// If `limit` isn't 0, the node refuses Give, Put and Get with MARKRING_CONGESTED, before any other
-// test, while `limit` or more of its messages to the receiver aren't acknowledged. Messages of the
-// collector and answers to a Get are never refused, so there may be more.
+// If `limit` isn't 0, the node refuses Give, Post, Put, Get and Fetch with MARKRING_CONGESTED,
+// before any other test, while `limit` or more of its messages to the receiver aren't acknowledged.
+// Messages of the collector and answers to a Get or a Fetch are never refused, so there may be
+// more.
 //
 // MARKRING_IN_USE: the handle isn't empty. MARKRING_BAD_ARGUMENT: `nodes` isn't 2 to 64, or
 // `registers` 1 to 256, or `slots` 1 to 1,048,576. MARKRING_NO_NODE: `own` isn't below `nodes`.
@@ -379,8 +385,8 @@ int markring_node_new(markring_node *node, uint8_t nodes, uint16_t registers, ui
     uint8_t own, uint64_t limit);
 
 // The same of a space of this shape, plain or wide.
-// MARKRING_IN_USE; MARKRING_BAD_ARGUMENT: the shape isn't within its limits; MARKRING_NO_NODE: `own`
-// isn't below `shape->nodes`. They are tested in this order.
+// MARKRING_IN_USE; MARKRING_BAD_ARGUMENT: the shape isn't within its limits; MARKRING_NO_NODE:
+// `own` isn't below `shape->nodes`. They are tested in this order.
 int markring_node_make(markring_node *node, const markring_shape *shape, uint8_t own,
     uint64_t limit);
 
@@ -394,8 +400,8 @@ int markring_node_free(markring_node *node);
 // statuses are in the order of the tests: the first that applies is returned. *Own place* is:
 // MARKRING_NO_REGISTER; MARKRING_EMPTY_REGISTER: the register `object` is empty; MARKRING_REMOTE;
 // MARKRING_NO_FIELD: the object isn't live, or has no such place. *Far place* is:
-// MARKRING_NO_REGISTER; MARKRING_EMPTY_REGISTER; MARKRING_LOCAL; MARKRING_NO_FIELD: no object of the
-// space has such a place.
+// MARKRING_NO_REGISTER; MARKRING_EMPTY_REGISTER; MARKRING_LOCAL; MARKRING_NO_FIELD: no object of
+// the space has such a place.
 
 // Makes a new object with this many empty places; the register gets its reference. Answer: NEW.
 // MARKRING_NO_REGISTER; MARKRING_TOO_MANY_FIELDS; MARKRING_ARENA_FULL.
@@ -453,10 +459,36 @@ int markring_node_patch(markring_node *node, uint16_t object, uint32_t offset,
 int markring_node_give(markring_node *node, uint8_t to, uint32_t label, uint16_t reg,
     markring_answer *answer);
 
-// Removes the oldest letter that waits; the register gets its content. Answer: LETTER. It takes no
-// memory.
-// MARKRING_NO_REGISTER; MARKRING_NO_LETTER.
+// Sends a letter with the label, the contents of `count` registers from `first` on, each a
+// reference or nothing, and these bytes to the node `to`, in a wide space. A letter has at most as
+// many references as an object of the space has places, and as many bytes as an object has bytes,
+// but no more than 65,535. Answer: SENT.
+// MARKRING_CONGESTED; MARKRING_NO_NODE; MARKRING_SELF_SEND; MARKRING_NO_REGISTER: there are fewer
+// registers; MARKRING_TOO_MANY_FIELDS; MARKRING_TOO_MANY_BYTES; MARKRING_LINK_SPENT.
+int markring_node_post(markring_node *node, uint8_t to, uint32_t label, uint16_t first,
+    uint8_t count, const uint8_t *bytes, size_t length, markring_answer *answer);
+
+// Removes the oldest letter that waits; the register gets its content, and if the letter has
+// several references, the registers that follow it get the others. Its bytes are gone then: read
+// them before, or use markring_node_accept_into. Answer: LETTER. It takes no memory.
+// MARKRING_NO_REGISTER; MARKRING_NO_LETTER; MARKRING_NO_REGISTER: fewer registers follow than the
+// letter has references. The letter stays.
 int markring_node_accept(markring_node *node, uint16_t reg, markring_answer *answer);
+
+// What markring_node_accept would answer to the oldest letter. It changes nothing.
+// MARKRING_NO_LETTER.
+int markring_node_letter(markring_node *node, markring_answer *letter);
+
+// Writes the bytes of the oldest letter. `*needed` is how many there are. It changes nothing.
+// MARKRING_NO_LETTER; MARKRING_SHORT_BUFFER.
+int markring_node_letter_bytes(markring_node *node, uint8_t *buffer, size_t length,
+    size_t *needed);
+
+// Writes the bytes of the oldest letter as markring_node_letter_bytes does, and then accepts it as
+// markring_node_accept does. If it fails, the letter stays; the buffer may have its bytes.
+// MARKRING_NO_LETTER; MARKRING_SHORT_BUFFER; MARKRING_NO_REGISTER.
+int markring_node_accept_into(markring_node *node, uint16_t reg, uint8_t *buffer, size_t length,
+    size_t *needed, markring_answer *answer);
 
 // Asks the owner of another node's object to put the content of the register, a reference or
 // nothing, into the object's place. Answer: SENT.
@@ -469,6 +501,15 @@ int markring_node_put(markring_node *node, uint16_t object, uint8_t place, uint1
 // MARKRING_CONGESTED; far place; MARKRING_LINK_SPENT.
 int markring_node_get(markring_node *node, uint16_t object, uint8_t place, uint32_t label,
     markring_answer *answer);
+
+// Asks the owner of another node's object for the object's word and `count` of its bytes, from
+// `offset` on, in a wide space. They come in a letter with this label and without references: the
+// word in 8 bytes, big-endian, and then the bytes. If the object hasn't all of these, the letter
+// has the word alone, and if the object is gone, no bytes. Answer: SENT.
+// MARKRING_CONGESTED; far place, without the place; MARKRING_TOO_MANY_BYTES: `count` is above
+// 65,527, or the space isn't wide; MARKRING_LINK_SPENT.
+int markring_node_fetch(markring_node *node, uint16_t object, uint32_t label, uint32_t offset,
+    uint32_t count, markring_answer *answer);
 
 // Frees the private objects that nothing needs any more, without the other nodes. An object of a
 // wide space is private until its node sends a reference to it; from then on only a cycle frees it.
@@ -532,17 +573,20 @@ int markring_node_act(markring_node *node, const markring_event *event, markring
 // REPEAT or EARLY for a message, DONE for an acknowledgement. After EARLY, call
 // markring_node_next once the messages before it have been received.
 // MARKRING_BAD_FRAME: the bytes aren't one frame; MARKRING_WRONG_NODE; MARKRING_OUT_OF_ORDER;
-// MARKRING_LINK_SPENT; MARKRING_ACK_BEYOND.
+// MARKRING_LINK_SPENT; MARKRING_ACK_BEYOND. A letter with several references or bytes is read
+// before these tests, except that of the frame, so it may fail with MARKRING_MEMORY instead.
 int markring_node_take(markring_node *node, const uint8_t *bytes, size_t length,
     markring_answer *answer);
 
-// The three calls that write frames change nothing in the node, and take no memory.
+// The three calls that write frames change nothing in the node. They take no memory, except for the
+// frame of a letter with several references or bytes.
 
 // Writes the frame of the released message at this place of the window to the node `to`. Place 0
 // has the message after the last one that `to` has acknowledged.
 // MARKRING_BAD_ARGUMENT: the place isn't below 32. MARKRING_NO_NODE: `to` isn't another node of the
 // space. MARKRING_NOTHING: no released message is there. MARKRING_SHORT_BUFFER. They are tested in
-// this order. A frame has at most 48 bytes.
+// this order. MARKRING_MEMORY: for a frame of a letter with several references or bytes. Other
+// frames have at most 48 bytes; those have at most 29, and 14 for each reference, and the bytes.
 int markring_node_frame_at(markring_node *node, uint8_t to, uint8_t place, uint8_t *buffer,
     size_t length, size_t *needed);
 
@@ -554,12 +598,13 @@ int markring_node_ack_for(markring_node *node, uint8_t from, uint8_t *buffer, si
     size_t *needed);
 
 // Writes the frames in the window to the node `to` whose numbers are above `after`, in the order of
-// their numbers: as many as fit into the buffer. Each frame follows its length (2 bytes) and its
+// their numbers: as many as fit into the buffer. Each frame follows its length (4 bytes) and its
 // number (8 bytes), both big-endian. `*count` is how many frames were written, and `*needed` how
 // many bytes all frames above `after` take, with their lengths and numbers: all were written if
-// `*needed` is at most `length`. A window takes at most 1,856 bytes.
+// `*needed` is at most `length`. A window of frames of at most 48 bytes takes at most 1,920 bytes.
 // MARKRING_NO_NODE: `to` isn't another node of the space. MARKRING_NOTHING: there is no such frame.
 // MARKRING_SHORT_BUFFER: not even the first fits; `*needed` is as above, and `*count` is unchanged.
+// MARKRING_MEMORY: what the buffer holds then means nothing.
 int markring_node_frames(markring_node *node, uint8_t to, uint64_t after, uint8_t *buffer,
     size_t length, size_t *count, size_t *needed);
 
@@ -785,11 +830,20 @@ int markring_cell_patch(markring_cell *cell, uint16_t object, uint32_t offset,
     const uint8_t *bytes, size_t length, markring_answer *answer);
 int markring_cell_give(markring_cell *cell, uint8_t to, uint32_t label, uint16_t reg,
     markring_answer *answer);
+int markring_cell_post(markring_cell *cell, uint8_t to, uint32_t label, uint16_t first,
+    uint8_t count, const uint8_t *bytes, size_t length, markring_answer *answer);
 int markring_cell_accept(markring_cell *cell, uint16_t reg, markring_answer *answer);
+int markring_cell_letter(markring_cell *cell, markring_answer *letter);
+int markring_cell_letter_bytes(markring_cell *cell, uint8_t *buffer, size_t length,
+    size_t *needed);
+int markring_cell_accept_into(markring_cell *cell, uint16_t reg, uint8_t *buffer, size_t length,
+    size_t *needed, markring_answer *answer);
 int markring_cell_put(markring_cell *cell, uint16_t object, uint8_t place, uint16_t reg,
     markring_answer *answer);
 int markring_cell_get(markring_cell *cell, uint16_t object, uint8_t place, uint32_t label,
     markring_answer *answer);
+int markring_cell_fetch(markring_cell *cell, uint16_t object, uint32_t label, uint32_t offset,
+    uint32_t count, markring_answer *answer);
 int markring_cell_reclaim(markring_cell *cell, markring_answer *answer);
 int markring_cell_reclaim_young(markring_cell *cell, markring_answer *answer);
 int markring_cell_begin(markring_cell *cell, markring_answer *answer);
@@ -925,7 +979,9 @@ int markring_watch_free(markring_watch *watch);
 typedef struct markring_letter {
     uint8_t from;
     uint32_t label;
-    markring_ref reference; // a reference or nothing
+    markring_ref reference; // a reference or nothing, the first one
+    uint32_t registers; // how many were written
+    uint64_t bytes; // how many it had
 } markring_letter;
 
 // Whether a markring_ref is a reference and not nothing.
@@ -987,6 +1043,8 @@ static inline int markring_answer_letter(const markring_answer *answer, markring
     letter->from = answer->node;
     letter->label = answer->label;
     letter->reference = answer->reference;
+    letter->registers = answer->count;
+    letter->bytes = answer->number;
     return 1;
 }
 

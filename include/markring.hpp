@@ -65,6 +65,12 @@ struct Frame {
     Bytes bytes;
 };
 
+// A letter that was accepted, and its bytes.
+struct Accepted {
+    markring_letter letter;
+    Bytes bytes;
+};
+
 // What a sweep did: how many objects were freed, and whether all slots are swept.
 struct Freed {
     std::uint32_t count;
@@ -138,9 +144,14 @@ private:
         static constexpr auto set_bytes = markring_##kind##_set_bytes; \
         static constexpr auto patch = markring_##kind##_patch; \
         static constexpr auto give = markring_##kind##_give; \
+        static constexpr auto post = markring_##kind##_post; \
         static constexpr auto accept = markring_##kind##_accept; \
+        static constexpr auto letter = markring_##kind##_letter; \
+        static constexpr auto letter_bytes = markring_##kind##_letter_bytes; \
+        static constexpr auto accept_into = markring_##kind##_accept_into; \
         static constexpr auto put = markring_##kind##_put; \
         static constexpr auto get = markring_##kind##_get; \
+        static constexpr auto fetch = markring_##kind##_fetch; \
         static constexpr auto reclaim = markring_##kind##_reclaim; \
         static constexpr auto reclaim_young = markring_##kind##_reclaim_young; \
         static constexpr auto begin = markring_##kind##_begin; \
@@ -197,7 +208,7 @@ public:
     {
         ask(Calls::patch, object, offset, at(bytes), length);
     }
-    // These three return the number of the message.
+    // These return the number of the message.
     std::uint64_t give(std::uint8_t to, std::uint32_t label, std::uint16_t reg)
     {
         return ask(Calls::give, to, label, reg).number;
@@ -210,10 +221,35 @@ public:
     {
         return ask(Calls::get, object, place, label).number;
     }
-    markring_letter accept(std::uint16_t reg)
+    std::uint64_t fetch(std::uint16_t object, std::uint32_t label, std::uint32_t offset,
+        std::uint32_t count)
     {
-        const markring_answer answer = ask(Calls::accept, reg);
-        return {answer.node, answer.label, answer.reference};
+        return ask(Calls::fetch, object, label, offset, count).number;
+    }
+    std::uint64_t post(std::uint8_t to, std::uint32_t label, std::uint16_t first,
+        std::uint8_t count, const void *bytes = nullptr, std::size_t length = 0)
+    {
+        return ask(Calls::post, to, label, first, count, at(bytes), length).number;
+    }
+    // The letter's bytes are gone then.
+    markring_letter accept(std::uint16_t reg) { return told(ask(Calls::accept, reg)); }
+    Accepted accept_with_bytes(std::uint16_t reg)
+    {
+        Bytes bytes(letter_length());
+        std::size_t needed = 0;
+        markring_answer answer{};
+        check(Calls::accept_into(this->get(), reg, buffer(bytes), bytes.size(), &needed, &answer));
+        return {told(answer), std::move(bytes)};
+    }
+    // The oldest letter that waits, as accept() would return it. Its references are in no register
+    // yet.
+    markring_letter letter() { return told(ask(Calls::letter)); }
+    Bytes letter_bytes()
+    {
+        Bytes bytes(letter_length());
+        std::size_t needed = 0;
+        check(Calls::letter_bytes(this->get(), buffer(bytes), bytes.size(), &needed));
+        return bytes;
     }
     // How many objects were freed.
     std::uint32_t reclaim() { return ask(Calls::reclaim).count; }
@@ -326,6 +362,11 @@ protected:
     }
 
 private:
+    static markring_letter told(const markring_answer &answer)
+    {
+        return {answer.node, answer.label, answer.reference, answer.count, answer.number};
+    }
+    std::size_t letter_length() { return static_cast<std::size_t>(letter().bytes); }
     // Some of this many bytes of an object: if more are asked for, the call is refused anyway.
     template <class Call, class Number>
     Bytes written(Call call, Number of, std::uint32_t length, std::uint32_t offset,
@@ -379,8 +420,13 @@ public:
     {
         Bytes bytes(MARKRING_FRAME_BYTES);
         std::size_t needed = 0;
-        if (!inside::found(markring_node_frame_at(get(), to, place, bytes.data(), bytes.size(),
-                &needed))) {
+        int status = frame(to, place, bytes, needed);
+        if (status == MARKRING_SHORT_BUFFER) {
+            // A letter with references or bytes.
+            bytes.resize(needed);
+            status = frame(to, place, bytes, needed);
+        }
+        if (!inside::found(status)) {
             return std::nullopt;
         }
         bytes.resize(needed);
@@ -389,16 +435,23 @@ public:
     // The frames in the window whose numbers are above `after`, in order.
     std::vector<Frame> frames(std::uint8_t to, std::uint64_t after = 0)
     {
-        std::uint8_t buffer[MARKRING_WINDOW_BYTES];
+        std::uint8_t window[MARKRING_WINDOW_BYTES];
+        Bytes longer;
+        const std::uint8_t *from = window;
         std::size_t count = 0, needed = 0;
+        int status = markring_node_frames(get(), to, after, window, sizeof window, &count, &needed);
+        if (needed > sizeof window) {
+            // Letters with references or bytes.
+            longer.resize(needed);
+            from = longer.data();
+            status = markring_node_frames(get(), to, after, longer.data(), longer.size(), &count,
+                &needed);
+        }
         std::vector<Frame> frames;
-        if (inside::found(markring_node_frames(get(), to, after, buffer, sizeof buffer, &count,
-                &needed))) {
-            for (const std::uint8_t *from = buffer; frames.size() < count;) {
-                const std::size_t length = static_cast<std::size_t>(number(from, 2));
-                frames.push_back({number(from + 2, 8), Bytes(from + 10, from + 10 + length)});
-                from += 10 + length;
-            }
+        while (inside::found(status) && frames.size() < count) {
+            const std::size_t length = static_cast<std::size_t>(number(from, 4));
+            frames.push_back({number(from + 4, 8), Bytes(from + 12, from + 12 + length)});
+            from += 12 + length;
         }
         return frames;
     }
@@ -429,6 +482,10 @@ public:
     }
 
 private:
+    int frame(std::uint8_t to, std::uint8_t place, Bytes &bytes, std::size_t &needed)
+    {
+        return markring_node_frame_at(get(), to, place, bytes.data(), bytes.size(), &needed);
+    }
     // A big-endian number of this many bytes.
     static std::uint64_t number(const std::uint8_t *from, int length)
     {

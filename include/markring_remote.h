@@ -2,10 +2,10 @@
 // docs/PROCESSES.md says how to run the nodes. C11, or C++.
 //
 // A node has up to 64 programs, numbered from 0. A program sends its node requests, one after
-// another; each has up to 256 events, and 1,000,000 bytes of objects. The node performs them once,
-// whatever is lost or crashes: the program, the node or the server. It performs the events in
-// order, up to the first one that is refused. Its answer comes once all of that is stored, so
-// nothing takes it back.
+// another; each has up to 256 events, and 1,000,000 bytes of objects and letters. The node performs
+// them once, whatever is lost or crashes: the program, the node or the server. It performs the
+// events in order, up to the first one that is refused. Its answer comes once all of that is
+// stored, so nothing takes it back.
 //
 // All times are in milliseconds. No call takes longer than its time-out, whatever the server does:
 // a thread of the space speaks with it.
@@ -23,8 +23,8 @@ extern "C" {
 // Events in one request, at most.
 #define MARKRING_REMOTE_EVENTS 256
 
-// Bytes of objects in one request, or in one answer, at most. A server with the usual limit
-// (max_payload) takes such messages.
+// Bytes of objects and letters in one request, or in one answer, at most. A server with the usual
+// limit (max_payload) takes such messages.
 #define MARKRING_REMOTE_BYTES 1000000
 
 enum markring_remote_status {
@@ -48,9 +48,11 @@ enum markring_remote_status {
     // The program can't have these registers for itself: it was opened before with others or with
     // none, another program has one of them, or the node has fewer.
     MARKRING_REMOTE_REGISTERS = 8,
-    // The request, or its answer, would carry more than MARKRING_REMOTE_BYTES bytes of objects.
+    // The request, or its answer, would carry more than MARKRING_REMOTE_BYTES bytes of objects and
+    // letters.
     MARKRING_REMOTE_TOO_LONG = 9,
-    // The node is of an earlier version, and knows no bytes of objects. Nothing was performed.
+    // The node is of an earlier version, and knows no bytes of objects, or of letters. Nothing was
+    // performed.
     MARKRING_REMOTE_EARLIER = 10
 };
 
@@ -65,10 +67,22 @@ typedef struct markring_remote_options {
     const char *credentials;       // a file of NATS credentials
 } markring_remote_options;
 
-// The events that have bytes. `event` of markring_remote_event has their other fields.
+// The events that have bytes, and others that wide spaces have. `event` of markring_remote_event
+// has their fields, besides the bytes. A node of an earlier version answers MARKRING_BAD_ARGUMENT
+// to the last two.
 enum markring_remote_event_kind {
     MARKRING_REMOTE_SET_BYTES = 18, // object: it gets the bytes in place of its own
-    MARKRING_REMOTE_PATCH = 19      // object, count: the offset from which on they are overwritten
+    MARKRING_REMOTE_PATCH = 19,     // object, count: the offset from which on they are overwritten
+    // node: the receiver, label, reg: the first of `count` registers, and the letter's bytes; see
+    // markring_node_post
+    MARKRING_REMOTE_POST = 22,
+    // object, label, word: the offset, count; see markring_node_fetch
+    MARKRING_REMOTE_FETCH = 23,
+    // reg, count: how many bytes the letter may have. An Accept that keeps the letter's bytes for
+    // markring_remote_letter_bytes. If it has more, the status is MARKRING_SHORT_BUFFER, the letter
+    // stays, and `answer.number` is how many it has. The counts of all these events of a request
+    // are bytes of its answer.
+    MARKRING_REMOTE_ACCEPT_INTO = 138
 };
 
 // An event with bytes, or any other one, whose bytes are ignored. Without a length, `bytes` may be
@@ -80,7 +94,8 @@ typedef struct markring_remote_event {
 } markring_remote_event;
 
 // What became of one event. The status is one of markring.h, or MARKRING_NOT_DONE if an event of
-// the same request was refused before it. The answer holds something only after MARKRING_OK.
+// the same request was refused before it. Unless an event says otherwise, the answer holds
+// something only after MARKRING_OK.
 #define MARKRING_NOT_DONE 150
 typedef struct markring_result {
     int status;
@@ -138,7 +153,7 @@ int markring_remote_last(
 int markring_remote_perform(markring_remote *program, const markring_event *events, size_t count,
     markring_result *results, int64_t timeout);
 
-// The same for events of which some have bytes; these are copied. It is one request, too.
+// The same for any events; their bytes are copied. It is one request, too.
 // MARKRING_REMOTE_TOO_LONG, MARKRING_REMOTE_MEMORY: nothing was sent. MARKRING_REMOTE_EARLIER:
 // nothing was performed, and the next request may be made.
 int markring_remote_perform_bytes(markring_remote *program, const markring_remote_event *events,
@@ -148,6 +163,14 @@ int markring_remote_perform_bytes(markring_remote *program, const markring_remot
 // performed once. `results` has room for all its events. MARKRING_REMOTE_BAD_ARGUMENT: there is no
 // such request.
 int markring_remote_finish(markring_remote *program, markring_result *results, int64_t timeout);
+
+// The bytes of the letter that the event with this index, counted from 0, has accepted with
+// MARKRING_REMOTE_ACCEPT_INTO: in the last request that was answered, or before the first one, in
+// that of markring_remote_last. `*bytes` is valid until the next call of `perform` or `finish` for
+// this program, or its closing.
+// MARKRING_REMOTE_BAD_ARGUMENT: it has accepted none so.
+int markring_remote_letter_bytes(
+    markring_remote *program, size_t index, const uint8_t **bytes, size_t *length);
 
 // What registers hold: for each, MARKRING_OK and the reference, MARKRING_NOTHING, or
 // MARKRING_NO_REGISTER. The answer comes once all that it shows is stored. After

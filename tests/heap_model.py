@@ -57,8 +57,8 @@ class Model:
     objects: dict[Ref, Thing] = field(default_factory=dict)
     free: dict[tuple[int, int], int] = field(default_factory=dict)
     held: dict[tuple[int, int], Ref] = field(default_factory=dict)
-    # By node: of each letter its sender, its label and its reference.
-    letters: dict[int, list[tuple[int, int, Optional[Ref]]]] = field(default_factory=dict)
+    # By node: of each letter its sender, its label, its references, and its bytes.
+    letters: dict[int, list[tuple[int, int, list[Optional[Ref]], bytes]]] = field(default_factory=dict)
     # By sender and receiver: the last message acknowledged, those after it, and the last one received.
     acknowledged: dict[tuple[int, int], int] = field(default_factory=dict)
     sent: dict[tuple[int, int], list[Body]] = field(default_factory=dict)
@@ -96,14 +96,34 @@ class Writer:
 
     def body(self, it: Body) -> bytes:
         tags = {"begin": 1, "token": 2, "mark": 3, "give": 4, "put": 5, "get": 6, "ended": 7, "swept": 8}
+        tags |= {"post": 9, "fetch": 10}
+        refs, data = it.references, bytes(it.number)
         content = {
             "token": lambda: b"\0" + number(8, 0),
             "mark": lambda: self.reference(it.references[0]),
             "give": lambda: number(4, it.number) + self.optional(it.references[0]),
             "put": lambda: self.reference(it.references[0]) + number(1, it.number) + self.optional(it.references[1]),
             "get": lambda: self.reference(it.references[0]) + number(1, 0) + number(4, it.number),
+            "post": lambda: number(4, 7)
+            + number(1, len(refs))
+            + b"".join(map(self.optional, refs))
+            + number(4, len(data))
+            + data,
+            "fetch": lambda: self.reference(refs[0]) + number(4, 8) + number(4, 0) + number(4, it.number),
         }
         return number(8, 0) + number(1, tags[it.kind]) + content.get(it.kind, bytes)()
+
+    def letter(self, sender: int, label: int, references: list[Optional[Ref]], data: bytes) -> list[bytes]:
+        """A letter's parts: one for each reference, or a single one without."""
+        references = references or [None]
+        head = number(1, sender) + number(4, label)
+        more = [
+            (number(1, len(references) - 1 - at) + number(4, 0 if at else len(data)) + (b"" if at else data))
+            if self.version >= 4
+            else b""
+            for at in range(len(references))
+        ]
+        return [head + self.optional(it) + behind for it, behind in zip(references, more)]
 
     def link(self, node: int, other: int) -> bytes:
         model, link = self.model, (node, other)
@@ -126,8 +146,8 @@ class Writer:
         parts += [self.optional(model.held.get((node, it))) for it in range(model.registers)]
         parts += [number(4, used), *(self.slot(node, it) for it in range(used))]
         parts += [number(4, len(free)), *(number(4, it) for it in free), number(4, 0), number(4, 0)]
-        parts += [number(4, len(letters))]
-        parts += [number(1, sender) + number(4, label) + self.optional(it) for sender, label, it in letters]
+        waiting = [part for it in letters for part in self.letter(*it)]
+        parts += [number(4, len(waiting)), *waiting]
         return b"".join([*parts, *(self.link(node, it) for it in others)])
 
 
@@ -138,12 +158,14 @@ def roots_of(model: Model, given: set[int]) -> dict[Root, list[Ref]]:
     """What these nodes have of roots, in the order of markring-heap, with their references."""
     found = {Root("register", node, at): [it] for (node, at), it in sorted(model.held.items())}
     for node, letters in sorted(model.letters.items()):
-        found |= {Root("letter", node, at): [it] for at, (_, _, it) in enumerate(letters) if it}
+        named = [[ref for ref in references if ref] for _, _, references, _ in letters]
+        found |= {Root("letter", node, at): references for at, references in enumerate(named) if references}
     for (node, other), bodies in sorted(model.sent.items()):
         before = model.acknowledged.get((node, other), 0)
         received = model.received.get((node, other), 0) if other in given else before
         for at, it in enumerate(bodies, before + 1):
-            references = [ref for ref in it.references if ref] if it.kind in ("give", "put", "get") else []
+            kinds = "give", "put", "get", "post", "fetch"
+            references = [ref for ref in it.references if ref] if it.kind in kinds else []
             if at > received and references:
                 found[Root("message", node, at, other)] = references
     return {root: references for root, references in found.items() if root.node in given}
@@ -168,7 +190,8 @@ def needed(model: Model, node: int, only_young: bool) -> set[Ref]:
     own = {ref: it for ref, it in model.objects.items() if ref.node == node}
     found = {ref for ref, it in own.items() if it.tag in (1, 6, 7) or only_young and it.tag != 4}
     named = [it for (at, _), it in model.held.items() if at == node]
-    found |= {it for it in named + [it for _, _, it in model.letters.get(node, [])] if it in own}
+    named += [it for _, _, references, _ in model.letters.get(node, []) for it in references if it]
+    found |= {it for it in named if it in own}
     while True:
         followed = [it for ref, it in own.items() if ref in found and not (only_young and it.tag in (1, 3))]
         more = {ref for it in followed for ref in it.places if ref in own} - found
@@ -209,17 +232,24 @@ def random_model(dice: random.Random) -> Model:
         for other in others:
             fill_link(model, dice, node, other, any_ref)
         senders = [dice.choice(others) for _ in range(dice.choice([0, 0, 1, 3]))]
-        model.letters[node] = [(it, dice.getrandbits(32), any_ref()) for it in senders]
+        model.letters[node] = [random_letter(dice, it, is_wide, any_ref) for it in senders]
     return model
+
+
+def random_letter(dice: random.Random, sender: int, is_wide: bool, any_ref) -> tuple[int, int, list[Optional[Ref]], bytes]:
+    references = [any_ref() for _ in range(dice.randrange(6) if is_wide else 1)]
+    return sender, dice.getrandbits(32), references, dice.randbytes(dice.randrange(10) if is_wide else 0)
 
 
 def fill_link(model: Model, dice: random.Random, node: int, other: int, any_ref) -> None:
     """Messages, of which some are acknowledged, and some received."""
     bodies = []
     for _ in range(dice.choice([0, 0, 0, 1, 2, 4])):
-        kind = dice.choice(["give", "put", "get", "mark", "begin", "token", "ended", "swept"])
+        kinds = ["give", "put", "get", "mark", "begin", "token", "ended", "swept"]
+        kind = dice.choice(kinds + ["post", "fetch"] if model.sizes else kinds)
         first = any_ref(0.7) if kind == "give" else any_ref(1)
-        bodies.append(Body(kind, [first, any_ref()] if kind == "put" else [first], dice.randrange(5)))
+        references = {"put": [first, any_ref()], "post": [any_ref() for _ in range(dice.randrange(6))]}
+        bodies.append(Body(kind, references.get(kind, [first]), dice.randrange(5)))
     link = node, other
     model.acknowledged[link], model.sent[link] = dice.randrange(4), bodies
     model.received[link] = model.acknowledged[link] + dice.randrange(len(bodies) + 1)

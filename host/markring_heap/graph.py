@@ -4,10 +4,10 @@ from __future__ import annotations
 from array import array
 from typing import Iterator, NamedTuple, Optional
 
-from .images import GET, GIVE, KINDS, NODES, PUT, SLOT_BITS, Details, Image, Ref
+from .images import FETCH, GET, GIVE, KINDS, NODES, POST, PUT, SLOT_BITS, Details, Image, Ref
 
 SLOTS = (1 << SLOT_BITS) - 1
-MESSAGES = {GIVE: "give", PUT: "put", GET: "get"}
+MESSAGES = {GIVE: "give", PUT: "put", GET: "get", POST: "post", FETCH: "fetch"}
 
 
 class Root(NamedTuple):
@@ -40,8 +40,8 @@ def roots_of(images: dict[int, Image]) -> Iterator[Root]:
                 yield Root("register", node, number, (it,))
     for node, image in images.items():
         for number, letter in enumerate(image.letters):
-            if letter.reference:
-                yield Root("letter", node, number, (letter.reference,), letter.label, letter.sender)
+            if letter.references:
+                yield Root("letter", node, number, letter.references, letter.label, letter.sender)
     for node, image in images.items():
         for other, link in image.links.items():
             received = images[other].links[node].received if other in images else link.acknowledged

@@ -11,6 +11,8 @@ from .reader import Reader
 NODES, FIRST_NODES, NUMBER = 64, 16, 1 << 48
 # At most: registers and slots of a node; places and bytes of an object.
 PLAIN, WIDE = (256, 1 << 20, 8, 0), (65_535, 1 << 24, 255, 1 << 24)
+# At most, bytes of a letter; and those that a Fetch may ask for, besides the word.
+LETTER, FETCHED = 65_535, 65_527
 FREE, RETIRED = 0, 2
 # Whether an object is shared, and its age, by the tag of its slot. A plain space has only the first.
 KINDS = {
@@ -21,7 +23,9 @@ KINDS = {
     6: (True, "young"),
     7: (True, "remembered"),
 }
-GIVE, PUT, GET, TAGS = 4, 5, 6, range(1, 9)
+GIVE, PUT, GET, POST, FETCH = 4, 5, 6, 9, 10
+# The tags of messages in a plain space, and in a wide one.
+TAGS, WIDE_TAGS = range(1, 9), range(1, 11)
 # The bits of a slot's number. Those above them are its node's.
 SLOT_BITS = 24
 LOGGED = (3, 5)
@@ -58,11 +62,18 @@ class Letter(NamedTuple):
 
     sender: int
     label: int
-    reference: Optional[Ref]
+    references: tuple[Ref, ...]
+
+
+class Part(NamedTuple):
+    """A letter as its image has it, with one reference at most; or a part of one, of which `more` follow."""
+
+    letter: Letter
+    more: int
 
 
 class Message(NamedTuple):
-    """A message that carries references: a give, a put or a get."""
+    """A message that carries references: a give, a put, a get, a post or a fetch."""
 
     number: int
     tag: int
@@ -154,7 +165,7 @@ class ImageReader(Reader):
             registers = [self.optional() for _ in range(self.shape.registers)]
             slots = self.read_slots()
             self.read_lists(slots)
-            letters = [self.letter() for _ in range(self.count(6))]
+            letters = self.letters()
             others = [it for it in range(self.shape.nodes) if it != self.own]
             links = {it: self.link() for it in others}
         except (IndexError, error):
@@ -299,8 +310,28 @@ class ImageReader(Reader):
             self.fail("the node has a letter from itself", self.at - 1)
         return node
 
-    def letter(self) -> Letter:
-        return Letter(self.other_node(), self.number(4), self.optional())
+    def letters(self) -> list[Letter]:
+        start, letters = self.at, []
+        parts = [self.part() for _ in range(self.count(11 if self.is_wide else 6))]
+        if any(it.more >= len(parts) - at for at, it in enumerate(parts)):
+            self.fail("a letter has more references than follow it", start)
+        at = 0
+        while at < len(parts):
+            behind = at + 1 + parts[at].more
+            references = [ref for it in parts[at:behind] for ref in it.letter.references]
+            letters.append(parts[at].letter._replace(references=tuple(references)))
+            at = behind
+        return letters
+
+    def part(self) -> Part:
+        sender, label, reference = self.other_node(), self.number(4), self.optional()
+        more = self.number(1) if self.is_wide else 0
+        self.bytes_of_letter() if self.is_wide else None
+        return Part(Letter(sender, label, (reference,) if reference else ()), more)
+
+    def bytes_of_letter(self) -> None:
+        # (an object's word and bytes may be fetched, whatever a letter of a program may have)
+        self.take(self.limited(4, 0, LETTER, "the number of a letter's bytes"))
 
     def link(self) -> Link:
         acknowledged = self.number(8)
@@ -316,7 +347,8 @@ class ImageReader(Reader):
     def message(self, number: int) -> Message:
         """A message, without the references that it doesn't carry."""
         self.limited(8, 0, self.cycle, "the stamp of a message")
-        tag = self.limited(1, TAGS[0], TAGS[-1], "the tag of a message")
+        tags = WIDE_TAGS if self.is_wide else TAGS
+        tag = self.limited(1, tags[0], tags[-1], "the tag of a message")
         references: list[Optional[Ref]] = []
         if tag == 2:
             self.limited(1, 0, 1, "the token's colour")
@@ -326,6 +358,14 @@ class ImageReader(Reader):
         elif tag == GIVE:
             self.take(4)
             references = [self.optional()]
+        elif tag == POST:
+            self.take(4)
+            references = [self.optional() for _ in range(self.number(1))]
+            self.bytes_of_letter()
+        elif tag == FETCH:
+            references = [self.reference()]
+            self.take(8)
+            self.limited(4, 0, FETCHED, "the number of bytes that are asked for")
         elif tag in (PUT, GET):
             references = [self.reference()]
             if self.number(1) >= self.shape.places:

@@ -13,8 +13,8 @@ MAGIC, VERSION, FIRST = b"MRS", 2, 1
 HEAD, ENTRY, TAIL, MARK = 20, 16, 8, 24
 # What a mark begins with. No save has a number of more than 48 bits.
 MARKS = b"\xff" * 8 + b"\0\0"
-# A value of the second version begins with this byte; one of the first has a name of at most 32 bytes.
-SECOND, NAME = 0x82, 32
+# A value of a later version than the first begins with it; one of the first has a name of at most 32 bytes.
+OLDEST, SECOND, THIRD, NAME = 1, 0x82, 0x83, 32
 KNOWN, PART, RESULT, SPACE = 24, 16, 43, 8
 
 
@@ -137,35 +137,36 @@ def state_of(name: str, it: Slot) -> str:
 
 def read_value(it: Reader, slot: Slot) -> Saved:
     """A value, with the batches of the entries behind it."""
-    is_new = it.data[it.at : it.at + 1] == bytes([SECOND])
-    it.take(int(is_new))
+    first = it.data[it.at] if it.at < len(it.data) else 0
+    version = it.number(1) if first in (SECOND, THIRD) else OLDEST
     length = it.number(1)
     if length > NAME:
         it.fail(f"the space has a name of {length} bytes", it.at - 1)
     space = bytes(it.take(length)), bytes(it.take(SPACE))
     it.number(1)
     nodes = it.number(1)
-    it.take(8 + nodes * KNOWN)
-    read_programs(it, is_new)
+    it.take((16 if version == THIRD else 8) + nodes * KNOWN)
+    read_programs(it, version)
     image = it.take(it.number(8))
     it.end("the image")
-    batches = b"".join(read_entry(Reader(it.name, slot.data[:end], at), is_new) for at, end in slot.entries)
+    batches = b"".join(read_entry(Reader(it.name, slot.data[:end], at), version) for at, end in slot.entries)
     return Saved(it.name, image, batches, space)
 
 
-def read_programs(it: Reader, is_new: bool) -> None:
-    """The line of processes, and the programs."""
-    if is_new:
+def read_programs(it: Reader, version: int) -> None:
+    """The line of processes, and the programs with their last results and letters."""
+    if version != OLDEST:
         it.take(PART * it.number(2))
     for _ in range(it.number(1)):
-        it.take(25 + 4 * is_new)
+        it.take(25 if version == OLDEST else 29)
         it.take(RESULT * it.number(2))
+        it.take(it.number(4) if version == THIRD else 0)
 
 
-def read_entry(it: Reader, is_new: bool) -> memoryview:
+def read_entry(it: Reader, version: int) -> memoryview:
     """The batch of an entry."""
     it.take((1 + KNOWN) * it.number(1))
-    read_programs(it, is_new)
+    read_programs(it, version)
     batch = it.take(it.number(8))
     it.end("the batch")
     return batch

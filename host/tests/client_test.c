@@ -36,6 +36,8 @@ static void check(bool holds, const char *text, int line)
 
 // The allocation of this thread with this number is refused; 0 for none.
 static _Thread_local int refuse_in;
+// One of any thread with exactly this size is, too; 0 for none.
+static atomic_size_t refuse_size;
 
 void *__real_malloc(size_t size);
 void *__wrap_malloc(size_t size);
@@ -43,6 +45,10 @@ void *__wrap_malloc(size_t size);
 void *__wrap_malloc(size_t size)
 {
     bool is_refused = refuse_in > 0 && --refuse_in == 0;
+    if (size == refuse_size && size > 0) {
+        refuse_size = 0;
+        is_refused = true;
+    }
     return is_refused ? NULL : __real_malloc(size);
 }
 
@@ -93,6 +99,9 @@ static struct {
     int behind;                     // bytes behind the results; -1 for as many as are right
     uint64_t session, number, round, last;
     bool silent, astray, is_text;
+    bool is_earlier; // it knows no letters
+    const uint8_t *letters; // behind the results
+    size_t letters_length;
     int unheard; // requests that get no answer
     uint8_t own;
     int status; // of each result
@@ -117,9 +126,15 @@ static void behave(void)
     node.last = 41;
 }
 
+static bool knows_letters(void)
+{
+    return asked.kind == REQUEST_OPEN_LETTERS || asked.kind == REQUEST_OPEN_APART_LETTERS;
+}
+
 static int right_count(void)
 {
-    bool opens = asked.kind == REQUEST_OPEN || asked.kind == REQUEST_OPEN_APART;
+    bool opens =
+        asked.kind == REQUEST_OPEN || asked.kind == REQUEST_OPEN_APART || knows_letters();
     HOLDS(asked.kind != REQUEST_READ_BYTES || asked.count == 1);
     return asked.kind == REQUEST_WAIT ? 1 : opens ? 2 : asked.count;
 }
@@ -133,10 +148,11 @@ static uint32_t wanted_bytes(void)
 
 static void write_answer(writer *to)
 {
-    int count = node.count >= 0 ? node.count : node.verdict != 0 ? 0 : right_count();
+    uint8_t said = node.is_earlier && knows_letters() ? VERDICT_MALFORMED : node.verdict;
+    int count = node.count >= 0 ? node.count : said != 0 ? 0 : right_count();
     answer_head head = {(uint8_t)(asked.kind + node.kind), (uint8_t)(asked.program + node.program),
-        asked.session + node.session, asked.number + node.number, node.verdict, node.last,
-        node.round, 4, node.own, 8, 64, (uint16_t)count};
+        asked.session + node.session, asked.number + node.number, said, node.last, node.round, 4,
+        node.own, 8, 64, (uint16_t)count};
     write_answer_head(to, &head);
     for (int i = 0; i < count; i++) {
         markring_result it = {node.status, {.number = 1000 + (uint64_t)i}};
@@ -147,6 +163,7 @@ static void write_answer(writer *to)
     for (uint32_t i = 0; i < behind; i++) {
         write_number(to, 50 + i, 1);
     }
+    write_bytes(to, node.letters, node.letters_length);
 }
 
 static void on_request(const char *at, const char *reply, const void *bytes, int length)
@@ -360,6 +377,180 @@ static void test_earlier(void)
     HOLDS(request_length == REQUEST_HEAD + EVENTS * EVENT_BYTES);
 }
 
+// The same at its opening, which is asked for again as earlier versions know it.
+static void test_earlier_openings(void)
+{
+    markring_remote *it = NULL;
+    behave();
+    node.is_earlier = true;
+    unsigned long before = asks;
+    HOLDS(open_program(LONG) == MARKRING_REMOTE_OK && asks == before + 2);
+    HOLDS(asked.kind == REQUEST_OPEN && request_length == REQUEST_HEAD);
+    int status = markring_remote_open_apart(&it, space, 3, 9, 258, 772, LONG, NULL);
+    HOLDS(status == MARKRING_REMOTE_OK && asked.kind == REQUEST_OPEN_APART);
+    HOLDS(request_length == REQUEST_HEAD + 4);
+    markring_remote_close(it);
+    node.verdict = VERDICT_REGISTERS;
+    it = NULL;
+    status = markring_remote_open_apart(&it, space, 3, 9, 258, 772, LONG, NULL);
+    HOLDS(status == MARKRING_REMOTE_REGISTERS && it == NULL);
+}
+
+// ## Letters
+
+// Posts three bytes, and accepts two letters with room for 5 and 4 bytes.
+static int exchange(markring_result *results, int64_t timeout)
+{
+    static const uint8_t bytes[3] = {'a', 0, 'b'};
+    markring_remote_event events[4] = {
+        {{.kind = MARKRING_EVENT_COPY}, NULL, 0},
+        {{.kind = MARKRING_REMOTE_ACCEPT_INTO, .reg = 258, .count = 5}, NULL, 77},
+        {{.kind = MARKRING_REMOTE_POST, .node = 2, .reg = 772, .label = 9, .count = 2}, bytes, 3},
+        {{.kind = MARKRING_REMOTE_ACCEPT_INTO, .count = 4}, NULL, 77}};
+    return markring_remote_perform_bytes(program, events, 4, results, timeout);
+}
+
+static bool is_letter(size_t index, const char *text, size_t length)
+{
+    const uint8_t *bytes = NULL;
+    size_t found = 0;
+    return markring_remote_letter_bytes(program, index, &bytes, &found) == MARKRING_REMOTE_OK
+        && found == length && memcmp(bytes, text, length) == 0;
+}
+
+static bool has_no_letter(size_t index)
+{
+    const uint8_t *bytes = NULL;
+    size_t found = 77;
+    return markring_remote_letter_bytes(program, index, &bytes, &found)
+        == MARKRING_REMOTE_BAD_ARGUMENT && bytes == NULL && found == 77;
+}
+
+static void bring(const char *letters, size_t length)
+{
+    node.letters = (const uint8_t *)letters;
+    node.letters_length = length;
+}
+
+#define BRING(text) bring(text, sizeof(text) - 1)
+
+// The letters of a request come with its answer, and stay until the next one.
+static void test_letters(void)
+{
+    markring_result results[4];
+    behave();
+    BRING("\0\1\0\0\0\2xy");
+    HOLDS(open_program(LONG) == MARKRING_REMOTE_OK && asked.kind == REQUEST_OPEN_LETTERS);
+    HOLDS(has_no_letter(0) && is_letter(1, "xy", 2) && has_no_letter(2));
+    behave();
+    BRING("\0\1\0\0\0\5hello\0\3\0\0\0\0");
+    HOLDS(exchange(results, LONG) == MARKRING_REMOTE_OK);
+    HOLDS(has_no_letter(0) && is_letter(1, "hello", 5) && has_no_letter(2) && is_letter(3, "", 0));
+    HOLDS(has_no_letter(4) && has_no_letter(SIZE_MAX) && has_no_letter(65537));
+    HOLDS(request_length == REQUEST_HEAD + 4 * EVENT_BYTES + 4 + 3);
+    const uint8_t *accept = request + REQUEST_HEAD + EVENT_BYTES, *sent = accept + EVENT_BYTES;
+    HOLDS(accept[0] == 138 && memcmp(accept + 3, "\1\2", 2) == 0);
+    HOLDS(memcmp(accept + 13, "\0\0\0\5", 4) == 0);
+    HOLDS(sent[0] == 22 && sent[1] == 2 && memcmp(sent + 3, "\3\4", 2) == 0);
+    HOLDS(memcmp(sent + 9, "\0\0\0\11\0\0\0\2", 8) == 0);
+    HOLDS(memcmp(sent + EVENT_BYTES, "\0\0\0\3a\0b", 7) == 0);
+    // A reading changes none. The next request has others, or none.
+    behave();
+    HOLDS(read_registers(LONG) == MARKRING_REMOTE_OK && is_letter(1, "hello", 5));
+    HOLDS(perform(LONG, false) == MARKRING_REMOTE_OK && has_no_letter(1) && has_no_letter(3));
+    // An answer that comes late.
+    node.silent = true;
+    HOLDS(exchange(results, SHORT) == MARKRING_REMOTE_TIMEOUT && has_no_letter(1));
+    behave();
+    BRING("\0\1\0\0\0\1z");
+    HOLDS(markring_remote_finish(program, results, LONG) == MARKRING_REMOTE_OK);
+    HOLDS(is_letter(1, "z", 1));
+    // More than there is room for.
+    behave();
+    BRING("\0\1\0\0\0\12helloworld\0\3\0\0\0\0");
+    HOLDS(exchange(results, SHORT) == MARKRING_REMOTE_TIMEOUT);
+    behave();
+    HOLDS(markring_remote_finish(program, results, LONG) == MARKRING_REMOTE_OK);
+    // A node of an earlier version.
+    node.verdict = VERDICT_MALFORMED;
+    HOLDS(exchange(results, LONG) == MARKRING_REMOTE_EARLIER);
+}
+
+// Letters of no result, or twice of one, or cut off, aren't taken; nor are others.
+static void test_wrong_letters(void)
+{
+    static const struct {
+        const char *text;
+        size_t length;
+    } wrong[] = {{"\0\4\0\0\0\0", 6}, {"\0\1\0\0\0\1z\0\1\0\0\0\1z", 14},
+        {"\0\3\0\0\0\0\0\1\0\0\0\0", 12}, {"\0\1\0\0\0\2z", 7}, {"\0\1\0\0\0", 5},
+        {"\0", 1}, {"\0\1\377\377\377\377z", 7}};
+    markring_result results[4];
+    for (size_t i = 0; i < sizeof wrong / sizeof *wrong; i++) {
+        behave();
+        bring(wrong[i].text, wrong[i].length);
+        HOLDS(exchange(results, SHORT) == MARKRING_REMOTE_TIMEOUT);
+        bring(NULL, 0);
+        HOLDS(markring_remote_finish(program, results, LONG) == MARKRING_REMOTE_OK);
+    }
+    for (call which = READ; which < CALLS; which++) {
+        behave();
+        BRING("\0\0\0\0\0\0");
+        HOLDS(performs(which) || ask(which, SHORT) == MARKRING_REMOTE_TIMEOUT);
+    }
+}
+
+// Without memory for them, the request isn't over. The most bytes that they may have; one more.
+static void test_most_letters(void)
+{
+    static uint8_t letters[6 + BYTES_MOST + 1];
+    markring_result results[4];
+    behave();
+    BRING("\0\1\0\0\0\1z");
+    refuse_size = 7;
+    HOLDS(open_program(LONG) == MARKRING_REMOTE_MEMORY && refuse_size == 0);
+    HOLDS(open_program(LONG) == MARKRING_REMOTE_OK && is_letter(1, "z", 1));
+    BRING("\0\1\0\0\0\1y");
+    for (int which = 1; which < 5; which++) {
+        refuse_in = which; // (the request, room for letters, the asker's copy)
+        int status = exchange(results, LONG);
+        bool is_refused = refuse_in == 0;
+        refuse_in = 0;
+        HOLDS(is_refused == (which < 4));
+        HOLDS(status == (is_refused ? MARKRING_REMOTE_MEMORY : MARKRING_REMOTE_OK));
+        HOLDS(markring_remote_finish(program, results, LONG) == MARKRING_REMOTE_BAD_ARGUMENT);
+    }
+    HOLDS(is_letter(1, "y", 1));
+    for (uint32_t more = 0; more < 2; more++) {
+        behave();
+        HOLDS(open_program(LONG) == MARKRING_REMOTE_OK);
+        writer to = writer_of(letters, sizeof letters);
+        write_letter_head(&to, 0, BYTES_MOST + more);
+        bring((const char *)letters, 6 + BYTES_MOST + more);
+        markring_remote_event events[2] = {
+            {{.kind = MARKRING_REMOTE_ACCEPT_INTO, .count = BYTES_MOST / 2}, NULL, 0},
+            {{.kind = MARKRING_REMOTE_ACCEPT_INTO, .count = BYTES_MOST / 2 + more}, NULL, 0}};
+        unsigned long before = asks;
+        int status = markring_remote_perform_bytes(program, events, 2, results, LONG);
+        HOLDS(status == (more == 0 ? MARKRING_REMOTE_OK : MARKRING_REMOTE_TOO_LONG));
+        HOLDS(asks == before + (more == 0));
+        // Fewer than came.
+        events[1].event.count = BYTES_MOST / 2 - LETTER_HEAD - 1;
+        status = markring_remote_perform_bytes(program, events, 2, results, SHORT);
+        HOLDS(status == MARKRING_REMOTE_TIMEOUT);
+        status = open_program(more == 0 ? LONG : SHORT);
+        HOLDS(status == (more == 0 ? MARKRING_REMOTE_OK : MARKRING_REMOTE_TIMEOUT));
+    }
+    // The server has to take as long an answer as it may be.
+    behave();
+    HOLDS(open_program(LONG) == MARKRING_REMOTE_OK);
+    model.max_payload = ANSWER_HEAD + 4 * RESULT_BYTES + 2 * LETTER_HEAD + 9 - 1;
+    HOLDS(exchange(results, LONG) == MARKRING_REMOTE_CARRIER);
+    model.max_payload++;
+    HOLDS(markring_remote_finish(program, results, LONG) == MARKRING_REMOTE_OK);
+    model.max_payload = 1048576;
+}
+
 // The most bytes in a request and an answer; and one more, which aren't sent.
 static void test_most(void)
 {
@@ -533,7 +724,9 @@ static void test_apart(void)
                     : said == VERDICT_STALE     ? MARKRING_REMOTE_TIMEOUT
                     : said == VERDICT_REGISTERS ? MARKRING_REMOTE_REGISTERS
                                                 : MARKRING_REMOTE_BAD_ARGUMENT));
-        HOLDS((it != NULL) == (said == VERDICT_DONE) && asked.kind == REQUEST_OPEN_APART);
+        HOLDS((it != NULL) == (said == VERDICT_DONE));
+        HOLDS(asked.kind
+            == (said == VERDICT_MALFORMED ? REQUEST_OPEN_APART : REQUEST_OPEN_APART_LETTERS));
         HOLDS(asked.number == (said == VERDICT_STALE ? 8 : 1) && asked.count == 0);
         HOLDS(request_length == REQUEST_HEAD + 4
             && memcmp(request + REQUEST_HEAD, "\x01\x02\x03\x04", 4) == 0);
@@ -744,6 +937,10 @@ int main(void)
     test_right();
     test_spelling();
     test_earlier();
+    test_earlier_openings();
+    test_letters();
+    test_wrong_letters();
+    test_most_letters();
     test_most();
     test_memory();
     test_last();

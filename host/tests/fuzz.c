@@ -8,10 +8,10 @@
 #include <stdio.h>
 #include <stdlib.h>
 
-enum { MOST = 8192, SENT = 256 };
+enum { MOST = 8192, SENT = 256, PACKET_ROOM = 1 << 15 };
 
 static uint64_t seed = 88172645463325252u;
-static uint8_t sent[SENT][PACKET_BYTES];
+static uint8_t sent[SENT][PACKET_ROOM];
 static size_t lengths[SENT];
 static int sent_count;
 static unsigned long passed, failed;
@@ -29,6 +29,9 @@ static void on_send(void *context, uint8_t to, const uint8_t *bytes, size_t leng
     (void)context;
     (void)to;
     int at = sent_count < SENT ? sent_count++ : (int)below(SENT);
+    if (length > PACKET_ROOM) {
+        exit(2);
+    }
     memcpy(sent[at], bytes, length);
     lengths[at] = length;
 }
@@ -126,10 +129,10 @@ static size_t damage(uint8_t *bytes, size_t length, size_t room)
 
 static void try_packet(host *it, uint64_t now)
 {
-    uint8_t *bytes = malloc(PACKET_BYTES + 8);
+    uint8_t *bytes = malloc(PACKET_ROOM + 8);
     int from = (int)below((uint32_t)sent_count);
     memcpy(bytes, sent[from], lengths[from]);
-    size_t length = damage(bytes, lengths[from], PACKET_BYTES);
+    size_t length = damage(bytes, lengths[from], PACKET_ROOM);
     // A block of exactly this length shows a read beyond it.
     uint8_t *exact = malloc(length > 0 ? length : 1);
     memcpy(exact, bytes, length);
@@ -138,27 +141,36 @@ static void try_packet(host *it, uint64_t now)
     free(bytes);
 }
 
+// The kind of an event: any, now and then of those with letters.
+static uint8_t any_kind(void)
+{
+    static const uint8_t kinds[] = {MARKRING_REMOTE_POST, MARKRING_REMOTE_FETCH,
+        MARKRING_REMOTE_ACCEPT_INTO, MARKRING_REMOTE_ACCEPT_INTO};
+    return below(3) == 0 ? kinds[below(sizeof kinds)] : (uint8_t)below(25);
+}
+
 static void try_request(host *it, uint64_t now)
 {
     uint8_t bytes[REQUEST_BYTES + 512], data[40];
     uint16_t count = (uint16_t)below(6);
     writer to = writer_of(bytes, sizeof bytes - 64);
     program *program = &it->programs[0];
-    uint8_t kind = (uint8_t)(1 + below(6));
-    bool opens = kind == REQUEST_OPEN || kind == REQUEST_OPEN_APART;
+    uint8_t kind = (uint8_t)(1 + below(9));
+    bool is_apart = kind == REQUEST_OPEN_APART || kind == REQUEST_OPEN_APART_LETTERS;
+    bool opens = is_apart || kind == REQUEST_OPEN || kind == REQUEST_OPEN_LETTERS;
     request_head head = {kind, (uint8_t)(below(9) == 0 ? below(256) : 0),
         below(2) ? program->session : 1 + below(3),
         opens ? program->round + 1 : program->number + below(3), count};
     write_request_head(&to, &head);
-    if (kind == REQUEST_OPEN_APART) {
+    if (is_apart) {
         write_number(&to, below(9), 2);
         write_number(&to, below(4), 2);
     }
     memset(data, (int)below(256), sizeof data);
     for (uint16_t i = 0; i < count && !opens; i++) {
-        markring_event event = {(uint8_t)below(21), (uint8_t)below(3), (uint8_t)below(9),
-            (uint16_t)below(9), (uint16_t)below(9), (uint16_t)below(9), below(9), below(9),
-            below(9)};
+        markring_event event = {any_kind(), (uint8_t)below(3), (uint8_t)below(9),
+            (uint16_t)below(9), (uint16_t)below(9), (uint16_t)below(9), below(9),
+            below(8) == 0 ? below(UINT32_MAX) : below(40), below(9)};
         write_remote_event(&to, &(markring_remote_event){event, data, below(sizeof data)});
     }
     if (kind == REQUEST_READ_BYTES && below(4) > 0) {

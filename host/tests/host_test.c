@@ -74,7 +74,7 @@ static uint32_t slots = 64;
 static uint16_t registers = 8;
 static uint8_t wide_places; // of a wide space; 0 for a plain one
 static uint32_t wide_bytes;
-static uint64_t folder_limit;
+static uint64_t folder_limit, folder_byte_limit;
 static const uint8_t SPACE[SPACE_ID] = {1, 2, 3, 4, 5, 6, 7, 8};
 enum { NONCE = 77 };
 
@@ -120,8 +120,8 @@ static void make_node(station *at, uint8_t own, uint8_t nodes, bool has_entries)
 {
     store_value value = {NULL, 0, 0, false, 0, 0};
     host_shape shape = {
-        "test", {0}, own, nodes, registers, slots, folder_limit, wide_places > 0, wide_places,
-        wide_bytes};
+        "test", {0}, own, nodes, registers, slots, folder_limit, folder_byte_limit, wide_places > 0,
+        wide_places, wide_bytes};
     memset(at, 0, sizeof *at);
     memcpy(shape.space, SPACE, SPACE_ID);
     at->nonce = NONCE;

@@ -272,12 +272,13 @@ static void test_payload(void)
         HOLDS(end_hearing("max_payload") == 1);
     }
     model.max_payload = 1048576;
-    // With bytes of objects, answers may be longer.
-    for (uint32_t bytes = ANSWER_BYTES - ANSWER_HEAD - RESULT_BYTES - 1; bytes < 2000000;
-         bytes = bytes < ANSWER_BYTES ? bytes + 1 : bytes * 2) {
-        int64_t longest = longest_answer(&(host_shape){.bytes = bytes});
-        uint32_t more = bytes < 1000000 ? bytes : 1000000;
-        HOLDS(longest == (more <= 256 * 43 - 43 ? 49 + 256 * 43 : 49 + 43 + more));
+    // With bytes of letters, answers may be longer, and so may packets of wide spaces.
+    for (uint32_t bytes = 0; bytes < 2000000; bytes = bytes < 4000 ? bytes + 1 : bytes * 2) {
+        int64_t letters = bytes < 1000000 / 256 + 1 ? 256 * (int64_t)bytes : 1000000;
+        int64_t answer = 49 + 256 * 43 + (bytes > 0 ? 256 * 6 + letters : 0);
+        HOLDS(longest_message(&(host_shape){.bytes = bytes}) == answer);
+        int64_t packet = 67 + 13 + 131072, wide = answer > packet ? answer : packet;
+        HOLDS(longest_message(&(host_shape){.bytes = bytes, .wide = true}) == wide);
     }
 }
 

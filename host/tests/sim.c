@@ -3,8 +3,8 @@
 // at any call, allocations fail, and the clock jumps. Older folders and snapshots of machines are
 // put back, nodes are stopped, and programs flood nodes. Each answer is compared with a model of
 // the programs; at checkpoints, each node comes to have exactly the objects that the model reaches.
-// A third of the spaces are wide: their programs use the last registers and places of many, and
-// bytes of objects.
+// A third of the spaces are wide: their programs use the last registers and places of many, bytes of
+// objects, letters with bytes and several references, and what is fetched from other nodes.
 //
 //     sim SEEDS [FIRST [STEPS]]
 #include "../inside.h"
@@ -34,7 +34,8 @@ enum {
     // In wide spaces, the registers and places before those that are used.
     MORE_REGISTERS = 400,
     MORE_PLACES = 60,
-    BYTES = 200 // of an object there, at most
+    BYTES = 200, // of an object there, at most
+    CARRIED = 3  // references in a letter there, at most
 };
 
 // ## Random numbers and checks
@@ -122,6 +123,9 @@ typedef struct object {
     // All that was ever written to a place, in order, beginning with nothing.
     uint32_t *history[PLACES];
     size_t lengths[PLACES], seen[PLACES];
+    // The same of its bytes: each version after its length, a byte.
+    uint8_t (*versions)[BYTES + 1];
+    size_t version_count;
 } object;
 
 typedef struct letter {
@@ -131,6 +135,12 @@ typedef struct letter {
     uint32_t about;               // of a Get: the object, its place, and since when
     uint8_t place;
     size_t since;
+    // Of a letter of a wide space: its contents, how many it has, and its bytes.
+    bool is_post, is_fetch;
+    uint32_t carried[CARRIED];
+    uint8_t count, bytes[BYTES];
+    uint32_t length;
+    uint32_t offset, wanted; // of a Fetch
 } letter;
 
 static object *objects;
@@ -173,6 +183,15 @@ static void remember(uint32_t id, uint8_t place, uint32_t content)
     it->history[place][length] = content;
 }
 
+static void remember_bytes(uint32_t id, const uint8_t *bytes, uint32_t length)
+{
+    object *it = &objects[id];
+    size_t count = it->version_count++;
+    it->versions = need(realloc(it->versions, (count + 1) * sizeof *it->versions));
+    it->versions[count][0] = (uint8_t)length;
+    memcpy(it->versions[count] + 1, bytes, length);
+}
+
 static uint32_t new_object(uint8_t owner, markring_ref name)
 {
     if (object_count == object_room) {
@@ -187,6 +206,7 @@ static uint32_t new_object(uint8_t owner, markring_ref name)
     for (uint8_t place = 0; place < PLACES; place++) {
         remember(object_count, place, 0);
     }
+    remember_bytes(object_count, it->bytes, 0);
     return object_count++;
 }
 
@@ -268,9 +288,10 @@ static bool is_calm;  // no faults
 static bool is_quick; // saves take a few milliseconds
 static bool is_still; // nobody asks for cycles
 static bool is_flood; // nobody accepts letters
+static uint64_t byte_limit;
 static packet net[NET];
 static int in_net;
-static unsigned long full, tight, readings, byte_readings, byte_events;
+static unsigned long full, tight, readings, byte_readings, byte_events, posted, fetched, no_rooms;
 static unsigned long unseen; // snapshots that made as many saves again before they met a node
 static unsigned long crashes, powers, cycles, answered, lost, requests, checkpoints, mixed,
     failed_saves, failed_calls, stops, stopped, barely, again, snapshots, floods, absences,
@@ -519,7 +540,7 @@ static void send_request(part *it, uint8_t kind, uint64_t number)
     uint16_t count = kind == REQUEST_PERFORM ? it->count : 0;
     request_head head = {kind, it->number, it->session, number, count};
     write_request_head(&to, &head);
-    if (kind == REQUEST_OPEN_APART) {
+    if (kind == REQUEST_OPEN_APART || kind == REQUEST_OPEN_APART_LETTERS) {
         write_number(&to, first_register() + (it->number == 0 ? 0u : FIRST), 2);
         write_number(&to, it->number == 0 ? FIRST : REGISTERS - FIRST, 2);
     }
@@ -530,6 +551,18 @@ static void send_request(part *it, uint8_t kind, uint64_t number)
     HOLDS(to.ok);
     it->asked_at = now;
     put_in_net(1, (uint8_t)(10 * it->node + it->number), it->node, bytes, to.length);
+}
+
+static bool is_opening(uint8_t kind)
+{
+    return kind == REQUEST_OPEN || kind == REQUEST_OPEN_APART || kind == REQUEST_OPEN_LETTERS
+        || kind == REQUEST_OPEN_APART_LETTERS;
+}
+
+static bool has_letters(uint8_t kind)
+{
+    return kind == REQUEST_OPEN_LETTERS || kind == REQUEST_OPEN_APART_LETTERS
+        || kind == REQUEST_PERFORM;
 }
 
 static uint16_t random_register(const part *it)
@@ -577,7 +610,10 @@ static void read_something(part *it)
 
 static void ask(part *it)
 {
-    uint8_t opening = is_apart ? REQUEST_OPEN_APART : REQUEST_OPEN;
+    // (programs of earlier versions know no letters)
+    bool knows = is_wide || below(2) == 0;
+    uint8_t opening = is_apart ? (knows ? REQUEST_OPEN_APART_LETTERS : REQUEST_OPEN_APART)
+                               : (knows ? REQUEST_OPEN_LETTERS : REQUEST_OPEN);
     send_request(it, it->opened ? REQUEST_PERFORM : opening, it->opened ? it->last + 1 : it->round);
 }
 
@@ -603,7 +639,7 @@ static void plan_gives(part *it, uint16_t reg)
     uint32_t count = below(4) == 0 ? 1 + below(OPERATIONS - 1) : 1 + below(3);
     to = (uint8_t)(to + (to >= it->node));
     for (uint32_t i = 0; i < count; i++) {
-        letter given = {it->node, to, false, false, false, it->registers[reg], 0, 0, 0};
+        letter given = {.from = it->node, .to = to, .content = it->registers[reg]};
         markring_event event = {.kind = MARKRING_EVENT_GIVE, .node = to, .reg = reg};
         event.label = new_letter(given);
         add_event(it, event);
@@ -622,10 +658,71 @@ static void plan_far(part *it, uint16_t reg, uint16_t value)
         return;
     }
     place = (uint8_t)below(PLACES);
-    letter got = {objects[id].owner, it->node, true, false, false, 0, id, place, 0};
+    letter got = {
+        .from = objects[id].owner, .to = it->node, .is_get = true, .about = id, .place = place};
     markring_event event = {.kind = MARKRING_EVENT_GET, .object = reg, .place = place};
     event.label = new_letter(got);
     add_event(it, event);
+}
+
+// Sends a letter with what some registers hold, and bytes; now and then as many as there may be.
+static void plan_post(part *it)
+{
+    uint8_t to = (uint8_t)below(nodes - 1u), count = (uint8_t)below(CARRIED + 1);
+    uint16_t first = (uint16_t)below(FIRST - CARRIED + 1);
+    uint32_t length = below(below(3) == 0 ? BYTES + 1 : 20);
+    to = (uint8_t)(to + (to >= it->node));
+    letter given = {.from = it->node, .to = to, .is_post = true, .count = count, .length = length};
+    for (uint8_t i = 0; i < count; i++) {
+        given.carried[i] = it->registers[first + i];
+    }
+    markring_event event = {
+        .kind = MARKRING_REMOTE_POST, .node = to, .reg = first, .count = count};
+    uint16_t at = it->count;
+    event.label = new_letter(given);
+    add_bytes(it, event, length);
+    memcpy(letters[event.label].bytes, it->bytes[at], length);
+}
+
+// Asks another node's object for its word and some of its bytes; now and then for more than it has.
+static void plan_fetch(part *it, uint16_t reg)
+{
+    uint32_t id = it->registers[reg], length = objects[id].length;
+    letter wants = {.from = objects[id].owner, .to = it->node, .is_fetch = true, .about = id};
+    wants.offset = below(3) == 0 ? below(length + 2) : 0;
+    wants.wanted = below(3) == 0 || wants.offset > length ? below(BYTES) : length - wants.offset;
+    markring_event event = {.kind = MARKRING_REMOTE_FETCH,
+        .object = reg,
+        .count = wants.wanted,
+        .word = wants.offset};
+    event.label = new_letter(wants);
+    add_event(it, event);
+}
+
+// Accepts a letter with its bytes, or without them; now and then with little room for them.
+static void plan_accept(part *it, uint16_t reg)
+{
+    markring_event event = {.kind = MARKRING_EVENT_ACCEPT, .reg = reg};
+    if (is_wide) {
+        event.reg = (uint16_t)below(FIRST - CARRIED + 1);
+        event.kind = below(4) == 0 ? MARKRING_EVENT_ACCEPT : MARKRING_REMOTE_ACCEPT_INTO;
+        event.count = below(5) == 0 ? below(BYTES) : BYTES + 8;
+    }
+    add_event(it, event);
+}
+
+// What the bytes of an object will be after an event, if it is done.
+static void foresee_bytes(part *it, uint16_t at, uint8_t *bytes, uint32_t *length)
+{
+    const markring_event *event = &it->events[at];
+    bool sets = event->kind == MARKRING_REMOTE_SET_BYTES;
+    uint32_t from = sets ? 0 : event->count, end = from + it->lengths[at];
+    if (end > (sets ? BYTES : *length)) {
+        return;
+    }
+    memcpy(bytes + from, it->bytes[at], it->lengths[at]);
+    *length = sets ? end : *length;
+    remember_bytes(it->registers[event->object], bytes, *length);
 }
 
 // Writes all bytes of an object, and overwrites some; now and then more than there may be.
@@ -641,6 +738,12 @@ static void plan_bytes(part *it, uint16_t reg)
     }
     patch.count = below(length + 1);
     add_bytes(it, patch, below(length - patch.count + (below(6) == 0) + 1) % (BYTES + 1));
+    uint8_t bytes[BYTES];
+    length = objects[it->registers[reg]].length;
+    memcpy(bytes, objects[it->registers[reg]].bytes, BYTES);
+    for (uint16_t at = 0; at < it->count; at++) {
+        foresee_bytes(it, at, bytes, &length);
+    }
 }
 
 static void plan_near(part *it, uint16_t reg, uint16_t value)
@@ -693,9 +796,13 @@ static void plan(part *it)
     } else if (kind < 45) {
         add_event(it, (markring_event){.kind = MARKRING_EVENT_DROP, .reg = reg});
     } else if (it->number == 0 && kind < (options.image_most > 0 ? 46 : 60)) {
-        add_event(it, (markring_event){.kind = MARKRING_EVENT_ACCEPT, .reg = reg});
+        plan_accept(it, reg);
+    } else if (it->number == 0 && is_wide && kind < 68) {
+        plan_post(it);
     } else if (it->number == 0 && kind < 75) {
         plan_gives(it, reg);
+    } else if (is_wide && id != 0 && objects[id].owner != it->node && below(3) == 0) {
+        plan_fetch(it, reg);
     } else if (id != 0 && objects[id].owner != it->node) {
         plan_far(it, reg, other);
     } else if (id != 0) {
@@ -709,7 +816,43 @@ static void plan(part *it)
 
 // ## Answers
 
-static void check_letter(part *it, const markring_event *event, const markring_answer *answer)
+static uint64_t words[1 << 20];
+
+// Whether the bytes that were fetched are some that the object had, or its word alone, if it didn't
+// have all of them.
+static bool was_fetched(const letter *came, const uint8_t *bytes, uint64_t length)
+{
+    const object *of = &objects[came->about];
+    bool is_whole = length == 8 + (uint64_t)came->wanted;
+    for (size_t i = 0; i < of->version_count; i++) {
+        const uint8_t *version = of->versions[i];
+        bool has_all = came->offset + came->wanted <= version[0];
+        bool is_same = bytes == NULL || (is_whole && has_all
+            && memcmp(bytes + 8, version + 1 + came->offset, came->wanted) == 0);
+        if ((is_whole && has_all && is_same) || (!has_all && length == 8)) {
+            return true;
+        }
+    }
+    return false;
+}
+
+// The bytes of a letter, if they came, and how many it had.
+static void check_letter_bytes(const letter *came, const uint8_t *bytes, uint64_t length)
+{
+    if (came->is_fetch) {
+        reader word = reader_of(bytes, bytes != NULL ? 8 : 0);
+        HOLDS(length >= 8 && was_fetched(came, bytes, length));
+        HOLDS(bytes == NULL || read_number(&word, 8) == words[came->about % (1 << 20)]);
+        fetched += bytes != NULL && length > 8;
+    } else {
+        HOLDS(length == came->length
+            && (bytes == NULL || memcmp(bytes, came->bytes, came->length) == 0));
+        posted += bytes != NULL && length > 0;
+    }
+}
+
+static void check_letter(
+    part *it, const markring_event *event, const markring_answer *answer, const uint8_t *bytes)
 {
     if (!HOLDS(answer->label < letter_count)) {
         return;
@@ -718,14 +861,20 @@ static void check_letter(part *it, const markring_event *event, const markring_a
     uint32_t id = object_named(answer->reference);
     HOLDS(came->to == it->node && came->from == answer->node && !came->accepted);
     came->accepted = true;
+    HOLDS(answer->count == (came->count > 0 ? came->count : 1u));
+    check_letter_bytes(came, bytes, answer->number);
     if (came->is_get) {
         HOLDS(was_written(came->about, came->place, id, &came->since));
-    } else {
+    } else if (!came->is_fetch) {
         // Letters of a link come in order.
-        HOLDS(id == came->content && last_label[came->from][came->to] < answer->label + 1);
+        HOLDS(id == (came->is_post ? came->carried[0] : came->content)
+            && last_label[came->from][came->to] < answer->label + 1);
         last_label[came->from][came->to] = answer->label + 1;
     }
     it->registers[event->reg] = id;
+    for (uint8_t i = 1; i < came->count; i++) {
+        it->registers[event->reg + i] = came->carried[i];
+    }
 }
 
 static void check_load(part *it, const markring_event *event, const markring_answer *answer)
@@ -739,8 +888,6 @@ static void check_load(part *it, const markring_event *event, const markring_ans
     }
     it->registers[event->reg] = found;
 }
-
-static uint64_t words[1 << 20];
 
 static void check_bytes_done(part *it, uint16_t at)
 {
@@ -756,7 +903,7 @@ static void check_bytes_done(part *it, uint16_t at)
     byte_events++;
 }
 
-static void check_done(part *it, uint16_t at, const markring_answer *answer)
+static void check_done(part *it, uint16_t at, const markring_answer *answer, const uint8_t *bytes)
 {
     const markring_event *event = &it->events[at];
     uint32_t id = it->registers[event->object];
@@ -775,7 +922,8 @@ static void check_done(part *it, uint16_t at, const markring_answer *answer)
     case MARKRING_EVENT_STORE: objects[id].content[event->place] = it->registers[event->reg]; break;
     case MARKRING_EVENT_CLEAR: objects[id].content[event->place] = 0; break;
     case MARKRING_EVENT_PUT: objects[id].content[event->place] = it->registers[event->reg]; break;
-    case MARKRING_EVENT_ACCEPT: check_letter(it, event, answer); break;
+    case MARKRING_EVENT_ACCEPT:
+    case MARKRING_REMOTE_ACCEPT_INTO: check_letter(it, event, answer, bytes); break;
     default: letters[event->label].given = true;
     }
 }
@@ -785,23 +933,32 @@ static bool is_right_refusal(const part *it, uint16_t at, int status)
 {
     const markring_event *event = &it->events[at];
     bool is_tight = options.image_most > 0;
-    if (is_tight && status == MARKRING_CONGESTED && event->kind == MARKRING_EVENT_GET) {
+    bool asks = event->kind == MARKRING_EVENT_GET || event->kind == MARKRING_REMOTE_FETCH;
+    bool accepts =
+        event->kind == MARKRING_EVENT_ACCEPT || event->kind == MARKRING_REMOTE_ACCEPT_INTO;
+    if (is_tight && status == MARKRING_CONGESTED && asks) {
         congested++;
         return true;
     }
-    if (is_tight && status == MARKRING_IMAGE_TOO_LARGE && event->kind != MARKRING_EVENT_ACCEPT
+    if (is_tight && status == MARKRING_IMAGE_TOO_LARGE && !accepts
         && event->kind != MARKRING_EVENT_DROP && event->kind != MARKRING_REMOTE_PATCH) {
         tight++;
         return true;
     }
     uint32_t held = it->registers[event->reg], id = it->registers[event->object];
-    bool far_event = event->kind == MARKRING_EVENT_PUT || event->kind == MARKRING_EVENT_GET;
+    bool far_event = event->kind == MARKRING_EVENT_PUT || asks;
     switch (event->kind) {
     case MARKRING_EVENT_ALLOC: return status == MARKRING_ARENA_FULL;
     case MARKRING_EVENT_COPY:
         return status == MARKRING_EMPTY_REGISTER && it->registers[event->source] == 0;
     case MARKRING_EVENT_DROP: return status == MARKRING_EMPTY_REGISTER && held == 0;
     case MARKRING_EVENT_ACCEPT: return status == MARKRING_NO_LETTER;
+    case MARKRING_REMOTE_ACCEPT_INTO:
+        no_rooms += status == MARKRING_SHORT_BUFFER;
+        return status == MARKRING_NO_LETTER
+            || (status == MARKRING_SHORT_BUFFER && event->count < BYTES + 8);
+    case MARKRING_REMOTE_POST:
+        return status == MARKRING_CONGESTED && (limit > 0 || byte_limit > 0);
     case MARKRING_EVENT_GIVE: return status == MARKRING_CONGESTED && limit > 0;
     case MARKRING_EVENT_STORE: return status == MARKRING_EMPTY_REGISTER && held == 0;
     case MARKRING_REMOTE_SET_BYTES:
@@ -814,23 +971,41 @@ static bool is_right_refusal(const part *it, uint16_t at, int status)
     }
 }
 
-static void check_results(part *it, reader *from, uint16_t count)
+// The bytes of the letter that an event has accepted, if it asked for them and they came.
+static const uint8_t *letter_of(
+    const part *it, uint16_t at, const markring_answer *answer, bool come, reader *from)
+{
+    letter_bytes found = {0, 0, NULL};
+    if (it->events[at].kind != MARKRING_REMOTE_ACCEPT_INTO || !come) {
+        return NULL;
+    }
+    HOLDS(read_letter(from, &found) && found.result == at && found.length == answer->number
+        && found.length <= it->events[at].count);
+    return found.bytes;
+}
+
+// `come`: the answer has the letters, too.
+static void check_results(part *it, reader *from, uint16_t count, bool come)
 {
     bool stopped = false;
+    reader behind = *from;
     HOLDS(count == it->count);
+    HOLDS(read_bytes(&behind, count * (size_t)RESULT_BYTES) != NULL);
     for (uint16_t i = 0; i < count && failures == 0; i++) {
         markring_result found;
         read_result(from, &found);
         if (stopped) {
             HOLDS(found.status == MARKRING_NOT_DONE);
         } else if (found.status == MARKRING_OK) {
-            check_done(it, i, &found.answer);
+            check_done(it, i, &found.answer, letter_of(it, i, &found.answer, come, &behind));
         } else {
             stopped = true;
+            HOLDS(found.status != MARKRING_SHORT_BUFFER
+                || found.answer.number > it->events[i].count);
             HOLDS(found.status == MARKRING_MEMORY || is_right_refusal(it, i, found.status));
         }
     }
-    HOLDS(from->ok && from->left == 0);
+    HOLDS(from->ok && behind.ok && behind.left == 0);
     it->asks = false;
     it->last++;
     answered++;
@@ -892,7 +1067,7 @@ static void take_answer(part *it, const packet *came)
     HOLDS(head.own == it->node && head.nodes == nodes
         && head.registers == first_register() + REGISTERS
         && head.slots == SLOTS && head.program == it->number);
-    if (head.kind == REQUEST_OPEN || head.kind == REQUEST_OPEN_APART) {
+    if (is_opening(head.kind)) {
         if (!it->opened && head.verdict == VERDICT_STALE && head.round >= it->round) {
             it->round = head.round + 1;
             ask(it);
@@ -903,7 +1078,7 @@ static void take_answer(part *it, const packet *came)
         it->opened = true;
         HOLDS(head.last == it->last || (it->asks && head.last == it->last + 1));
         if (head.last == it->last + 1) {
-            check_results(it, &from, head.count);
+            check_results(it, &from, head.count, has_letters(head.kind));
         } else if (below(2) == 0) {
             // It wasn't done. The program thinks of something else.
             it->asks = false;
@@ -915,7 +1090,7 @@ static void take_answer(part *it, const packet *came)
         }
     } else if (it->opened && it->asks && head.number == it->last + 1) {
         if (HOLDS(head.verdict == VERDICT_DONE)) {
-            check_results(it, &from, head.count);
+            check_results(it, &from, head.count, true);
         }
     }
 }
@@ -925,6 +1100,12 @@ static uint64_t letters_at(uint8_t node)
     markring_state state = {0};
     HOLDS(markring_node_state(host_node(stations[node].host), &state) == MARKRING_OK);
     return state.letters;
+}
+
+// A register of program 0 that may take a letter, with as many behind it as a letter may need.
+static uint16_t last_to_accept(void)
+{
+    return is_wide ? FIRST - CARRIED : FIRST - 1;
 }
 
 static void work(part *it)
@@ -951,7 +1132,7 @@ static void work(part *it)
         && stations[it->node].host != NULL && letters_at(it->node) > 0) {
         // A node with too many letters takes no messages until its program accepts some.
         it->count = 0;
-        add_event(it, (markring_event){.kind = MARKRING_EVENT_ACCEPT, .reg = 4});
+        add_event(it, (markring_event){.kind = MARKRING_EVENT_ACCEPT, .reg = last_to_accept()});
         it->asks = true;
         ask(it);
     }
@@ -1112,7 +1293,7 @@ static void accept_all(void)
     for (uint8_t node = 0; node < nodes && failures == 0; node++) {
         part *it = &parts[node][0];
         while (failures == 0 && letters_at(node) > 0) {
-            uint16_t reg = 4;
+            uint16_t reg = last_to_accept();
             if (!ask_and_settle(it, (markring_event){.kind = MARKRING_EVENT_ACCEPT, .reg = reg})) {
                 return;
             }
@@ -1509,7 +1690,7 @@ static void expect_absence(void)
     stop(away, false);
     away->starts_at = now + 7200000;
     markring_answer answer;
-    letter given = {it->node, node, false, false, true, 0, 0, 0, 0};
+    letter given = {.from = it->node, .to = node, .given = true};
     HOLDS(markring_node_give(host_node(at->host), node, new_letter(given),
               (uint16_t)(first_register() + REGISTERS - 1), &answer)
         == MARKRING_OK);
@@ -1544,7 +1725,8 @@ static void plan_flood(part *it, uint16_t reg)
     it->count = 0;
     while (it->count < OPERATIONS) {
         uint8_t place = (uint8_t)below(PLACES);
-        letter got = {objects[id].owner, it->node, true, false, false, 0, id, place, 0};
+        letter got = {
+        .from = objects[id].owner, .to = it->node, .is_get = true, .about = id, .place = place};
         markring_event event = {.kind = MARKRING_EVENT_GET, .object = reg, .place = place};
         event.label = new_letter(got);
         add_event(it, event);
@@ -1624,8 +1806,8 @@ static void make_image_old(disk_file *file, uint8_t node)
     file->seen[at + 2] = 2;
 }
 
-// Makes the value of a new node one of the first version, which doesn't know the processes that ran
-// it; and perhaps the file, too.
+// Makes the value of a new node one of the second version, which has no limit of bytes; or of the
+// first one, which doesn't know the processes that ran it; then perhaps the file, too.
 static void make_old(disk *it, uint8_t node)
 {
     disk_file *file = &it->files[0];
@@ -1634,11 +1816,16 @@ static void make_old(disk *it, uint8_t node)
     // Earlier versions left no marks.
     reader head = reader_of(file->seen + 4, 8);
     file->seen_length = STORE_HEAD + (size_t)read_number(&head, 8) + STORE_TAIL;
-    cut(file, line, 2);
-    cut(file, STORE_HEAD, 1);
-    if (below(2) == 0) {
-        file->seen[3] = 1;
-        make_image_old(file, node);
+    cut(file, STORE_HEAD + 1 + 1 + strlen("sim") + SPACE_ID + 1 + 1 + 8, 8);
+    if (below(3) == 0) {
+        file->seen[STORE_HEAD] = 0x82;
+    } else {
+        cut(file, line, 2);
+        cut(file, STORE_HEAD, 1);
+        if (below(2) == 0) {
+            file->seen[3] = 1;
+            make_image_old(file, node);
+        }
     }
     size_t length = file->seen_length - STORE_TAIL;
     writer to = writer_of(file->seen + 4, 8);
@@ -1665,6 +1852,7 @@ static void create(uint8_t node)
     shape.bytes = is_wide ? BYTES : 0;
     shape.slots = SLOTS;
     shape.limit = limit;
+    shape.byte_limit = byte_limit;
     at->disk.seed = &seed;
     for (bool done = false; !done && failures == 0;) {
         store_value value = {NULL, 0, 0, false, 0, 0};
@@ -1727,6 +1915,7 @@ static void forget_all(void)
         for (int place = 0; place < PLACES; place++) {
             free(objects[id].history[place]);
         }
+        free(objects[id].versions);
     }
     memset(stations, 0, sizeof stations);
     memset(last_label, 0, sizeof last_label);
@@ -1737,12 +1926,14 @@ static void run(unsigned long steps)
 {
     nodes = (uint8_t)(2 + below(MOST - 1));
     limit = below(2) == 0 ? 0 : 8 + below(60);
+    byte_limit = below(2) == 0 ? 0 : 100 + below(2000);
     is_apart = below(2) == 0;
     options = (host_options){.cycle_objects = 40};
     // Whole values now and then.
     options.entries_least = below(3) != 0 ? 1 + below(8000) : 0;
     if (below(3) == 0) {
         options.letters_most = 5 + below(60);
+        options.letter_bytes_most = below(2) == 0 ? 100 + below(4000) : 0;
         options.image_most = 1500 + below(6000);
         options.image_tight = TIGHT;
     }
@@ -1788,16 +1979,18 @@ int main(int count, char **given)
     printf("%lu seeds: %lu requests, %lu answers, %lu crashes, %lu of them with the machine, %lu "
            "failed saves, %lu failed calls, %lu refused allocations, %lu packets lost, %lu cycles "
            "asked for, %lu checkpoints, %lu folders mixed up, %lu frames not taken, %lu events "
-           "refused by full nodes, %lu readings, %lu of bytes, %lu events with bytes, %lu of %lu "
+           "refused by full nodes, %lu readings, %lu of bytes, %lu events with bytes, %lu letters with "
+           "bytes, %lu objects fetched, %lu letters without room, %lu of %lu "
            "stops answered, %lu folders one save old, %lu started again, %lu snapshots (%lu "
            "unseen), %lu floods, %lu Gets refused, %lu absences\n",
         run_seed - first, requests, answered, crashes, powers, failed_saves, failed_calls, refused,
-        lost, cycles, checkpoints, mixed, full, tight, readings, byte_readings, byte_events,
-        stopped, stops, barely, again, snapshots, unseen, floods, congested, absences);
+        lost, cycles, checkpoints, mixed, full, tight, readings, byte_readings, byte_events, posted,
+        fetched, no_rooms, stopped, stops, barely, again, snapshots, unseen, floods, congested, absences);
     bool all = failures == 0
         && (seeds < 40
             || (crashes && powers && failed_saves && refused && mixed && lost && full && tight
-                && readings && byte_readings && byte_events && stopped && barely && again
+                && readings && byte_readings && byte_events && posted && fetched && no_rooms
+                && stopped && barely && again
                 && snapshots > 10 * unseen && floods && congested && absences));
     printf("%lu passed, %d failed\n", run_seed - first - (failures != 0), !all);
     free(objects);

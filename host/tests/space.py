@@ -135,7 +135,7 @@ class Cluster:
     variables = {}
 
     def __init__(
-        self, program: str, nodes: int, registers: int, slots: int, limit: int = 16384, run: tuple = (), options: tuple = ()
+        self, program: str, nodes: int, registers: int, slots: int, limit: int | str = 16384, run: tuple = (), options: tuple = ()
     ) -> None:
         self.program, self.nodes, self.registers, self.slots = program, nodes, registers, slots
         self.limit, self.run_words, self.create_words = limit, list(run), options

@@ -8,6 +8,8 @@
 #include "check.h"
 
 enum { NODES = 3, REGISTERS = 4, SLOTS = 40, MOST_PLACES = 20, BYTES = 50, NET = 48 };
+// The most bytes of a frame: a letter with all registers and an object's word and bytes.
+enum { FRAME = 20 + 4 + 1 + 14 * REGISTERS + 4 + 8 + BYTES };
 
 typedef struct site {
     // The node with a log, and the one without.
@@ -22,8 +24,9 @@ typedef struct site {
 } site;
 
 typedef struct packet {
-    uint8_t from, to, length;
-    uint8_t frame[48];
+    uint8_t from, to;
+    size_t length;
+    uint8_t frame[FRAME];
 } packet;
 
 static int is_wide;
@@ -31,7 +34,7 @@ static site sites[NODES];
 static packet net[NET];
 static int in_net;
 static uint64_t seed;
-static unsigned long crashes, given, images, resumed, bad, good, written;
+static unsigned long crashes, given, images, resumed, bad, good, written, posted, fetched;
 
 static void copy(bytes *to, const bytes *from)
 {
@@ -117,6 +120,49 @@ static void write_bytes(uint8_t own_number)
     written += status == MARKRING_OK && length > 0;
 }
 
+// Sends a letter with references and bytes, or asks for a word and bytes of another node's object.
+static void post_or_fetch(uint8_t own_number)
+{
+    markring_answer answer, other;
+    uint8_t all[BYTES + 1];
+    site *it = &sites[own_number];
+    int is_post = below(&seed, 2) == 0, status, again;
+    uint8_t to = (uint8_t)below(&seed, NODES), count = (uint8_t)below(&seed, REGISTERS + 1);
+    uint16_t reg = (uint16_t)below(&seed, REGISTERS - (is_post ? count - 1u : 0u) + 1u);
+    uint32_t label = (uint32_t)draw(&seed), length = below(&seed, BYTES + 2);
+    for (uint32_t i = 0; i < length; i++) {
+        all[i] = (uint8_t)draw(&seed);
+    }
+    blot(&answer);
+    blot(&other);
+    if (is_post) {
+        status = markring_node_post(&it->node, to, label, reg, count, all, length, &answer);
+        again = markring_node_post(&it->twin, to, label, reg, count, all, length, &other);
+    } else {
+        status = markring_node_fetch(&it->node, reg, label, count, length, &answer);
+        again = markring_node_fetch(&it->twin, reg, label, count, length, &other);
+    }
+    IS(status, again);
+    HOLDS(status == MARKRING_OK ? same_answer(&answer, &other)
+                                : is_blotted(&answer) && is_blotted(&other));
+    posted += is_post && status == MARKRING_OK;
+    fetched += !is_post && status == MARKRING_OK;
+}
+
+// Both have the same letter, with the same bytes.
+static void compare_letters(site *it)
+{
+    markring_answer answer, other;
+    uint8_t all[8 + BYTES] = {0}, twin[8 + BYTES] = {0};
+    size_t needed = 0, length = 0;
+    int status = markring_node_letter(&it->node, &answer);
+    IS(status, markring_node_letter(&it->twin, &other));
+    HOLDS(status != MARKRING_OK || same_answer(&answer, &other));
+    IS(status, markring_node_letter_bytes(&it->node, all, sizeof all, &needed));
+    IS(status, markring_node_letter_bytes(&it->twin, twin, sizeof twin, &length));
+    HOLDS(needed == length && memcmp(all, twin, sizeof all) == 0);
+}
+
 static void take(const packet *it)
 {
     markring_answer answer, other;
@@ -145,20 +191,21 @@ static void receive_waiting(uint8_t own_number, uint8_t from)
 static void offer(uint8_t from, uint8_t to, uint8_t place)
 {
     packet it = {from, to, 0, {0}};
-    uint8_t frame[48] = {0};
+    uint8_t frame[FRAME] = {0};
     size_t needed = 0, other = 0;
     site *at = &sites[from];
     int status, again;
     if (place < 32) {
-        status = markring_node_frame_at(&at->node, to, place, it.frame, 48, &needed);
-        again = markring_node_frame_at(&at->twin, to, place, frame, 48, &other);
+        status = markring_node_frame_at(&at->node, to, place, it.frame, FRAME, &needed);
+        again = markring_node_frame_at(&at->twin, to, place, frame, FRAME, &other);
     } else {
-        status = markring_node_ack_for(&at->node, to, it.frame, 48, &needed);
-        again = markring_node_ack_for(&at->twin, to, frame, 48, &other);
+        status = markring_node_ack_for(&at->node, to, it.frame, FRAME, &needed);
+        again = markring_node_ack_for(&at->twin, to, frame, FRAME, &other);
     }
-    HOLDS(status == again && needed == other && memcmp(frame, it.frame, 48) == 0);
+    HOLDS(status == again && needed == other && memcmp(frame, it.frame, FRAME) == 0);
+    HOLDS(status == MARKRING_OK || status == MARKRING_NOTHING);
     if (status == MARKRING_OK) {
-        it.length = (uint8_t)needed;
+        it.length = needed;
         net[in_net < NET ? in_net++ : (int)below(&seed, NET)] = it;
     }
 }
@@ -281,6 +328,7 @@ static void crash(uint8_t own_number)
         IS(MARKRING_NO_LOG, markring_node_batch_size(&it->node, &size));
     }
     HOLDS(same_image(&logged, &plain));
+    compare_letters(it);
     drop_bytes(&logged);
     drop_bytes(&plain);
 }
@@ -290,8 +338,10 @@ static void step(void)
     uint8_t own_number = (uint8_t)below(&seed, NODES), other = (uint8_t)below(&seed, NODES - 1);
     other = (uint8_t)(other + (other >= own_number));
     uint32_t kind = below(&seed, 1000);
-    if (kind < 80 && is_wide) {
+    if (kind < 60 && is_wide) {
         write_bytes(own_number);
+    } else if (kind < 120 && is_wide) {
+        post_or_fetch(own_number);
     } else if (kind < 400) {
         act(own_number);
     } else if (kind < 600) {
@@ -524,6 +574,45 @@ static void long_log(void)
     drop_bytes(&batch);
 }
 
+// So has one with letters. Each takes 13 bytes more than those of the letter.
+static void long_letters(void)
+{
+    enum { LENGTH = 65535, EACH = 13 + LENGTH, MOST = 1048576 / EACH };
+    static const markring_shape SHAPE = {8, LENGTH, 2, 2, 1, 1};
+    static uint8_t all[LENGTH];
+    for (size_t more = 0; more < 2; more++) {
+        markring_node node = {0}, other = {0};
+        size_t size = 0, needed = 0, left = 1048576 - (size_t)MOST * EACH - 13 + more;
+        uint64_t mark = 0;
+        OK(markring_node_make(&node, &SHAPE, 0, 0));
+        OK(markring_node_log(&node, 1));
+        bytes image = image_of(&node), batch = {0};
+        OK(markring_node_kept(&node, 1));
+        for (uint32_t i = 0; i < MOST; i++) {
+            OK(markring_node_post(&node, 1, i, 0, 0, all, LENGTH, &answer));
+        }
+        OK(markring_node_post(&node, 1, 0, 0, 1, all, left, &answer));
+        if (more) {
+            IS(MARKRING_NO_LOG, batch_status(&node));
+        } else {
+            OK(markring_node_batch_size(&node, &size));
+            EQUAL(8 + 1048576, size);
+            batch.at = (uint8_t *)own(malloc(size));
+            OK(markring_node_batch(&node, batch.at, size, &needed, &mark));
+            bytes now = image_of(&node), again = {0};
+            OK(take_back(&other, &image, batch.at, size));
+            again = image_of(&other);
+            HOLDS(same_bytes(&now, &again));
+            OK(markring_node_free(&other));
+            drop_bytes(&now);
+            drop_bytes(&again);
+        }
+        OK(markring_node_free(&node));
+        drop_bytes(&image);
+        drop_bytes(&batch);
+    }
+}
+
 // So has one with bytes of objects. Setting them takes 7 bytes more than these.
 static void long_bytes(void)
 {
@@ -597,6 +686,7 @@ int main(int length, char **words)
     without_log();
     quiet();
     long_log();
+    long_letters();
     long_bytes();
     plain_image();
     for (unsigned long i = 1; i <= seeds && failed == 0; i++) {
@@ -608,9 +698,9 @@ int main(int length, char **words)
         }
     }
     HOLDS(crashes > 0 && given > 0 && images > 0 && resumed > 0 && bad > 0 && good > 0);
-    HOLDS(written > 0);
-    printf("%lu batches, %lu images, %lu crashes, bytes written %lu times, damaged ones: %lu bad, "
-           "%lu good\n",
-        given, images, crashes, written, bad, good);
+    HOLDS(written > 0 && posted > 0 && fetched > 0);
+    printf("%lu batches, %lu images, %lu crashes, bytes written %lu times, %lu letters with "
+           "references and bytes, %lu fetches, damaged ones: %lu bad, %lu good\n",
+        given, images, crashes, written, posted, fetched, bad, good);
     return report();
 }

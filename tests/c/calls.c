@@ -115,7 +115,11 @@ static void look_at(const markring_answer *answer)
     case MARKRING_ANSWER_LETTER:
         HOLDS(letter.from == it.node && letter.label == it.label);
         HOLDS(same_ref(letter.reference, it.reference));
+        HOLDS(letter.registers == it.count && letter.bytes == it.number);
+        // These are letters with one register each.
+        HOLDS(it.count == 1 && it.number == 0);
         it.node = 0;
+        it.count = 0;
         it.label = 0;
         memset(&it.reference, 0, sizeof it.reference);
         break;

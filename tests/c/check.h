@@ -169,11 +169,26 @@ __attribute__((unused)) static bytes image_of(markring_node *node)
 // Saves the node: nothing is stored, but what the image holds counts as saved.
 __attribute__((unused)) static void save(markring_node *node)
 {
-    static uint8_t buffer[1 << 16];
-    size_t needed = 0;
+    size_t size = 0;
     uint64_t mark = 0;
-    if (OK(markring_node_image(node, buffer, sizeof buffer, &needed, &mark))) {
+    OK(markring_node_image_size(node, &size));
+    uint8_t *buffer = (uint8_t *)own(malloc(size + 1));
+    if (OK(markring_node_image(node, buffer, size, &size, &mark))) {
         OK(markring_node_kept(node, mark));
+    }
+    free(buffer);
+}
+
+// Adds the frames that the node offers to another one.
+__attribute__((unused)) static void add_window(bytes *to, markring_node *node, uint8_t peer)
+{
+    uint8_t none = 0;
+    size_t count = 0, needed = 0;
+    if (markring_node_frames(node, peer, 0, &none, 0, &count, &needed) == MARKRING_SHORT_BUFFER) {
+        uint8_t *window = (uint8_t *)own(malloc(needed));
+        OK(markring_node_frames(node, peer, 0, window, needed, &count, &needed));
+        add(to, window, needed);
+        free(window);
     }
 }
 
@@ -188,19 +203,14 @@ __attribute__((unused)) static bytes shown(markring_node *node)
     OK(markring_node_unsaved(node, &flag));
     add_number(&all, flag, 1);
     for (uint8_t peer = 0; peer < state.nodes; peer++) {
-        uint8_t window[1856];
         markring_link link;
-        size_t count = 0, needed = 0;
         uint64_t number = 0;
         if (markring_node_link(node, peer, &link) != MARKRING_OK) {
             continue;
         }
         add_number(&all, link.released, 8);
         add_number(&all, link.received_saved, 8);
-        if (markring_node_frames(node, peer, 0, window, sizeof window, &count, &needed)
-            == MARKRING_OK) {
-            add(&all, window, needed);
-        }
+        add_window(&all, node, peer);
         add_number(&all, (uint64_t)markring_node_waiting(node, peer, &number), 1);
         add_number(&all, number, 8);
     }

@@ -219,7 +219,7 @@ static void unsaved(void)
 // received in theirs.
 static void window(void)
 {
-    uint8_t buffer[1856];
+    uint8_t buffer[1920];
     size_t count = 0, needed = 0;
     begin(0);
     for (uint32_t label = 1; label <= 40; label++) {
@@ -233,29 +233,29 @@ static void window(void)
     IS(MARKRING_BAD_ARGUMENT, markring_node_frame_at(&zero, 7, 32, buffer, 48, &needed));
     IS(MARKRING_NO_NODE, markring_node_frame_at(&zero, 0, 31, buffer, 48, &needed));
 
-    // Each frame has 25 bytes, its length 2 and its number 8.
+    // Each frame has 25 bytes, its length 4 and its number 8.
     OK(markring_node_frames(&zero, 1, 0, buffer, sizeof buffer, &count, &needed));
     EQUAL(32, count);
-    EQUAL(32 * 35, needed);
+    EQUAL(32 * 37, needed);
     for (uint64_t i = 0; i < count; i++) {
         bytes expected = {0}, frame = letter_frame(i + 1, (uint32_t)i + 1);
-        add_number(&expected, frame.length, 2);
+        add_number(&expected, frame.length, 4);
         add_number(&expected, i + 1, 8);
         add(&expected, frame.at, frame.length);
-        HOLDS(memcmp(buffer + 35 * i, expected.at, 35) == 0);
+        HOLDS(memcmp(buffer + 37 * i, expected.at, 37) == 0);
         drop_bytes(&expected);
         drop_bytes(&frame);
     }
     OK(markring_node_frames(&zero, 1, 30, buffer, sizeof buffer, &count, &needed));
     EQUAL(2, count);
-    EQUAL(70, needed);
-    IS(MARKRING_NOTHING, markring_node_frames(&zero, 1, 32, buffer, 1856, &count, &needed));
-    IS(MARKRING_NOTHING, markring_node_frames(&zero, 1, UINT64_MAX, buffer, 1856, &count, &needed));
-    IS(MARKRING_NO_NODE, markring_node_frames(&zero, 2, 0, buffer, 1856, &count, &needed));
+    EQUAL(74, needed);
+    IS(MARKRING_NOTHING, markring_node_frames(&zero, 1, 32, buffer, 1920, &count, &needed));
+    IS(MARKRING_NOTHING, markring_node_frames(&zero, 1, UINT64_MAX, buffer, 1920, &count, &needed));
+    IS(MARKRING_NO_NODE, markring_node_frames(&zero, 2, 0, buffer, 1920, &count, &needed));
     // As many as fit.
-    OK(markring_node_frames(&zero, 1, 0, buffer, 104, &count, &needed));
+    OK(markring_node_frames(&zero, 1, 0, buffer, 110, &count, &needed));
     EQUAL(2, count);
-    EQUAL(32 * 35, needed);
+    EQUAL(32 * 37, needed);
 
     // From the last one to the first, twice.
     for (int twice = 0; twice < 2; twice++) {
@@ -333,10 +333,10 @@ static void buffers(void)
         memset(buffer, 0x5A, sizeof buffer);
         count = 77;
         status = markring_node_frames(&zero, 1, 0, buffer, length, &count, &needed);
-        EQUAL(48 + 35, needed);
-        IS(length < 48 ? MARKRING_SHORT_BUFFER : MARKRING_OK, status);
-        EQUAL(length < 48 ? 77 : length < 83 ? 1 : 2, count);
-        size_t written = length < 48 ? 0 : length < 83 ? 48 : 83;
+        EQUAL(50 + 37, needed);
+        IS(length < 50 ? MARKRING_SHORT_BUFFER : MARKRING_OK, status);
+        EQUAL(length < 50 ? 77 : length < 87 ? 1 : 2, count);
+        size_t written = length < 50 ? 0 : length < 87 ? 50 : 87;
         HOLDS(memcmp(buffer + written, before, sizeof buffer - written) == 0);
 
         memset(buffer, 0x5A, sizeof buffer);

@@ -101,6 +101,84 @@ void letters()
     HOLDS(zero.act({MARKRING_EVENT_WORD, 0, 0, 0, 0, 0, 0, 0, 0}).number == 77);
 }
 
+// Letters with references and bytes of nodes and cells: what a sender with an object in register 2
+// sends, and what the other one accepts.
+template <class Sender> void post(Sender &sender)
+{
+    const Bytes all(65535, 0xAB);
+    HOLDS(sender.post(1, 0xA1B2C3D4, 1, 3, all.data(), all.size()) == 1);
+    HOLDS(sender.post(1, 8, 0, 0) == 2 && sender.post(1, 9, 2, 1, "bytes", 5) == 3);
+    REFUSED(MARKRING_TOO_MANY_BYTES, sender.post(1, 9, 0, 0, all.data(), all.size() + 1));
+    REFUSED(MARKRING_TOO_MANY_FIELDS, sender.post(1, 9, 0, 4, all.data(), 0));
+    REFUSED(MARKRING_NO_REGISTER, sender.post(1, 9, 297, 4, all.data(), 0));
+}
+
+template <class Receiver> void accept(Receiver &receiver)
+{
+    const markring_letter first = receiver.letter();
+    HOLDS(first.from == 0 && first.label == 0xA1B2C3D4 && first.reference.generation == 0);
+    HOLDS(first.registers == 3 && first.bytes == 65535);
+    HOLDS(receiver.letter_bytes() == Bytes(65535, 0xAB));
+    REFUSED(MARKRING_NO_REGISTER, receiver.accept_with_bytes(298));
+    const markring::Accepted accepted = receiver.accept_with_bytes(297);
+    HOLDS(accepted.bytes == Bytes(65535, 0xAB) && accepted.letter.label == 0xA1B2C3D4);
+    HOLDS(accepted.letter.registers == 3 && accepted.letter.bytes == 65535);
+    HOLDS(!receiver.reference(297) && receiver.reference(298) && !receiver.reference(299));
+    const markring::Accepted none = receiver.accept_with_bytes(4);
+    HOLDS(none.bytes.empty() && none.letter.registers == 1 && none.letter.label == 8);
+    HOLDS(receiver.letter_bytes().size() == 5);
+    const markring_letter last = receiver.accept(5);
+    HOLDS(last.label == 9 && last.registers == 1 && last.bytes == 5 && last.reference.slot == 0);
+    REFUSED(MARKRING_NO_LETTER, receiver.letter());
+    REFUSED(MARKRING_NO_LETTER, receiver.letter_bytes());
+    REFUSED(MARKRING_NO_LETTER, receiver.accept_with_bytes(5));
+}
+
+void wide_letters()
+{
+    const markring_shape shape = {16, 70000, 300, 2, 3, 1};
+    Node zero(shape, 0), one(shape, 1);
+    zero.alloc(2, 1);
+    zero.set_word(2, 0x0102030405060708);
+    zero.set_bytes(2, "0123456789", 10);
+    post(zero);
+    zero.release();
+    const auto frames = zero.frames(1), later = zero.frames(1, 2);
+    HOLDS(frames.size() == 3 && frames[0].number == 1 && frames[2].number == 3);
+    HOLDS(frames[0].bytes.size() > 65535 && zero.frame_at(1, 0) == frames[0].bytes);
+    HOLDS(later.size() == 1 && later[0].number == 3 && later[0].bytes == frames[2].bytes);
+    flush(zero, 0, one);
+    accept(one);
+    // The frames behind the second one are longer than the window of a plain space.
+    Node longer(shape, 0);
+    const Bytes all(65535, 0xCD);
+    for (std::uint64_t number = 1; number <= 3; number++) {
+        HOLDS(longer.post(1, 7, 0, 0, all.data(), all.size()) == number);
+    }
+    longer.release();
+    const auto last = longer.frames(1, 2);
+    HOLDS(last.size() == 1 && last[0].number == 3 && longer.frame_at(1, 2) == last[0].bytes);
+    // Its owner sends the word and a range of the bytes.
+    HOLDS(one.fetch(5, 0xB1B2B3B4, 3, 4) == 1);
+    REFUSED(MARKRING_TOO_MANY_BYTES, one.fetch(5, 0, 0, 65528));
+    flush(one, 1, zero);
+    flush(zero, 0, one);
+    const markring::Accepted fetched = one.accept_with_bytes(6);
+    HOLDS(std::string(fetched.bytes.begin(), fetched.bytes.end()) == "\1\2\3\4\5\6\7\b3456");
+    HOLDS(fetched.letter.label == 0xB1B2B3B4 && fetched.letter.bytes == 12);
+    Space space(shape);
+    space.open();
+    auto from = space.cell(0), to = space.cell(1);
+    from->alloc(2, 1);
+    post(*from);
+    from->save(from->image().mark);
+    for (int i = 0; i < 3; i++) {
+        HOLDS(from->send(1) && to->receive(0));
+    }
+    accept(*to);
+    HOLDS(to->fetch(5, 7, 0, 0) == 1);
+}
+
 // A cycle frees what no program holds.
 void cycle()
 {
@@ -292,6 +370,7 @@ void cells()
 int main()
 {
     letters();
+    wide_letters();
     cycle();
     bytes();
     images();

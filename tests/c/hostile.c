@@ -39,9 +39,14 @@ static void blot_buffer(void)
     NONE(markring_##type##_bytes(at, 0, 0, 1, buffer, 512, TO(size_t))); \
     NONE(markring_##type##_bytes_length(at, 0, TO(uint32_t))); \
     NONE(markring_##type##_give(at, 1, 0, 0, answer)); \
+    NONE(markring_##type##_post(at, 1, 0, 0, 1, clean, 1, answer)); \
     NONE(markring_##type##_accept(at, 0, answer)); \
+    NONE(markring_##type##_letter(at, answer)); \
+    NONE(markring_##type##_letter_bytes(at, buffer, 512, TO(size_t))); \
+    NONE(markring_##type##_accept_into(at, 0, buffer, 512, TO(size_t), answer + 1)); \
     NONE(markring_##type##_put(at, 0, 0, 0, answer)); \
     NONE(markring_##type##_get(at, 0, 0, 0, answer)); \
+    NONE(markring_##type##_fetch(at, 0, 0, 0, 0, answer)); \
     NONE(markring_##type##_reclaim(at, answer)); \
     NONE(markring_##type##_reclaim_young(at, answer)); \
     NONE(markring_##type##_begin(at, answer)); \
@@ -630,8 +635,8 @@ static void damage(uint64_t *seed, bytes *it)
     }
 }
 
-// Node 0 of two of a wide space while it marks in cycle 1, with a letter, messages, and objects
-// that have bytes.
+// Node 0 of two of a wide space while it marks in cycle 1, with letters, messages, and objects that
+// have bytes.
 static void make_wide(markring_node *node)
 {
     static const markring_shape SHAPE = {4, 20, 2, 2, 9, 1};
@@ -647,6 +652,11 @@ static void make_wide(markring_node *node)
     OK(markring_node_set_bytes(node, 0, (const uint8_t *)"\1\0", 2, &answer));
     give_frame(node, "450100" "0000000000000001" "0000000000000001" "04" "00000007"
         "01" "01" "00000003" "0000000000000009");
+    // A letter with the reference 0.1.1, nothing, and 1.3.9, and the bytes 1 and 2.
+    give_frame(node, "460100" "0000000000000002" "0000000000000001" "09" "00000008" "03"
+        "01" "00" "00000001" "0000000000000001" "00"
+        "01" "01" "00000003" "0000000000000009" "00000002" "0102");
+    OK(markring_node_post(node, 1, 9, 0, 2, (const uint8_t *)"abc", 3, &answer));
 }
 
 static unsigned long spelled, unspelled;
@@ -833,6 +843,89 @@ static void frames(uint64_t seed, unsigned long count)
     drop_bytes(&before);
 }
 
+// The same of a node of a wide space, with letters and fetches: each frame is refused, or the node
+// reads the letter that it brings.
+static void wide_frames(uint64_t seed, unsigned long count)
+{
+    unsigned long taken = 0, refused = 0;
+    markring_node node = {0};
+    make_wide(&node);
+    bytes before = shown(&node);
+    for (unsigned long i = 0; i < count; i++) {
+        bytes frame = {0};
+        markring_answer answer;
+        uint8_t found[256];
+        size_t needed = 0;
+        add_number(&frame, 0x460100, 3);
+        add_number(&frame, 3, 8);
+        add_number(&frame, 1, 8);
+        if (i % 3 == 0) {
+            add_number(&frame, 10, 1);
+            add_number(&frame, 0, 1);
+            add_number(&frame, i % 2, 4);
+            add_number(&frame, 1, 8);
+            add_number(&frame, draw(&seed), 4);
+            add_number(&frame, below(&seed, 12), 4);
+            add_number(&frame, below(&seed, 12), 4);
+        } else {
+            uint32_t references = below(&seed, 4), length = below(&seed, 40);
+            add_number(&frame, 9, 1);
+            add_number(&frame, draw(&seed), 4);
+            add_number(&frame, references, 1);
+            for (; references > 0; references--) {
+                add_number(&frame, below(&seed, 2), 1);
+                if (frame.at[frame.length - 1] != 0) {
+                    add_number(&frame, below(&seed, 2), 1);
+                    add_number(&frame, below(&seed, 4), 4);
+                    add_number(&frame, 1, 8);
+                }
+            }
+            add_number(&frame, length, 4);
+            for (; length > 0; length--) {
+                add_number(&frame, draw(&seed) & 0xFF, 1);
+            }
+        }
+        if (i % 4 != 0) {
+            damage(&seed, &frame);
+        }
+        // A block of this length, so that reading beyond it shows.
+        uint8_t *exact = (uint8_t *)own(malloc(frame.length + 1));
+        memcpy(exact + 1, frame.at, frame.length);
+        blot(&answer);
+        int status = markring_node_take(&node, exact + 1, frame.length, &answer);
+        HOLDS(status == MARKRING_OK || i % 4 != 0);
+        HOLDS(status == MARKRING_OK || status == MARKRING_BAD_FRAME || status == MARKRING_WRONG_NODE
+            || status == MARKRING_OUT_OF_ORDER || status == MARKRING_ACK_BEYOND);
+        if (status == MARKRING_OK) {
+            taken++;
+            while (markring_node_letter(&node, &answer) == MARKRING_OK) {
+                OK(markring_node_letter_bytes(&node, found, sizeof found, &needed));
+                EQUAL(answer.number, needed);
+                status = markring_node_accept(&node, 0, &answer);
+                HOLDS(status == (answer.count <= 2 ? MARKRING_OK : MARKRING_NO_REGISTER));
+                if (status != MARKRING_OK) {
+                    break;
+                }
+            }
+            OK(markring_node_free(&node));
+            make_wide(&node);
+        } else {
+            refused++;
+            HOLDS(is_blotted(&answer));
+            if (i % 16 == 0) {
+                bytes after = shown(&node);
+                HOLDS(same_bytes(&before, &after));
+                drop_bytes(&after);
+            }
+        }
+        free(exact);
+        drop_bytes(&frame);
+    }
+    HOLDS(taken > 0 && refused > 0);
+    OK(markring_node_free(&node));
+    drop_bytes(&before);
+}
+
 // Spaces on images of other nodes, of other shapes, and damaged ones. A space that isn't opened
 // keeps its images, and opens once the wrong one is replaced.
 static void disks(uint64_t seed, unsigned long count)
@@ -950,6 +1043,7 @@ int main(int length, char **given)
     each_byte(count >= 1000);
     images(seed, count);
     frames(seed, count);
+    wide_frames(seed, count);
     disks(seed, count);
     return report();
 }

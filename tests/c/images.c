@@ -17,6 +17,10 @@ typedef struct image {
     uint16_t registers;
     uint32_t slots, most_bytes, cursor, used, free_count, grey_count, asked_count, letter_count;
     uint32_t free[2], grey[2];
+    // In a wide space: how many entries of the same letter follow each, and how many bytes the
+    // first one has. What a Post or a Fetch in the links has; each byte is 7.
+    uint8_t letter_more[3], post_count;
+    uint32_t letter_bytes, post_bytes, fetch_count;
     uint64_t cycle, ended, swept, reports[NODES - 1], base[NODES], received[NODES], stamp;
     int64_t earlier, recent;
     markring_ref reg, asked[2], letter;
@@ -114,6 +118,13 @@ static void add_row(bytes *to, const uint32_t *row, uint32_t count)
     }
 }
 
+static void add_sevens(bytes *to, uint32_t count)
+{
+    for (; count > 0; count--) {
+        add_number(to, 7, 1);
+    }
+}
+
 static void add_slots(bytes *to, const image *it)
 {
     add_number(to, it->used, 4);
@@ -129,9 +140,7 @@ static void add_slots(bytes *to, const image *it)
             add_number(to, one->word, 8);
             if (it->version >= 4) {
                 add_number(to, one->bytes, 4);
-                for (uint32_t byte = 0; byte < one->bytes; byte++) {
-                    add_number(to, 7, 1);
-                }
+                add_sevens(to, one->bytes);
             }
             add_number(to, one->places, 1);
             for (int place = 0; place < one->places; place++) {
@@ -152,6 +161,20 @@ static void add_links(bytes *to, const image *it)
         add_number(to, 1, 4);
         add_number(to, it->stamp, 8);
         add_number(to, it->body_tag, 1);
+        if (it->body_tag == 9) {
+            add_number(to, 5, 4);
+            add_number(to, it->post_count, 1);
+            for (uint8_t i = 0; i < it->post_count; i++) {
+                add_optional(to, i == 0 ? it->letter : (markring_ref){0, 0, 0});
+            }
+            add_number(to, it->post_bytes, 4);
+            add_sevens(to, it->post_bytes);
+        } else if (it->body_tag == 10) {
+            add_ref(to, (markring_ref){node, 0, 1});
+            add_number(to, 5, 4);
+            add_number(to, UINT32_MAX, 4);
+            add_number(to, it->fetch_count, 4);
+        }
         add_number(to, it->received[node], 8);
     }
 }
@@ -199,6 +222,11 @@ static bytes spelled(const image *it)
         add_number(&all, it->letter_from, 1);
         add_number(&all, 7, 4);
         add_optional(&all, it->letter);
+        if (it->version >= 4) {
+            add_number(&all, it->letter_more[i], 1);
+            add_number(&all, i == 0 ? it->letter_bytes : 0, 4);
+            add_sevens(&all, i == 0 ? it->letter_bytes : 0);
+        }
     }
     add_links(&all, it);
     return all;
@@ -355,6 +383,34 @@ static void wide_sizes(void)
     BAD(wide, it.slots = 1048577; it.letter.slot = 1048577);
 }
 
+// Letters with several references and bytes, those on their way too, and fetches.
+static void letters(void)
+{
+    BAD(wide, it.letter_more[0] = 1);
+    GOOD(wide, it.letter_count = 2; it.letter_more[0] = 1);
+    BAD(wide, it.letter_count = 2; it.letter_more[1] = 1);
+    GOOD(wide, it.letter_count = 3; it.letter_more[0] = 2; it.letter_more[1] = 1);
+    BAD(wide, it.letter_count = 3; it.letter_more[0] = 3; it.letter_more[1] = 1);
+    GOOD(wide, it.letter_count = 3; it.letter_more[1] = 1);
+    BAD(wide, it.letter_more[0] = 255);
+    GOOD(wide, it.letter_bytes = 1);
+    // (The answer to a Fetch may have more bytes than an object.)
+    GOOD(wide, it.letter_bytes = 65535);
+    BAD(busy, it.body_tag = 9);
+    GOOD(wide, it.body_tag = 9);
+    GOOD(wide, it.body_tag = 9; it.post_count = 1);
+    GOOD(wide, it.body_tag = 9; it.post_count = 9);
+    BAD(wide, it.body_tag = 9; it.post_count = 10);
+    BAD(wide, it.body_tag = 9; it.post_count = 1; it.letter_count = 0; it.letter.slot = 8);
+    GOOD(wide, it.body_tag = 9; it.post_bytes = 65535);
+    BAD(wide, it.body_tag = 9; it.post_bytes = 65536);
+    BAD(busy, it.body_tag = 10);
+    GOOD(wide, it.body_tag = 10);
+    GOOD(wide, it.body_tag = 10; it.fetch_count = 65527);
+    BAD(wide, it.body_tag = 10; it.fetch_count = 65528);
+    BAD(wide, it.body_tag = 11);
+}
+
 static void references(void)
 {
     // To a node and a slot within the sizes.
@@ -413,6 +469,7 @@ int main(void)
     sizes_and_phases();
     slots();
     wide_sizes();
+    letters();
     references();
     links();
     return report();

@@ -1,8 +1,8 @@
 // Refuses each allocation in turn. A call that is refused with MARKRING_MEMORY changed nothing, and
 // the same call again succeeds; the end is the same as with ample memory. A call that takes no
-// memory by its comment in the header allocates nothing. With its first object, and when it is
-// read, a wide node asks for flags that it can do without: its young reclaims then search all
-// blocks of slots.
+// memory by its comment in the header allocates nothing. With its first object, with the first
+// whose reference it sends, and for both when it is read, a wide node asks for flags that it can do
+// without: its young reclaims then search all blocks of slots.
 #include "check.h"
 #include "refuse.h"
 
@@ -36,6 +36,27 @@ static markring_cell cells[2];
 ADD_OBJECT_BYTES(node)
 ADD_OBJECT_BYTES(cell)
 
+// Adds the oldest letter that waits, with its bytes.
+#define ADD_LETTER(type) \
+    static void add_letter_of_##type(markring_##type *at, bytes *all) \
+    { \
+        markring_answer letter; \
+        uint8_t found[128]; \
+        size_t needed = 0; \
+        if (markring_##type##_letter(at, &letter) == MARKRING_OK) { \
+            OK(markring_##type##_letter_bytes(at, found, sizeof found, &needed)); \
+            add(all, found, needed); \
+            add_number(all, letter.label, 4); \
+            add_number(all, letter.count, 4); \
+            add_number(all, letter.number, 8); \
+            add_number(all, letter.reference.slot, 4); \
+            add_number(all, letter.reference.generation, 8); \
+        } \
+    }
+
+ADD_LETTER(node)
+ADD_LETTER(cell)
+
 static bytes cell_shown(markring_cell *cell)
 {
     bytes all = {0};
@@ -64,6 +85,7 @@ static bytes cell_shown(markring_cell *cell)
         add_number(&all, reference.generation, 8);
     }
     add_bytes_of_cell(cell, state.registers, &all);
+    add_letter_of_cell(cell, &all);
     return all;
 }
 
@@ -105,6 +127,7 @@ static bytes all_shown(void)
                 add_number(&all, reference.generation, 8);
             }
             add_bytes_of_node(&nodes[i], state.registers, &all);
+            add_letter_of_node(&nodes[i], &all);
         }
         add_cell(&all, i);
     }
@@ -149,7 +172,7 @@ static int is_refusal(int status)
 #define MAY(call) MAKE(MARKRING_OK, 0, call)
 #define SPARES(call) MAKE(MARKRING_OK, 1, call)
 
-static uint8_t image[1 << 14], frame[48], window[1856];
+static uint8_t image[1 << 14], frame[256], window[1 << 12];
 static size_t needed, count, size;
 static uint64_t mark, number;
 static uint8_t flag;
@@ -158,6 +181,9 @@ static markring_link link_;
 static markring_ref reference;
 static markring_object object;
 static uint32_t slots;
+
+// Whether frames need memory: those of letters with references or bytes do.
+static int has_letters;
 
 static void save_and_send(int from)
 {
@@ -171,7 +197,8 @@ static void save_and_send(int from)
         if (place >= link.released - link.acknowledged) {
             break;
         }
-        SPARES(markring_node_frame_at(&nodes[from], to, place, frame, sizeof frame, &needed));
+        MAKE(MARKRING_OK, !has_letters,
+            markring_node_frame_at(&nodes[from], to, place, frame, sizeof frame, &needed));
         MAY(markring_node_take(&nodes[to], frame, needed, &answer));
     }
     SPARES(markring_node_release(&nodes[to]));
@@ -320,6 +347,82 @@ static bytes with_bytes(void)
     return end_nodes();
 }
 
+// Reads and accepts all letters that wait at node 1; those with fewer bytes than two without them.
+static void accept_letters(void)
+{
+    markring_node *one = &nodes[1];
+    while (markring_node_letter(one, &answer) == MARKRING_OK) {
+        uint16_t last = (uint16_t)(4 - answer.count);
+        size_t length = (size_t)answer.number;
+        SPARES(markring_node_letter(one, &answer));
+        SPARES(markring_node_letter_bytes(one, found, sizeof found, &needed));
+        EQUAL(length, needed);
+        MAKE(MARKRING_NO_REGISTER, 1, markring_node_accept(one, last + 1, &answer));
+        if (length < 2) {
+            SPARES(markring_node_accept(one, last, &answer));
+            continue;
+        }
+        MAKE(MARKRING_SHORT_BUFFER, 1,
+            markring_node_accept_into(one, 0, found, length - 1, &needed, &answer));
+        SPARES(markring_node_accept_into(one, 0, found, length, &needed, &answer));
+    }
+    MAKE(MARKRING_NO_LETTER, 1, markring_node_letter(one, &answer));
+    MAKE(MARKRING_NO_LETTER, 1, markring_node_accept_into(one, 0, found, 0, &needed, &answer));
+}
+
+// A scenario over nodes of a wide space: letters with references and bytes, early ones too; fetches;
+// a cycle in which letters wait; images.
+static bytes with_letters(void)
+{
+    markring_node *zero = &nodes[0], *one = &nodes[1];
+    MAY(markring_node_make(zero, &WIDE, 0, 0));
+    MAY(markring_node_make(one, &WIDE, 1, 0));
+    fill(6);
+    for (uint16_t reg = 0; reg < 3; reg++) {
+        MAY(markring_node_alloc(zero, reg, 1, &answer));
+        MAY(markring_node_set_bytes(zero, reg, given, 20u * reg, &answer));
+    }
+    for (uint8_t i = 0; i < 6; i++) {
+        fill(i);
+        MAY(markring_node_post(zero, 1, i, 0, i % 5, given, 20u * i, &answer));
+    }
+    MAKE(MARKRING_NO_REGISTER, 0, markring_node_post(zero, 1, 0, 3, 2, given, 0, &answer));
+    MAKE(MARKRING_TOO_MANY_BYTES, 0,
+        markring_node_post(zero, 1, 0, 0, 4, given, MOST + 1, &answer));
+    // The frames come from the last one to the first.
+    MAY(markring_node_image(zero, image, sizeof image, &needed, &mark));
+    SPARES(markring_node_kept(zero, mark));
+    MAY(markring_node_frames(zero, 1, 0, window, sizeof window, &count, &needed));
+    EQUAL(6, count);
+    for (uint8_t place = 6; place-- > 0;) {
+        MAY(markring_node_frame_at(zero, 1, place, frame, sizeof frame, &needed));
+        MAY(markring_node_take(one, frame, needed, &answer));
+    }
+    while (markring_node_waiting(one, 0, &number) == MARKRING_OK) {
+        MAY(markring_node_next(one, 0, &answer));
+    }
+    accept_letters();
+    for (uint16_t reg = 1; reg < 3; reg++) {
+        MAY(markring_node_fetch(one, reg, reg, 3, 10, &answer));
+    }
+    save_and_send(1);
+    save_and_send(0);
+    accept_letters();
+    MAY(markring_node_post(zero, 1, 1, 0, 4, given, 90, &answer));
+    save_and_send(0);
+    MAY(markring_node_post(zero, 1, 2, 0, 3, given, 80, &answer));
+    MAY(markring_node_begin(zero, &answer));
+    finish_cycle();
+    MAY(markring_node_post(zero, 1, 3, 1, 3, given, 70, &answer));
+    MAY(markring_node_image(zero, image, sizeof image, &needed, &mark));
+    SPARES(markring_node_free(zero));
+    MAY(markring_node_from_image(zero, image, needed, 0));
+    MAY(markring_node_image(one, image, sizeof image, &needed, &mark));
+    SPARES(markring_node_free(one));
+    MAY(markring_node_from_image(one, image, needed, 0));
+    return end_nodes();
+}
+
 // What is stored of node 0: an image, and the batches behind it.
 static bytes stored, behind;
 
@@ -424,6 +527,51 @@ static bytes with_logged_bytes(void)
     return all;
 }
 
+// The same with letters, sent and received, and fetches.
+static bytes with_logged_letters(void)
+{
+    markring_node *zero = &nodes[0], *one = &nodes[1];
+    MAY(markring_node_make(zero, &WIDE, 0, 0));
+    MAY(markring_node_make(one, &WIDE, 1, 0));
+    SPARES(markring_node_log(zero, 1));
+    store_image();
+    MAY(markring_node_alloc(zero, 3, 1, &answer));
+    for (uint8_t round = 0; round < 4; round++) {
+        fill(round);
+        MAY(markring_node_post(zero, 1, round, 0, 4, given, 25u * round, &answer));
+        MAY(markring_node_post(one, 0, round, 0, round, given, 30u * round, &answer));
+        if (round == 2) {
+            MAY(markring_node_fetch(one, 3, round, 0, 0, &answer));
+        }
+        store_batch();
+        MAY(markring_node_frame_at(zero, 1, 0, frame, sizeof frame, &needed));
+        MAY(markring_node_take(one, frame, needed, &answer));
+        SPARES(markring_node_release(one));
+        for (uint8_t place = 0; markring_node_frame_at(one, 0, place, frame, sizeof frame, &needed)
+             == MARKRING_OK;
+             place++) {
+            MAY(markring_node_take(zero, frame, needed, &answer));
+        }
+        SPARES(markring_node_ack_for(one, 0, frame, sizeof frame, &needed));
+        LOGS(markring_node_take(zero, frame, needed, &answer));
+        store_batch();
+        SPARES(markring_node_ack_for(zero, 1, frame, sizeof frame, &needed));
+        MAY(markring_node_take(one, frame, needed, &answer));
+        SPARES(markring_node_accept(one, 0, &answer));
+        LOGS(markring_node_accept(zero, 0, &answer));
+    }
+    store_batch();
+    SPARES(markring_node_free(zero));
+    uint8_t *from = behind.length > 0 ? behind.at : frame;
+    MAY(markring_node_from_batches(zero, stored.at, stored.length, from, behind.length, 0));
+    bytes all = image_of(zero);
+    SPARES(markring_node_free(zero));
+    SPARES(markring_node_free(one));
+    drop_bytes(&stored);
+    drop_bytes(&behind);
+    return all;
+}
+
 // Saves a cell. No memory is refused to the save itself, see `saves`.
 static void save_cell(int own_number)
 {
@@ -464,6 +612,18 @@ static void flush(int from)
         OK(markring_cell_link(&cells[from], receiver, &sent));
         OK(markring_cell_link(&cells[1 - from], sender, &received));
     } while (sent.released != received.received);
+}
+
+// Sends from one cell to the other until it has acknowledged all that the other one released.
+static void acknowledge(int from)
+{
+    uint8_t sender = (uint8_t)from, receiver = (uint8_t)(1 - from);
+    markring_link link;
+    do {
+        MAY(markring_cell_send(&cells[from], receiver, &flag));
+        receive(1 - from, sender);
+        OK(markring_cell_link(&cells[1 - from], sender, &link));
+    } while (link.acknowledged != link.released);
 }
 
 // Nothing can be done with a closed cell except reopening and reading it.
@@ -581,6 +741,50 @@ static bytes in_cells(void)
     return all;
 }
 
+// Letters in cells of a wide space, before and after a reopening.
+static bytes letters_in_cells(void)
+{
+    markring_space space = {0};
+    MAY(markring_space_make(&space, &WIDE, 0));
+    MAY(open_space(&space));
+    SPARES(markring_space_cell(&space, 0, &cells[0]));
+    SPARES(markring_space_cell(&space, 1, &cells[1]));
+    SPARES(markring_space_free(&space));
+    fill(1);
+    MAY(markring_cell_alloc(&cells[0], 0, 2, &answer));
+    MAY(markring_cell_post(&cells[0], 1, 7, 0, 3, given, 90, &answer));
+    MAY(markring_cell_post(&cells[0], 1, 8, 0, 0, given, 0, &answer));
+    save_cell(0);
+    flush(0);
+    save_cell(1);
+    for (int times = 0; times < 2; times++) {
+        SPARES(markring_cell_letter(&cells[1], &answer));
+        SPARES(markring_cell_letter_bytes(&cells[1], found, sizeof found, &needed));
+        HOLDS(needed == 90 && memcmp(found, given, 90) == 0);
+        MAKE(MARKRING_NO_REGISTER, 1, markring_cell_accept(&cells[1], 2, &answer));
+        SPARES(markring_cell_accept_into(&cells[1], 1, found, sizeof found, &needed, &answer));
+        HOLDS(answer.label == 7 && answer.count == 3 && answer.number == 90);
+        if (times == 0) {
+            reopen(&cells[1]);
+        }
+    }
+    MAY(markring_cell_fetch(&cells[1], 1, 9, 0, 0, &answer));
+    save_cell(1);
+    flush(1);
+    save_cell(0);
+    flush(0);
+    acknowledge(0);
+    SPARES(markring_cell_accept(&cells[1], 0, &answer));
+    SPARES(markring_cell_accept_into(&cells[1], 0, found, 8, &needed, &answer));
+    HOLDS(answer.label == 9 && needed == 8);
+    MAY(markring_cell_image(&cells[1], image, sizeof image, &needed, &mark));
+    bytes all = {0};
+    add(&all, image, needed);
+    SPARES(markring_cell_free(&cells[0]));
+    SPARES(markring_cell_free(&cells[1]));
+    return all;
+}
+
 // Saves a cell with a new object, and refuses an allocation of the save. After MEMORY the mark is
 // still good. After DISK the cell is closed, and a reopening finds the old node or the new one.
 // Returns whether the save made that allocation.
@@ -659,10 +863,15 @@ int main(void)
 {
     refuse_each(over_nodes, 0);
     refuse_each(with_bytes, 2);
+    has_letters = 1;
+    refuse_each(with_letters, 4);
+    has_letters = 0;
     refuse_each(with_log, 0);
     refuse_each(with_logged_bytes, 2);
+    refuse_each(with_logged_letters, 4);
     refuse_each(over_cells, 0);
     refuse_each(in_cells, 2);
+    refuse_each(letters_in_cells, 2);
     saves();
     return report();
 }

@@ -6,7 +6,8 @@
 // reaches. Again and again, all objects in a node's slots are compared with the model, reachable or
 // not. Half of the spaces are wide, and their objects have bytes. There, nodes also reclaim: of the
 // private objects, those have to go that the model doesn't need, and no others; of the young ones,
-// if a reclaim is limited to them. The model knows the ages of objects, too.
+// if a reclaim is limited to them. The model knows the ages of objects, too. Letters there have
+// several references, and bytes, and nodes fetch words and bytes of other nodes' objects.
 //
 //     random SEEDS STEPS [NODES]
 #include "check.h"
@@ -15,8 +16,10 @@
 enum { MOST = 4, REGISTERS = 5, SLOTS = 48, IMAGE = 1 << 17, NET = 64, ROUNDS = 1000 };
 // The most places of an object in plain and in wide spaces.
 enum { PLAIN_PLACES = 8, PLACES = 20 };
-// The most bytes of an object in wide spaces.
-enum { BYTES = 60 };
+// The most bytes of an object in wide spaces; those of its word.
+enum { BYTES = 60, WORD = 8 };
+// The most bytes of a frame: a letter with a reference of each register and all bytes.
+enum { FRAME = 20 + 4 + 1 + 14 * REGISTERS + 4 + WORD + BYTES };
 
 // ## The model
 
@@ -33,17 +36,26 @@ typedef struct object {
     age age;
 } object;
 
-// A Give (tag 4), a Put (5) or a Get (6), as in frames.
+// What a letter has: the contents of registers, and bytes.
+typedef struct content {
+    uint8_t count, length;
+    markring_ref references[REGISTERS];
+    uint8_t bytes[WORD + BYTES];
+} content;
+
+// A Give (tag 4), a Put (5), a Get (6), a Post (9) or a Fetch (10), as in frames. A Give and a Put
+// have one reference or nothing.
 typedef struct message {
     uint8_t tag, place;
-    uint32_t label;
-    markring_ref about, reference;
+    uint32_t label, offset, count;
+    markring_ref about;
+    content content;
 } message;
 
 typedef struct letter {
     uint8_t from;
     uint32_t label;
-    markring_ref reference;
+    content content;
 } letter;
 
 // A program's part of a node: what it would be if nothing were ever freed. Rows are in `bytes`.
@@ -116,8 +128,9 @@ typedef struct site {
 } site;
 
 typedef struct packet {
-    uint8_t from, to, length;
-    uint8_t frame[48];
+    uint8_t from, to;
+    size_t length;
+    uint8_t frame[FRAME];
 } packet;
 
 static site sites[MOST];
@@ -131,6 +144,8 @@ static unsigned long crashes, cycles, answers, lost;
 // Objects that the cycles of checkpoints freed, and those that were reached there.
 static unsigned long freed, kept;
 static unsigned long written, patched, read, reclaimed, young, looked_at;
+// Letters with several references, letters with bytes, fetched words, and ranges of bytes.
+static unsigned long several, with_bytes, fetched, ranges;
 
 static message *sent_by(model *it, uint8_t to, size_t index)
 {
@@ -198,7 +213,9 @@ static void remember(uint8_t own_number, markring_ref it)
 static void send_in_model(uint8_t own_number, uint8_t to, message it)
 {
     share(own_number, it.about);
-    share(own_number, it.reference);
+    for (uint8_t i = 0; i < it.content.count; i++) {
+        share(own_number, it.content.references[i]);
+    }
     add(&sites[own_number].now.sent[to], &it, sizeof it);
 }
 
@@ -240,26 +257,106 @@ static void alloc(uint8_t own_number, uint16_t reg, uint8_t places)
     }
 }
 
+// How many registers a letter fills, and how many entries of the node it is.
+static uint8_t entries(const letter *it)
+{
+    return it->content.count > 0 ? it->content.count : 1;
+}
+
+// The answer is this letter.
+static void expect_letter(const markring_answer *answer, const letter *it)
+{
+    expect(answer, MARKRING_ANSWER_LETTER, it->content.references[0]);
+    HOLDS(answer->node == it->from && answer->label == it->label);
+    HOLDS(answer->count == entries(it) && answer->number == it->content.length);
+}
+
+// Looks at the letter that waits, and accepts it, with its bytes or without.
+static void accept_waiting(markring_node *node, uint16_t reg, model *now)
+{
+    markring_answer answer;
+    uint8_t all[WORD + BYTES];
+    size_t needed = 0;
+    letter *it = (letter *)(void *)(now->letters.at + now->accepted);
+    content *in = &it->content;
+    int expected = reg + entries(it) > REGISTERS ? MARKRING_NO_REGISTER : MARKRING_OK, status;
+    OK(markring_node_letter(node, &answer));
+    expect_letter(&answer, it);
+    if (below(&seed, 2) != 0) {
+        OK(markring_node_letter_bytes(node, all, sizeof all, &needed));
+        status = markring_node_accept(node, reg, &answer);
+    } else {
+        if (in->length > 0) {
+            IS(MARKRING_SHORT_BUFFER,
+                markring_node_accept_into(node, reg, all, in->length - 1u, &needed, &answer));
+        }
+        status = markring_node_accept_into(node, reg, all, sizeof all, &needed, &answer);
+    }
+    HOLDS(needed == in->length && memcmp(all, in->bytes, needed) == 0);
+    if (!IS(expected, status) || expected != MARKRING_OK) {
+        return;
+    }
+    expect_letter(&answer, it);
+    now->accepted += sizeof *it;
+    memcpy(now->registers + reg, in->references, entries(it) * sizeof *in->references);
+    several += in->count > 1;
+    with_bytes += in->length > 0;
+}
+
 static void accept(uint8_t own_number, uint16_t reg)
 {
     markring_answer answer;
+    uint8_t none = 0;
+    size_t needed = 77;
     model *now = &sites[own_number].now;
-    int status = markring_node_accept(&sites[own_number].node, reg, &answer);
-    if (now->accepted == now->letters.length) {
-        IS(MARKRING_NO_LETTER, status);
-    } else if (OK(status)) {
-        letter *it = (letter *)(void *)(now->letters.at + now->accepted);
-        now->accepted += sizeof *it;
-        expect(&answer, MARKRING_ANSWER_LETTER, it->reference);
-        HOLDS(answer.node == it->from && answer.label == it->label);
-        now->registers[reg] = it->reference;
+    markring_node *node = &sites[own_number].node;
+    if (now->accepted < now->letters.length) {
+        accept_waiting(node, reg, now);
+        return;
+    }
+    IS(MARKRING_NO_LETTER, markring_node_accept(node, reg, &answer));
+    IS(MARKRING_NO_LETTER, markring_node_letter(node, &answer));
+    IS(MARKRING_NO_LETTER, markring_node_letter_bytes(node, &none, 0, &needed));
+    IS(MARKRING_NO_LETTER, markring_node_accept_into(node, reg, &none, 0, &needed, &answer));
+    EQUAL(77, needed);
+}
+
+// A letter with contents of registers and bytes, often too many.
+static void post(uint8_t own_number, uint8_t to)
+{
+    markring_answer answer;
+    message it = {.tag = 9, .label = (uint32_t)draw(&seed)};
+    uint8_t given[BYTES + 1];
+    uint16_t first = (uint16_t)below(&seed, REGISTERS + 1);
+    uint8_t count = (uint8_t)below(&seed, REGISTERS + 2u - first);
+    size_t length = below(&seed, 3) == 0 ? 0 : below(&seed, BYTES + 2);
+    for (size_t i = 0; i < length; i++) {
+        given[i] = (uint8_t)draw(&seed);
+    }
+    int expected = is_congested(own_number, to) ? MARKRING_CONGESTED
+        : to >= nodes                           ? MARKRING_NO_NODE
+        : to == own_number                      ? MARKRING_SELF_SEND
+        : first + count > REGISTERS             ? MARKRING_NO_REGISTER
+        : !is_wide                              ? MARKRING_TOO_MANY_FIELDS
+        : length > BYTES                        ? MARKRING_TOO_MANY_BYTES
+                                                : MARKRING_OK;
+    if (IS(expected, markring_node_post(&sites[own_number].node, to, it.label, first, count, given,
+                         length, &answer))
+        && expected == MARKRING_OK) {
+        it.content.count = count;
+        it.content.length = (uint8_t)length;
+        memcpy(it.content.references, sites[own_number].now.registers + first,
+            count * sizeof *it.content.references);
+        memcpy(it.content.bytes, given, length);
+        send_in_model(own_number, to, it);
+        expect_sent(own_number, to, &answer);
     }
 }
 
 static void give(uint8_t own_number, uint8_t to, uint16_t reg)
 {
     markring_answer answer;
-    message it = {4, 0, (uint32_t)draw(&seed), NOTHING, NOTHING};
+    message it = {.tag = 4, .label = (uint32_t)draw(&seed), .content = {.count = 1}};
     int congested = is_congested(own_number, to);
     int status = markring_node_give(&sites[own_number].node, to, it.label, reg, &answer);
     if (congested) {
@@ -267,7 +364,7 @@ static void give(uint8_t own_number, uint8_t to, uint16_t reg)
     } else if (to == own_number || to >= nodes) {
         IS(to >= nodes ? MARKRING_NO_NODE : MARKRING_SELF_SEND, status);
     } else if (OK(status)) {
-        it.reference = sites[own_number].now.registers[reg];
+        it.content.references[0] = sites[own_number].now.registers[reg];
         send_in_model(own_number, to, it);
         expect_sent(own_number, to, &answer);
     }
@@ -281,11 +378,36 @@ static void put_or_get(uint8_t own_number, uint16_t object, uint8_t place, uint1
     uint8_t to = now->registers[object].node;
     int congested = markring_ref_is_some(now->registers[object]) && is_congested(own_number, to);
     int expected = congested ? MARKRING_CONGESTED : far_place(own_number, object, place);
-    message it = {is_put ? 5 : 6, place, (uint32_t)draw(&seed), now->registers[object], NOTHING};
+    message it = {.tag = is_put ? 5 : 6, .place = place, .label = (uint32_t)draw(&seed)};
+    it.about = now->registers[object];
     int status = is_put ? markring_node_put(node, object, place, reg, &answer)
                         : markring_node_get(node, object, place, it.label, &answer);
     if (IS(expected, status) && status == MARKRING_OK) {
-        it.reference = is_put ? now->registers[reg] : NOTHING;
+        it.content.count = (uint8_t)is_put;
+        it.content.references[0] = is_put ? now->registers[reg] : NOTHING;
+        send_in_model(own_number, to, it);
+        expect_sent(own_number, to, &answer);
+    }
+}
+
+// Asks for the word and bytes of another node's object.
+static void fetch(uint8_t own_number, uint16_t object)
+{
+    markring_answer answer;
+    model *now = &sites[own_number].now;
+    uint8_t to = now->registers[object].node;
+    int congested = markring_ref_is_some(now->registers[object]) && is_congested(own_number, to);
+    message it = {.tag = 10, .label = (uint32_t)draw(&seed), .about = now->registers[object]};
+    // More often than not a range that the object may have.
+    it.offset = below(&seed, 3) != 0 ? below(&seed, 4) : below(&seed, BYTES + 2);
+    it.count = below(&seed, 4) != 0 ? below(&seed, 8) : below(&seed, 2) << 31;
+    int expected = congested ? MARKRING_CONGESTED : far_place(own_number, object, 0);
+    if (expected == MARKRING_OK && (!is_wide || it.count >= UINT32_C(1) << 31)) {
+        expected = MARKRING_TOO_MANY_BYTES;
+    }
+    if (IS(expected, markring_node_fetch(&sites[own_number].node, object, it.label, it.offset,
+                         it.count, &answer))
+        && expected == MARKRING_OK) {
         send_in_model(own_number, to, it);
         expect_sent(own_number, to, &answer);
     }
@@ -437,7 +559,7 @@ static void program(uint8_t own_number)
     uint8_t more = is_wide && below(&seed, 2) != 0 ? PLACES - 2 : 0;
     uint8_t place = (uint8_t)(more + below(&seed, 3));
     answers++;
-    switch (below(&seed, 14)) {
+    switch (below(&seed, 16)) {
     case 0:
     case 1:
         alloc(own_number, (uint16_t)(reg + below(&seed, 8) / 7),
@@ -447,44 +569,74 @@ static void program(uint8_t own_number)
     case 3: copy_or_drop(own_number, reg, other, 0); break;
     case 4:
     case 5: accept(own_number, reg); break;
-    case 6:
-    case 7: give(own_number, (uint8_t)below(&seed, nodes + below(&seed, 2)), reg); break;
+    case 6: give(own_number, (uint8_t)below(&seed, nodes + below(&seed, 2)), reg); break;
+    case 7: post(own_number, (uint8_t)below(&seed, nodes + below(&seed, 2))); break;
     case 8: put_or_get(own_number, reg, place, other, 1); break;
     case 9: put_or_get(own_number, reg, place, other, 0); break;
     case 10:
     case 11: use_bytes(own_number, reg); break;
+    case 12:
+    case 13: fetch(own_number, reg); break;
     default: read_and_write(own_number, reg, place, other);
     }
 }
 
 // ## The net
 
+// The answer to a Fetch: the object's word and the range of its bytes, if it has that. (An object
+// that a message names is never freed before.)
+static message fetched_of(const message *it, const object *about)
+{
+    message answer = {.tag = 9, .label = it->label};
+    content *in = &answer.content;
+    if (!HOLDS(about != NULL)) {
+        return answer;
+    }
+    fetched++;
+    for (int i = 0; i < WORD; i++) {
+        in->bytes[in->length++] = (uint8_t)(about->word >> 8 * (WORD - 1 - i));
+    }
+    if (it->offset <= about->length && it->count <= about->length - it->offset) {
+        memcpy(in->bytes + WORD, about->bytes + it->offset, it->count);
+        in->length = (uint8_t)(in->length + it->count);
+        ranges += it->count > 0;
+    }
+    return answer;
+}
+
 // The model receives the message with this number, if it is one of a program.
 static void receive_in_model(uint8_t from, uint8_t to, uint64_t number)
 {
     HOLDS(number <= tags[from][to].length);
     uint8_t tag = tags[from][to].at[number - 1];
-    if (tag < 4 || tag > 6) {
+    if (tag < 4 || tag == 7 || tag == 8) {
         return;
     }
     model *now = &sites[to].now;
     message it = *sent_by(&sites[from].now, to, now->received[from]++);
     EQUAL(it.tag, tag);
-    object *about = tag == 4 ? NULL : find(now, it.about);
+    object *about = tag == 4 || tag == 9 ? NULL : find(now, it.about);
     markring_ref *place = about != NULL && it.place < about->places ? &about->at[it.place] : NULL;
-    if (tag == 4) {
-        letter came = {from, it.label, it.reference};
+    if (tag == 4 || tag == 9) {
+        letter came;
+        memset(&came, 0, sizeof came);
+        came.from = from;
+        came.label = it.label;
+        came.content = it.content;
         add(&now->letters, &came, sizeof came);
     } else if (tag == 5 && about != NULL) {
         if (about->age == OLD) {
-            remember(to, it.reference);
+            remember(to, it.content.references[0]);
         }
         if (place != NULL) {
-            *place = it.reference;
+            *place = it.content.references[0];
         }
     } else if (tag == 6) {
-        message answer = {4, 0, it.label, NOTHING, place != NULL ? *place : NOTHING};
+        message answer = {.tag = 4, .label = it.label, .content = {.count = 1}};
+        answer.content.references[0] = place != NULL ? *place : NOTHING;
         send_in_model(to, from, answer);
+    } else if (tag == 10) {
+        send_in_model(to, from, fetched_of(&it, about));
     }
 }
 
@@ -522,7 +674,7 @@ static void offer(uint8_t from, uint8_t to, uint8_t place)
     if (!IS(is_there ? MARKRING_OK : MARKRING_NOTHING, status) || !is_there) {
         return;
     }
-    it.length = (uint8_t)needed;
+    it.length = needed;
     if (place < 32) {
         // The number is in the bytes 3 to 10, the tag in byte 19.
         uint64_t number = link.acknowledged + place + 1;
@@ -532,8 +684,8 @@ static void offer(uint8_t from, uint8_t to, uint8_t place)
         }
         tags[from][to].at[number - 1] = it.frame[19];
         // Behind the tag of a Put and a Get are a reference and the place.
-        int has_place = it.frame[19] == 5 || it.frame[19] == 6;
-        EQUAL(has_place && it.frame[33] >= PLAIN_PLACES ? 0x46 : 0x45, it.frame[0]);
+        int has_place = it.frame[19] == 5 || it.frame[19] == 6, is_new = it.frame[19] >= 9;
+        EQUAL(is_new || (has_place && it.frame[33] >= PLAIN_PLACES) ? 0x46 : 0x45, it.frame[0]);
     }
     // A full net loses the packet that makes room.
     int at = in_net < NET ? in_net++ : (int)below(&seed, NET);
@@ -672,7 +824,9 @@ static void need_all(search *in)
     }
     for (size_t at = now->accepted; at < now->letters.length; at += sizeof(letter)) {
         letter *it = (letter *)(void *)(now->letters.at + at);
-        need(in, it->reference);
+        for (uint8_t i = 0; i < it->content.count; i++) {
+            need(in, it->content.references[i]);
+        }
     }
 }
 
@@ -888,7 +1042,7 @@ static void expect_bytes(uint8_t node, uint16_t reg)
 static void checkpoint(void)
 {
     bytes seen = {0};
-    uint64_t objects[MOST] = {0};
+    uint64_t objects[MOST] = {0}, waiting[MOST] = {0};
     for (int times = 0; times < 2; times++) {
         finish_cycle();
     }
@@ -904,7 +1058,11 @@ static void checkpoint(void)
             (void)reach(now->registers[reg], &seen);
         }
         for (size_t at = now->accepted; at < now->letters.length; at += sizeof(letter)) {
-            (void)reach(((letter *)(void *)(now->letters.at + at))->reference, &seen);
+            letter *it = (letter *)(void *)(now->letters.at + at);
+            waiting[node] += entries(it);
+            for (uint8_t i = 0; i < it->content.count; i++) {
+                (void)reach(it->content.references[i], &seen);
+            }
         }
     }
     kept += seen.length / sizeof(markring_ref);
@@ -915,8 +1073,7 @@ static void checkpoint(void)
         markring_state state;
         OK(markring_node_state(&sites[node].node, &state));
         EQUAL(objects[node], state.live);
-        EQUAL((sites[node].now.letters.length - sites[node].now.accepted) / sizeof(letter),
-            state.letters);
+        EQUAL(waiting[node], state.letters);
     }
     drop_bytes(&seen);
 }
@@ -1022,11 +1179,13 @@ int main(int length, char **given)
     // On average one in each program, or else too little happens.
     HOLDS(freed >= seeds && kept >= seeds);
     HOLDS(written > 0 && patched > 0 && read > 0 && reclaimed > 0 && young > 0);
-    HOLDS(looked_at >= seeds);
+    HOLDS(looked_at >= seeds && several > 0 && with_bytes > 0 && fetched > 0);
+    HOLDS(ranges > 0 || seeds < 20);
     printf("%lu events of programs, %lu crashes, %lu cycles, %lu frames lost, %lu objects freed, "
            "%lu and %lu reclaimed, %lu kept, %lu looked at; bytes set %lu times, patched %lu "
-           "times, read %lu times\n",
+           "times, read %lu times; %lu letters with several references, %lu with bytes, %lu "
+           "words and %lu ranges fetched\n",
         answers, crashes, cycles, lost, freed, young, reclaimed, kept, looked_at, written, patched,
-        read);
+        read, several, with_bytes, fetched, ranges);
     return report();
 }

@@ -10,7 +10,7 @@
 #include "check.h"
 #include "refuse.h"
 
-enum { NODES = 64, WORDS = 16, LINE = 1 << 18 };
+enum { NODES = 64, WORDS = 16, LINE = 1 << 18, LENGTH = 4 };
 
 // A word of a line that is an event, its kind, and its numbers in order: r for `reg`, s for
 // `source`, o for `object`, p for `place`, n for `node`, l for `label`, c for `count`, w for
@@ -130,18 +130,35 @@ static bytes bytes_of(const char *word)
 
 static markring_node nodes[NODES];
 static bytes saved[NODES];
-// The frames ever released from one node to another, each after its length in one byte.
+// The frames ever released from one node to another, each after its length in LENGTH bytes.
 static bytes net[NODES][NODES];
 static uint64_t recorded[NODES][NODES];
 static uint64_t freed[1 << 12], last_swept;
 
-static void print_ref(markring_ref it)
+static void write_ref(markring_ref it)
 {
     if (markring_ref_is_some(it)) {
-        printf("%d.%" PRIu32 ".%" PRIu64 "\n", it.node, it.slot, it.generation);
+        printf("%d.%" PRIu32 ".%" PRIu64, it.node, it.slot, it.generation);
     } else {
-        puts("-");
+        putchar('-');
     }
+}
+
+static void print_ref(markring_ref it)
+{
+    write_ref(it);
+    putchar('\n');
+}
+
+// A letter, with its counts if it can't be one of Give.
+static void print_letter(const markring_answer *it)
+{
+    printf("from %d label %" PRIu32 " ", it->node, it->label);
+    write_ref(it->reference);
+    if (it->count > 1 || it->number > 0) {
+        printf(" count %" PRIu32 " bytes %" PRIu64, it->count, it->number);
+    }
+    putchar('\n');
 }
 
 static void print_answer(const markring_answer *it)
@@ -152,10 +169,7 @@ static void print_answer(const markring_answer *it)
     case MARKRING_ANSWER_VALUE: print_ref(it->reference); break;
     case MARKRING_ANSWER_WORD: printf("%" PRIu64 "\n", it->number); break;
     case MARKRING_ANSWER_SENT: printf("sent %" PRIu64 "\n", it->number); break;
-    case MARKRING_ANSWER_LETTER:
-        printf("from %d label %" PRIu32 " ", it->node, it->label);
-        print_ref(it->reference);
-        break;
+    case MARKRING_ANSWER_LETTER: print_letter(it); break;
     case MARKRING_ANSWER_BEGUN: printf("cycle %" PRIu64 "\n", it->number); break;
     case MARKRING_ANSWER_SCANNED:
         fputs("scanned ", stdout);
@@ -203,13 +217,14 @@ static void record(uint8_t from, const bytes *image)
             continue;
         }
         for (uint64_t next = recorded[from][to] + 1; next <= link.released; next++) {
-            uint8_t frame[48], ack[11];
+            static uint8_t frame[LINE];
+            uint8_t ack[11];
             size_t needed = 0;
             markring_answer answer;
             acknowledgement(ack, to, from, next - 1);
             OK(markring_node_take(&copy, ack, sizeof ack, &answer));
             OK(markring_node_frame_at(&copy, to, 0, frame, sizeof frame, &needed));
-            add_number(&net[from][to], needed, 1);
+            add_number(&net[from][to], needed, LENGTH);
             add(&net[from][to], frame, needed);
             recorded[from][to] = next;
         }
@@ -242,6 +257,15 @@ static void restart(uint8_t node)
     puts("ok");
 }
 
+static size_t frame_length(const uint8_t *at)
+{
+    size_t length = 0;
+    for (int i = 0; i < LENGTH; i++) {
+        length = length << 8 | at[i];
+    }
+    return length;
+}
+
 static void deliver(uint8_t from, uint8_t to, uint64_t number)
 {
     markring_answer answer;
@@ -257,9 +281,9 @@ static void deliver(uint8_t from, uint8_t to, uint64_t number)
     }
     const uint8_t *at = net[from][to].at;
     while (--number > 0) {
-        at += 1 + *at;
+        at += LENGTH + frame_length(at);
     }
-    int status = markring_node_take(&nodes[to], at + 1, *at, &answer);
+    int status = markring_node_take(&nodes[to], at + LENGTH, frame_length(at), &answer);
     if (status == MARKRING_OK) {
         print_answer(&answer);
     } else {
@@ -287,13 +311,15 @@ static void hand(uint8_t from, uint8_t to)
     }
 }
 
-// Prints the bytes of an object that the line asks for.
-static void print_bytes_of_object(markring_node *node)
+// Prints the bytes of an object that the line asks for, or those of the oldest letter.
+static void print_bytes_read(markring_node *node)
 {
     static uint8_t all[LINE];
     size_t length = 0;
-    int status = markring_node_bytes(node, (uint16_t)number_at(2), (uint32_t)number_at(3),
-        (uint32_t)number_at(4), all, sizeof all, &length);
+    int status = strcmp(words[1], "letter") == 0
+        ? markring_node_letter_bytes(node, all, sizeof all, &length)
+        : markring_node_bytes(node, (uint16_t)number_at(2), (uint32_t)number_at(3),
+            (uint32_t)number_at(4), all, sizeof all, &length);
     if (status != MARKRING_OK) {
         print_refusal(status);
         return;
@@ -314,6 +340,27 @@ static void write_bytes(markring_node *node)
     int status = is_patch
         ? markring_node_patch(node, object, (uint32_t)number_at(3), all.at, all.length, &answer)
         : markring_node_set_bytes(node, object, all.at, all.length, &answer);
+    if (status == MARKRING_OK) {
+        print_answer(&answer);
+    } else {
+        print_refusal(status);
+    }
+    drop_bytes(&all);
+}
+
+// Sends a letter with references and bytes, or asks for a word and bytes.
+static void post_or_fetch(markring_node *node)
+{
+    markring_answer answer;
+    int is_post = strcmp(words[1], "post") == 0;
+    uint32_t label = (uint32_t)number_at(3);
+    bytes all = bytes_of(is_post ? words[6] : "-");
+    int status = is_post
+        ? markring_node_post(node, (uint8_t)number_at(2), label, (uint16_t)number_at(4),
+            (uint8_t)number_at(5), all.length > 0 ? all.at : (const uint8_t *)"", all.length,
+            &answer)
+        : markring_node_fetch(node, (uint16_t)number_at(2), label, (uint32_t)number_at(4),
+            (uint32_t)number_at(5), &answer);
     if (status == MARKRING_OK) {
         print_answer(&answer);
     } else {
@@ -382,8 +429,10 @@ static void step(uint8_t size)
             save_node(node);
         } else if (strcmp(words[1], "restart") == 0) {
             restart(node);
-        } else if (strcmp(words[1], "bytes") == 0) {
-            print_bytes_of_object(&nodes[node]);
+        } else if (strcmp(words[1], "bytes") == 0 || strcmp(words[1], "letter") == 0) {
+            print_bytes_read(&nodes[node]);
+        } else if (strcmp(words[1], "post") == 0 || strcmp(words[1], "fetch") == 0) {
+            post_or_fetch(&nodes[node]);
         } else if (strcmp(words[1], "setbytes") == 0 || strcmp(words[1], "patch") == 0) {
             write_bytes(&nodes[node]);
         } else {

@@ -9,9 +9,9 @@ from typing import Any, Iterator, NamedTuple, NoReturn, Optional, TypeVar, Union
 from . import _library as c
 from .errors import Ages, BadArgument, NoField, Refusal, check, found
 
-LENGTH, NUMBER = 2, 8
+LENGTH, NUMBER = 4, 8
 FRAME = 48
-WINDOW = 1_856
+WINDOW = 1_920
 Own = TypeVar("Own", bound="_Handle")
 
 
@@ -27,11 +27,14 @@ class Ref(NamedTuple):
 
 
 class Letter(NamedTuple):
-    """A letter that was accepted."""
+    """A letter: its sender, its label and the first reference in it, if any; how many registers get its content (as many as
+    were sent, and at least one), and how many bytes it has."""
 
     sender: int
     label: int
     reference: Optional[Ref]
+    registers: int = 1
+    bytes: int = 0
 
 
 class Freed(NamedTuple):
@@ -195,6 +198,10 @@ def _object(raw: c.RawRef) -> Ref:
     return Ref(raw.node, raw.slot, raw.generation)
 
 
+def _letter(answer: c.RawAnswer) -> Letter:
+    return Letter(answer.node, answer.label, _ref(answer.reference), answer.count, answer.number)
+
+
 def _room(count: int, length: int) -> Any:
     # A buffer for some of this many bytes: if more are asked for, the call is refused anyway.
     return ctypes.create_string_buffer(max(min(count, length), 0))
@@ -246,7 +253,7 @@ class _Events(_Handle):
     """What nodes and cells have in common. `register`, `source` and `object` are numbers of registers; `object` is the
     register that refers to the object. An event that is refused changes nothing."""
 
-    def _answer(self, name: str, *words: int) -> c.RawAnswer:
+    def _answer(self, name: str, *words: Any) -> c.RawAnswer:
         answer = c.RawAnswer()
         self._call(name, *words, answer)
         return answer
@@ -309,10 +316,38 @@ class _Events(_Handle):
         """Sends a letter with the label and the register's content. Returns the message's number."""
         return self._answer("give", to, label, register).number
 
+    def post(self, to: int, label: int, first: int = 0, count: int = 0, data: bytes = b"") -> int:
+        """Sends a letter with the label, the contents of `count` registers from `first` on, and these bytes, in a wide
+        space. Returns the message's number.
+
+        Raises `TooManyFields` if an object of the space has fewer places than `count`, and `TooManyBytes` if it has fewer
+        bytes than these, and above 65,535.
+        """
+        return self._answer("post", to, label, first, count, data, len(data)).number
+
     def accept(self, register: int) -> Letter:
-        """Removes the oldest letter that waits. The register gets its content."""
-        answer = self._answer("accept", register)
-        return Letter(answer.node, answer.label, _ref(answer.reference))
+        """Removes the oldest letter that waits. The register gets its content.
+
+        If the letter has several references, those that follow the register get the others; raises `NoRegister` if there
+        are too few. The letter's bytes are gone then.
+        """
+        return _letter(self._answer("accept", register))
+
+    def accept_with_bytes(self, register: int) -> tuple[Letter, bytes]:
+        """Accepts the oldest letter as `accept` does, and returns its bytes, too."""
+        buffer, needed = ctypes.create_string_buffer(self.letter().bytes), c.SIZE()
+        answer = self._answer("accept_into", register, buffer, len(buffer), needed)
+        return _letter(answer), buffer.raw
+
+    def letter(self) -> Letter:
+        """The oldest letter that waits, as `accept` would return it. Raises `NoLetter`."""
+        return _letter(self._answer("letter"))
+
+    def letter_bytes(self) -> bytes:
+        """The bytes of the oldest letter that waits. Raises `NoLetter`."""
+        buffer, needed = ctypes.create_string_buffer(self.letter().bytes), c.SIZE()
+        self._call("letter_bytes", buffer, len(buffer), needed)
+        return buffer.raw
 
     def put(self, object: int, place: int, register: int) -> int:
         """Asks the owner of another node's object to put the register's content into the object's place."""
@@ -321,6 +356,14 @@ class _Events(_Handle):
     def get(self, object: int, place: int, label: int) -> int:
         """Asks the owner of another node's object for the content of the object's place. It comes in a letter."""
         return self._answer("get", object, place, label).number
+
+    def fetch(self, object: int, label: int, offset: int = 0, count: int = 0) -> int:
+        """Asks the owner of another node's object, in a wide space, for its word and `count` of its bytes from `offset` on.
+
+        They come in a letter with this label: the word as 8 bytes, big-endian, and then the bytes. If the object hasn't all
+        of these, only the word comes, and if it is gone, no byte. Raises `TooManyBytes` above 65,527.
+        """
+        return self._answer("fetch", object, label, offset, count).number
 
     def reclaim(self) -> int:
         """Frees the private objects that nothing needs any more, without the other nodes.
@@ -478,8 +521,8 @@ class Node(_Events):
     _kind = "node"
 
     def __init__(self, nodes: int, registers: int, slots: int, own: int, limit: int = 0) -> None:
-        """Makes node `own` of `nodes`, in a plain space. If `limit` isn't 0, `give`, `put` and `get` raise `Congested`
-        while that many messages to the receiver aren't acknowledged."""
+        """Makes node `own` of `nodes`, in a plain space. If `limit` isn't 0, `give`, `post`, `put`, `get` and `fetch` raise
+        `Congested` while that many messages to the receiver aren't acknowledged."""
         super().__init__()
         self._call("new", nodes, registers, slots, own, limit)
 
@@ -536,8 +579,12 @@ class Node(_Events):
     def frame_at(self, to: int, place: int) -> Optional[bytes]:
         """The frame of the released message at this place of the window, 0 to 31, if there is one."""
         buffer, needed = ctypes.create_string_buffer(FRAME), ctypes.c_size_t()
-        exists = found(self._status("frame_at", to, place, buffer, FRAME, needed))
-        return buffer.raw[: needed.value] if exists else None
+        status = self._status("frame_at", to, place, buffer, FRAME, needed)
+        if needed.value > FRAME:
+            # A letter with references or bytes.
+            buffer = ctypes.create_string_buffer(needed.value)
+            status = self._status("frame_at", to, place, buffer, len(buffer), needed)
+        return buffer.raw[: needed.value] if found(status) else None
 
     def ack_for(self, sender: int) -> bytes:
         """The acknowledgement to the sender of all its messages that a saved state has received, as a frame."""
@@ -549,7 +596,12 @@ class Node(_Events):
         """The frames in the window whose numbers are above `after`, each with its number, in order."""
         buffer = ctypes.create_string_buffer(WINDOW)
         count, needed = ctypes.c_size_t(), ctypes.c_size_t()
-        if not found(self._status("frames", to, after, buffer, WINDOW, count, needed)):
+        status = self._status("frames", to, after, buffer, WINDOW, count, needed)
+        if needed.value > WINDOW:
+            # Letters with references or bytes.
+            buffer = ctypes.create_string_buffer(needed.value)
+            status = self._status("frames", to, after, buffer, len(buffer), count, needed)
+        if not found(status):
             return []
         found_frames, rest = [], buffer.raw
         for _ in range(count.value):

@@ -76,7 +76,7 @@ class NoField(Refusal):
 
 
 class TooManyFields(Refusal):
-    """The object would have more places than the space allows."""
+    """The object would have more places than the space allows, or the letter more references."""
 
     status, text = 10, "the object would have too many places"
 
@@ -166,7 +166,7 @@ class Closed(Refusal):
 
 
 class TooManyBytes(Refusal):
-    """An object would have more bytes than the space allows; in a plain space, any."""
+    """An object or a letter would have more bytes than the space allows; in a plain space, any."""
 
     status, text = 25, "the object would have too many bytes"
 

@@ -6,7 +6,7 @@
             program.give(to=1, label=7, register=0)
 
 A node has up to 64 programs. A program sends its node requests, one after another, each with up to 256 events and
-1,000,000 bytes of objects; the node performs them once, whatever is lost or crashes. An answer comes once all that it
+1,000,000 bytes of objects and letters; the node performs them once, whatever is lost or crashes. An answer comes once all that it
 shows is stored, so nothing takes it back. docs/PROCESSES.md has more.
 
 The client is the file that the variable MARKRING_REMOTE_LIBRARY names. Without that variable it is
@@ -28,8 +28,11 @@ from ._space import Letter, Ref
 
 NAME = "libmarkring-remote.so"
 EVENTS = 256
-# Bytes of objects in one request, or in one answer, at most.
+_ACCEPT_INTO = 138
+# Bytes of objects and letters in one request, or in one answer, at most.
 BYTES = 1_000_000
+# Bytes of a letter, at most.
+LETTER = 65_535
 NOT_DONE = 150
 SECONDS = 10.0
 LONGEST = 1e9
@@ -98,15 +101,15 @@ class NoRegisters(Failure):
 
 
 class TooLong(Failure, ValueError):
-    """A request or its answer would carry more than BYTES bytes of objects. Nothing was sent."""
+    """A request or its answer would carry more than BYTES bytes of objects and letters. Nothing was sent."""
 
-    status, text = 9, "the request or its answer would carry more than 1,000,000 bytes of objects"
+    status, text = 9, "the request or its answer would carry more than 1,000,000 bytes of objects and letters"
 
 
 class EarlierNode(Failure):
-    """The node is of an earlier version, and knows no bytes of objects. Nothing was performed."""
+    """The node is of an earlier version, and knows no bytes of objects, or of letters. Nothing was performed."""
 
-    status, text = 10, "the node is of an earlier version, and knows no bytes of objects"
+    status, text = 10, "the node is of an earlier version, and knows no bytes of objects, or of letters"
 
 
 class Closed(Failure):
@@ -167,7 +170,7 @@ class Event(NamedTuple):
     object: int = 0
     label: int = 0
     word: int = 0
-    offset: int = 0
+    count: int = 0
     data: bytes = b""
 
 
@@ -218,7 +221,7 @@ def set_bytes(object: int, data: bytes) -> Event:
 
 def patch(object: int, offset: int, data: bytes) -> Event:
     """Overwrites bytes of the object, from `offset` on. It makes them no longer."""
-    return Event(19, object=object, offset=offset, data=data)
+    return Event(19, object=object, count=offset, data=data)
 
 
 def give(to: int, label: int, register: int) -> Event:
@@ -226,9 +229,22 @@ def give(to: int, label: int, register: int) -> Event:
     return Event(9, node=to, label=label, register=register)
 
 
+def post(to: int, label: int, first: int = 0, count: int = 0, data: bytes = b"") -> Event:
+    """Sends a letter with the label, the contents of `count` registers from `first` on, and these bytes, in a wide
+    space."""
+    return Event(22, node=to, label=label, register=first, count=count, data=data)
+
+
 def accept(register: int) -> Event:
-    """Removes the oldest letter that waits. The register gets its content."""
+    """Removes the oldest letter that waits. The register gets its content, and if it has several references, the
+    registers that follow get the others. Its bytes are gone then."""
     return Event(10, register=register)
+
+
+def accept_with_bytes(register: int, room: int = LETTER) -> Event:
+    """The same; its bytes come, too. If it has more than `room`, the event is refused with `ShortBuffer`, and the letter
+    stays. The room of all events of a request is at most BYTES."""
+    return Event(_ACCEPT_INTO, register=register, count=room)
 
 
 def put(object: int, place: int, register: int) -> Event:
@@ -241,10 +257,16 @@ def get(object: int, place: int, label: int) -> Event:
     return Event(12, object=object, place=place, label=label)
 
 
+def fetch(object: int, label: int, offset: int = 0, count: int = 0) -> Event:
+    """Asks the owner of another node's object, in a wide space, for its word and `count` of its bytes from `offset` on.
+    They come in a letter."""
+    return Event(23, object=object, label=label, word=offset, count=count)
+
+
 class Result(NamedTuple):
     """What became of one event. `status` is 0, the number of a refusal, or NOT_DONE if an event of the same request was
     refused before it. `value` depends on the event: a reference or nothing (`alloc`, `load`), a number (`word`, `give`,
-    `put`, `get`), a letter (`accept`), or nothing."""
+    `post`, `put`, `get`, `fetch`), a letter (`accept`), a letter and its bytes (`accept_with_bytes`), or nothing."""
 
     status: int
     value: Any = None
@@ -283,12 +305,8 @@ def _value(answer: RawAnswer) -> Any:
     if answer.kind in (3, 4):
         return answer.number
     if answer.kind == 5:
-        return Letter(answer.node, answer.label, _reference(answer.reference))
+        return Letter(answer.node, answer.label, _reference(answer.reference), answer.count, answer.number)
     return None
-
-
-def _results(raw: Any, count: int) -> list[Result]:
-    return [Result(it.status, _value(it.answer) if it.status == 0 else None) for it in raw[:count]]
 
 
 def _load() -> ctypes.CDLL:
@@ -301,6 +319,7 @@ def _load() -> ctypes.CDLL:
         "open_apart": (POINTER(at), at, c_uint8, c_uint8, c_uint16, c_uint16, c_int64, POINTER(RawFacts)),
         "last": (at, results, c_size_t, to_size),
         "perform_bytes": (at, POINTER(RawRemoteEvent), c_size_t, results, c_int64),
+        "letter_bytes": (at, c_size_t, POINTER(POINTER(c_uint8)), to_size),
         "finish": (at, results, c_int64),
         "read": (at, numbers, c_size_t, results, c_int64),
         "read_bytes": (at, c_uint16, c_uint32, c_uint32, c_char_p, results, c_int64),
@@ -427,7 +446,7 @@ class Program:
         raw, count = (RawResult * EVENTS)(), c_size_t()
         with self._space._lock:
             _check(_LIBRARY.markring_remote_last(self._handle(), raw, EVENTS, byref(count)))
-        return _results(raw, count.value)
+            return self._results(raw, count.value)
 
     def perform(self, events: list[Event], timeout: Optional[float] = None) -> list[Result]:
         """Performs events, in order, up to the first one that is refused."""
@@ -439,17 +458,17 @@ class Program:
             status = _LIBRARY.markring_remote_perform_bytes(
                 self._handle(), given, len(events), raw_results, self._wait(timeout)
             )
-        if status not in _UNSENT:
-            self._count = len(events)
-        _check(status)
-        return _results(raw_results, len(events))
+            if status not in _UNSENT:
+                self._count = len(events)
+            _check(status)
+            return self._results(raw_results, len(events))
 
     def finish(self, timeout: Optional[float] = None) -> list[Result]:
         """Asks again for the answer to the request that had none. It is performed once."""
         raw = (RawResult * EVENTS)()
         with self._space._lock:
             _check(_LIBRARY.markring_remote_finish(self._handle(), raw, self._wait(timeout)))
-        return _results(raw, self._count)
+            return self._results(raw, self._count)
 
     def registers(self, numbers: list[int], timeout: Optional[float] = None) -> list[Optional[Ref]]:
         """What registers hold."""
@@ -491,6 +510,18 @@ class Program:
         with self._space._lock:
             _check(_LIBRARY.markring_remote_wait(self._handle(), byref(letters), self._wait(timeout)))
         return letters.value
+
+    def _results(self, raw: Any, count: int) -> list[Result]:
+        # What the events of the last request gave. (A letter of which the node kept no bytes has none here.)
+        return [self._result(index, it) for index, it in enumerate(raw[:count])]
+
+    def _result(self, index: int, raw: RawResult) -> Result:
+        value = _value(raw.answer) if raw.status == 0 else None
+        if isinstance(value, Letter):
+            at, length = POINTER(c_uint8)(), c_size_t()
+            if not _LIBRARY.markring_remote_letter_bytes(self._at, index, byref(at), byref(length)):
+                return Result(raw.status, (value, ctypes.string_at(at, length.value)))
+        return Result(raw.status, value)
 
     def _handle(self) -> c_void_p:
         self._space._handle()
@@ -551,6 +582,20 @@ class Program:
     def accept(self, register: int) -> Letter:
         """Removes the oldest letter that waits. The register gets its content."""
         return self._one(accept(register))
+
+    def post(self, to: int, label: int, first: int = 0, count: int = 0, data: bytes = b"") -> int:
+        """Sends a letter with the label, the contents of `count` registers from `first` on, and these bytes, in a wide
+        space. Returns the message's number."""
+        return self._one(post(to, label, first, count, data))
+
+    def accept_with_bytes(self, register: int, room: int = LETTER) -> tuple[Letter, bytes]:
+        """Accepts the oldest letter as `accept` does, and returns its bytes, too."""
+        return self._one(accept_with_bytes(register, room))
+
+    def fetch(self, object: int, label: int, offset: int = 0, count: int = 0) -> int:
+        """Asks the owner of another node's object, in a wide space, for its word and `count` of its bytes from `offset`
+        on. They come in a letter. Returns the message's number."""
+        return self._one(fetch(object, label, offset, count))
 
     def put(self, object: int, place: int, register: int) -> int:
         """Asks the owner of another node's object to put the register's content into the object's place."""

@@ -50,6 +50,8 @@ def closed(cell: Cell) -> None:
         lambda: cell.accept(0),
         lambda: cell.put(0, 0, 0),
         lambda: cell.get(0, 0, 0),
+        lambda: cell.post(1, 1),
+        lambda: cell.fetch(0, 1),
         cell.reclaim,
         cell.reclaim_young,
         cell.begin,

@@ -11,6 +11,7 @@ from markring import errors
 from .spelling import spelled
 
 LABEL, WORD, GENERATION = 0xA1B2C3D4, 0x0102030405060708, 1 << 40
+TEXT = b"hello\0world"
 # The last message that node 2 has acknowledged.
 FAR = 0x060708090A0B
 
@@ -46,8 +47,12 @@ def image(phase: Phase) -> bytes:
     token = spelled((1, 1), (1, 0), (8, 1_000)) if phase.has_token else bytes(1)
     registers = bytes(299) + spelled((1, 1), (1, 2), (4, 66_001), (8, 34))
     grey = spelled((4, phase.grey), *[(4, 0), (4, 3)][: phase.grey])
-    letters = spelled((4, 7), (1, 2), (4, LABEL), (1, 1), (1, 0), (4, 66_002), (8, 35))
-    letters += spelled((1, 0), (4, 8), (1, 0)) * 6
+    # A letter of three references, the second of which is nothing, and eleven bytes; then four of none. Each part says how
+    # many follow it, and how many bytes it has.
+    letters = spelled((4, 7), (1, 2), (4, LABEL), (1, 1), (1, 0), (4, 66_002), (8, 35), (1, 2), (4, 11)) + TEXT
+    letters += spelled((1, 2), (4, LABEL), (1, 0), (1, 1), (4, 0))
+    letters += spelled((1, 2), (4, LABEL), (1, 1), (1, 2), (4, 66_003), (8, 36), (1, 0), (4, 0))
+    letters += spelled((1, 0), (4, 8), (1, 0), (1, 0), (4, 0)) * 4
     # Two letters without a reference wait for node 0.
     links = spelled((8, 50), (4, 2)) + spelled((8, 41), (1, 4), (4, 1), (1, 0)) * 2
     links += spelled((8, 60), (8, FAR), (4, 0), (8, 200))
@@ -110,6 +115,7 @@ class Fields(unittest.TestCase):
         self.assertEqual(" ".join(State._fields), f"{names} places bytes is_wide")
         self.assertEqual(" ".join(Link._fields), "appended released acknowledged received received_saved")
         self.assertEqual(" ".join(Object._fields), "reference word places bytes is_marked is_shared age")
+        self.assertEqual(" ".join(Letter._fields), "sender label reference registers bytes")
 
     def test_an_object_shows_each_number_of_the_image(self) -> None:
         node = self.node(MARKING)
@@ -123,10 +129,57 @@ class Fields(unittest.TestCase):
         self.assertEqual(node.alloc(7, 3), Ref(1, 2, 90))
 
     def test_a_letter_shows_each_number_of_the_image(self) -> None:
+        reference = Ref(node=0, slot=66_002, generation=35)
+        first = Letter(sender=2, label=LABEL, reference=reference, registers=3, bytes=11)
+        second = Letter(sender=0, label=8, reference=None, registers=1, bytes=0)
+        for with_bytes in (False, True):
+            node = self.node(MARKED)
+            self.assertEqual((node.letter(), node.letter_bytes()), (first, TEXT))
+            accepted = node.accept_with_bytes(5) if with_bytes else (node.accept(5), TEXT)
+            self.assertEqual(accepted, (first, TEXT))
+            self.assertEqual([node.register(it) for it in (5, 6, 7)], [reference, None, Ref(2, 66_003, 36)])
+            self.assertEqual((node.letter(), node.letter_bytes()), (second, b""))
+            self.assertEqual((node.accept(5), node.register(5)), (second, None))
+            self.assertEqual(node.accept_with_bytes(7), (second, b""))
+
+    def test_a_letter_and_a_fetch_are_sent_with_each_number(self) -> None:
+        head = spelled((1, 0x46), (1, 1), (1, 2), (8, FAR + 1), (8, 41))
+        # Nothing, and the reference in register 299.
+        far = spelled((1, 2), (4, 66_001), (8, 34))
+        content = spelled((4, LABEL), (1, 2), (1, 0), (1, 1)) + far + spelled((4, 11)) + TEXT
         node = self.node(MARKED)
-        self.assertEqual(node.accept(5), Letter(sender=2, label=LABEL, reference=Ref(node=0, slot=66_002, generation=35)))
-        self.assertEqual(node.register(5), Ref(0, 66_002, 35))
-        self.assertEqual(node.accept(5), Letter(sender=0, label=8, reference=None))
+        self.assertEqual(node.post(to=2, label=LABEL, first=298, count=2, data=TEXT), FAR + 1)
+        node.release()
+        self.assertEqual(node.frames(2, FAR), [(FAR + 1, head + b"\x09" + content)])
+        node = self.node(MARKED)
+        self.assertEqual(node.fetch(object=299, label=LABEL, offset=0x01020304, count=0x0506), FAR + 1)
+        node.release()
+        content = far + spelled((4, LABEL), (4, 0x01020304), (4, 0x0506))
+        self.assertEqual(node.frames(2, FAR), [(FAR + 1, head + b"\x0a" + content)])
+
+    def test_a_fetch_brings_the_word_and_the_range(self) -> None:
+        shape = Shape.wide(2, 4, 16, 2, 40)
+        with Node.with_shape(shape, 0) as zero, Node.with_shape(shape, 1) as one:
+            zero.alloc(0, 0)
+            zero.set_word(0, WORD)
+            zero.set_bytes(0, b"0123456789")
+            zero.give(1, 1, 0)
+            self.flush(zero, one)
+            one.accept(3)
+            for label, (offset, count, data) in enumerate([(0, 0, b""), (3, 4, b"3456"), (0, 10, b"0123456789"), (4, 7, b"")]):
+                one.fetch(3, label, offset, count)
+                self.flush(one, zero)
+                self.flush(zero, one)
+                expected = Letter(0, label, None, 1, 8 + len(data)), spelled((8, WORD)) + data
+                self.assertEqual(one.accept_with_bytes(0), expected)
+
+    def flush(self, sender: Node, receiver: Node) -> None:
+        own = sender.state().own
+        sender.release()
+        for _, data in sender.frames(1 - own):
+            receiver.take(data)
+        receiver.release()
+        sender.take(receiver.ack_for(own))
 
     def test_a_link_shows_each_number_of_its_own(self) -> None:
         node = self.node(MARKED)

@@ -38,10 +38,12 @@ def calls_with_a_register(node: Either, none: int) -> dict[str, Optional[type]]:
         "set_bytes": refusal(node.set_bytes, none, b""),
         "patch": refusal(node.patch, none, 0, b""),
         "give": refusal(node.give, 1, 0, none),
+        "post": refusal(node.post, 1, 0, none, 1),
         "accept": refusal(node.accept, none),
         "put to": refusal(node.put, none, 0, 0),
         "put from": refusal(node.put, 0, 0, none),
         "get": refusal(node.get, none, 0, 0),
+        "fetch": refusal(node.fetch, none, 0),
         "register": refusal(node.register, none),
     }
 
@@ -107,7 +109,7 @@ class Limits(unittest.TestCase):
             name = nodes[0].alloc(register, 255)
             nodes[0].give(1, label, register)
             flush(0)
-            self.assertEqual(nodes[1].accept(register), Letter(0, label, name))
+            self.assertEqual(nodes[1].accept(register), Letter(0, label, name, 1, 0))
             nodes[1].put(register, 254, register)
             nodes[1].get(register, 254, label)
             self.assertIs(refusal(nodes[1].get, register, 255, 0), errors.NoField)
@@ -115,9 +117,70 @@ class Limits(unittest.TestCase):
             flush(1)
             self.assertEqual(nodes[0].load(7, register, 254), name)
             flush(0)
-            self.assertEqual(nodes[1].accept(9), Letter(0, label, name))
+            self.assertEqual(nodes[1].accept(9), Letter(0, label, name, 1, 0))
         for node in nodes:
             node.close()
+
+    def test_letters_with_bytes_use_whole_numbers(self) -> None:
+        data = bytes(it % 253 for it in range(65_536))
+        with Node.with_shape(WIDE, 0) as zero, Node.with_shape(WIDE, 1) as one:
+            for register, label in zip(REGISTERS, (0, 255, 65_536, 2**32 - 1)):
+                name = zero.alloc(register, 0)
+                for length in (0, 1, 255, 256, 65_535):
+                    zero.post(1, label, register, 1, data[:length])
+                    zero.release()
+                    frames = [frame for _, frame in zero.frames(1)]
+                    # The head, the label, the two lengths and the reference.
+                    self.assertEqual([len(it) for it in frames], [20 + 4 + 5 + 14 + length])
+                    self.assertEqual(zero.frame_at(1, 0), frames[0])
+                    self.assertEqual(one.take(frames[0]), Taken.RECEIVED)
+                    found = one.accept_with_bytes(register)
+                    self.assertTrue(found == (Letter(0, label, name, 1, length), data[:length]))
+                    self.assertEqual(one.register(register), name)
+                    one.release()
+                    zero.take(one.ack_for(0))
+                one.fetch(register, label, 2**32 - 1, 65_527)
+                for count in (65_528, 2**32 - 1):
+                    self.assertIs(refusal(one.fetch, register, label, 0, count), errors.TooManyBytes)
+
+    def test_letters_end_at_the_places_and_bytes_of_the_shape(self) -> None:
+        shapes = [(WIDE, 255, 65_535), (Shape.wide(2, 300, 16, 254, 65_534), 254, 65_534), (Shape.wide(2, 300, 16, 0, 0), 0, 0)]
+        for shape, places, length in shapes:
+            for node in self.both(shape):
+                self.assertEqual(node.post(1, 0, 0, places, bytes(length)), 1)
+                above = errors.BadArgument if places == 255 else errors.TooManyFields
+                self.assertIs(refusal(node.post, 1, 0, 0, places + 1, bytes(length + 1)), above)
+                self.assertIs(refusal(node.post, 1, 0, 0, 0, bytes(length + 1)), errors.TooManyBytes)
+                self.assertEqual(node.post(1, 0, shape.registers), 2)
+                self.assertIs(refusal(node.post, 1, 0, shape.registers - 1, 2), errors.NoRegister)
+                for words in ((256, 0), (1, -1), (1, 2**32), (1, 0, 2**16), (1, 0, -1), (1, 0, 0, -1)):
+                    self.assertIs(refusal(node.post, *words), errors.BadArgument, words)
+                for words in ((-1, 0), (2**16, 0), (0, 2**32), (0, 0, -1), (0, 0, 2**32), (0, 0, 0, -1)):
+                    self.assertIs(refusal(node.fetch, *words), errors.BadArgument, words)
+                for wrong in (-1, 2**16):
+                    self.assertIs(refusal(node.accept, wrong), errors.BadArgument)
+
+    def test_a_window_has_the_frames_of_long_letters(self) -> None:
+        shape = Shape.wide(2, 300, 16, 255, 70_000)
+        texts = [bytes([it % 256]) * it for it in (3, 65_535, 0, 2_000)]
+        with Node.with_shape(shape, 0) as zero, Node.with_shape(shape, 1) as one:
+            for label, text in enumerate(texts):
+                zero.post(1, label, 0, 80 * label, text)
+            zero.give(1, 9, 0)
+            zero.release()
+            frames = zero.frames(1)
+            self.assertEqual([number for number, _ in frames], [1, 2, 3, 4, 5])
+            self.assertEqual([zero.frame_at(1, it) for it in range(6)], [frame for _, frame in frames] + [None])
+            self.assertEqual((zero.frames(1, 2), zero.frames(1, 5)), (frames[2:], []))
+            self.assertEqual([one.take(frame) for _, frame in frames], [Taken.RECEIVED] * 5)
+            for label, text in enumerate(texts):
+                found = one.accept_with_bytes(0)
+                self.assertTrue(found == (Letter(0, label, None, max(80 * label, 1), len(text)), text), label)
+            one.release()
+            zero.take(one.ack_for(0))
+            zero.post(1, 7, 0, 0, texts[1])
+            zero.release()
+            self.assertEqual([number for number, _ in zero.frames(1)], [6])
 
     def test_places_end_at_that_of_the_shape(self) -> None:
         for shape, most in ((WIDE, 255), (Shape.wide(2, 2, 16, 254, 0), 254), (Shape.plain(2, 2, 16), 8)):

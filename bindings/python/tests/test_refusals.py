@@ -23,6 +23,13 @@ def spent(ended: int, grey: bool = False, token: bool = False) -> Node:
     return Node.from_image(head + ring + registers + slots + bytes(8) + spelled((8, LAST), (4, 0), (8, 0)) * 2)
 
 
+def wide_spent() -> Node:
+    """Node 0 of two in a wide space, whose link has no number left. Register 0 has an object of node 1."""
+    sizes = spelled((3, 0x4D5204), (1, 1), (4, 1), (1, 2), (1, 0), (2, 1), (4, 1)) + bytes(3 * 8 + 4 + 1 + 8 + 8 + 1 + 8)
+    rest = spelled((1, 1), (1, 1), (4, 0), (8, 1)) + bytes(5 * 4) + spelled((8, LAST), (4, 0), (8, 0))
+    return Node.from_image(sizes + rest)
+
+
 def director(cycle: int, sent: int) -> Node:
     """Node 0 of two, which may begin a cycle after this one."""
     head = spelled((3, 0x4D5202), (1, 2), (1, 0), (2, 1), (4, 1), (8, cycle), (8, cycle), (8, cycle), (4, 0))
@@ -104,8 +111,15 @@ def of_events(node: Union[Node, Cell]) -> Rows:
         (e.NoNode, lambda: node.give(2, 0, 0)),
         (e.SelfSend, lambda: node.give(0, 0, 0)),
         (e.NoRegister, lambda: node.give(1, 0, 3)),
+        (e.NoNode, lambda: node.post(2, 0)),
+        (e.SelfSend, lambda: node.post(0, 0)),
+        (e.NoRegister, lambda: node.post(1, 0, 3, 1)),
+        (e.TooManyFields, lambda: node.post(1, 0)),
         (e.NoRegister, lambda: node.accept(3)),
         (e.NoLetter, lambda: node.accept(0)),
+        (e.NoLetter, lambda: node.accept_with_bytes(3)),
+        (e.NoLetter, node.letter),
+        (e.NoLetter, node.letter_bytes),
         (e.NoRegister, lambda: node.put(1, 0, 3)),
         (e.EmptyRegister, lambda: node.put(2, 0, 0)),
         (e.Local, lambda: node.put(0, 0, 0)),
@@ -114,6 +128,10 @@ def of_events(node: Union[Node, Cell]) -> Rows:
         (e.EmptyRegister, lambda: node.get(2, 0, 0)),
         (e.Local, lambda: node.get(0, 0, 0)),
         (e.NoField, lambda: node.get(1, 8, 0)),
+        (e.NoRegister, lambda: node.fetch(3, 0)),
+        (e.EmptyRegister, lambda: node.fetch(2, 0)),
+        (e.Local, lambda: node.fetch(0, 0)),
+        (e.TooManyBytes, lambda: node.fetch(1, 0)),
         (e.NothingToDo, node.reclaim),
         (e.NothingToDo, node.reclaim_young),
         (e.CycleRunning, twice(node.begin)),
@@ -159,6 +177,12 @@ def of_nodes() -> Rows:
     image, (_, far) = one.image().data, one.frames(0)[0]
     for label in range(3):
         zero.give(1, label, 2)
+    # The letter that waits has two references.
+    shape = Shape.wide(2, 2, 1, 2, 1)
+    wide, other = Node.with_shape(shape, 0), Node.with_shape(shape, 1)
+    other.post(0, 0, 0, 2, b"7")
+    other.release()
+    wide.take(other.frames(0)[0][1])
     early, forged, worked = spent(1), spent(1), spent(1)
     taken = [early.take(get_frame(2)), early.take(letter(1))]
     mark = spelled((1, 0x45), (1, 0), (1, 1), (8, 2), (8, 2), (1, 3), (1, 2), (4, 0), (8, 1))
@@ -189,6 +213,11 @@ def of_nodes() -> Rows:
         (e.Congested, lambda: zero.give(1, 0, 9)),
         (e.Congested, lambda: zero.put(1, 0, 9)),
         (e.Congested, lambda: zero.get(1, 0, 9)),
+        (e.Congested, lambda: zero.post(1, 0, 9, 9)),
+        (e.Congested, lambda: zero.fetch(1, 0, 0, 65_528)),
+        (e.TooManyBytes, lambda: wide.post(1, 0, data=b"77")),
+        (e.NoRegister, lambda: wide.accept(1)),
+        (e.NoRegister, lambda: wide.accept_with_bytes(1)),
         *[(e.LinkSpent, call) for call in without_number()],
         (e.CyclesSpent, director(LAST, 0).begin),
         (e.LinkSpent, lambda: early.next(0)),
@@ -199,8 +228,10 @@ def of_nodes() -> Rows:
 
 def without_number() -> list[Callable[[], Any]]:
     """Calls at nodes whose links have no number left."""
-    grey, marked = spent(1, grey=True), spent(2)
+    grey, marked, wide = spent(1, grey=True), spent(2), wide_spent()
     return [
+        lambda: wide.post(1, 0),
+        lambda: wide.fetch(0, 0),
         lambda: grey.give(2, 0, 0),
         lambda: grey.put(1, 0, 0),
         lambda: grey.get(1, 0, 0),

@@ -115,12 +115,81 @@ pub trait Events {
     /// `Congested`, `NoNode`, `SelfSend`, `NoRegister`, `LinkSpent`, `Memory`.
     fn give(&self, to: u8, label: u32, register: u16) -> Result<u64>;
 
-    /// Removes the oldest letter that waits. The register gets its content.
+    /// Sends a letter with the label, the contents of `count` registers from `first` on, and these
+    /// bytes to the node `to` of a wide space. Returns the message's number.
+    ///
+    /// ```
+    /// use markring::{Events, Node, Shape};
+    ///
+    /// # fn main() -> markring::Result<()> {
+    /// let shape = Shape::wide(2, 8, 16, 4, 100);
+    /// let (zero, one) = (Node::with_shape(shape, 0, 0)?, Node::with_shape(shape, 1, 0)?);
+    ///
+    /// // Two objects, an empty register, and a text.
+    /// let objects = [zero.alloc(0, 0)?, zero.alloc(1, 0)?];
+    /// zero.post(1, 7, 0, 3, b"two objects")?;
+    /// zero.release()?;
+    /// for frame in zero.frames(1, 0)? {
+    ///     one.take(&frame.bytes)?;
+    /// }
+    ///
+    /// let (letter, text) = one.accept_with_bytes(5)?;
+    /// assert_eq!((letter.label, letter.registers), (7, 3));
+    /// assert_eq!(text, b"two objects");
+    /// assert_eq!([one.register(5)?, one.register(6)?], objects.map(Some));
+    /// assert_eq!(one.register(7)?, None);
+    /// # Ok(())
+    /// # }
+    /// ```
     ///
     /// # Errors
     ///
-    /// `NoRegister`, `NoLetter`.
+    /// `Congested`, `NoNode`, `SelfSend`, `NoRegister`; `TooManyFields` if an object of the space
+    /// has fewer places than `count`, and in a plain space; `TooManyBytes` if it has fewer bytes
+    /// than these, and above 65,535; `LinkSpent`, `Memory`.
+    fn post(&self, to: u8, label: u32, first: u16, count: u8, bytes: &[u8]) -> Result<u64>;
+
+    /// Removes the oldest letter that waits. The register gets its content; if the letter has
+    /// several references, those that follow the register get the others. Its bytes are gone then,
+    /// unless they were read before.
+    ///
+    /// # Errors
+    ///
+    /// `NoRegister`, `NoLetter`. The letter stays.
     fn accept(&self, register: u16) -> Result<Letter>;
+
+    /// Accepts the oldest letter as [`accept`](Events::accept) does. Its bytes replace those of the
+    /// vector.
+    ///
+    /// # Errors
+    ///
+    /// `NoLetter`, `NoRegister`, `Memory`. The letter stays; the vector may have other bytes then.
+    fn accept_into(&self, register: u16, bytes: &mut Vec<u8>) -> Result<Letter>;
+
+    /// Accepts the oldest letter as [`accept`](Events::accept) does, and returns its bytes, too.
+    ///
+    /// # Errors
+    ///
+    /// `NoLetter`, `NoRegister`, `Memory`. The letter stays.
+    fn accept_with_bytes(&self, register: u16) -> Result<(Letter, Vec<u8>)> {
+        let mut bytes = Vec::new();
+        let letter = self.accept_into(register, &mut bytes)?;
+        Ok((letter, bytes))
+    }
+
+    /// The oldest letter that waits, as [`accept`](Events::accept) would return it.
+    ///
+    /// # Errors
+    ///
+    /// `NoLetter`.
+    fn letter(&self) -> Result<Letter>;
+
+    /// The bytes of the oldest letter that waits.
+    ///
+    /// # Errors
+    ///
+    /// `NoLetter`, `Memory`.
+    fn letter_bytes(&self) -> Result<Vec<u8>>;
 
     /// Asks the owner of another node's object to put the content of the register into the
     /// object's place. Returns the message's number.
@@ -137,6 +206,17 @@ pub trait Events {
     ///
     /// `Congested`, `NoRegister`, `EmptyRegister`, `Local`, `NoField`, `LinkSpent`, `Memory`.
     fn get(&self, object: u16, place: u8, label: u32) -> Result<u64>;
+
+    /// Asks the owner of another node's object, in a wide space, for the object's word and `count`
+    /// of its bytes from `offset` on. They come in a letter with this label: the word as 8 bytes,
+    /// big-endian, and then the bytes. If the object hasn't all of these, only the word comes, and
+    /// if it is gone, no byte. Returns the message's number.
+    ///
+    /// # Errors
+    ///
+    /// `Congested`, `NoRegister`, `EmptyRegister`, `Local`; `TooManyBytes` if `count` is above
+    /// 65,527, and in a plain space; `LinkSpent`, `Memory`.
+    fn fetch(&self, object: u16, label: u32, offset: u32, count: u32) -> Result<u64>;
 
     /// Frees the private objects that nothing needs any more, without the other nodes, and returns
     /// how many these were. An object of a wide space is private until its node sends a reference to
@@ -305,7 +385,9 @@ pub trait Events {
 macro_rules! events {
     ($type:ty {
         $alloc:ident $copy:ident $drop:ident $load:ident $store:ident $clear:ident $word:ident
-        $set_word:ident $bytes_length:ident $bytes:ident $set_bytes:ident $patch:ident $give:ident $accept:ident $put:ident $get:ident $reclaim:ident $reclaim_young:ident $begin:ident $scan:ident
+        $set_word:ident $bytes_length:ident $bytes:ident $set_bytes:ident $patch:ident $give:ident
+        $post:ident $accept:ident $letter:ident $letter_bytes:ident $accept_into:ident $put:ident
+        $get:ident $fetch:ident $reclaim:ident $reclaim_young:ident $begin:ident $scan:ident
         $pass:ident $sweep:ident $next:ident $work:ident $act:ident $state:ident $link:ident $register:ident
         $slots:ident $object:ident $place:ident $bytes_at:ident
         $unsaved:ident $image_size:ident $image:ident
@@ -431,9 +513,38 @@ macro_rules! events {
                     .map(|it| it.number)
             }
 
+            fn post(&self, to: u8, label: u32, first: u16, count: u8, bytes: &[u8]) -> Result<u64> {
+                let (from, length) = (bytes.as_ptr(), bytes.len());
+                self.answer(|at, answer| unsafe {
+                    ffi::$post(at, to, label, first, count, from, length, answer)
+                })
+                .map(|it| it.number)
+            }
+
             fn accept(&self, register: u16) -> Result<Letter> {
                 self.answer(|at, answer| unsafe { ffi::$accept(at, register, answer) })
                     .map(|it| it.letter())
+            }
+
+            fn accept_into(&self, register: u16, bytes: &mut Vec<u8>) -> Result<Letter> {
+                refill(bytes, self.letter()?.bytes)?;
+                let (to, length, mut needed) = (bytes.as_mut_ptr(), bytes.len(), 0);
+                self.answer(|at, answer| unsafe {
+                    ffi::$accept_into(at, register, to, length, &mut needed, answer)
+                })
+                .map(|it| it.letter())
+            }
+
+            fn letter(&self) -> Result<Letter> {
+                self.answer(|at, answer| unsafe { ffi::$letter(at, answer) })
+                    .map(|it| it.letter())
+            }
+
+            fn letter_bytes(&self) -> Result<Vec<u8>> {
+                let mut bytes = filled(self.letter()?.bytes)?;
+                let (to, length, mut needed) = (bytes.as_mut_ptr(), bytes.len(), 0);
+                checked(unsafe { ffi::$letter_bytes(self.at.get(), to, length, &mut needed) })?;
+                Ok(bytes)
             }
 
             fn put(&self, object: u16, place: u8, register: u16) -> Result<u64> {
@@ -444,6 +555,13 @@ macro_rules! events {
             fn get(&self, object: u16, place: u8, label: u32) -> Result<u64> {
                 self.answer(|at, answer| unsafe { ffi::$get(at, object, place, label, answer) })
                     .map(|it| it.number)
+            }
+
+            fn fetch(&self, object: u16, label: u32, offset: u32, count: u32) -> Result<u64> {
+                self.answer(|at, answer| unsafe {
+                    ffi::$fetch(at, object, label, offset, count, answer)
+                })
+                .map(|it| it.number)
             }
 
             fn reclaim(&self) -> Result<u32> {

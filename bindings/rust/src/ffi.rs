@@ -255,9 +255,18 @@ both! {
     markring_node_patch markring_cell_patch
         (object: u16, offset: u32, bytes: *const u8, length: usize, answer: Reply);
     markring_node_give markring_cell_give (to: u8, label: u32, reg: u16, answer: Reply);
+    markring_node_post markring_cell_post
+        (to: u8, label: u32, first: u16, count: u8, bytes: *const u8, length: usize, answer: Reply);
     markring_node_accept markring_cell_accept (reg: u16, answer: Reply);
+    markring_node_letter markring_cell_letter (letter: Reply);
+    markring_node_letter_bytes markring_cell_letter_bytes
+        (buffer: *mut u8, length: usize, needed: *mut usize);
+    markring_node_accept_into markring_cell_accept_into
+        (reg: u16, buffer: *mut u8, length: usize, needed: *mut usize, answer: Reply);
     markring_node_put markring_cell_put (object: u16, place: u8, reg: u16, answer: Reply);
     markring_node_get markring_cell_get (object: u16, place: u8, label: u32, answer: Reply);
+    markring_node_fetch markring_cell_fetch
+        (object: u16, label: u32, offset: u32, count: u32, answer: Reply);
     markring_node_reclaim markring_cell_reclaim (answer: Reply);
     markring_node_reclaim_young markring_cell_reclaim_young (answer: Reply);
     markring_node_begin markring_cell_begin (answer: Reply);

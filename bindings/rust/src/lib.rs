@@ -72,6 +72,8 @@ mod events;
 mod ffi;
 mod node;
 mod refusal;
+#[cfg(feature = "remote")]
+pub mod remote;
 mod root;
 #[cfg(feature = "spaces")]
 mod space;

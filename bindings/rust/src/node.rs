@@ -10,21 +10,29 @@ use core::cell::UnsafeCell;
 use core::ffi::c_int;
 use core::fmt;
 
-// The greatest sizes of a frame, and of a window of frames with their lengths and numbers.
+// The greatest sizes of a frame, and of a window of frames with their lengths and numbers, unless
+// there are letters with references or bytes.
 const FRAME: usize = 48;
-const WINDOW: usize = 1_856;
+const WINDOW: usize = 1_920;
 // Before each frame of a window: its length, and its number.
-const LENGTH: usize = 2;
+const LENGTH: usize = 4;
 const NUMBER: usize = 8;
 
 // This many zeros, unless memory is refused.
 pub(crate) fn filled(length: usize) -> Result<Vec<u8>> {
     let mut bytes = Vec::new();
+    refill(&mut bytes, length)?;
+    Ok(bytes)
+}
+
+// The same in place of what the vector had.
+pub(crate) fn refill(bytes: &mut Vec<u8>, length: usize) -> Result<()> {
+    bytes.clear();
     bytes
         .try_reserve_exact(length)
         .map_err(|_| Refusal::Memory)?;
     bytes.resize(length, 0);
-    Ok(bytes)
+    Ok(())
 }
 
 /// One node of a space, for a caller that moves its frames and stores its images.
@@ -79,7 +87,9 @@ events! {
         markring_node_alloc markring_node_copy markring_node_drop markring_node_load
         markring_node_store markring_node_clear markring_node_word markring_node_set_word
         markring_node_bytes_length markring_node_bytes markring_node_set_bytes markring_node_patch
-        markring_node_give markring_node_accept markring_node_put markring_node_get
+        markring_node_give markring_node_post markring_node_accept markring_node_letter
+        markring_node_letter_bytes markring_node_accept_into markring_node_put markring_node_get
+        markring_node_fetch
         markring_node_reclaim markring_node_reclaim_young markring_node_begin markring_node_scan
         markring_node_pass markring_node_sweep
         markring_node_next markring_node_work markring_node_act markring_node_state markring_node_link
@@ -100,8 +110,8 @@ impl Node {
         Node::with_limit(nodes, registers, slots, own, 0)
     }
 
-    /// Makes a new node that refuses Give, Put and Get with `Congested` while this many of its
-    /// messages to the receiver, or more, aren't acknowledged. 0 is no limit.
+    /// Makes a new node that refuses Give, Post, Put, Get and Fetch with `Congested` while this many
+    /// of its messages to the receiver, or more, aren't acknowledged. 0 is no limit.
     ///
     /// # Errors
     ///
@@ -195,19 +205,22 @@ impl Node {
     /// `BadArgument` if the place isn't below 32, `NoNode`, `Memory`.
     pub fn frame_at(&self, to: u8, place: u8) -> Result<Option<Vec<u8>>> {
         let (mut bytes, mut needed) = (filled(FRAME)?, 0);
-        // SAFETY: the buffer has the length that is passed.
-        let found = found(unsafe {
-            ffi::markring_node_frame_at(
-                self.at.get(),
-                to,
-                place,
-                bytes.as_mut_ptr(),
-                bytes.len(),
-                &mut needed,
-            )
-        })?;
+        let mut status = self.write_frame(to, place, &mut bytes, &mut needed);
+        if needed > bytes.len() {
+            // A letter with references or bytes.
+            refill(&mut bytes, needed)?;
+            status = self.write_frame(to, place, &mut bytes, &mut needed);
+        }
+        let found = found(status)?;
         bytes.truncate(needed);
         Ok(found.then_some(bytes))
+    }
+
+    // Writes a frame to the buffer if it fits, and its length. Returns the status.
+    fn write_frame(&self, to: u8, place: u8, buffer: &mut [u8], needed: &mut usize) -> c_int {
+        let (start, length) = (buffer.as_mut_ptr(), buffer.len());
+        // SAFETY: the buffer has the length that is passed.
+        unsafe { ffi::markring_node_frame_at(self.at.get(), to, place, start, length, needed) }
     }
 
     /// The frames in the window to the node `to` whose numbers are above `after`, in the order of
@@ -218,23 +231,18 @@ impl Node {
     /// `NoNode`, `Memory`.
     pub fn frames(&self, to: u8, after: u64) -> Result<Vec<Frame>> {
         let mut buffer = [0; WINDOW];
-        let (mut count, mut needed) = (0, 0);
-        // SAFETY: the buffer has the length that is passed.
-        let found = found(unsafe {
-            ffi::markring_node_frames(
-                self.at.get(),
-                to,
-                after,
-                buffer.as_mut_ptr(),
-                buffer.len(),
-                &mut count,
-                &mut needed,
-            )
-        })?;
-        if !found {
+        let (mut long_buffer, mut count, mut needed) = (Vec::new(), 0, 0);
+        let mut status = self.write_frames(to, after, &mut buffer, &mut count, &mut needed);
+        let mut rest = &buffer[..];
+        if needed > WINDOW {
+            // Letters with references or bytes.
+            refill(&mut long_buffer, needed)?;
+            status = self.write_frames(to, after, &mut long_buffer, &mut count, &mut needed);
+            rest = &long_buffer;
+        }
+        if !found(status)? {
             return Ok(Vec::new());
         }
-        let mut rest = &buffer[..needed];
         let mut frames = Vec::new();
         frames
             .try_reserve_exact(count)
@@ -248,6 +256,21 @@ impl Node {
             rest = &rest[LENGTH + NUMBER + frame.len()..];
         }
         Ok(frames)
+    }
+
+    // Writes frames of the window to the buffer, how many, and how many bytes all have. Returns the
+    // status.
+    fn write_frames(
+        &self,
+        to: u8,
+        after: u64,
+        buffer: &mut [u8],
+        count: &mut usize,
+        needed: &mut usize,
+    ) -> c_int {
+        let (start, length) = (buffer.as_mut_ptr(), buffer.len());
+        // SAFETY: the buffer has the length that is passed.
+        unsafe { ffi::markring_node_frames(self.at.get(), to, after, start, length, count, needed) }
     }
 
     /// The acknowledgement to the node `from` of all its messages up to the last one that a saved

@@ -71,7 +71,7 @@ refusals! {
     NoLetter = 8, "no letter waits";
     /// The object has no such place, or no object can have it, or the object isn't live.
     NoField = 9, "the object has no such place";
-    /// The object would have more places than the space allows.
+    /// The object would have more places than the space allows, or the letter more references.
     TooManyFields = 10, "the object would have too many places";
     /// The letter is for the node itself.
     SelfSend = 11, "the letter is for the node itself";
@@ -101,12 +101,14 @@ refusals! {
     Disk = 23, "the cell's disk failed";
     /// A cell's disk or a reopening failed, and no reopening has succeeded since.
     Closed = 24, "the cell is closed";
-    /// An object would have more bytes than the space allows; in a plain space, any.
+    /// An object or a letter would have more bytes than the space allows; in a plain space, any.
     TooManyBytes = 25, "the object would have too many bytes";
     /// The object doesn't have all of these bytes.
     NoBytes = 26, "the object doesn't have these bytes";
     /// The space is open already.
     InUse = 102, "the space is open already";
+    /// The letter has more bytes than there is room for. It stays.
+    ShortBuffer = 103, "the letter has more bytes than there is room for";
     /// An argument is out of range.
     BadArgument = 104, "an argument is out of range";
     /// An image is of another node or of a space of another shape.

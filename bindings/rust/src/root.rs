@@ -1,6 +1,6 @@
 //! Registers that are chosen and emptied automatically.
 
-use crate::{Events, Ref, Refusal, Result};
+use crate::{Events, Letter, Ref, Refusal, Result};
 use alloc::vec::Vec;
 use core::cell::RefCell;
 use core::fmt;
@@ -72,24 +72,90 @@ impl<'n, N: Events> Roots<'n, N> {
         filled.ok_or(Refusal::EmptyRegister)
     }
 
-    /// Accepts the oldest letter that waits, if any, and returns its sender, its label and the
-    /// reference in it.
+    /// Accepts the oldest letter that waits, if any, and returns its sender, its label, the
+    /// references in it and its bytes.
     ///
     /// # Errors
     ///
-    /// `NoRegister` if no register is left; `Closed`.
+    /// `NoRegister` if no register is left, or too few that follow each other for the references of
+    /// the letter; `Closed`, `Memory`. The letter stays.
     pub fn accept(&self) -> Result<Option<Accepted<'_, N>>> {
-        let (mut from, mut label) = (0, 0);
-        let filled = self.fill(|register| {
-            let letter = self.node.accept(register)?;
-            (from, label) = (letter.from, letter.label);
-            Ok(letter.reference)
-        });
-        match filled {
-            Ok(root) => Ok(Some(Accepted { from, label, root })),
-            Err(Refusal::NoLetter) => Ok(None),
-            Err(refusal) => Err(refusal),
+        let (count, bytes) = match self.node.letter() {
+            Ok(letter) => (letter.registers, self.node.letter_bytes()?),
+            Err(Refusal::NoLetter) => (1, Vec::new()),
+            Err(refusal) => return Err(refusal),
+        };
+        // (It is at most 255.)
+        let registers = self.take_row(count as u16)?;
+        match self.node.accept(registers.start) {
+            Ok(letter) => self.accepted(&letter, bytes, registers).map(Some),
+            Err(refusal) => {
+                self.free.borrow_mut().extend(registers);
+                (refusal == Refusal::NoLetter)
+                    .then_some(None)
+                    .ok_or(refusal)
+            }
         }
+    }
+
+    // The letter whose references these registers got.
+    fn accepted(
+        &self,
+        letter: &Letter,
+        bytes: Vec<u8>,
+        registers: Range<u16>,
+    ) -> Result<Accepted<'_, N>> {
+        let mut roots = registers.map(|register| {
+            let reference = self.node.register(register)?;
+            let root = reference.map(|reference| Root {
+                roots: self,
+                register,
+                reference,
+            });
+            if root.is_none() {
+                self.give_back(register);
+            }
+            Ok(root)
+        });
+        Ok(Accepted {
+            from: letter.from,
+            label: letter.label,
+            root: roots.next().transpose()?.flatten(),
+            more: roots.collect::<Result<_>>()?,
+            bytes,
+        })
+    }
+
+    /// Sends a letter with these references, or nothings, and bytes to the node `to` of a wide
+    /// space. Returns the message's number.
+    ///
+    /// # Errors
+    ///
+    /// `NoRegister` if too few registers that follow each other are left; those of
+    /// [`Events::post`].
+    pub fn post(
+        &self,
+        to: u8,
+        label: u32,
+        references: &[Option<&Root<'_, N>>],
+        bytes: &[u8],
+    ) -> Result<u64> {
+        let count = u8::try_from(references.len()).map_err(|_| Refusal::TooManyFields)?;
+        let registers = self.take_row(count.into())?;
+        let first = registers.start;
+        let copied = registers
+            .clone()
+            .zip(references)
+            .try_for_each(|(register, root)| {
+                root.map_or(Ok(()), |root| self.node.copy(register, root.register))
+            });
+        let sent = copied.and_then(|()| self.node.post(to, label, first, count, bytes));
+        for (register, root) in registers.zip(references) {
+            let emptied = root.is_none() || self.node.drop_register(register).is_ok();
+            let list = if emptied { &self.free } else { &self.stale };
+            list.borrow_mut().push(register);
+        }
+        sent
     }
 
     /// Sends a letter without a reference. Returns the message's number.
@@ -141,6 +207,24 @@ impl<'n, N: Events> Roots<'n, N> {
         }
     }
 
+    // This many empty registers that follow each other.
+    fn take_row(&self, count: u16) -> Result<Range<u16>> {
+        match count {
+            0 => return Ok(0..0),
+            1 => return self.take().map(|register| register..register + 1),
+            _ => {}
+        }
+        let mut free = self.free.borrow_mut();
+        free.sort_unstable_by(|one, other| other.cmp(one));
+        let row = free
+            .windows(count.into())
+            .find(|row| row[0] - row[row.len() - 1] == count - 1);
+        let first = row.and_then(|row| row.last().copied());
+        let first = first.ok_or(Refusal::NoRegister)?;
+        free.retain(|it| !(first..first + count).contains(it));
+        Ok(first..first + count)
+    }
+
     // Takes back an empty register.
     fn give_back(&self, register: u16) {
         self.free.borrow_mut().push(register);
@@ -163,8 +247,12 @@ pub struct Accepted<'r, N: Events> {
     pub from: u8,
     /// Its label.
     pub label: u32,
-    /// The reference in it, if any.
+    /// The first reference in it, if any.
     pub root: Option<Root<'r, N>>,
+    /// The further ones of a letter with several, in order.
+    pub more: Vec<Option<Root<'r, N>>>,
+    /// Its bytes.
+    pub bytes: Vec<u8>,
 }
 
 /// A reference in a register of its own. The object lives at least as long as this value, and the
@@ -311,6 +399,17 @@ impl<'r, N: Events> Root<'r, N> {
     /// Those of [`Events::get`].
     pub fn get(&self, place: u8, label: u32) -> Result<u64> {
         self.roots.node.get(self.register, place, label)
+    }
+
+    /// Asks the owner of another node's object for its word and `count` of its bytes from `offset`
+    /// on. They come in a letter with this label. Returns the message's number.
+    ///
+    /// # Errors
+    ///
+    /// Those of [`Events::fetch`].
+    pub fn fetch(&self, label: u32, offset: u32, count: u32) -> Result<u64> {
+        let node = self.roots.node;
+        node.fetch(self.register, label, offset, count)
     }
 }
 

@@ -2,7 +2,7 @@
 
 use crate::events::events;
 use crate::ffi;
-use crate::node::filled;
+use crate::node::{filled, refill};
 use crate::refusal::{checked, found, there};
 use crate::{
     Answer, Event, Events, Freed, Image, Letter, Link, Object, Passed, Ref, Refusal, Result, Shape,
@@ -181,7 +181,9 @@ events! {
         markring_cell_alloc markring_cell_copy markring_cell_drop markring_cell_load
         markring_cell_store markring_cell_clear markring_cell_word markring_cell_set_word
         markring_cell_bytes_length markring_cell_bytes markring_cell_set_bytes markring_cell_patch
-        markring_cell_give markring_cell_accept markring_cell_put markring_cell_get
+        markring_cell_give markring_cell_post markring_cell_accept markring_cell_letter
+        markring_cell_letter_bytes markring_cell_accept_into markring_cell_put markring_cell_get
+        markring_cell_fetch
         markring_cell_reclaim markring_cell_reclaim_young markring_cell_begin markring_cell_scan
         markring_cell_pass markring_cell_sweep
         markring_cell_next markring_cell_work markring_cell_act markring_cell_state markring_cell_link

@@ -50,15 +50,19 @@ impl Colour {
     }
 }
 
-/// A letter that was accepted.
+/// A letter, without its bytes.
 #[derive(Clone, Copy, Debug, PartialEq, Eq, Hash)]
 pub struct Letter {
     /// The node that sent it.
     pub from: u8,
     /// Its label.
     pub label: u32,
-    /// The reference in it, if any.
+    /// The first reference in it, if any.
     pub reference: Option<Ref>,
+    /// How many registers get its content: as many as were sent, and at least one.
+    pub registers: u32,
+    /// How many bytes it has.
+    pub bytes: usize,
 }
 
 /// What a sweep did.
@@ -321,6 +325,9 @@ impl RawAnswer {
             from: self.node,
             label: self.label,
             reference: Ref::from_raw(self.reference),
+            registers: self.count,
+            // (It has at most 65,535.)
+            bytes: self.number as usize,
         }
     }
 

@@ -12,6 +12,7 @@ mod spelling;
 const LABEL: u64 = 0xA1B2_C3D4;
 const WORD: u64 = 0x0102_0304_0506_0708;
 const GENERATION: u64 = 1 << 40;
+const TEXT: &[u8] = b"hello\0world";
 // The last message that node 2 has acknowledged.
 const FAR: u64 = 0x0607_0809_0A0B;
 
@@ -74,6 +75,20 @@ fn slots() -> Vec<u8> {
     image
 }
 
+// A letter of three references, the second of which is nothing, and eleven bytes; then four of none.
+// Each part says how many follow it, and how many bytes it has.
+fn letters() -> Vec<u8> {
+    let sender = [(1, 2), (4, LABEL)];
+    let first = [(1, 1), (1, 0), (4, 66_002), (8, 35), (1, 2), (4, 11)];
+    let mut letters = spelled(&[&sender[..], &first].concat());
+    letters.extend(TEXT);
+    let second = [(1, 0), (1, 1), (4, 0)];
+    let third = [(1, 1), (1, 2), (4, 66_003), (8, 36), (1, 0), (4, 0)];
+    letters.extend(spelled(&[&sender[..], &second, &sender, &third].concat()));
+    letters.extend(spelled(&[(1, 0), (4, 8), (1, 0), (1, 0), (4, 0)].repeat(4)));
+    letters
+}
+
 // Node 1 of three in a wide space, in cycle 41.
 fn image(phase: &Phase) -> Vec<u8> {
     let mut image = head(phase);
@@ -84,15 +99,7 @@ fn image(phase: &Phase) -> Vec<u8> {
         &[(4, phase.grey), (4, 0), (4, 3)][..1 + phase.grey as usize],
     ));
     image.extend(spelled(&[(4, 0), (4, 7)]));
-    image.extend(spelled(&[
-        (1, 2),
-        (4, LABEL),
-        (1, 1),
-        (1, 0),
-        (4, 66_002),
-        (8, 35),
-    ]));
-    image.extend(spelled(&[(1, 0), (4, 8), (1, 0)].repeat(6)));
+    image.extend(letters());
     // The links: two letters without a reference wait for node 0.
     image.extend(spelled(&[(8, 50), (4, 2)]));
     image.extend(spelled(&[(8, 41), (1, 4), (4, 1), (1, 0)].repeat(2)));
@@ -224,19 +231,127 @@ fn a_letter_shows_each_number_of_the_image() -> Result<()> {
         from: 2,
         label: LABEL as u32,
         reference: Some(reference(0, 66_002, 35)),
+        registers: 3,
+        bytes: 11,
     };
-    let node = node(&MARKED)?;
-    assert_eq!(node.accept(5)?, first);
-    assert_eq!(node.register(5)?, first.reference);
     let second = Letter {
         from: 0,
         label: 8,
         reference: None,
+        registers: 1,
+        bytes: 0,
     };
+    let accepted = |node: Node| -> Result<()> {
+        let third = reference(2, 66_003, 36);
+        assert_eq!(node.register(5)?, first.reference);
+        assert_eq!([node.register(6)?, node.register(7)?], [None, Some(third)]);
+        let accepts = Event::Accept { register: 5 };
+        assert_eq!(node.act(accepts)?, Answer::Letter(second));
+        assert_eq!(node.letter()?, second);
+        assert_eq!(node.letter_bytes()?, b"");
+        assert_eq!(node.accept_with_bytes(7)?, (second, Vec::new()));
+        Ok(())
+    };
+    let one = node(&MARKED)?;
+    assert_eq!((one.letter()?, one.letter_bytes()?), (first, TEXT.to_vec()));
+    assert_eq!(one.accept(5)?, first);
+    accepted(one)?;
+    let other = node(&MARKED)?;
+    assert_eq!(other.accept_with_bytes(5)?, (first, TEXT.to_vec()));
+    accepted(other)?;
+    let (third, mut bytes) = (node(&MARKED)?, vec![9; 30]);
     assert_eq!(
-        node.act(Event::Accept { register: 5 })?,
-        Answer::Letter(second)
+        third.act(Event::Accept { register: 5 })?,
+        Answer::Letter(first)
     );
+    accepted(third)?;
+    let last = node(&MARKED)?;
+    assert_eq!(
+        (last.accept_into(5, &mut bytes)?, &bytes[..]),
+        (first, TEXT)
+    );
+    assert_eq!(
+        (last.accept_into(7, &mut bytes)?, &bytes[..]),
+        (second, &b""[..])
+    );
+    Ok(())
+}
+
+// The frame of the first message that the node sends to node 2.
+fn sent_frame(node: &Node) -> Result<Vec<u8>> {
+    node.release()?;
+    Ok(node.frames(2, FAR)?.remove(0).bytes)
+}
+
+#[test]
+fn a_letter_and_a_fetch_are_sent_with_each_number() -> Result<()> {
+    let head = [(1, 0x46), (1, 1), (1, 2), (8, FAR + 1), (8, 41)];
+    let label = LABEL as u32;
+    let posting = node(&MARKED)?;
+    assert_eq!(posting.post(2, label, 298, 2, TEXT)?, FAR + 1);
+    // Nothing, and the reference in register 299.
+    let references = [(1, 2), (1, 0), (1, 1), (1, 2), (4, 66_001), (8, 34)];
+    let expected = [&head[..], &[(1, 9), (4, LABEL)], &references, &[(4, 11)]].concat();
+    assert_eq!(sent_frame(&posting)?, [&spelled(&expected), TEXT].concat());
+    let fetching = node(&MARKED)?;
+    assert_eq!(fetching.fetch(299, label, 0x0102_0304, 0x0506)?, FAR + 1);
+    let range = [
+        (1, 2),
+        (4, 66_001),
+        (8, 34),
+        (4, LABEL),
+        (4, 0x0102_0304),
+        (4, 0x0506),
+    ];
+    let expected = [&head[..], &[(1, 10)], &range].concat();
+    assert_eq!(sent_frame(&fetching)?, spelled(&expected));
+    Ok(())
+}
+
+// What comes to a fetch of an object whose word has a byte of each kind: the word, the word and a
+// range of the bytes, the word alone if it hasn't all of the range.
+#[test]
+fn a_fetch_brings_the_word_and_the_range() -> Result<()> {
+    let shape = Shape::wide(2, 4, 16, 2, 40);
+    let (zero, one) = (
+        Node::with_shape(shape, 0, 0)?,
+        Node::with_shape(shape, 1, 0)?,
+    );
+    zero.alloc(0, 0)?;
+    zero.set_word(0, WORD)?;
+    zero.set_bytes(0, b"0123456789")?;
+    zero.give(1, 1, 0)?;
+    let flush = |from: &Node, own: u8, to: &Node| -> Result<()> {
+        from.release()?;
+        for frame in from.frames(1 - own, 0)? {
+            to.take(&frame.bytes)?;
+        }
+        to.release()?;
+        from.take(&to.ack_for(own)?).map(drop)
+    };
+    flush(&zero, 0, &one)?;
+    one.accept(3)?;
+    let word = WORD.to_be_bytes();
+    let ranges = [
+        (0, 0, &b""[..]),
+        (3, 4, b"3456"),
+        (0, 10, b"0123456789"),
+        (4, 7, b""),
+    ];
+    for (label, (offset, count, bytes)) in (10..).zip(ranges) {
+        one.fetch(3, label, offset, count)?;
+        flush(&one, 1, &zero)?;
+        flush(&zero, 0, &one)?;
+        let (letter, found) = one.accept_with_bytes(0)?;
+        assert_eq!(found, [&word, bytes].concat());
+        let parts = (
+            letter.from,
+            letter.label,
+            letter.reference,
+            letter.registers,
+        );
+        assert_eq!((parts, letter.bytes), ((0, label, None, 1), found.len()));
+    }
     Ok(())
 }
 

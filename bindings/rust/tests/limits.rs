@@ -129,10 +129,12 @@ fn calls_with_a_register(node: &impl Events, none: u16) -> Vec<(&'static str, Op
         ("set_bytes", node.set_bytes(none, &[]).err()),
         ("patch", node.patch(none, 0, &[]).err()),
         ("give", node.give(1, 0, none).err()),
+        ("post", node.post(1, 0, none, 1, &[]).err()),
         ("accept", node.accept(none).err()),
         ("put to", node.put(none, 0, 0).err()),
         ("put from", node.put(0, 0, none).err()),
         ("get", node.get(none, 0, 0).err()),
+        ("fetch", node.fetch(none, 0, 0, 0).err()),
         ("register", node.register(none).err()),
     ]
 }
@@ -187,6 +189,98 @@ fn messages_use_whole_numbers() -> Result<()> {
         let letter = nodes[1].accept(9)?;
         assert_eq!((letter.label, letter.reference), (label, Some(object)));
     }
+    Ok(())
+}
+
+// Node 0 gets what node 1 sends it.
+fn letters_use_whole_numbers(
+    zero: &impl Events,
+    one: &impl Events,
+    flush: impl Fn() -> Result<()>,
+) -> Result<()> {
+    for (register, label) in REGISTERS.into_iter().zip([0, 255, 65_536, u32::MAX]) {
+        let object = one.alloc(register, 0)?;
+        let bytes: Vec<u8> = (0..65_535).map(|it| (it % 253) as u8).collect();
+        for count in [0, 1, 255, 256, 65_535] {
+            one.post(0, label, register, 1, &bytes[..count])?;
+            flush()?;
+            let (letter, found) = zero.accept_with_bytes(register)?;
+            assert_eq!((letter.label, letter.reference), (label, Some(object)));
+            assert_eq!((letter.registers, letter.bytes), (1, count));
+            assert!(found == bytes[..count]);
+            assert_eq!(zero.register(register)?, Some(object));
+        }
+        zero.fetch(register, label, u32::MAX, 65_527)?;
+        let refusal = zero.fetch(register, label, 0, 65_528);
+        assert_eq!(refusal, Err(Refusal::TooManyBytes));
+        assert_eq!(
+            zero.fetch(register, 0, 0, u32::MAX),
+            Err(Refusal::TooManyBytes)
+        );
+    }
+    Ok(())
+}
+
+#[test]
+fn letters_with_bytes_use_whole_numbers() -> Result<()> {
+    let nodes = [Node::with_shape(WIDE, 0, 0)?, Node::with_shape(WIDE, 1, 0)?];
+    letters_use_whole_numbers(&nodes[0], &nodes[1], || {
+        nodes[1].release()?;
+        for frame in nodes[1].frames(0, 0)? {
+            assert_eq!(nodes[0].take(&frame.bytes)?, Taken::Received);
+        }
+        nodes[0].release()?;
+        nodes[1].take(&nodes[0].ack_for(1)?).map(drop)
+    })?;
+    let cells = cells(Shape::wide(2, 65_535, 16, 1, 65_535))?;
+    letters_use_whole_numbers(&cells[0], &cells[1], || {
+        cells[1].save(cells[1].image()?.mark)?;
+        while cells[0].state()?.letters == 0 {
+            cells[1].send(0)?;
+            cells[0].receive(1)?;
+        }
+        cells[0].save(cells[0].image()?.mark)
+    })
+}
+
+// A letter has at most this many references and bytes.
+fn letters_end(node: &impl Events, places: u8, bytes: usize) -> Result<()> {
+    let text = vec![1; bytes + 1];
+    node.post(1, 0, 0, places, &text[..bytes])?;
+    let refusal = node.post(1, 0, 0, 0, &text);
+    assert_eq!(refusal, Err(Refusal::TooManyBytes));
+    if let Some(above) = places.checked_add(1) {
+        let refusal = node.post(1, 0, 0, above, &text);
+        assert_eq!(refusal, Err(Refusal::TooManyFields));
+    }
+    let last = node.state()?.registers - 1;
+    node.post(1, 0, last, u8::from(places > 0), &[])?;
+    assert_eq!(node.post(1, 0, last, 2, &text), Err(Refusal::NoRegister));
+    Ok(())
+}
+
+#[test]
+fn letters_end_at_the_places_and_bytes_of_the_shape() -> Result<()> {
+    for (shape, places, bytes) in [
+        (WIDE, 255, 65_535),
+        (Shape::wide(2, 300, 16, 254, 65_534), 254, 65_534),
+        (Shape::wide(2, 300, 16, 0, 0), 0, 0),
+    ] {
+        letters_end(&Node::with_shape(shape, 0, 0)?, places, bytes)?;
+        letters_end(&cells(shape)?[0], places, bytes)?;
+    }
+    // A letter of two references stays if only one register is there.
+    let shape = Shape::wide(2, 3, 16, 2, 10);
+    let nodes = [
+        Node::with_shape(shape, 0, 0)?,
+        Node::with_shape(shape, 1, 0)?,
+    ];
+    nodes[0].post(1, 0, 0, 2, b"ab")?;
+    nodes[0].release()?;
+    nodes[1].take(&nodes[0].frames(1, 0)?[0].bytes)?;
+    assert_eq!(nodes[1].accept(2), Err(Refusal::NoRegister));
+    assert_eq!(nodes[1].accept_with_bytes(2), Err(Refusal::NoRegister));
+    assert_eq!(nodes[1].accept_with_bytes(1)?.1, b"ab");
     Ok(())
 }
 

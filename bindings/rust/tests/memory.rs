@@ -60,7 +60,7 @@ fn refused(node: &impl Events) -> Result<()> {
     Ok(())
 }
 
-fn closed(cell: &Cell) -> [Option<Refusal>; 28] {
+fn closed(cell: &Cell) -> [Option<Refusal>; 30] {
     [
         cell.alloc(1, 0).err(),
         cell.copy(1, 0).err(),
@@ -76,6 +76,8 @@ fn closed(cell: &Cell) -> [Option<Refusal>; 28] {
         cell.accept(0).err(),
         cell.put(0, 0, 0).err(),
         cell.get(0, 0, 0).err(),
+        cell.post(1, 1, 0, 0, &[]).err(),
+        cell.fetch(0, 0, 0, 0).err(),
         cell.reclaim().err(),
         cell.reclaim_young().err(),
         cell.begin().err(),
@@ -123,7 +125,7 @@ fn without_memory_calls_are_refused() -> Result<()> {
     let saved = |room: usize| with_room(room * BYTES / 4, || cell.save(mark));
     let first = (0..40).map(saved).find(|it| *it != Err(Refusal::Memory));
     assert_eq!(first, Some(Err(Refusal::Disk)));
-    assert_eq!(closed(&cell), [Some(Refusal::Closed); 28]);
+    assert_eq!(closed(&cell), [Some(Refusal::Closed); 30]);
     // Registers that can't be emptied now are emptied before they are used again.
     drop((saved_root, lost_root));
     assert_eq!(roots.alloc(0).err(), Some(Refusal::Closed));

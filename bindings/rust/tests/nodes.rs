@@ -254,6 +254,8 @@ fn events_as_values_answer_the_same() -> Result<()> {
         from: 0,
         label: 3,
         reference: Some(object),
+        registers: 1,
+        bytes: 0,
     };
     #[rustfmt::skip]
     let expected = [
@@ -307,6 +309,48 @@ fn a_cycle_frees_what_no_program_reaches() -> Result<()> {
     assert_eq!(one.sweep(16)?, freed);
     deliver(&one, 1, &zero)?;
     assert_eq!(zero.begin()?, 2);
+    Ok(())
+}
+
+// A window with letters of many bytes: all frames come, and each alone.
+#[test]
+fn a_window_has_the_frames_of_long_letters() -> Result<()> {
+    let shape = Shape::wide(2, 300, 16, 255, 70_000);
+    let (zero, one) = (
+        Node::with_shape(shape, 0, 0)?,
+        Node::with_shape(shape, 1, 0)?,
+    );
+    let texts: Vec<Vec<u8>> = [3, 65_535, 0, 2_000].map(|it| vec![it as u8; it]).into();
+    for (label, text) in (0..).zip(&texts) {
+        zero.post(1, label, 0, label as u8 * 80, text)?;
+    }
+    zero.give(1, 9, 0)?;
+    zero.release()?;
+    let frames = zero.frames(1, 0)?;
+    let numbers: Vec<u64> = frames.iter().map(|it| it.number).collect();
+    assert_eq!(numbers, [1, 2, 3, 4, 5]);
+    // The head has 20 bytes, the label 4, the two lengths 5.
+    assert_eq!(frames[1].bytes.len(), 20 + 4 + 1 + 80 + 4 + 65_535);
+    for (place, frame) in (0..).zip(&frames) {
+        assert_eq!(zero.frame_at(1, place)?.as_ref(), Some(&frame.bytes));
+    }
+    assert_eq!(zero.frame_at(1, 5)?, None);
+    assert_eq!(zero.frames(1, 2)?, frames[2..]);
+    assert_eq!(zero.frames(1, 5)?, []);
+    for frame in &frames {
+        assert_eq!(one.take(&frame.bytes)?, Taken::Received);
+    }
+    for (label, text) in (0..).zip(&texts) {
+        let (letter, bytes) = one.accept_with_bytes(0)?;
+        assert!(letter.label == label && bytes == *text);
+        assert_eq!(letter.registers, (80 * label).max(1));
+    }
+    one.release()?;
+    zero.take(&one.ack_for(0)?)?;
+    assert_eq!(zero.frames(1, 0)?, []);
+    zero.post(1, 7, 0, 0, &texts[1])?;
+    zero.release()?;
+    assert_eq!(zero.frames(1, 0)?[0].number, 6);
     Ok(())
 }
 

@@ -78,6 +78,24 @@ fn director(cycle: u64, sent: u64) -> Result<Node> {
     Node::from_image(&image, 0)
 }
 
+// Node 0 of two in a wide space, whose link has no number left. Register 0 has an object of node 1.
+fn wide_spent() -> Result<Node> {
+    let mut image = spelled(&[
+        (3, 0x4D_5204),
+        (1, 1),
+        (4, 1),
+        (1, 2),
+        (1, 0),
+        (2, 1),
+        (4, 1),
+    ]);
+    image.extend([0; 3 * 8 + 4 + 1 + 8 + 8 + 1 + 8]);
+    image.extend(spelled(&[(1, 1), (1, 1), (4, 0), (8, 1)]));
+    image.extend([0; 5 * 4]);
+    image.extend(spelled(&[(8, LAST), (4, 0), (8, 0)]));
+    Node::from_image(&image, 0)
+}
+
 // A frame from node 0 to node 1 with a Get of the object 1.0.1.
 fn get_frame(number: u64) -> Vec<u8> {
     let head = [(1, 0x45), (1, 0), (1, 1), (8, number), (8, 2), (1, 6)];
@@ -105,6 +123,8 @@ fn spent_rows() -> Result<Rows> {
         "give" LinkSpent: grey.give(2, 0, 0);
         "put" LinkSpent: grey.put(1, 0, 0);
         "get" LinkSpent: grey.get(1, 0, 0);
+        "post" LinkSpent: wide_spent()?.post(1, 0, 0, 0, &[]);
+        "fetch" LinkSpent: wide_spent()?.fetch(0, 0, 0, 0);
         "load" LinkSpent: grey.load(2, 0, 0);
         "scan" LinkSpent: grey.scan();
         "pass" LinkSpent: token.pass();
@@ -219,8 +239,16 @@ fn event_rows(node: &impl Events) -> Rows {
         "give" NoNode: node.give(2, 0, 0);
         "give" SelfSend: node.give(0, 0, 0);
         "give" NoRegister: node.give(1, 0, 3);
+        "post" NoNode: node.post(2, 0, 0, 0, &[]);
+        "post" SelfSend: node.post(0, 0, 0, 0, &[]);
+        "post" NoRegister: node.post(1, 0, 3, 1, &[]);
+        "post" TooManyFields: node.post(1, 0, 0, 0, &[]);
         "accept" NoRegister: node.accept(3);
         "accept" NoLetter: node.accept(0);
+        "accept_into" NoLetter: node.accept_into(3, &mut Vec::new());
+        "accept_with_bytes" NoLetter: node.accept_with_bytes(3);
+        "letter" NoLetter: node.letter();
+        "letter_bytes" NoLetter: node.letter_bytes();
         "put" NoRegister: node.put(1, 0, 3);
         "put" EmptyRegister: node.put(2, 0, 0);
         "put" Local: node.put(0, 0, 0);
@@ -229,6 +257,10 @@ fn event_rows(node: &impl Events) -> Rows {
         "get" EmptyRegister: node.get(2, 0, 0);
         "get" Local: node.get(0, 0, 0);
         "get" NoField: node.get(1, 8, 0);
+        "fetch" NoRegister: node.fetch(3, 0, 0, 0);
+        "fetch" EmptyRegister: node.fetch(2, 0, 0, 0);
+        "fetch" Local: node.fetch(0, 0, 0, 0);
+        "fetch" TooManyBytes: node.fetch(1, 0, 0, 0);
         "reclaim" NothingToDo: node.reclaim();
         "reclaim_young" NothingToDo: node.reclaim_young();
         "begin" CycleRunning: node.begin().and_then(|_| node.begin());
@@ -356,6 +388,22 @@ fn node_rows() -> Result<Rows> {
         "give" Congested: zero.give(2 - 1, 0, 9);
         "put" Congested: zero.put(1, 0, 9);
         "get" Congested: zero.get(1, 0, 9);
+        "post" Congested: zero.post(1, 0, 9, 9, &[]);
+        "fetch" Congested: zero.fetch(1, 0, 0, 65_528);
+    });
+    // The letter that waits has two references.
+    let shape = Shape::wide(2, 2, 1, 2, 1);
+    let (wide, other) = (
+        Node::with_shape(shape, 0, 0)?,
+        Node::with_shape(shape, 1, 0)?,
+    );
+    other.post(0, 0, 0, 2, &[7])?;
+    other.release()?;
+    wide.take(&other.frames(0, 0)?[0].bytes)?;
+    rows.extend(rows! {
+        "post" TooManyBytes: wide.post(1, 0, 0, 0, &[7, 7]);
+        "accept_into" NoRegister: wide.accept_into(1, &mut Vec::new());
+        "accept_with_bytes" NoRegister: wide.accept_with_bytes(1);
     });
     Ok(rows)
 }

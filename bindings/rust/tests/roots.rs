@@ -87,6 +87,82 @@ fn roots_reach_objects_of_other_nodes() -> Result<()> {
     Ok(())
 }
 
+// A letter's references go into registers that no root uses, and that follow each other.
+#[test]
+fn roots_get_all_references_of_a_letter() -> Result<()> {
+    let shape = Shape::wide(2, 8, 16, 4, 20);
+    let nodes = [
+        Node::with_shape(shape, 0, 0)?,
+        Node::with_shape(shape, 1, 0)?,
+    ];
+    let flush = || -> Result<()> {
+        nodes[0].release()?;
+        for frame in nodes[0].frames(1, 0)? {
+            nodes[1].take(&frame.bytes)?;
+        }
+        nodes[1].release()?;
+        nodes[0].take(&nodes[1].ack_for(0)?).map(drop)
+    };
+    let (here, there) = (Roots::new(&nodes[0], 0..8), Roots::new(&nodes[1], 0..8));
+    let objects = [here.alloc(0)?, here.alloc(0)?];
+    let [one, two] = [&objects[0], &objects[1]];
+    assert_eq!(here.post(1, 7, &[Some(two), None, Some(one)], b"text")?, 1);
+    assert_eq!(here.post(1, 8, &[], b"")?, 2);
+    assert_eq!(here.post(1, 9, &[Some(one)], b"")?, 3);
+    assert_eq!(here.free(), 6);
+    let refused = here.post(1, 7, &[Some(one), None, None, None, None], b"");
+    assert_eq!((refused, here.free()), (Err(Refusal::TooManyFields), 6));
+    let refused = here.post(1, 7, &[None; 7], b"");
+    assert_eq!(refused, Err(Refusal::NoRegister));
+    flush()?;
+    // Of the registers 0 to 5 only 1, 3 and 5 are free, and then the last two.
+    let mut roots: Vec<_> = (0..6).map(|_| there.alloc(0)).collect::<Result<_>>()?;
+    for at in [5, 3, 1] {
+        drop(roots.remove(at));
+    }
+    let letter = there.accept()?.expect("a letter was sent");
+    assert_eq!((letter.from, letter.label), (0, 7));
+    assert_eq!(letter.bytes, b"text");
+    let first = letter.root.as_ref().expect("the first is a reference");
+    assert_eq!((first.register(), first.reference()), (5, two.reference()));
+    let more: Vec<_> = letter
+        .more
+        .iter()
+        .map(|it| it.as_ref().map(|it| it.reference()))
+        .collect();
+    assert_eq!(more, [None, Some(one.reference())]);
+    assert_eq!(there.free(), 3);
+    for (root, register) in roots.iter().zip([0, 2, 4]) {
+        assert_eq!(nodes[1].register(register)?, Some(root.reference()));
+    }
+    drop(letter);
+    assert_eq!(there.free(), 5);
+    let empty = there.accept()?.expect("a letter was sent");
+    assert!(empty.label == 8 && empty.root.is_none() && empty.more.is_empty());
+    assert!(empty.bytes.is_empty());
+    let far = there
+        .accept()?
+        .expect("a letter was sent")
+        .root
+        .expect("it has one");
+    assert_eq!(far.fetch(7, 0, 0)?, 1);
+    assert!(there.accept()?.is_none());
+    // With three free registers, no two of which follow each other, the letter stays.
+    here.post(1, 10, &[Some(one), Some(two)], b"")?;
+    flush()?;
+    drop(far);
+    let _more: Vec<_> = (0..8)
+        .map(|_| there.alloc(0))
+        .take_while(Result::is_ok)
+        .collect::<Result<_>>()?;
+    drop(roots.remove(0));
+    drop(roots.remove(0));
+    assert_eq!(there.free(), 2);
+    assert_eq!(there.accept().err(), Some(Refusal::NoRegister));
+    assert_eq!((there.free(), nodes[1].letter()?.label), (2, 10));
+    Ok(())
+}
+
 #[test]
 fn a_root_uses_its_own_register() -> Result<()> {
     let shape = Shape::wide(2, 8, 16, 2, 10);

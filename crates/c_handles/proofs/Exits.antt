@@ -1,6 +1,6 @@
 -- How the calls end that give a node or a cell an event or a frame: a lemma for each way.
 use Rattle.std.proofs.Common.{◌≡◌, ◌≢◌, ◌∙◌, true, false, Err, IfErr, IfOk, IsTrue, List, ℕ, Ok, OnErr}
-use Rattle.std.proofs.Common.{Option, Result, ap, inl, refl, subst, sym}
+use Rattle.std.proofs.Common.{None, Option, Result, Some, ap, inl, refl, subst, sym}
 use Rattle.std.proofs.lemmas.Bool.{true≢false}
 use Rattle.ids.specs.declared.refusal.Refusal.{Refusal}
 use Rattle.ids.specs.declared.refusal.Refusal.TheVariants.{Memory}
@@ -44,6 +44,9 @@ acts_by performs states unchanged leaves memory_free early turn = record {
   early = early;
   turn = turn;
 }
+
+keeps_none : {log : Option (List ℕ)} {bytes : List ℕ} → log ≡ None → log ≡ Some bytes → ⊥
+keeps_none lost is = absurd cc
 
 module _ {old : LoneNode} {node : WholeNode} {e : Event} where
   -- the event is refused
@@ -90,6 +93,18 @@ module _ {old : LoneNode} {node : WholeNode} {e : Event} where
     quiet = λ none. absurd (true≢false (sym counts ∙ none));
   }
 
+  -- there is no memory for what it means, and the log is lost
+  pub gave_lost : {a : Answer} {log : Option (List ℕ)} → Acts old.node node e (Ok a)
+      → is_change a ≡ true → log ≡ None
+      → Gave old
+      (record old { node = node; is_changed = true; is_unsaved = true; log = log }) e (Ok a)
+  gave_lost {a} {log} acts counts lost = record {
+    acts = acts;
+    stays = after_counted old node log (is_change a) counts;
+    logs = λ first. if_kept old.logs old.log log (λ led bytes is. absurd (keeps_none lost is));
+    quiet = λ none. absurd (true≢false (sym counts ∙ none));
+  }
+
   -- no log is kept
   pub gave_unlogged : {a : Answer} → Acts old.node node e (Ok a) → is_change a ≡ true
       → old.logs ≡ false
@@ -116,6 +131,16 @@ module _ {old : LoneNode} {node : WholeNode} {ack : Ack} {a : Answer} where
       now = ack_now old.node.core node.core ack a acts.performs;
       noted = noted;
     }));
+    still = tt;
+  }
+
+  -- no log is kept
+  pub heard_unlogged : Acts old.node node (events.Ack ack) (Ok a) → old.logs ≡ false
+      → Heard old (record old { node = node }) ack (Ok a)
+  heard_unlogged acts off = record {
+    acts = acts;
+    stays = refl;
+    logs = λ first led. if_none old.logs old.log off;
     still = tt;
   }
 

@@ -1,12 +1,11 @@
 -- If no frame fits, nothing is written.
-use Rattle.std.proofs.Common.{◌≡◌, ℕ, ◌+◌, ◌^◌, ◌<◌, ◌≤◌, Bool, true, false, cond, nat_lt, nat_le, zero, suc, List, [], length, Option, Some, None, ap, refl, subst, sym, arith}
+use Rattle.std.proofs.Common.{◌≡◌, ℕ, ◌+◌, ◌<◌, ◌≤◌, Bool, true, false, cond, nat_lt, nat_le, zero, suc, [], length, Option, Some, None, refl, subst, sym, arith}
 use Rattle.std.proofs.lemmas.Bool.{cond-false, cond-true, le-ltb, lt-ltb}
 use Rattle.ids.specs.declared.limits.TheConstants.{WINDOW}
 use Rattle.msg.specs.Frames.{Plain}
 use Rattle.model.specs.View.{NodeView}
 use Rattle.node.specs.Frames.{released_frame}
 use Rattle.c_handles.specs.Frames.{Packed, number_of, pack, pack_above, packed, packing, window}
-use Rattle.c_handles.proofs.Short.{packed_short}
 
 -- if no part fits, there are no bytes
 abbrev IsNone : Packed → Type 0
@@ -51,12 +50,3 @@ above_skipped room after n p f is below =
 
 pub more : (n k : ℕ) → n ≤ n + k
 more n k = omega arith
-
-pub part_within : (needed len : ℕ) (part : List ℕ) (f : Plain) → part ≡ packed f
-    → len ≡ needed + length part → len ≤ needed + 58
-part_within needed len part f same is =
-    omega (arith, packed_short f, ap length same, is)
-
-pub part_fits : (needed : ℕ) (part : List ℕ) (f : Plain) → part ≡ packed f
-    → needed < 2 ^ 32 → needed + length part < 2 ^ 63
-part_fits needed part f same room = omega (arith, packed_short f, ap length same, room)

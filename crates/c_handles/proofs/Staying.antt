@@ -1,5 +1,5 @@
 -- What stays of a seated cell after a call on its cell.
-use Rattle.std.proofs.Common.{◌≡◌, ℕ, Bool, true, false, Option, Some, None, Result, Ok, Err, IsTrue, refl, ap, arith}
+use Rattle.std.proofs.Common.{◌≡◌, ℕ, Bool, true, false, Option, Some, None, Result, Ok, Err, IsTrue, inl, inr, refl, ap, arith}
 use Rattle.ids.specs.declared.refusal.Refusal.{Refusal}
 use Rattle.model.specs.View.{is_other}
 use Rattle.node.specs.Keeping.{WholeNode, waiting}
@@ -26,8 +26,9 @@ module _ (from : ℕ) (old new : CellView MemoryDisk) where
       → PumpedBy o (inbox old.seat from) from (Err e) old.node new.node (known old.seat)
       (known new.seat) old.trace new.trace → new.node.core ≡ old.node.core
   refused-still (Some d) e h = h.given.acted.unchanged
-  refused-still None e h =
+  refused-still None e (inl h) =
       handled-still h.frame e old.node new.node _ (known new.seat) h.handled
+  refused-still None e (inr h) = ap (λ (n : WholeNode). n.core) h.node
 
   empty-still : (o : Option _)
       → PumpedBy o (inbox old.seat from) from (Ok inbound.Empty) old.node new.node (known old.seat)

@@ -1,14 +1,15 @@
 -- The frames that a node's caller sends, as bytes.
-use Rattle.std.specs.Prelude.{◌≡◌, ℕ, ◌+◌, ◌≤◌, ◌<◌, true, false, cond, nat_lt, nat_le, zero, suc, List, [], ◌++◌, drop, length, Option, Some, None, Result, Ok, Err}
-use Rattle.std.specs.Int.{w16, w64, to_be_bytes}
+use Rattle.std.specs.Prelude.{◌≡◌, ℕ, ◌+◌, ◌≤◌, ◌<◌, ◌⊎◌, true, false, cond, nat_lt, nat_le, zero, suc, List, [], ◌++◌, drop, length, Option, Some, None, Result, Ok, Err}
+use Rattle.std.specs.Int.{w32, w64, to_be_bytes}
 use Rattle.std.specs.Option.{option_map}
 use Rattle.ids.specs.declared.limits.TheConstants.{WINDOW}
-use Rattle.ids.specs.declared.refusal.Refusal.TheVariants.{NoNode}
+use Rattle.ids.specs.declared.refusal.Refusal.TheVariants.{Memory, NoNode}
 use Rattle.msg.specs.Frames.{Plain, ack_frame, data_frame}
-use Rattle.frames.specs.Grammar.{spelling}
+use Rattle.frames.specs.Grammar.{is_letter, spelling}
 use Rattle.model.specs.View.{NodeView, is_other}
 use Rattle.node.specs.Frames.{acknowledgement, released_frame}
 use Rattle.c_handles.specs.Reads.{found}
+use Rattle.c_values.specs.Bytes.{WroteIf}
 use Rattle.c_values.specs.declared.fault.Fault.{Fault}
 use Rattle.c_values.specs.declared.fault.Fault.TheVariants as fault
 use Rattle.c_handles.specs.declared.lone.LoneNode.{LoneNode}
@@ -28,6 +29,28 @@ ack_bytes n from =
     cond (is_other n.local from) (found (option_map spelling (acknowledgement n from)))
     (Err (fault.Refused NoNode))
 
+-- a letter with references and bytes, for whose bytes memory may run out
+abbrev pub IsLetter : Option Plain → Type 0
+IsLetter None = ⊥
+IsLetter (Some f) = is_letter f ≡ true
+
+-- The bytes of a frame are written, or it is a fault and nothing is. Memory may run out for a letter
+-- with references and bytes.
+abbrev pub WroteFrame : NodeView → ℕ → ℕ → Result (Unit {0}) Fault → List ℕ → List ℕ → ℕ → ℕ
+    → Type 0
+WroteFrame n to place r old new before needed =
+    WroteIf (frame_bytes n to place) r old new before needed
+    ⊎ ((r ≡ Err (fault.Refused Memory)) × (new ≡ old) × (needed ≡ before)
+    × IsLetter (released_frame n to place))
+
+-- the same for what a handle holds
+abbrev pub HandleFrame : Option LoneNode → ℕ → ℕ → Result (Unit {0}) Fault → List ℕ → List ℕ → ℕ
+    → ℕ → Type 0
+HandleFrame (Some n) to place r old new before needed =
+    WroteFrame n.node.core to place r old new before needed
+HandleFrame None to place r old new before needed =
+    (r ≡ Err fault.NoHandle) × (new ≡ old) × (needed ≡ before)
+
 -- ---- The frames of a window, one after another
 
 abbrev pub number_of : Plain → ℕ
@@ -37,7 +60,7 @@ number_of (ack_frame by of number) = number
 -- a frame after its length and its number
 abbrev pub packed : Plain → List ℕ
 packed f =
-    to_be_bytes w16 (length (spelling f)) ++ to_be_bytes w64 (number_of f) ++ spelling f
+    to_be_bytes w32 (length (spelling f)) ++ to_be_bytes w64 (number_of f) ++ spelling f
 
 -- the parts that fit, how many these are, and how many bytes all parts have
 pub record Packed : Type 0 where
@@ -79,7 +102,8 @@ pub record Holds (whole : List ℕ) (p : Packed) (c : Packing) (held : List ℕ)
   pub fits : p.needed ≤ length whole → length p.bytes ≡ p.needed
 
 -- The frames of a window are in the buffer, as many as fit, and their count is the result. Or there
--- isn't one, or not even the first fits.
+-- isn't one, or not even the first fits. Or memory runs out for a letter with references and bytes,
+-- and what the buffer has then means nothing.
 abbrev pub Packs : NodeView → ℕ → ℕ → Result ℕ Fault → List ℕ → List ℕ → ℕ → ℕ → Type 0
 Packs n to after (Ok count) old new before needed =
     (is_other n.local to ≡ true) × (0 < count)
@@ -95,6 +119,9 @@ Packs n to after (Err fault.Nothing) old new before needed =
     × (needed ≡ before) × (new ≡ old)
 Packs n to after (Err (fault.Refused NoNode)) old new before needed =
     (is_other n.local to ≡ false) × (needed ≡ before) × (new ≡ old)
+Packs n to after (Err (fault.Refused Memory)) old new before needed =
+    (is_other n.local to ≡ true) × (length new ≡ length old) × (needed ≡ before)
+    × ((place : ℕ) × IsLetter (released_frame n to place))
 Packs n to after (Err e) old new before needed = ⊥
 
 -- the same for what a handle holds

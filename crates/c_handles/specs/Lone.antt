@@ -5,6 +5,7 @@ use Rattle.ids.specs.declared.names.Ref.{Ref}
 use Rattle.ids.specs.declared.refusal.Refusal.{Refusal}
 use Rattle.ids.specs.declared.refusal.Refusal.TheVariants.{Memory, NoNode, BadFrame, BadImage}
 use Rattle.msg.specs.Frames.{Plain, plain}
+use Rattle.frames.specs.Decoding.{SpellLetter}
 use Rattle.frames.specs.Grammar.{Fits, spelling}
 use Rattle.msg.specs.declared.frame.Ack.{Ack}
 use Rattle.msg.specs.declared.frame.Frame.{Frame}
@@ -71,6 +72,9 @@ owner_of None = None
 -- the node that the program's message would go to
 abbrev pub receiver_of : LocalState → Event → Option ℕ
 receiver_of p (event.Give to label register) = Some to
+receiver_of p (event.Post to label first count bytes) = Some to
+receiver_of p (event.Fetch object label offset count) =
+    owner_of (slice_get p.heap.registers object)
 receiver_of p (event.Put object place register) = owner_of (slice_get p.heap.registers object)
 receiver_of p (event.Get object place label) = owner_of (slice_get p.heap.registers object)
 receiver_of p e = None
@@ -147,5 +151,12 @@ pub record NoFrame (bytes : List ℕ) (old new : LoneNode) (r : Result Answer Fa
   pub refused : r ≡ Err (fault.Refused BadFrame)
   pub same : new ≡ old
 
+-- the bytes spell a letter with references and bytes, for which there is no memory
+pub record NoRoom (bytes : List ℕ) (old new : LoneNode) (r : Result Answer Fault) : Type 0 where
+  pub letter : SpellLetter bytes
+  pub refused : r ≡ Err (fault.Refused Memory)
+  pub same : new ≡ old
+
 abbrev pub TookIn : List ℕ → LoneNode → LoneNode → Result Answer Fault → Type 0
-TookIn bytes old new r = TookFrame bytes old new r ⊎ NoFrame bytes old new r
+TookIn bytes old new r =
+    TookFrame bytes old new r ⊎ (NoFrame bytes old new r ⊎ NoRoom bytes old new r)

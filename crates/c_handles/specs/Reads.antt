@@ -5,7 +5,8 @@ use Rattle.ids.specs.declared.refusal.Refusal.{Refusal}
 use Rattle.ids.specs.declared.refusal.Refusal.TheVariants.{NoNode, NoRegister}
 use Rattle.msg.specs.declared.frame.Data.{Data}
 use Rattle.model.specs.State.{LocalState, got_from}
-use Rattle.model.specs.Heaps.{heap_bytes, heap_bytes_len}
+use Rattle.model.specs.Heaps.{heap_bytes, heap_bytes_len, heap_letter, heap_letter_bytes}
+use Rattle.model.specs.declared.event.Accepted.{Accepted}
 use Rattle.model.specs.View.{NodeView, is_other, link_to, used}
 use Rattle.node.specs.Keeping.{WholeNode, waiting}
 use Rattle.c_values.specs.declared.fault.Fault.{Fault}
@@ -40,6 +41,13 @@ object_bytes p object offset count = given (heap_bytes p.own p.heap object offse
 -- how many bytes an object has
 abbrev pub object_len : LocalState → ℕ → Result ℕ Fault
 object_len p object = given (heap_bytes_len p.own p.heap object)
+
+-- what the oldest letter is, before it is accepted, and its bytes
+abbrev pub letter_of : LocalState → Result Accepted Fault
+letter_of p = given (heap_letter p.heap)
+
+abbrev pub letter_bytes : LocalState → Result (List ℕ) Fault
+letter_bytes p = given (heap_letter_bytes p.heap)
 
 abbrev pub link_fields : NodeView → ℕ → CLink
 link_fields n peer = record {

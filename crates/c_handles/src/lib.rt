@@ -18,6 +18,7 @@
 
 mod cell_handle;
 mod held;
+mod letters;
 mod lone;
 mod nodes;
 mod objects;

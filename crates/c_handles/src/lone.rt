@@ -1,6 +1,7 @@
 //! A node whose caller moves its frames and stores its images.
 ghost use Rattle.std.specs.Prelude.{◌≡◌, ◌||◌, ◌&&◌, false, None, Ok};
 ghost use Rattle.c_values.specs.Fields.{described};
+ghost use Rattle.model.specs.declared.event.Event.TheVariants as events;
 ghost use Rattle.msg.specs.Frames.{plain};
 ghost use Rattle.node_store.specs.Logs.{is_turn};
 ghost use Rattle.c_handles.specs.Lone.{Acknowledged, Given, Made, Read, TookIn, is_congested};
@@ -8,6 +9,7 @@ ghost use Rattle.c_handles.specs.Lone.{lone, receiver_of, unacknowledged};
 
 mod batches;
 mod images;
+mod letters;
 mod logging;
 mod objects;
 pub(crate) mod reading;
@@ -104,8 +106,8 @@ impl LoneNode {
         ensures { result ≡ receiver_of self.now.node.core.local event.now }
     {
         match event {
-            Event::Give { to, .. } => Some(*to),
-            Event::Put { object, .. } | Event::Get { object, .. } => {
+            Event::Give { to, .. } | Event::Post { to, .. } => Some(*to),
+            Event::Put { object, .. } | Event::Get { object, .. } | Event::Fetch { object, .. } => {
                 let register = usize::from(*object);
                 let held = self.node.core().heap().registers().get(register)?;
                 let reference: Ref = (*held)?;
@@ -176,12 +178,16 @@ impl LoneNode {
         ensures { Given false self.old self.new event.entry result }
     {
         let answer = self.node.act(&event)?;
-        if answer.is_change() {
-            self.is_changed = true;
-            self.is_unsaved = true;
-            if self.logs {
-                self.note(event);
-            }
+        if !answer.is_change() {
+            drop(event);
+            return Ok(answer);
+        }
+        self.is_changed = true;
+        self.is_unsaved = true;
+        if self.logs {
+            self.note(event);
+        } else {
+            drop(event);
         }
         Ok(answer)
     }
@@ -191,18 +197,30 @@ impl LoneNode {
         ensures { Acknowledged self.old self.new ack result }
     {
         if self.logs {
-            return self.acknowledge_noting(ack);
+            return self.acknowledge_noting(ack, &Event::Ack(ack));
         }
-        let answer = self.node.act(&Event::Ack(ack))?;
+        self.acknowledge_plain(ack, &Event::Ack(ack))
+    }
+
+    // The same of a node that keeps no log, with the event.
+    #[inline(always)]
+    fn acknowledge_plain(&mut self, ack: Ack, event: &Event) -> Result<Answer, Fault>
+        requires event { event.now ≡ events.Ack ack }
+        requires plain { self.old.logs ≡ false }
+
+        ensures { Acknowledged self.old self.new ack result }
+    {
+        let answer = self.node.act(event)?;
         Ok(answer)
     }
 
     /// Gives the node the frame that the bytes spell. Fails with `BadFrame` if they spell none,
-    /// else as the node refuses the frame.
-    pub fn take(&mut self, bytes: &[u8]) -> Result<Answer, Fault>
+    /// with `Memory` if they spell a letter with references and bytes and an allocation fails, else
+    /// as the node refuses the frame.
+    pub fn take(&mut self, alloc: Global, bytes: &[u8]) -> Result<Answer, Fault>
         ensures { TookIn bytes.now self.old self.new result }
     {
-        match decode(bytes)? {
+        match decode(alloc, bytes)? {
             Frame::Data(data) => self.perform(Event::Data(data)),
             Frame::Ack(ack) => self.acknowledge(ack),
         }

@@ -10,7 +10,7 @@ ghost use Rattle.node_store.specs.Logs.{is_turn};
 ghost use Rattle.c_values.specs.Faults.{Filled, Freed, Through, empty, read};
 ghost use Rattle.c_values.specs.Bytes.{WroteIf};
 ghost use Rattle.c_values.specs.Fields.{described};
-ghost use Rattle.c_handles.specs.Frames.{HandlePacks, ack_bytes, frame_bytes};
+ghost use Rattle.c_handles.specs.Frames.{HandleFrame, HandlePacks, ack_bytes};
 ghost use Rattle.c_handles.specs.Batches.{HandleBatched, Reopened, batch_of, size_of};
 ghost use Rattle.c_handles.specs.Images.{HandleImaged, Kept, Logs, Released, SizedSame};
 ghost use Rattle.c_handles.specs.Logs.{logs_in};
@@ -18,6 +18,7 @@ ghost use Rattle.c_handles.specs.Lone.{Made, NodeActs, Read, TookIn};
 ghost use Rattle.c_handles.specs.Reads.{link_of, object_bytes, object_len, register_of, waiting_number};
 ghost use Rattle.c_handles.specs.Work.{NodeWorks, WorksIf};
 
+mod letters;
 mod objects;
 
 use crate::Marked;
@@ -220,7 +221,7 @@ impl NodeHandle {
         let Some(mut node) = self.take(alloc) else {
             return Err(Fault::NoHandle);
         };
-        let answered = node.take(bytes);
+        let answered = node.take(alloc, bytes);
         self.put(alloc, node);
         answered
     }
@@ -337,13 +338,13 @@ impl NodeHandle {
         needed: &mut usize,
     ) -> Result<(), Fault>
         ensures same { self.new.held ≡ self.old.held }
-        ensures wrote { WroteIf (read (λ n. frame_bytes n.node.core to place) self.old.held) result
-            buffer.old buffer.new needed.old needed.new }
+        ensures wrote { HandleFrame self.old.held to place result buffer.old buffer.new needed.old
+            needed.new }
     {
         let Some(node) = self.take(alloc) else {
             return Err(Fault::NoHandle);
         };
-        let wrote = node.frame_at(to, place, buffer, needed);
+        let wrote = node.frame_at(alloc, to, place, buffer, needed);
         self.put(alloc, node);
         wrote
     }
@@ -384,7 +385,7 @@ impl NodeHandle {
         let Some(node) = self.take(alloc) else {
             return Err(Fault::NoHandle);
         };
-        let packed = node.frames(to, after, buffer, needed);
+        let packed = node.frames(alloc, to, after, buffer, needed);
         self.put(alloc, node);
         packed
     }

@@ -9,6 +9,7 @@ ghost use Rattle.c_handles.specs.Images.{Sized};
 ghost use Rattle.c_handles.specs.Reads.{link_of, object_bytes, object_len, register_of};
 ghost use Rattle.c_values.specs.Bytes.{WroteIf};
 
+mod letters;
 mod objects;
 mod working;
 

@@ -13,7 +13,7 @@ use Rattle.model.specs.declared.event.Answer.{Answer}
 use Rattle.model.specs.declared.event.Answer.TheVariants as answer
 use Rattle.model.specs.declared.event.Event.{Event}
 use Rattle.model.specs.declared.event.Event.TheVariants as event
-use Rattle.model.specs.declared.event.Letter.{Letter}
+use Rattle.model.specs.declared.event.Accepted.{Accepted}
 use Rattle.model.specs.declared.summary.Summary.{Summary}
 use Rattle.c_values.specs.declared.fields.CRef.{CRef}
 use Rattle.c_values.specs.declared.fields.CAnswer.{CAnswer}
@@ -68,11 +68,13 @@ numbered kind number = record no_answer { kind = kind; number = number }
 abbrev pub referring : ℕ → CRef → CAnswer
 referring kind reference = record no_answer { kind = kind; reference = reference }
 
-abbrev pub letter_fields : Letter → CAnswer
+abbrev pub letter_fields : Accepted → CAnswer
 letter_fields x = record no_answer {
   kind = 5;
   node = x.from;
   label = x.label;
+  count = x.count;
+  number = x.length;
   reference = optional_fields x.reference;
 }
 

@@ -8,7 +8,7 @@ ghost use Rattle.c_values.specs.Fields.{described, plain_fields, reference_field
 ghost use Rattle.c_values.specs.Fields.{IsDescribed, token_fields};
 
 use ids::{PLAIN_PLACES, Ref, Shape};
-use model::{Age, Answer, Event, Letter, Scope, Summary};
+use model::{Accepted, Age, Answer, Event, Scope, Summary};
 use msg::{Colour, Token};
 
 /// A reference, or zeros for nothing: no reference has generation 0.
@@ -228,13 +228,15 @@ fn of_kind(kind: u8) -> CAnswer
     CAnswer { kind, ..NO_ANSWER }
 }
 
-fn of_letter(letter: Letter) -> CAnswer
+fn of_letter(letter: Accepted) -> CAnswer
     ensures { result ≡ letter_fields letter }
 {
     CAnswer {
         kind: 5,
         node: letter.from,
         label: letter.label,
+        count: u32::from(letter.count),
+        number: letter.length as u64,
         reference: CRef::of_optional(letter.reference),
         ..NO_ANSWER
     }

@@ -1,13 +1,13 @@
 -- What is read of an object's bytes.
 use Rattle.std.proofs.Common.{◌≡◌, ◌⊎◌, ℕ, ◌+◌, ◌<◌, ◌≤◌, Bool, true, false, ◌||◌, List, [], ◌∷◌, ◌++◌, length, take, drop, Option, Result, Ok, Err, inl, inr, refl, ap, sym, ◌∙◌, subst, arith}
-use Rattle.std.specs.Prelude.{IfErr, IsErrOf}
+use Rattle.std.specs.Prelude.{nat_le, IfErr, IsErrOf}
 use Rattle.std.proofs.lemmas.Bool.{leb-true, lt-leb, or_parts, true≢false}
 use Rattle.std.proofs.lemmas.List.{length-take, length-drop}
 use Rattle.ids.specs.declared.refusal.Refusal.{Refusal}
 use Rattle.ids.specs.declared.refusal.Refusal.TheVariants.{Closed, NoBytes}
 use Rattle.model.specs.Checks.{guarded}
 use Rattle.model.specs.State.{Heap}
-use Rattle.model.specs.Heaps.{bytes_of, bytes_tests, has_range, heap_bytes, heap_bytes_len, named, object_at, word_tests}
+use Rattle.model.specs.Heaps.{bytes_of, bytes_tests, has_range, heap_bytes, heap_bytes_len, heap_letter_part, letter_tests, named, object_at, oldest_letter, word_tests}
 use Rattle.model.proofs.Checks.{guarded-ok, guarded-passed, guarded-passes}
 use Rattle.disk.specs.Areas.{Areas}
 use Rattle.cell.specs.Cells.{CellView}
@@ -68,6 +68,34 @@ open-never-closed own h object offset count (Err e) refused closed =
     let same : e ≡ Closed = cc in
     bytes-never-closed own h object offset count
     (subst (λ (f : Refusal). heap_bytes own h object offset count ≡ Err f) same refused)
+
+-- nor does it refuse the bytes of a letter with `Closed`
+letter-never-closed : (h : Heap) (count : ℕ) → heap_letter_part h count ≡ Err Closed → ⊥
+unfolding heap_letter_part
+letter-never-closed h count closed =
+    let bytes : List ℕ = (oldest_letter h).bytes in
+    never (letter_tests h ++ (nat_le count (length bytes), NoBytes) ∷ []) (take count bytes) refl
+    closed
+
+pub letter-open : {B : Type 0} (h : Heap) (count : ℕ) (r : Result B Refusal)
+    → IfErr r (λ e. heap_letter_part h count ≡ Err e) → IsErrOf r Closed → ⊥
+letter-open h count (Ok b) refused closed = absurd cc
+letter-open h count (Err e) refused closed =
+    let same : e ≡ Closed = cc in
+    letter-never-closed h count
+    (subst (λ (f : Refusal). heap_letter_part h count ≡ Err f) same refused)
+
+-- as many as were asked for
+pub letter-count : (h : Heap) (count : ℕ) (bytes : List ℕ)
+    → heap_letter_part h count ≡ Ok bytes → length bytes ≡ count
+unfolding heap_letter_part
+letter-count h count bytes read =
+    let held : List ℕ = (oldest_letter h).bytes in
+    let tests = letter_tests h ++ (nat_le count (length held), NoBytes) ∷ [] in
+    let passed = guarded-passes tests (take count held) bytes read in
+    let there : count ≤ length held = leb-true _ _ passed.1.0 in
+    let same = guarded-ok tests (take count held) bytes read in
+    omega (arith, there, ap length same, length-take count held)
 
 -- the refusal of the first tests stays if further tests follow
 refused-first : {A : Type 0} {B : Type 0} (ts us : List (Bool × Refusal)) (x : A) (y : B)

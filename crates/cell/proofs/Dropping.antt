@@ -25,14 +25,14 @@ use Rattle.node.specs.Keeping.{Rings, WholeNode, met, next_event, waiting}
 use Rattle.wire.specs.Lists.{Continues}
 use Rattle.wire.specs.Readers.{known}
 use Rattle.wire.specs.Rule.{receiver}
-use Rattle.wire.specs.Views.{Known, ticks}
+use Rattle.wire.specs.Views.{FindsOther, Known, ticks}
 use Rattle.wire.proofs.Lists.{continues-both}
 use Rattle.cell.specs.Desks.{DeskView, HasDropped, IsDropped}
 use Rattle.cell.specs.Disks.{is_same_node}
 use Rattle.cell.specs.Events.{Given, Handled}
 use Rattle.model.specs.Effects.{is_change}
 use Rattle.wire.specs.Entering.{known_after, pair_by}
-use Rattle.wire.specs.Sending.{IsSent}
+use Rattle.wire.specs.Sending.{IsSent, TookOut}
 use Rattle.cell.proofs.Sames.{same-true}
 
 -- ---- The messages that a link dropped
@@ -238,13 +238,25 @@ took-again u v w first next = record {
   taken = continues-both u.taken v.taken w.taken first.taken next.taken;
 }
 
+-- looking at a mailbox takes no frame
+pub looked-took : (box word : ℕ) (v w : Known) → FindsOther box word v w → TookMore v w
+looked-took box word v w h =
+    took-same v w (ap (λ (u : Known). u.me) h.3) (ap (λ (u : Known). u.taken) h.3)
+
+-- taking one out takes it, even if it is lost then
+pub out-took : (box from : ℕ) (f : Plain) (v w : Known) → TookOut box from f v w → TookMore v w
+out-took box from f v w h = record {
+  me = ap (λ (u : Known). u.me) h.3.2;
+  taken = (f ∷ [], ap (λ (u : Known). u.taken) h.3.2);
+}
+
 -- sending a frame takes none
 pub sent-took : (box : ℕ) (f : Plain) (sent : Bool) (v w : Known) → IsSent box f sent v w
     → TookMore v w
 sent-took box f true v w h =
     took-same v w (ap (λ (u : Known). u.me) h.2) (ap (λ (u : Known). u.taken) h.2)
 sent-took box f false v w h =
-    took-same v w (ap (λ (u : Known). u.me) h.3) (ap (λ (u : Known). u.taken) h.3)
+    looked-took box 0 v w h
 
 -- the frame that was taken last
 pub at-last : (v w : Known) (f : Plain) → w.taken ≡ v.taken ++ f ∷ []

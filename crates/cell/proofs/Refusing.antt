@@ -1,7 +1,7 @@
 -- No node refuses an event with `Closed`.
-use Rattle.std.proofs.Common.{◌≡◌, ℕ, Bool, Option, Some, None, Result, Ok, Err, refl, subst, true, false}
+use Rattle.std.proofs.Common.{◌≡◌, ℕ, Bool, Option, Some, None, Result, Ok, Err, inl, inr, refl, subst, sym, ◌∙◌, true, false}
 use Rattle.ids.specs.declared.refusal.Refusal.{Refusal}
-use Rattle.ids.specs.declared.refusal.Refusal.TheVariants.{Closed}
+use Rattle.ids.specs.declared.refusal.Refusal.TheVariants.{Closed, Memory}
 use Rattle.model.specs.declared.event.Event.{Event}
 use Rattle.model.specs.declared.event.Event.TheVariants as event
 use Rattle.model.specs.declared.event.Answer.{Answer}
@@ -42,7 +42,9 @@ by-not-closed o from (Ok i) old new took closed = absurd cc
 by-not-closed (Some d) from (Err e) old new took closed =
     never-closed true (event.Data d) old.node.core new.node.core (Err e)
     took.given.acted.performs cc
-by-not-closed None from (Err e) old new took closed =
+by-not-closed None from (Err e) old new (inr lost) closed =
+    let is : Memory ≡ Closed = sym lost.memory ∙ (let same : e ≡ Closed = cc in same) in absurd cc
+by-not-closed None from (Err e) old new (inl took) closed =
     let is : e ≡ Closed = cc in
     let seen : Known =
     emptied (inbox old.seat from) took.taken took.cleared (plain took.frame) (known old.seat) in

@@ -5,7 +5,7 @@ use Rattle.model.specs.declared.age.Scope.TheVariants as scope
 use Rattle.model.specs.declared.event.Event.{Event}
 use Rattle.model.specs.declared.event.Event.TheVariants as event
 use Rattle.cell.specs.declared.call.Call.{Call}
-use Rattle.cell.specs.declared.call.Call.TheVariants.{Alloc, Copy, Drop, Load, Store, Clear, Word, SetWord, SetBytes, Patch, Give, Accept, Put, Get, Reclaim, ReclaimYoung, Begin, Scan, Pass, Sweep, Next, Data, Ack, Save, Reopen}
+use Rattle.cell.specs.declared.call.Call.TheVariants.{Alloc, Copy, Drop, Load, Store, Clear, Word, SetWord, SetBytes, Patch, Give, Post, Accept, Put, Get, Fetch, Reclaim, ReclaimYoung, Begin, Scan, Pass, Sweep, Next, Data, Ack, Save, Reopen}
 use Rattle.cell.specs.declared.call.CallOutcome.{CallOutcome}
 use Rattle.cell.specs.declared.call.CallOutcome.TheVariants.{Done, Repeat, Early, Refused}
 use Rattle.cell.specs.declared.trace.TraceLine.{TraceLine}
@@ -22,9 +22,11 @@ call_of (event.SetWord object word) = SetWord
 call_of (event.SetBytes object bytes) = SetBytes
 call_of (event.Patch object offset bytes) = Patch
 call_of (event.Give to label register) = Give
+call_of (event.Post to label first count bytes) = Post
 call_of (event.Accept register) = Accept
 call_of (event.Put object place register) = Put
 call_of (event.Get object place label) = Get
+call_of (event.Fetch object label offset count) = Fetch
 call_of (event.Reclaim scope.All) = Reclaim
 call_of (event.Reclaim scope.Young) = ReclaimYoung
 call_of event.Begin = Begin
@@ -47,9 +49,11 @@ word_of SetWord = codes "setword"
 word_of SetBytes = codes "setbytes"
 word_of Patch = codes "patch"
 word_of Give = codes "give"
+word_of Post = codes "post"
 word_of Accept = codes "accept"
 word_of Put = codes "put"
 word_of Get = codes "get"
+word_of Fetch = codes "fetch"
 word_of Reclaim = codes "reclaim"
 word_of ReclaimYoung = codes "reclaim young"
 word_of Begin = codes "begin"

@@ -1,10 +1,11 @@
 -- What happened to a frame from another node, and to one for another node.
-use Rattle.std.specs.Prelude.{◌≡◌, ◌≢◌, ℕ, Bool, true, false, List, [], ◌∷◌, ◌++◌, Option, Some, None, Result, Ok, Err, IfErr, IsTrue}
+use Rattle.std.specs.Prelude.{◌≡◌, ◌≢◌, ℕ, Bool, true, false, List, [], ◌∷◌, ◌++◌, ◌⊎◌, Option, Some, None, Result, Ok, Err, IfErr, IsTrue}
 use Rattle.circular_buffer.specs.Buffer.{keep_last}
 use Rattle.ids.specs.declared.limits.TheConstants.{TRACE_EVENTS}
 use Rattle.ids.specs.declared.refusal.Refusal.{Refusal}
 use Rattle.ids.specs.declared.refusal.Refusal.TheVariants.{Memory}
-use Rattle.msg.specs.Frames.{plain}
+use Rattle.frames.specs.Grammar.{is_letter}
+use Rattle.msg.specs.Frames.{Plain, plain}
 use Rattle.msg.specs.declared.frame.Frame.{Frame}
 use Rattle.model.specs.declared.event.Answer.{Answer}
 use Rattle.model.specs.Steps.{is_memory_free}
@@ -23,7 +24,7 @@ use Rattle.wire.specs.declared.pumped.Inbound.{Inbound}
 use Rattle.wire.specs.declared.pumped.Inbound.TheVariants as inbound
 use Rattle.wire.specs.declared.pumped.Outbound.{Outbound}
 use Rattle.wire.specs.declared.pumped.Outbound.TheVariants as outbound
-use Rattle.wire.specs.Sending.{emptied}
+use Rattle.wire.specs.Sending.{TookOut, emptied}
 use Rattle.cell.specs.Events.{event_of, outcome_of, Given, Handled}
 
 -- The seat took a frame from that node to its own node. Some list of events that leads to the
@@ -45,6 +46,17 @@ pub record TookIn (box from : ℕ) (result : Result Answer Refusal) (old new : W
       → IfErr result (λ e. e ≢ Memory)
   pub traced : after ≡ keep_last TRACE_EVENTS (before
       ++ record { call = call_of (event_of frame); outcome = outcome_of result } ∷ [])
+
+-- The seat took a letter with references and bytes from that node, and memory for it ran out before
+-- the node was given it. It is lost, as a net may lose frames; nothing else happened.
+pub record LostIn (box from : ℕ) (e : Refusal) (old new : WholeNode) (v w : Known)
+    (before after : List TraceLine) : Type 0 where
+  pub memory : e ≡ Memory
+  pub frame : Plain
+  pub letter : is_letter frame ≡ true
+  pub took : TookOut box from frame v w
+  pub node : new ≡ old
+  pub trace : after ≡ before
 
 -- The waiting message was given to the node as its delivery, with this answer, and a line about it
 -- was added to the trace. The mailbox wasn't touched.
@@ -78,7 +90,7 @@ PumpedBy None box from (Ok inbound.Empty) old new v w before after =
 PumpedBy None box from (Ok (inbound.Event a)) old new v w before after =
     TookIn box from (Ok a) old new v w before after
 PumpedBy None box from (Err e) old new v w before after =
-    TookIn box from (Err e) old new v w before after
+    TookIn box from (Err e) old new v w before after ⊎ LostIn box from e old new v w before after
 
 -- ---- The same for cells
 
@@ -90,6 +102,14 @@ FoundEmpty from old new =
 abbrev pub TookFrom : {D : Type 0} → ℕ → Result Answer Refusal → CellView D → CellView D → Type 0
 TookFrom from result old new =
     TookIn (inbox old.seat from) from result old.node new.node (known old.seat) (known new.seat)
+    old.trace new.trace
+
+-- the frame in the mailbox was given to the node, or lost
+abbrev pub TookOrLost : {D : Type 0} → ℕ → Result Answer Refusal → CellView D → CellView D → Type 0
+TookOrLost from (Ok a) old new = TookFrom from (Ok a) old new
+TookOrLost from (Err e) old new =
+    TookFrom from (Err e) old new
+    ⊎ LostIn (inbox old.seat from) from e old.node new.node (known old.seat) (known new.seat)
     old.trace new.trace
 
 abbrev pub PumpedIn : {D : Type 0} → ℕ → Result Inbound Refusal → CellView D → CellView D → Type 0

@@ -4,6 +4,7 @@ ghost use Rattle.std.specs.Prelude.{
   ◌≡◌,
   ◌≢◌,
   ◌<◌,
+  true,
   IsTrue,
   IfErr,
   IfOk,
@@ -14,11 +15,12 @@ ghost use Rattle.std.specs.Prelude.{
   Some,
 };
 ghost use Rattle.ids.specs.declared.refusal.Refusal.TheVariants.{Memory};
-ghost use Rattle.msg.specs.Frames.{plain};
+ghost use Rattle.frames.specs.Grammar.{is_letter};
+ghost use Rattle.msg.specs.Frames.{Plain, plain};
 ghost use Rattle.model.specs.Steps.{is_memory_free};
 ghost use Rattle.model.specs.View.{is_other};
 ghost use Rattle.wire.specs.Rule.{receiver, sender, Spells};
-ghost use Rattle.wire.specs.Plays.{Arrives, Releases};
+ghost use Rattle.wire.specs.Plays.{Releases};
 ghost use Rattle.wire.specs.Views.{FindsOther, raises};
 ghost use Rattle.wire.specs.Readers.{
   known,
@@ -33,7 +35,7 @@ ghost use Rattle.wire.specs.Readers.{
   IsSame,
 };
 ghost use Rattle.cell.specs.Desks.{GoesOnAt};
-ghost use Rattle.wire.specs.Sending.{emptied, frame_due, places_after, IsSent};
+ghost use Rattle.wire.specs.Sending.{frame_due, places_after, IsSent, TookOut};
 ghost use Rattle.cell.specs.Events.{event_of, Handled, IsMarked};
 
 use crate::desk::Desk;
@@ -70,21 +72,27 @@ impl Desk {
     }
 
     // Takes the frame in the mailbox from another node, and empties the mailbox. None if it wasn't
-    // full.
-    pub(crate) fn take(&mut self, wire: &Wire, from: u8) -> Option<Frame>
+    // full. It fails only with `Memory`, and the frame is lost then.
+    pub(crate) fn take(
+        &mut self,
+        wire: &Wire,
+        alloc: Global,
+        from: u8,
+    ) -> Result<Option<Frame>, Refusal>
         requires wire { IsSeatOf wire.now self.old.seat }
         requires other { IsTrue (is_other self.old.node.core.local from) }
         ensures same { IsSame self.old.seat self.new.seat }
         ensures inside { from < (known self.old.seat).nodes }
-        ensures taken { MatchOption result
+        ensures taken { IfOk result (λ o. MatchOption o
             (FindsOther (inbox self.old.seat from) 1 (known self.old.seat) (known self.new.seat))
-            (λ f. (sender (plain f) ≡ from) × (receiver (plain f) ≡ (known self.old.seat).me)
-            × Arrives (known self.old.seat) (plain f)
-            × ((taken : ℕ) × (cleared : ℕ) × (known self.new.seat ≡ emptied
-            (inbox self.old.seat from) taken cleared (plain f) (known self.old.seat)))) }
+            (λ f. TookOut (inbox self.old.seat from) from (plain f) (known self.old.seat)
+            (known self.new.seat))) }
+        ensures lost { IfErr result (λ e. (e ≡ Memory) × ((f : Plain) × (is_letter f ≡ true)
+            × TookOut (inbox self.old.seat from) from f (known self.old.seat)
+            (known self.new.seat))) }
         ensures stays { self.new ≡ record self.old { seat = self.new.seat } }
     {
-        wire.receive(&mut self.seat, from)
+        wire.receive(alloc, &mut self.seat, from)
     }
 
     // Shows on the board the cycle that the saved state knows to have ended.

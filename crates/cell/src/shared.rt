@@ -30,14 +30,14 @@ ghost use Rattle.cell.specs.Events.{saved_by};
 ghost use Rattle.cell.specs.Cells.{desk_of};
 ghost use Rattle.cell.specs.Locked.{WasAnswered};
 ghost use Rattle.cell.specs.Pumping.{is_out, PumpedIn};
-ghost use Rattle.cell.specs.Reading.{node_bytes, Fills, WasFilled, WasMeasured};
+ghost use Rattle.cell.specs.Reading.{node_bytes, node_letter_part, Fills, WasCopied, WasFilled, WasMeasured, WasTold};
 ghost use Rattle.cell.specs.Names.{name_of, raised_on, seat_name, IsNamed};
 
 use crate::cell::Cell;
 use crate::desk::Desk;
 use disk::Disk;
 use ids::Refusal;
-use model::{Answer, Event};
+use model::{Accepted, Answer, Event};
 use std::alloc::Global;
 use std::marker::{Brand, PhantomData};
 use std::snapshot::Snapshot;
@@ -211,6 +211,19 @@ impl<D: Disk, W: Naming> Held<D, W> {
         buffer.copy_from_slice(bytes);
         Ok(())
     }
+
+    // As `Cell::letter_part` does, into a buffer.
+    fn letter_bytes(&self, buffer: &mut [u8]) -> Result<(), Refusal>
+        ensures read { IsTrue self.now.cell.is_open
+            → Fills (node_letter_part self.now.cell.node (length buffer.old))
+            buffer.old buffer.new result }
+        ensures closed { self.now.cell.is_open ≡ false
+            → IsErrOf result Refusal.Closed × (buffer.new ≡ buffer.old) }
+    {
+        let bytes = self.cell.letter_part(buffer.len())?;
+        buffer.copy_from_slice(bytes);
+        Ok(())
+    }
 }
 
 impl<D: Disk, W: Naming> SharedOn<D, W> {
@@ -291,6 +304,31 @@ impl<D: Disk, W: Naming> SharedOn<D, W> {
         // Called for its contract.
         let _node = held.cell.node();
         held.cell.bytes_len(object)
+    }
+
+    /// What the program is told of the oldest letter before it accepts it; see [`Cell::letter`]. It
+    /// is that of the node as it was when this call had locked the cell.
+    pub fn letter<R: Wait>(&self, rt: &R) -> Result<Accepted, Refusal>
+        ensures read { WasTold D.may_leave W.wire result }
+    {
+        let locked = self.held.lock(rt);
+        let held = &*locked;
+        // Called for its contract.
+        let _node = held.cell.node();
+        held.cell.letter()
+    }
+
+    /// Fills the buffer with the first bytes of the oldest letter; see [`Cell::letter_part`]. They
+    /// are those of the node as it was when this call had locked the cell. If the call fails, the
+    /// buffer is unchanged.
+    pub fn letter_bytes<R: Wait>(&self, rt: &R, buffer: &mut [u8]) -> Result<(), Refusal>
+        ensures read { WasCopied D.may_leave W.wire buffer.old buffer.new result }
+    {
+        let locked = self.held.lock(rt);
+        let held = &*locked;
+        // Called for its contract.
+        let _node = held.cell.node();
+        held.letter_bytes(buffer)
     }
 
     /// Gives the node the waiting message from another node, or else the frame in the mailbox from

@@ -261,8 +261,6 @@ module _ {A : Type 0} (read : codec.Reader A) (bytes : List ℕ) (a b : Reader) 
   pub not_all_read : is_whole b ≡ false → whole_at read bytes ≡ None
   not_all_read whole = none_if read bytes o (left b) found whole
 
-pub ruleset whole_taken = (all_read, not_all_read)
-
 module _ {A : Type 0} (F : Format A) (bytes : List ℕ) (a b : Reader) (x : A) where
   pub whole_is : left a ≡ Some bytes → Reads F a b x → is_whole b ≡ true
       → whole_at F.read bytes ≡ Some x

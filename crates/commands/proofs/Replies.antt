@@ -11,10 +11,7 @@ use Rattle.commands.specs.declared.simulation.Reply.{Reply}
 use Rattle.ids.specs.Limits.{Shaped}
 use Rattle.ids.specs.declared.refusal.Refusal.{Refusal}
 use Rattle.model.specs.World.{World, new_world, take_step}
-use Rattle.model.specs.declared.age.Scope.{Scope}
-use Rattle.model.specs.declared.event.Event.TheVariants as event
 use Rattle.model.specs.declared.step.Step.{Step}
-use Rattle.model.specs.declared.step.Step.TheVariants as step
 use Rattle.model.specs.declared.step.Outcome.{Outcome}
 use Rattle.model.specs.declared.step.Outcome.TheVariants as outcome
 use Rattle.commands.specs.declared.simulation.Reply.TheVariants as reply
@@ -26,7 +23,7 @@ use Rattle.commands.specs.declared.freed.Freed.{Freed}
 use Rattle.commands.specs.Freed.{KeepsSums, freed_after, freed_in, freed_with, sweeper}
 use Rattle.commands.specs.declared.simulation.State.{State}
 use Rattle.commands.proofs.Sizes.{refused_too_large}
-use Rattle.commands.specs.Script.{Held, PrintsReply, IsRead, RefusesStep, StepDone, StepRefused, StepTaken, awaited, denied, there, ShowsHeld, TakesBytes, TakesRead, TakesReclaim, TakesSpace, TakesStep, TakesWrite, hex_bytes, is_wide, none_kept}
+use Rattle.commands.specs.Script.{Held, PrintsReply, IsRead, RefusesStep, StepDone, StepRefused, StepTaken, awaited, denied, there, ShowsHeld, TakesBytes, TakesRead, TakesSpace, TakesStep, TakesWide, TakesWrite, hex_bytes, is_wide, none_kept}
 
 -- what holds of the text that was printed, with its status
 pub printed_as : {A E : Type 0} {Q P : ℕ → Type 0} (r : Result ℕ E) → OnOk r A
@@ -188,17 +185,16 @@ wide_writes s r word f wide inner (there w all sums) shown =
       t.2,
     )
 
--- the same for a reclaim
-pub wide_reclaims : {x y : SpaceView} (node : ℕ) (scope : Scope) (r : Reply) (f : Freed)
+-- the same for a step
+pub wide_steps : {x y : SpaceView} (s : Step) (r : Reply) (f : Freed)
     → ((w : World) → ShowsSpace x w → is_wide w ≡ true)
     → ((g : Freed) (h : Held) → ShowsHeld (state.Open x g) h
-    → (k : Held) × TakesStep h (step.Act node (event.Reclaim scope)) r k
-    × ShowsHeld (state.Open y g) k)
+    → (k : Held) × TakesStep h s r k × ShowsHeld (state.Open y g) k)
     → (h : Held) → ShowsHeld (state.Open x f) h
-    → (k : Held) × TakesReclaim h node scope r k × ShowsHeld (state.Open y f) k
-wide_reclaims node scope r f wide inner awaited shown = absurd shown
-wide_reclaims node scope r f wide inner denied shown = absurd shown
-wide_reclaims node scope r f wide inner (there w all sums) shown =
+    → (k : Held) × TakesWide h s r k × ShowsHeld (state.Open y f) k
+wide_steps s r f wide inner awaited shown = absurd shown
+wide_steps s r f wide inner denied shown = absurd shown
+wide_steps s r f wide inner (there w all sums) shown =
     let t = inner f (there w all sums) shown in (
       t.0,
       record {

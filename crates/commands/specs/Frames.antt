@@ -26,8 +26,12 @@ PrintsBytes (Ok bytes) status old new = PrintsSpelled bytes status old new
 PrintsBytes (Err e) status old new = (status ≡ 2)
     × Appends old new (codes "words refused" ++ (10 ∷ []))
 
--- for a word; memory may run out
+-- this is printed, or that memory ran out
+abbrev pub OrMemory : Type 0 → ℕ → Option (List ℕ) → Option (List ℕ) → Type 0
+OrMemory prints status old new =
+    prints ⊎ ((status ≡ 1) × Appends old new (refused_text Memory ++ (10 ∷ [])))
+
+-- for a word
 abbrev pub PrintsDecoded : List ℕ → ℕ → Option (List ℕ) → Option (List ℕ) → Type 0
 PrintsDecoded word status old new =
-    PrintsBytes (decode_of word) status old new
-    ⊎ ((status ≡ 1) × Appends old new (refused_text Memory ++ (10 ∷ [])))
+    OrMemory (PrintsBytes (decode_of word) status old new) status old new

@@ -9,7 +9,6 @@ use Rattle.hex.specs.declared.error.FromHexError.{FromHexError}
 use Rattle.ids.specs.Limits.{Shaped, IsShape, plain_shape, wide_shape}
 use Rattle.ids.specs.declared.refusal.Refusal.{Refusal}
 use Rattle.ids.specs.declared.refusal.Refusal.TheVariants.{Memory, NoNode, ImageTooLarge}
-use Rattle.model.specs.declared.age.Scope.{Scope}
 use Rattle.model.specs.declared.event.Event.{Event}
 use Rattle.model.specs.declared.event.Event.TheVariants as event
 use Rattle.commands.specs.declared.bytes.Writing.{Writing}
@@ -32,7 +31,7 @@ use Rattle.commands.specs.declared.simulation.State.{State}
 use Rattle.commands.specs.declared.simulation.State.TheVariants as state
 use Rattle.commands.specs.Freed.{KeepsSums, freed_after}
 use Rattle.script.specs.Grammar.{line_of, words_of}
-use Rattle.world.specs.Shows.{ShowsNode, summary_at, bytes_read}
+use Rattle.world.specs.Shows.{ShowsNode, summary_at, bytes_read, letter_bytes_read}
 use Rattle.world.specs.Spaces.{KeepsAfter, ShowsSpace, step_met}
 use Rattle.script.specs.Text.{outcome_text, refused_text, report_text, summary_text}
 use Rattle.node.specs.Keeping.{Rings, no_rings}
@@ -136,7 +135,7 @@ TakesReport awaited r later = (r ≡ reply.NoCommand) × (later ≡ awaited)
 TakesReport denied r later = (r ≡ reply.Refused Memory) × (later ≡ denied)
 TakesReport (there w all sums) r later = IsReport sums r × (later ≡ there w all sums)
 
--- ---- bytes of objects
+-- ---- bytes of objects and of letters
 
 -- the bytes that a word spells, with two hexadecimal digits for each; `-` spells none
 abbrev pub hex_bytes : List ℕ → Result (List ℕ) FromHexError
@@ -160,13 +159,14 @@ pub record OnlyInWide (w : World) (h : Held) (Means : Reply → Held → Type 0)
   pub wide : is_wide w ≡ true → Means r later
   pub plain : is_wide w ≡ false → (r ≡ reply.NoCommand) × (later ≡ h)
 
--- the event that writes these bytes
+-- the event that writes or sends these bytes
 abbrev pub writes : Writing → Bor (List ℕ) → Event
 writes (writing.All object) bytes = event.SetBytes object bytes
 writes (writing.Part object offset) bytes = event.Patch object offset bytes
+writes (writing.Letter to label first count) bytes = event.Post to label first count bytes
 
--- An event writes the bytes that a word spells. If the word spells none, the line is outside the
--- grammar.
+-- An event writes or sends the bytes that a word spells. If the word spells none, the line is
+-- outside the grammar.
 abbrev pub WritesBytes : Held → Result (List ℕ) FromHexError → (Bor (List ℕ) → Step) → Reply → Held
     → Type 0
 WritesBytes h (Err e) s r later = (r ≡ reply.NoCommand) × (later ≡ h)
@@ -179,12 +179,12 @@ abbrev pub TakesBytes : Held → Result (List ℕ) FromHexError → (Bor (List �
 TakesBytes h spelled s r later =
     WritesBytes h spelled s r later ⊎ ((r ≡ reply.Refused Memory) × (later ≡ h))
 
-abbrev pub TakesReclaim : Held → ℕ → Scope → Reply → Held → Type 0
-TakesReclaim awaited node scope r later = (r ≡ reply.NoCommand) × (later ≡ awaited)
-TakesReclaim denied node scope r later = (r ≡ reply.Refused Memory) × (later ≡ denied)
-TakesReclaim (there w all sums) node scope r later =
-    OnlyInWide w (there w all sums)
-    (TakesStep (there w all sums) (step.Act node (event.Reclaim scope))) r later
+-- a step that only the scripts of wide spaces ask for
+abbrev pub TakesWide : Held → Step → Reply → Held → Type 0
+TakesWide awaited s r later = (r ≡ reply.NoCommand) × (later ≡ awaited)
+TakesWide denied s r later = (r ≡ reply.Refused Memory) × (later ≡ denied)
+TakesWide (there w all sums) s r later =
+    OnlyInWide w (there w all sums) (TakesStep (there w all sums) s) r later
 
 abbrev pub TakesWrite : Held → List ℕ → (Bor (List ℕ) → Step) → Reply → Held → Type 0
 TakesWrite awaited word s r later = (r ≡ reply.NoCommand) × (later ≡ awaited)
@@ -230,6 +230,17 @@ pub record AsksSpace (h : Held) (sizes : Shaped) (r : Reply) (later : Held) : Ty
   pub within : IsShape sizes → TakesSpace h sizes r later
   pub outside : (IsShape sizes → ⊥) → (r ≡ reply.NoCommand) × (later ≡ h)
 
+-- the line has a meaning only in the scripts of wide spaces
+abbrev pub is_wide_line : Line → Bool
+is_wide_line (line.SetBytes node object hex) = true
+is_wide_line (line.Patch node object offset hex) = true
+is_wide_line (line.Bytes node object offset count) = true
+is_wide_line (line.Post node to label first count hex) = true
+is_wide_line (line.Fetch node object label offset count) = true
+is_wide_line (line.Letter node) = true
+is_wide_line (line.Reclaim node scope) = true
+is_wide_line l = false
+
 -- what is printed for a line that says this, and the space afterwards
 abbrev pub TakesLine : Held → Option Line → Reply → Held → Type 0
 TakesLine h None r later = (r ≡ reply.NoCommand) × (later ≡ h)
@@ -245,7 +256,14 @@ TakesLine h (Some (line.Patch node object offset hex)) r later =
     TakesWrite h hex.now (λ b. step.Act node (writes (writing.Part object offset) b)) r later
 TakesLine h (Some (line.Bytes node object offset count)) r later =
     TakesRead h (λ w. bytes_read w node object offset count) r later
-TakesLine h (Some (line.Reclaim node scope)) r later = TakesReclaim h node scope r later
+TakesLine h (Some (line.Post node to label first count hex)) r later =
+    TakesWrite h hex.now (λ b. step.Act node (writes (writing.Letter to label first count) b)) r
+    later
+TakesLine h (Some (line.Fetch node object label offset count)) r later =
+    TakesWide h (step.Act node (event.Fetch object label offset count)) r later
+TakesLine h (Some (line.Letter node)) r later = TakesRead h (λ w. letter_bytes_read w node) r later
+TakesLine h (Some (line.Reclaim node scope)) r later =
+    TakesWide h (step.Act node (event.Reclaim scope)) r later
 TakesLine h (Some (line.State node)) r later = TakesState h node r later
 TakesLine h (Some line.Report) r later = TakesReport h r later
 

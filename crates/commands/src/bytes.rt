@@ -1,4 +1,4 @@
-//! Bytes of objects as scripts spell them: two hexadecimal digits for each, and `-` for none.
+//! Bytes as scripts spell them: two hexadecimal digits for each, and `-` for none.
 ghost use Rattle.std.specs.Prelude.{◌≡◌, ◌⊎◌, Ok, IfErr, IfOk, string_bytes};
 ghost use Rattle.hex.specs.declared.error.FromHexError.TheVariants as hex_error;
 ghost use Rattle.commands.specs.Script.{hex_bytes, hex_text, writes};
@@ -7,17 +7,30 @@ use hex::FromHexError;
 use model::Event;
 use std::alloc::{AllocError, Global};
 
-/// How a line writes bytes of an object.
+/// What a line does with the bytes that it spells.
 #[derive(Clone, Copy)]
 pub enum Writing {
-    /// In place of all that the object has.
-    All { object: u16 },
-    /// Over a part, from this offset on.
-    Part { object: u16, offset: u32 },
+    /// The object gets them in place of all that it has.
+    All {
+        object: u16,
+    },
+    /// They overwrite a part of the object's, from this offset on.
+    Part {
+        object: u16,
+        offset: u32,
+    },
+    /// They are sent in a letter, with the references of this many registers, from the first one
+    /// on.
+    Letter {
+        to: u8,
+        label: u32,
+        first: u16,
+        count: u8,
+    },
 }
 
 impl Writing {
-    /// The event that writes these bytes.
+    /// The event that writes or sends these bytes.
     pub fn event(self, bytes: &[u8]) -> Event
         ensures { result ≡ writes self bytes.entry }
     {
@@ -26,6 +39,18 @@ impl Writing {
             Writing::Part { object, offset } => Event::Patch {
                 object,
                 offset,
+                bytes,
+            },
+            Writing::Letter {
+                to,
+                label,
+                first,
+                count,
+            } => Event::Post {
+                to,
+                label,
+                first,
+                count,
                 bytes,
             },
         }

@@ -1,7 +1,7 @@
 //! Frames, read from words that spell their bytes. The status distinguishes words that aren't
 //! hexadecimal digits from bytes that aren't a frame.
 ghost use Rattle.std.specs.Prelude.{◌≤◌, IfOk};
-ghost use Rattle.commands.specs.Frames.{PrintsDecoded, PrintsSpelled};
+ghost use Rattle.commands.specs.Frames.{OrMemory, PrintsDecoded, PrintsSpelled};
 
 use crate::output::{Lost, print_frame, print_refusal, print_refused_word};
 use hex::FromHexError;
@@ -22,20 +22,22 @@ pub fn decode<W: Write>(alloc: Global, word: &str, out: &mut W) -> Result<u8, Lo
     ensures small { IfOk result (λ status. status ≤ 2) }
 {
     match hex::decode(alloc, word) {
-        Ok(bytes) => print_spelled(out, bytes.as_slice()),
+        Ok(bytes) => print_spelled(alloc, out, bytes.as_slice()),
         Err(FromHexError::OutOfMemory) => print_refusal(out, Refusal::Memory),
         Err(_) => print_refused_word(out),
     }
 }
 
 /// Prints the frame that the bytes spell, or the refusal, and returns the status.
-fn print_spelled<W: Write>(out: &mut W, bytes: &[u8]) -> Result<u8, Lost>
-    ensures status { IfOk result (λ status.
-        PrintsSpelled bytes.now status (W.contents out.old) (W.contents out.new)) }
+fn print_spelled<W: Write>(alloc: Global, out: &mut W, bytes: &[u8]) -> Result<u8, Lost>
+    ensures status { IfOk result (λ status. OrMemory
+        (PrintsSpelled bytes.now status (W.contents out.old) (W.contents out.new))
+        status (W.contents out.old) (W.contents out.new)) }
     ensures small { IfOk result (λ status. status ≤ 2) }
 {
-    match frames::decode(bytes) {
+    match frames::decode(alloc, bytes) {
         Ok(frame) => print_frame(out, &frame),
-        Err(refusal) => print_refusal(out, refusal),
+        Err(Refusal::Memory) => print_refusal(out, Refusal::Memory),
+        Err(_) => print_refusal(out, Refusal::BadFrame),
     }
 }

@@ -1,6 +1,6 @@
 //! Runs a script over a space of nodes. For each line the space takes a step, and the reply is
 //! printed; a line outside the grammar is the last. The status is that of the worst reply.
-ghost use Rattle.std.specs.Prelude.{◌≡◌, ◌≤◌, ℕ, List, Some, IfOk, OnOk, IfErr, IsTrue, ◌≢◌, ◌⊎◌, Ok, Err, ◌++◌, ◌∷◌, [], string_bytes};
+ghost use Rattle.std.specs.Prelude.{◌≡◌, ◌≤◌, ℕ, List, true, None, Some, IfOk, OnOk, IfErr, IsTrue, ◌≢◌, ◌⊎◌, Ok, Err, ◌++◌, ◌∷◌, [], string_bytes};
 ghost use Rattle.std.specs.Io.KnownBytes.{Appends};
 ghost use Rattle.model.specs.declared.event.Event.{Event};
 ghost use Rattle.model.specs.declared.event.Event.TheVariants as event;
@@ -9,13 +9,13 @@ ghost use Rattle.model.specs.declared.step.Step.TheVariants as steps;
 ghost use Rattle.model.specs.Steps.{is_own};
 ghost use Rattle.model.specs.World.{World, is_own_step};
 ghost use Rattle.world.specs.Spaces.{ShowsSpace};
-ghost use Rattle.commands.specs.Freed.{KeepsSums, freed_with};
+ghost use Rattle.commands.specs.Freed.{KeepsSums, freed_with, sweeper};
 ghost use Rattle.script.specs.Grammar.{plain};
-ghost use Rattle.world.specs.Shows.{bytes_read};
+ghost use Rattle.world.specs.Shows.{bytes_read, letter_bytes_read};
 ghost use Rattle.commands.specs.Script.{Moves, PrintsReplies};
 ghost use Rattle.commands.specs.Script.{PrintsUnread, TakesLine, TakesText, TakesReport, TakesSpace};
 ghost use Rattle.commands.specs.Script.{IsRead, TakesBytes, TakesRead, TakesWrite, hex_bytes, is_wide, writes};
-ghost use Rattle.commands.specs.Script.{TakesReclaim, TakesState, TakesStep, reply_text, status_after};
+ghost use Rattle.commands.specs.Script.{TakesState, TakesStep, TakesWide, is_wide_line, reply_text, status_after};
 ghost use Rattle.commands.specs.Script.{PrintsReply, StepDone};
 ghost use Rattle.commands.specs.declared.freed.Freed.{Freed};
 ghost use Rattle.script.specs.Text.{outcome_text};
@@ -34,7 +34,7 @@ use crate::reading::Unread;
 use crate::splitting::first_line;
 use hex::FromHexError;
 use ids::{Refusal, Shape};
-use model::{Answer, Event, Outcome, Scope, Step};
+use model::{Answer, Event, Outcome, Step};
 use node::Summary;
 use script::{Line, Printer};
 use std::alloc::Global;
@@ -315,6 +315,26 @@ fn run_other<W: Write>(
             places,
             bytes,
         } => take_wide(alloc, state, nodes, registers, slots, places, bytes),
+        Line::SetBytes { .. }
+        | Line::Patch { .. }
+        | Line::Bytes { .. }
+        | Line::Post { .. }
+        | Line::Fetch { .. }
+        | Line::Letter(_)
+        | Line::Reclaim { .. } => only_wide(alloc, state, said),
+        Line::State(node) => show_state(state, node),
+        Line::Report => report(alloc, state),
+    };
+    print_reply(out, number, &reply)
+}
+
+/// Does what a line says that only the scripts of wide spaces have.
+fn only_wide(alloc: Global, state: &mut State, said: &Line) -> Reply
+    requires { is_wide_line said.now ≡ true }
+    ensures { Moves (λ h later. TakesLine h (Some (plain said.now)) result later)
+        state.old state.new }
+{
+    match *said {
         Line::SetBytes { node, object, hex } => {
             write(alloc, state, node, Writing::All { object }, hex)
         }
@@ -324,17 +344,47 @@ fn run_other<W: Write>(
             offset,
             hex,
         } => write(alloc, state, node, Writing::Part { object, offset }, hex),
+        Line::Post {
+            node,
+            to,
+            label,
+            first,
+            count,
+            hex,
+        } => {
+            let letter = Writing::Letter {
+                to,
+                label,
+                first,
+                count,
+            };
+            write(alloc, state, node, letter, hex)
+        }
         Line::Bytes {
             node,
             object,
             offset,
             count,
         } => read(alloc, state, node, object, offset, count),
-        Line::Reclaim { node, scope } => reclaim(state, node, scope),
-        Line::State(node) => show_state(state, node),
-        Line::Report => report(alloc, state),
-    };
-    print_reply(out, number, &reply)
+        Line::Letter(node) => letter(alloc, state, node),
+        Line::Fetch {
+            node,
+            object,
+            label,
+            offset,
+            count,
+        } => {
+            let event = Event::Fetch {
+                object,
+                label,
+                offset,
+                count,
+            };
+            act_wide(state, node, &event)
+        }
+        Line::Reclaim { node, scope } => act_wide(state, node, &Event::Reclaim { scope }),
+        _ => unreachable!(),
+    }
 }
 
 /// Prints the reply to the line of this number, and returns the line's status. It fails if the
@@ -421,8 +471,8 @@ fn is_wide(space: &Sim) -> bool
     }
 }
 
-/// Gives a node the event that writes the bytes that the word spells, if a line has asked for a
-/// wide space.
+/// Gives a node the event that writes or sends the bytes that the word spells, if a line has asked
+/// for a wide space.
 fn write(alloc: Global, state: &mut State, node: u8, writing: Writing, word: &str) -> Reply
     ensures { Moves (λ h later.
         TakesWrite h word.now (λ b. steps.Act node (writes writing b)) result later)
@@ -457,16 +507,19 @@ fn write_in(alloc: Global, space: &mut Sim, node: u8, writing: Writing, word: &s
     }
 }
 
-/// Asks a node to reclaim, if a line has asked for a wide space.
-fn reclaim(state: &mut State, node: u8, scope: Scope) -> Reply
-    ensures { Moves (λ h later. TakesReclaim h node scope result later) state.old state.new }
+/// Gives a node an event that only the scripts of wide spaces have, if a line has asked for one.
+fn act_wide(state: &mut State, node: u8, event: &Event) -> Reply
+    requires own { IsTrue (is_own event.now) }
+    requires quiet { sweeper (steps.Act node event.now) ≡ None }
+    ensures { Moves (λ h later. TakesWide h (steps.Act node event.now) result later)
+        state.old state.new }
 {
     match state {
         State::Unopened => Reply::NoCommand,
         State::Refused(refusal) => Reply::Refused(*refusal),
         State::Open { space, .. } => {
             if is_wide(space) {
-                reclaim_in(space, node, scope)
+                act_in(space, node, event)
             } else {
                 Reply::NoCommand
             }
@@ -475,12 +528,14 @@ fn reclaim(state: &mut State, node: u8, scope: Scope) -> Reply
 }
 
 /// The same in a wide space.
-fn reclaim_in(space: &mut Sim, node: u8, scope: Scope) -> Reply
+fn act_in(space: &mut Sim, node: u8, event: &Event) -> Reply
+    requires own { IsTrue (is_own event.now) }
+    requires quiet { sweeper (steps.Act node event.now) ≡ None }
     ensures { (f : Freed) → Moves
-        (λ h later. TakesStep h (steps.Act node (event.Reclaim scope)) result later)
+        (λ h later. TakesStep h (steps.Act node event.now) result later)
         (state.Open space.old f) (state.Open space.new f) }
 {
-    match space.act(node, &Event::Reclaim { scope }) {
+    match space.act(node, event) {
         Ok(answer) => Reply::Outcome(Outcome::Answer(answer)),
         Err(refusal) => Reply::Refused(refusal),
     }
@@ -511,11 +566,46 @@ fn read_in(alloc: Global, space: &Sim, node: u8, object: u16, offset: u32, count
         → IsRead (bytes_read w node object offset count) result }
 {
     match space.bytes(node, object, offset, count) {
-        Ok(bytes) => match text_of_bytes(alloc, bytes) {
-            Ok(text) => Reply::Bytes(text),
-            Err(_) => Reply::Refused(Refusal::Memory),
-        },
+        Ok(bytes) => spelled(alloc, bytes),
         Err(refusal) => Reply::Refused(refusal),
+    }
+}
+
+/// Reads the bytes of the oldest letter of a node, if a line has asked for a wide space.
+fn letter(alloc: Global, state: &State, node: u8) -> Reply
+    ensures { Moves (λ h later. TakesRead h (λ w. letter_bytes_read w node) result later)
+        state.now state.now }
+{
+    match state {
+        State::Unopened => Reply::NoCommand,
+        State::Refused(refusal) => Reply::Refused(*refusal),
+        State::Open { space, .. } => {
+            if is_wide(space) {
+                letter_in(alloc, space, node)
+            } else {
+                Reply::NoCommand
+            }
+        }
+    }
+}
+
+/// The same in a wide space.
+fn letter_in(alloc: Global, space: &Sim, node: u8) -> Reply
+    ensures { (w : World) → ShowsSpace space.now w → IsRead (letter_bytes_read w node) result }
+{
+    match space.letter_bytes(node) {
+        Ok(bytes) => spelled(alloc, bytes),
+        Err(refusal) => Reply::Refused(refusal),
+    }
+}
+
+/// The text of bytes that were read.
+fn spelled(alloc: Global, bytes: &[u8]) -> Reply
+    ensures { IsRead (Ok bytes.now) result }
+{
+    match text_of_bytes(alloc, bytes) {
+        Ok(text) => Reply::Bytes(text),
+        Err(_) => Reply::Refused(Refusal::Memory),
     }
 }
 

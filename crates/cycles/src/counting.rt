@@ -20,7 +20,11 @@ pub fn balance_of(cycle: u64, stamp: u64, body: &Body) -> Option<Balance>
 {
     match *body {
         Body::Mark { .. } => Some(Balance::Earlier),
-        Body::Give { .. } | Body::Put { .. } | Body::Get { .. } => {
+        Body::Give { .. }
+        | Body::Put { .. }
+        | Body::Get { .. }
+        | Body::Post { .. }
+        | Body::Fetch { .. } => {
             if stamp < cycle {
                 Some(Balance::Earlier)
             } else {

@@ -10,11 +10,11 @@ use Rattle.frames.specs.Formats.{sent, known}
 use Rattle.msg.specs.Frames.{Plain, data_frame, ack_frame}
 use Rattle.frames.proofs.Formats.{sent_sound, known_sound}
 use Rattle.event_bytes.specs.Entries.{Entry, alloc, copy, dropped, load, store, clear, word, set_word}
-use Rattle.event_bytes.specs.Entries.{set_bytes, patch, give, accept, put, get, reclaim, begin, scan}
+use Rattle.event_bytes.specs.Entries.{set_bytes, patch, give, accept, put, get, post, fetch, reclaim, begin, scan}
 use Rattle.event_bytes.specs.Entries.{pass, sweep, next, received, acknowledged, one, two, placed, loaded}
-use Rattle.event_bytes.specs.Entries.{stored, worded, filled, patched, given, asked, alloc_at}
+use Rattle.event_bytes.specs.Entries.{stored, worded, filled, patched, given, asked, posted, fetched, alloc_at}
 use Rattle.event_bytes.specs.Entries.{copy_at, load_at, store_at, clear_at, set_word_at}
-use Rattle.event_bytes.specs.Entries.{set_bytes_at, patch_at, give_at, put_at, get_at, received_at}
+use Rattle.event_bytes.specs.Entries.{set_bytes_at, patch_at, give_at, put_at, get_at, post_at, fetch_at, received_at}
 use Rattle.event_bytes.specs.Entries.{acknowledged_at, entries, entry}
 
 two_sound : IsSound two
@@ -44,10 +44,16 @@ given_sound = byte_sound ⊗ number4_sound ⊗ number2_sound
 asked_sound : IsSound asked
 asked_sound = number2_sound ⊗ byte_sound ⊗ number4_sound
 
+posted_sound : IsSound posted
+posted_sound = byte_sound ⊗ number4_sound ⊗ number2_sound ⊗ byte_sound ⊗ bytes4_sound
+
+fetched_sound : IsSound fetched
+fetched_sound = number2_sound ⊗ number4_sound ⊗ number4_sound ⊗ number4_sound
+
 entry_again : (e : Entry) (rest : List ℕ) → Fits entry e →
     entry.read (entry.spell e ++ rest) ≡ Some (e, rest)
 unfolding entry alloc_at copy_at load_at store_at clear_at set_word_at set_bytes_at patch_at
-    give_at put_at get_at received_at acknowledged_at
+    give_at put_at get_at post_at fetch_at received_at acknowledged_at
 entry_again (alloc r p) rest fits =
     made_again placed (λ x. alloc x.0 x.1) placed_sound (r, p) rest fits.wide fits.within
 entry_again (copy r s) rest fits =
@@ -82,6 +88,12 @@ entry_again (put o p r) rest fits =
 entry_again (get o p l) rest fits =
     made_again asked (λ x. get x.0 x.1.0 x.1.1) asked_sound (o, (p, l)) rest fits.wide
     fits.within
+entry_again (post t l r n b) rest fits =
+    made_again posted (λ x. post x.0 x.1.0 x.1.1.0 x.1.1.1.0 x.1.1.1.1) posted_sound
+    (t, (l, (r, (n, b)))) rest fits.wide fits.within
+entry_again (fetch o l n k) rest fits =
+    made_again fetched (λ x. fetch x.0 x.1.0 x.1.1.0 x.1.1.1) fetched_sound (o, (l, (n, k))) rest
+    fits.wide fits.within
 entry_again (reclaim scope.All) rest fits = refl
 entry_again (reclaim scope.Young) rest fits = refl
 entry_again begin rest fits = refl
@@ -100,7 +112,7 @@ entry_again (acknowledged f t n) rest fits =
 
 pub entry_sound : IsSound entry
 unfolding entry alloc_at copy_at load_at store_at clear_at set_word_at set_bytes_at patch_at
-    give_at put_at get_at received_at acknowledged_at
+    give_at put_at get_at post_at fetch_at received_at acknowledged_at
 entry_sound = record {
   takes = tagged_takes entry entries (
       found placed entry 1 (λ x. alloc x.0 x.1) placed_sound (λ _. refl) (λ _ w. w) (λ _ w. w)
@@ -133,6 +145,10 @@ entry_sound = record {
       ⊕ found nothing entry 20 (λ _. reclaim scope.All) nothing_sound
       (λ _. refl) (λ _ w. w) (λ _ w. w)
       ⊕ found nothing entry 21 (λ _. reclaim scope.Young) nothing_sound
+      (λ _. refl) (λ _ w. w) (λ _ w. w)
+      ⊕ found posted entry 22 (λ x. post x.0 x.1.0 x.1.1.0 x.1.1.1.0 x.1.1.1.1) posted_sound
+      (λ _. refl) (λ _ w. w) (λ _ w. w)
+      ⊕ found fetched entry 23 (λ x. fetch x.0 x.1.0 x.1.1.0 x.1.1.1) fetched_sound
       (λ _. refl) (λ _ w. w) (λ _ w. w)
       ⊕ found known entry 0x42 (λ x. acknowledged x.0 x.1.0 x.1.1) known_sound
       (λ _. refl) (λ _ w. w) (λ _ w. w)

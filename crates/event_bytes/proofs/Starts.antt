@@ -43,6 +43,20 @@ started (event.Patch object offset bytes) short gained =
     (append_assoc middle (number4.spell (count_of bytes.now)) bytes.now
     ∙ ap (λ (n : ℕ). middle ++ (number4.spell n ++ bytes.now)) count)))
     (λ wide. (wide.0, (wide.1.0, (subst number4.IsWide count wide.1.1, tt))))
+started (event.Post to label first count bytes) short gained =
+    let few = counted bytes.now short in
+    let middle : List ℕ = number4.spell label in
+    let last : List ℕ = number2.spell first in
+    gained_start (event.Post to label first count bytes) gained
+    (ap (λ (t : List ℕ). 22 ∷ to ∷ t)
+    (append_assoc middle (last ++ (count ∷ number4.spell (count_of bytes.now))) bytes.now
+    ∙ ap (λ (t : List ℕ). middle ++ t)
+    (append_assoc last (count ∷ number4.spell (count_of bytes.now)) bytes.now
+    ∙ ap (λ (n : ℕ). last ++ (count ∷ (number4.spell n ++ bytes.now))) few)))
+    (λ wide. (
+      wide.0,
+      (wide.1.0, (wide.1.1.0, (wide.1.1.1.0, (subst number4.IsWide few wide.1.1.1.1, tt)))),
+    ))
 started e short gained =
     gained_start e gained (append-nil (entry.spell (entry_of e))) (λ wide. wide)
 
@@ -63,5 +77,13 @@ tail_shorter (event.Patch object offset bytes) =
       length-append (number4.spell (length bytes.now)) bytes.now,
       length-append (number4.spell offset) behind,
       length-append (number2.spell object) (number4.spell offset ++ behind),
+    )
+tail_shorter (event.Post to label first count bytes) =
+    let behind : List ℕ = number4.spell (length bytes.now) ++ bytes.now in
+    omega (
+      arith,
+      length-append (number4.spell (length bytes.now)) bytes.now,
+      length-append (number2.spell first) (count ∷ behind),
+      length-append (number4.spell label) (number2.spell first ++ (count ∷ behind)),
     )
 tail_shorter e = omega arith

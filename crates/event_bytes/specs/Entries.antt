@@ -37,6 +37,10 @@ pub data Entry : Type 0 where
   put : ℕ → ℕ → ℕ → Entry
   -- object, place and label
   get : ℕ → ℕ → ℕ → Entry
+  -- node, label, first register, count and bytes
+  post : ℕ → ℕ → ℕ → ℕ → List ℕ → Entry
+  -- object, label, offset and count
+  fetch : ℕ → ℕ → ℕ → ℕ → Entry
   -- scope
   reclaim : Scope → Entry
   begin : Entry
@@ -83,6 +87,12 @@ given = byte & number4 & number2
 abbrev pub asked : Format (ℕ × (ℕ × ℕ))
 asked = number2 & byte & number4
 
+abbrev pub posted : Format (ℕ × (ℕ × (ℕ × (ℕ × List ℕ))))
+posted = byte & number4 & number2 & byte & bytes4
+
+abbrev pub fetched : Format (ℕ × (ℕ × (ℕ × ℕ)))
+fetched = number2 & number4 & number4 & number4
+
 abbrev pub entry_tag : Entry → Behind
 entry_tag (alloc register places) = tag 1 placed (register, places)
 entry_tag (copy register source) = tag 2 two (register, source)
@@ -100,6 +110,9 @@ entry_tag (put object place register) = tag 11 stored (object, (place, register)
 entry_tag (get object place label) = tag 12 asked (object, (place, label))
 entry_tag (reclaim scope.All) = tag 20 nothing tt
 entry_tag (reclaim scope.Young) = tag 21 nothing tt
+entry_tag (post to label first count bytes) =
+    tag 22 posted (to, (label, (first, (count, bytes))))
+entry_tag (fetch object label offset count) = tag 23 fetched (object, (label, (offset, count)))
 entry_tag begin = tag 13 nothing tt
 entry_tag scan = tag 14 nothing tt
 entry_tag pass = tag 15 nothing tt
@@ -142,6 +155,12 @@ put_at bytes = made_at stored (λ x. put x.0 x.1.0 x.1.1) bytes
 unfoldable pub get_at : Reader Entry
 get_at bytes = made_at asked (λ x. get x.0 x.1.0 x.1.1) bytes
 
+unfoldable pub post_at : Reader Entry
+post_at bytes = made_at posted (λ x. post x.0 x.1.0 x.1.1.0 x.1.1.1.0 x.1.1.1.1) bytes
+
+unfoldable pub fetch_at : Reader Entry
+fetch_at bytes = made_at fetched (λ x. fetch x.0 x.1.0 x.1.1.0 x.1.1.1) bytes
+
 unfoldable pub received_at : Reader Entry
 received_at bytes = made_at sent (λ x. received x.0.0 x.0.1.0 x.0.1.1 x.1.0 x.1.1) bytes
 
@@ -171,6 +190,8 @@ entries =
     ∷ (19, patch_at)
     ∷ (20, made_at nothing (λ _. reclaim scope.All))
     ∷ (21, made_at nothing (λ _. reclaim scope.Young))
+    ∷ (22, post_at)
+    ∷ (23, fetch_at)
     ∷ (0x42, acknowledged_at)
     ∷ (0x45, received_at)
     ∷ []

@@ -1,12 +1,13 @@
 -- The events of the code as plain data, and the two parts of their spellings.
-use Rattle.std.specs.Prelude.{◌≡◌, ◌^◌, ◌-◌, ℕ, List, [], ◌++◌, length, min}
-use Rattle.codec.specs.Formats.{Behind, number2, number4, ◌&◌, tag}
+use Rattle.std.specs.Prelude.{◌≡◌, ◌^◌, ◌-◌, ℕ, Bool, false, List, [], ◌++◌, length, min}
+use Rattle.codec.specs.Formats.{Behind, byte, number2, number4, ◌&◌, tag}
 use Rattle.msg.specs.declared.frame.Ack.{Ack}
 use Rattle.msg.specs.declared.frame.Data.{Data}
+use Rattle.msg.specs.Limits.{is_post}
 use Rattle.model.specs.declared.event.Event.{Event}
 use Rattle.model.specs.declared.event.Event.TheVariants as event
 use Rattle.event_bytes.specs.Entries.{Entry, alloc, copy, dropped, load, store, clear, word, set_word}
-use Rattle.event_bytes.specs.Entries.{set_bytes, patch, give, accept, put, get, reclaim, begin, scan}
+use Rattle.event_bytes.specs.Entries.{set_bytes, patch, give, accept, put, get, post, fetch, reclaim, begin, scan}
 use Rattle.event_bytes.specs.Entries.{pass, sweep, next, received, acknowledged, entry, entry_tag}
 
 abbrev pub received_of : Data → Entry
@@ -31,6 +32,8 @@ entry_of (event.Accept register) = accept register
 entry_of (event.Put object place register) = put object place register
 entry_of (event.Get object place label) = get object place label
 entry_of (event.Reclaim scope) = reclaim scope
+entry_of (event.Post to label first count bytes) = post to label first count bytes.now
+entry_of (event.Fetch object label offset count) = fetch object label offset count
 entry_of event.Begin = begin
 entry_of event.Scan = scan
 entry_of event.Pass = pass
@@ -39,10 +42,11 @@ entry_of (event.Next from) = next from
 entry_of (event.Data d) = received_of d
 entry_of (event.Ack a) = acknowledged_of a
 
--- the bytes that the event writes, with which its spelling ends
+-- the bytes that the event brings, with which its spelling ends
 abbrev pub tail_of : Event → List ℕ
 tail_of (event.SetBytes object bytes) = bytes.now
 tail_of (event.Patch object offset bytes) = bytes.now
+tail_of (event.Post to label first count bytes) = bytes.now
 tail_of e = []
 
 -- how many bytes there are, as far as four bytes can say it
@@ -55,9 +59,17 @@ start_of (event.SetBytes object bytes) =
     tag 18 (number2 & number4) (object, count_of bytes.now)
 start_of (event.Patch object offset bytes) =
     tag 19 (number2 & number4 & number4) (object, (offset, count_of bytes.now))
+start_of (event.Post to label first count bytes) =
+    tag 22 (byte & number4 & number2 & byte & number4)
+    (to, (label, (first, (count, count_of bytes.now))))
 start_of e = entry_tag (entry_of e)
 
--- With the bytes that the event writes behind it, what was added is the spelling of the event.
+-- the event is a message with references and bytes, which has no spelling in two parts
+abbrev pub is_letter : Event → Bool
+is_letter (event.Data d) = is_post d.body
+is_letter e = false
+
+-- With the bytes that the event brings behind it, what was added is the spelling of the event.
 pub record AddsStart (old new : List ℕ) (e : Event) : Type 0 where
   pub is : new ++ tail_of e ≡ old ++ entry.spell (entry_of e)
   pub known : entry.IsWide (entry_of e)

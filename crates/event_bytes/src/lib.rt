@@ -10,4 +10,4 @@ mod tags;
 mod writing;
 
 pub use reading::{read_event, spellings};
-pub use writing::{add_event, tail};
+pub use writing::{add_event, encode_letter, letter_of, tail};

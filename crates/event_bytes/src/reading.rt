@@ -1,24 +1,29 @@
 //! Reads events from bytes. Each call reads an event from the front of what is left. If the bytes
 //! there don't spell one, the reader fails, or the call returns no event.
-ghost use Rattle.std.specs.Prelude.{◌≡◌, Some};
+ghost use Rattle.std.specs.Prelude.{◌≡◌, ◌≢◌, IfErr, IfOk, Some};
 ghost use Rattle.std.specs.Option.{option_map};
+ghost use Rattle.ids.specs.declared.refusal.Refusal.TheVariants.{Memory};
+ghost use Rattle.codec.specs.Formats.{behind};
 ghost use Rattle.codec.specs.Readers.{Reads, Takes};
 ghost use Rattle.codec.specs.Reading.{IsSound};
 ghost use Rattle.frames.specs.Formats.{head};
 ghost use Rattle.event_bytes.specs.Entries.{alloc_at, copy_at, load_at, store_at, clear_at};
 ghost use Rattle.event_bytes.specs.Entries.{set_word_at, set_bytes_at, patch_at, give_at, put_at};
-ghost use Rattle.event_bytes.specs.Entries.{get_at, received_at, acknowledged_at, entry};
+ghost use Rattle.event_bytes.specs.Entries.{get_at, post_at, fetch_at, received_at};
+ghost use Rattle.event_bytes.specs.Entries.{acknowledged_at, entries, entry};
 ghost use Rattle.event_bytes.specs.Events.{acknowledged_of, entry_of, received_of};
 
 use crate::tags::{
-    ACCEPT, ACK, ALLOC, BEGIN, CLEAR, COPY, DATA, DROP, GET, GIVE, LOAD, NEXT, PASS, PATCH, PUT,
-    RECLAIM, RECLAIM_YOUNG, SCAN, SET_BYTES, SET_WORD, STORE, SWEEP, WORD,
+    ACCEPT, ACK, ALLOC, BEGIN, CLEAR, COPY, DATA, DROP, FETCH, GET, GIVE, LOAD, NEXT, PASS, PATCH,
+    POST, PUT, RECLAIM, RECLAIM_YOUNG, SCAN, SET_BYTES, SET_WORD, STORE, SWEEP, WORD,
 };
 use codec::Reader;
 use frames::Version;
-use frames::reading::read_body;
+use frames::reading::read_wide_body;
+use ids::Refusal;
 use model::{Event, Scope};
 use msg::{Ack, Data};
+use std::alloc::Global;
 
 /// No spelling of an event is a prefix of another one, and what is read has that spelling. The
 /// function does nothing; its contract states the law.
@@ -156,6 +161,40 @@ fn read_get<'a>(reader: &mut Reader<'a>) -> Event<'a>
     }
 }
 
+#[tactic(auto, unfolding(crate::specs::Entries::post_at), using(crate::proofs::Joins::both_read, crate::proofs::Joins::made_of))]
+fn read_post<'a>(reader: &mut Reader<'a>) -> Event<'a>
+    ensures { Takes post_at reader.old reader.new (Some (entry_of result)) }
+{
+    let to = reader.u8();
+    let label = reader.u32();
+    let first = reader.u16();
+    let count = reader.u8();
+    let bytes = reader.bytes();
+    Event::Post {
+        to,
+        label,
+        first,
+        count,
+        bytes,
+    }
+}
+
+#[tactic(auto, unfolding(crate::specs::Entries::fetch_at), using(crate::proofs::Joins::both_read, crate::proofs::Joins::made_of))]
+fn read_fetch<'a>(reader: &mut Reader<'a>) -> Event<'a>
+    ensures { Takes fetch_at reader.old reader.new (Some (entry_of result)) }
+{
+    let object = reader.u16();
+    let label = reader.u32();
+    let offset = reader.u32();
+    let count = reader.u32();
+    Event::Fetch {
+        object,
+        label,
+        offset,
+        count,
+    }
+}
+
 #[tactic(auto, unfolding(frames::specs::Formats::head), using(crate::proofs::Joins::both_read))]
 fn read_head(reader: &mut Reader) -> (u8, (u8, u64))
     ensures { Reads head reader.old reader.new result }
@@ -167,13 +206,15 @@ fn read_head(reader: &mut Reader) -> (u8, (u8, u64))
 }
 
 #[tactic(auto, unfolding(crate::specs::Entries::received_at, frames::specs::Formats::sent), using(crate::proofs::Joins::both_read, crate::proofs::Joins::tested))]
-fn read_data(reader: &mut Reader) -> Option<Data>
-    ensures { Takes received_at reader.old reader.new (option_map received_of result) }
+fn read_data(alloc: Global, reader: &mut Reader) -> Result<Option<Data>, Refusal>
+    ensures value { IfOk result
+        (λ o. Takes received_at reader.old reader.new (option_map received_of o)) }
+    ensures refused { IfErr result (λ e. e ≡ Memory) }
 {
     let (from, (to, number)) = read_head(reader);
     let stamp = reader.u64();
-    let body = read_body(reader, Version::Second);
-    Data::new(from, to, number, stamp, body)
+    let body = read_wide_body(alloc, reader, Version::Second)?;
+    Ok(Data::new(from, to, number, stamp, body))
 }
 
 #[tactic(auto, unfolding(crate::specs::Entries::acknowledged_at, frames::specs::Formats::known), using(crate::proofs::Joins::tested))]
@@ -184,13 +225,13 @@ fn read_ack(reader: &mut Reader) -> Option<Ack>
     Ack::new(by, of, number)
 }
 
-/// Reads an event from the front of what is left, whose bytes it borrows. If no event is there, the
-/// reader has failed, or the call returns `None`.
+// An event that isn't a message.
 #[tactic(auto, unfolding(crate::specs::Entries::entry), using(crate::proofs::Joins::tags))]
-pub fn read_event<'a>(reader: &mut Reader<'a>) -> Option<Event<'a>>
-    ensures { Takes entry.read reader.old reader.new (option_map entry_of result) }
+fn read_other<'a>(tag: u8, reader: &mut Reader<'a>) -> Option<Event<'a>>
+    requires { tag ≢ 0x45 }
+    ensures { Takes (behind entries tag) reader.old reader.new (option_map entry_of result) }
 {
-    match reader.u8() {
+    match tag {
         ALLOC => Some(read_alloc(reader)),
         COPY => Some(read_copy(reader)),
         DROP => Some(Event::Drop {
@@ -222,14 +263,31 @@ pub fn read_event<'a>(reader: &mut Reader<'a>) -> Option<Event<'a>>
         RECLAIM_YOUNG => Some(Event::Reclaim {
             scope: Scope::Young,
         }),
-        DATA => match read_data(reader) {
-            Some(message) => Some(Event::Data(message)),
-            None => None,
-        },
+        POST => Some(read_post(reader)),
+        FETCH => Some(read_fetch(reader)),
         ACK => match read_ack(reader) {
             Some(ack) => Some(Event::Ack(ack)),
             None => None,
         },
         _ => None,
+    }
+}
+
+/// Reads an event from the front of what is left, whose bytes it borrows. If no event is there, the
+/// reader has failed, or the call returns `None`. Fails with `Memory` if an allocation fails; only
+/// the references and bytes of a received letter are allocated.
+#[tactic(auto, unfolding(crate::specs::Entries::entry), using(crate::proofs::Joins::tags))]
+pub fn read_event<'a>(alloc: Global, reader: &mut Reader<'a>) -> Result<Option<Event<'a>>, Refusal>
+    ensures value { IfOk result
+        (λ o. Takes entry.read reader.old reader.new (option_map entry_of o)) }
+    ensures refused { IfErr result (λ e. e ≡ Memory) }
+{
+    let tag = reader.u8();
+    if tag != DATA {
+        return Ok(read_other(tag, reader));
+    }
+    match read_data(alloc, reader)? {
+        Some(message) => Ok(Some(Event::Data(message))),
+        None => Ok(None),
     }
 }

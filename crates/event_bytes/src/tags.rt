@@ -42,6 +42,10 @@ pub(crate) const RECLAIM: u8 = 20;
 
 pub(crate) const RECLAIM_YOUNG: u8 = 21;
 
+pub(crate) const POST: u8 = 22;
+
+pub(crate) const FETCH: u8 = 23;
+
 pub(crate) const ACK: u8 = 0x42;
 
 pub(crate) const DATA: u8 = 0x45;

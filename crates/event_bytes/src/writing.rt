@@ -1,22 +1,29 @@
 //! Writes events as bytes. Each event has one spelling. It is put together in a piece, which
-//! allocates nothing; the bytes that an event writes into an object follow the piece as they are.
-ghost use Rattle.std.specs.Prelude.{◌≡◌, ◌≤◌, ◌<◌, ◌+◌, ◌^◌, ◌∷◌, length};
-ghost use Rattle.codec.specs.Formats.{number2, number4, ◌&◌};
+//! allocates nothing; the bytes that an event brings follow the piece as they are. Only a letter
+//! with references and bytes that was received doesn't fit into a piece.
+ghost use Rattle.std.specs.Prelude.{◌≡◌, ◌≤◌, ◌<◌, ◌+◌, ◌^◌, ◌∷◌, IfErr, IfOk, IfSome, IsSome, IsTrue, ◌↔◌, false, length};
+ghost use Rattle.ids.specs.declared.refusal.Refusal.TheVariants.{Memory};
+ghost use Rattle.codec.specs.Formats.{Fits, byte, number2, number4, ◌&◌};
+ghost use Rattle.codec.specs.Writing.{Puts};
 ghost use Rattle.codec.specs.Pieces.{Adds, Gains};
 ghost use Rattle.codec.specs.declared.piece.TheConstants.{GREATEST_PIECE};
 ghost use Rattle.frames.specs.Formats.{head};
-ghost use Rattle.event_bytes.specs.Entries.{asked, entry, given, loaded, placed, stored, two, worded};
+ghost use Rattle.event_bytes.specs.Entries.{asked, entry, fetched, given, loaded, placed, stored};
+ghost use Rattle.event_bytes.specs.Entries.{two, worded};
 ghost use Rattle.event_bytes.specs.Events.{acknowledged_of, count_of, received_of, start_of};
-ghost use Rattle.event_bytes.specs.Events.{AddsStart, tail_of};
+ghost use Rattle.event_bytes.specs.Events.{AddsStart, entry_of, is_letter, tail_of};
+ghost use Rattle.msg.specs.Limits.{is_post};
 
 use crate::tags::{
-    ACCEPT, ACK, ALLOC, BEGIN, CLEAR, COPY, DATA, DROP, GET, GIVE, LOAD, NEXT, PASS, PATCH, PUT,
-    RECLAIM, RECLAIM_YOUNG, SCAN, SET_BYTES, SET_WORD, STORE, SWEEP, WORD,
+    ACCEPT, ACK, ALLOC, BEGIN, CLEAR, COPY, DATA, DROP, FETCH, GET, GIVE, LOAD, NEXT, PASS, PATCH,
+    POST, PUT, RECLAIM, RECLAIM_YOUNG, SCAN, SET_BYTES, SET_WORD, STORE, SWEEP, WORD,
 };
-use codec::Piece;
-use frames::writing::add_body;
+use codec::{Piece, Writer};
+use frames::writing::{add_body, put_body};
+use ids::Refusal;
 use model::{Event, Scope};
-use msg::{Ack, Data};
+use msg::{Ack, Body, Data};
+use std::alloc::Global;
 
 // ---- a tag and numbers
 
@@ -144,6 +151,38 @@ fn add_patched(piece: &mut Piece, object: u16, offset: u32, bytes: &[u8])
     piece.u32(count_of(bytes));
 }
 
+#[tactic(auto, using(crate::proofs::Joins::gained))]
+fn add_posted(piece: &mut Piece, to: u8, label: u32, first: u16, count: u8, bytes: &[u8])
+    requires { length piece.old + 48 ≤ GREATEST_PIECE }
+    ensures { Gains piece.old piece.new (22 ∷ (byte & number4 & number2 & byte & number4).spell
+        (to, (label, (first, (count, count_of bytes.now))))) 48
+        ((byte & number4 & number2 & byte & number4).IsWide
+        (to, (label, (first, (count, count_of bytes.now))))) }
+{
+    piece.u8(POST);
+    piece.u8(to);
+    piece.u32(label);
+    piece.u16(first);
+    piece.u8(count);
+    piece.u32(count_of(bytes));
+}
+
+// ---- a request for bytes
+
+#[tactic(auto, using(crate::proofs::Joins::gained))]
+fn add_fetched(piece: &mut Piece, object: u16, label: u32, offset: u32, count: u32)
+    requires { length piece.old + 48 ≤ GREATEST_PIECE }
+    ensures { Gains piece.old piece.new
+        (23 ∷ fetched.spell (object, (label, (offset, count)))) 48
+        (fetched.IsWide (object, (label, (offset, count)))) }
+{
+    piece.u8(FETCH);
+    piece.u16(object);
+    piece.u32(label);
+    piece.u32(offset);
+    piece.u32(count);
+}
+
 // ---- messages and acknowledgements
 
 #[tactic(auto, unfolding(frames::specs::Formats::head), using(crate::proofs::Joins::gained))]
@@ -158,7 +197,8 @@ fn add_head(piece: &mut Piece, from: u8, to: u8, number: u64)
 
 #[tactic(auto, unfolding(crate::specs::Entries::entry, frames::specs::Formats::sent), using(crate::proofs::Joins::gained))]
 fn add_data(piece: &mut Piece, message: &Data)
-    requires { length piece.old + 48 ≤ GREATEST_PIECE }
+    requires room { length piece.old + 48 ≤ GREATEST_PIECE }
+    requires short { is_post message.now.body ≡ false }
     ensures { Adds entry 48 piece.old piece.new (received_of message.now) }
 {
     piece.u8(DATA);
@@ -180,7 +220,8 @@ fn add_ack(piece: &mut Piece, ack: &Ack)
 
 #[tactic(auto, unfolding(crate::specs::Entries::entry), using(crate::proofs::Joins::gained))]
 fn add_start(piece: &mut Piece, event: &Event)
-    requires { length piece.old + 48 ≤ GREATEST_PIECE }
+    requires room { length piece.old + 48 ≤ GREATEST_PIECE }
+    requires short { is_letter event.now ≡ false }
     ensures { Gains piece.old piece.new (start_of event.now).bytes 48 (start_of event.now).is_wide }
 {
     match *event {
@@ -222,6 +263,19 @@ fn add_start(piece: &mut Piece, event: &Event)
             place,
             label,
         } => add_asked(piece, GET, object, place, label),
+        Event::Post {
+            to,
+            label,
+            first,
+            count,
+            bytes,
+        } => add_posted(piece, to, label, first, count, bytes),
+        Event::Fetch {
+            object,
+            label,
+            offset,
+            count,
+        } => add_fetched(piece, object, label, offset, count),
         Event::Reclaim { scope: Scope::All } => piece.u8(RECLAIM),
         Event::Reclaim {
             scope: Scope::Young,
@@ -244,9 +298,10 @@ fn add_start(piece: &mut Piece, event: &Event)
 
 /// Appends the bytes that spell the event to the piece, except for the event's own bytes, which
 /// follow (see [`tail`]). The piece must have room for them. If the event has 2^32 bytes or more,
-/// it has no spelling.
+/// it has no spelling. For a letter that was received, see [`letter_of`].
 pub fn add_event(piece: &mut Piece, event: &Event)
-    requires { length piece.old + 48 ≤ GREATEST_PIECE }
+    requires room { length piece.old + 48 ≤ GREATEST_PIECE }
+    requires short { is_letter event.now ≡ false }
     ensures start { length (tail_of event.now) < 2 ^ 32
         → AddsStart piece.old piece.new event.now }
     ensures few { length piece.new ≤ length piece.old + 48 }
@@ -254,7 +309,7 @@ pub fn add_event(piece: &mut Piece, event: &Event)
     add_start(piece, event);
 }
 
-/// The bytes that the event writes, with which its spelling ends; none if it writes no bytes.
+/// The bytes that the event brings, with which its spelling ends; none if it brings no bytes.
 #[inline(always)]
 pub fn tail<'a>(event: &Event<'a>) -> &'a [u8]
     ensures { result.now ≡ tail_of event.now }
@@ -265,7 +320,63 @@ pub fn tail<'a>(event: &Event<'a>) -> &'a [u8]
             object: _,
             offset: _,
             bytes,
+        }
+        | Event::Post {
+            to: _,
+            label: _,
+            first: _,
+            count: _,
+            bytes,
         } => bytes,
         _ => &[],
     }
+}
+
+/// The message that the event is, if that is a letter with references and bytes; see
+/// [`encode_letter`].
+#[inline(always)]
+pub fn letter_of<'a>(event: &'a Event) -> Option<&'a Data>
+    ensures some { IfSome result (λ d. entry_of event.now ≡ received_of d.now) }
+    ensures letter { IsSome result ↔ IsTrue (is_letter event.now) }
+{
+    match event {
+        Event::Data(message) if is_post(&message.body) => Some(message),
+        _ => None,
+    }
+}
+
+fn is_post(body: &Body) -> bool
+    ensures { result ≡ is_post body.now }
+{
+    matches!(body, Body::Post { .. })
+}
+
+#[tactic(auto, unfolding(frames::specs::Formats::head), using(crate::proofs::Joins::piece_written))]
+fn put_head(out: &mut Writer, from: u8, to: u8, number: u64)
+    ensures { Puts head out.old out.new (from, (to, number)) }
+{
+    let mut piece = Piece::new();
+    add_head(&mut piece, from, to, number);
+    out.piece(piece);
+}
+
+#[tactic(auto, unfolding(crate::specs::Entries::entry, frames::specs::Formats::sent), using(crate::proofs::Joins::behind, crate::proofs::Joins::both))]
+fn put_data(out: &mut Writer, message: &Data)
+    ensures { Puts entry out.old out.new (received_of message.now) }
+{
+    out.u8(DATA);
+    put_head(out, message.from, message.to, message.number);
+    out.u64(message.stamp);
+    put_body(out, &message.body);
+}
+
+/// The bytes that spell the event that a message is. Fails with `Memory` if an allocation fails.
+pub fn encode_letter(alloc: Global, message: &Data) -> Result<Vec<u8>, Refusal>
+    ensures spelled { IfOk result (λ v. Fits entry (received_of message.now)
+        × (v.items ≡ entry.spell (received_of message.now))) }
+    ensures refused { IfErr result (λ e. e ≡ Memory) }
+{
+    let mut out = Writer::new(Vec::new(alloc), None, 0);
+    put_data(&mut out, message);
+    out.finish()
 }

@@ -1,12 +1,11 @@
 -- What is read has that spelling, what has a spelling is read, and no spelling is a prefix of
 -- another.
-use Rattle.std.proofs.Common.{◌≡◌, ℕ, Bool, true, false, List, [], ◌∷◌, ◌++◌, Some, Result, Ok, Err}
+use Rattle.std.proofs.Common.{◌≡◌, ◌≢◌, Option, None, ℕ, Bool, true, false, List, [], ◌∷◌, ◌++◌, Some, Result, Ok, Err}
 use Rattle.std.proofs.Common.{refl, sym, ap, subst, ◌∙◌}
 use Rattle.std.proofs.lemmas.Bool.{and_parts, not-true}
-use Rattle.std.specs.Prelude.{IfOk, IsTrue, ◌&&◌, not}
-use Rattle.std.specs.Option.{option_map}
-use Rattle.std.specs.Result.{IsOkAnd, result_ok}
+use Rattle.std.specs.Prelude.{IfOk, IfErr, IsTrue, ◌&&◌, not}
 use Rattle.ids.specs.declared.refusal.Refusal.{Refusal}
+use Rattle.ids.specs.declared.refusal.Refusal.TheVariants.{Memory, BadFrame}
 use Rattle.codec.specs.Formats.{whole_at}
 use Rattle.codec.specs.Reading.{IsBytes, IsSound}
 use Rattle.codec.specs.Formats as codec
@@ -14,7 +13,8 @@ use Rattle.codec.proofs.Laws.{◌⊕◌, found, tagged_takes, made_takes, made_a
 use Rattle.codec.proofs.Wholes.{whole_takes, whole_again, begins_none}
 use Rattle.msg.specs.declared.body.Body.{Body}
 use Rattle.msg.specs.declared.frame.Frame.{Frame}
-use Rattle.frames.specs.Grammar.{spelling, frame, Fits, data_tag, data_at, ack_at}
+use Rattle.frames.specs.Grammar.{spelling, frame, Fits, data_tag, data_at, ack_at, frames, first_byte}
+use Rattle.frames.specs.Decoding.{Decodes, IsDecoded, SpellLetter}
 use Rattle.msg.specs.Frames.{Plain, data_frame, ack_frame, plain}
 use Rattle.msg.specs.Limits.{is_plain_body}
 use Rattle.frames.specs.Formats.{Sent, Head, is_behind, is_framed, framed, known}
@@ -54,10 +54,6 @@ frame_again (ack_frame from to number) rest fits =
     made_again known ack_of known_sound (from, (to, number)) rest fits.wide fits.within
 
 -- what follows a first byte is spelled with that byte
-abbrev first_byte : Bool → ℕ
-first_byte true = 0x45
-first_byte false = 0x46
-
 abbrev IsMade : Bool → Bool → Sent → Type 0
 IsMade plain b x =
     ((data_tag b x).bytes ≡ first_byte plain ∷ (framed plain).spell x)
@@ -78,8 +74,7 @@ data_made plain x fits =
 frame_sound : IsSound frame
 unfolding frame data_at ack_at
 frame_sound = record {
-  takes = tagged_takes frame
-      ((0x45, data_at true) ∷ (0x46, data_at false) ∷ (0x42, ack_at) ∷ []) (
+  takes = tagged_takes frame frames (
       made_takes (0x45 ∷ []) data_of (framed_sound true) (data_made true)
       ⊕ made_takes (0x46 ∷ []) data_of (framed_sound false) (data_made false)
       ⊕ found known frame 0x42 ack_of known_sound (λ _. refl) (λ _ w. w) (λ _ w. w)
@@ -91,23 +86,42 @@ frame_sound = record {
 -- ---- what the code reads
 
 pub is_found : (bytes : List ℕ) (r : Result Frame Refusal) → IsBytes bytes
-    → whole_at frame.read bytes ≡ option_map plain (result_ok r)
+    → Decodes r (whole_at frame.read bytes)
     → IfOk r (λ f. Fits (plain f) × (bytes ≡ spelling (plain f)))
 unfolding spelling
 is_found bytes (Err e) are read = tt
 is_found bytes (Ok f) are read = whole_takes frame frame_sound bytes (plain f) are read
 
 pub is_read : (bytes : List ℕ) (r : Result Frame Refusal) (f : Plain)
-    → whole_at frame.read bytes ≡ option_map plain (result_ok r) → Fits f → bytes ≡ spelling f
-    → IsOkAnd r (λ x. plain x ≡ f)
+    → Decodes r (whole_at frame.read bytes) → Fits f → bytes ≡ spelling f → IsDecoded f r
 unfolding spelling
 is_read bytes r f read fits same =
-    read_is r (sym read ∙ ap (whole_at frame.read) same ∙ whole_again frame frame_sound f fits)
+    read_is r (subst (Decodes r)
+    (ap (whole_at frame.read) same ∙ whole_again frame frame_sound f fits) read)
   where
-    read_is : (p : Result Frame Refusal) → option_map plain (result_ok p) ≡ Some f
-        → IsOkAnd p (λ x. plain x ≡ f)
-    read_is (Err e) h = absurd cc
+    read_is : (p : Result Frame Refusal) → Decodes p (Some f) → IsDecoded f p
+    read_is (Err e) h = h
     read_is (Ok x) h = cc
+
+pub is_refused : (r : Result Frame Refusal) (o : Option Plain) → Decodes r o
+    → IfErr r (λ e. e ≢ Memory → e ≡ BadFrame)
+is_refused (Ok f) o read = tt
+is_refused (Err e) None read = λ other. read
+is_refused (Err e) (Some f) read = λ other. absurd (other read.0)
+
+-- memory runs out only at a letter
+pub is_letter_then : (bytes : List ℕ) (r : Result Frame Refusal) → IsBytes bytes
+    → Decodes r (whole_at frame.read bytes) → IfErr r (λ e. e ≡ Memory → SpellLetter bytes)
+unfolding spelling
+is_letter_then bytes (Ok f) are read = tt
+is_letter_then bytes (Err e) are read = by (whole_at frame.read bytes) refl read
+  where
+    by : (o : Option Plain) → whole_at frame.read bytes ≡ o → Decodes (Err e) o → e ≡ Memory
+        → SpellLetter bytes
+    by None is h = λ lacks. absurd cc
+    by (Some f) is h =
+        let took = whole_takes frame frame_sound bytes f are is in
+        λ lacks. (f, took.0, h.1, took.1)
 
 -- ---- the law
 

@@ -1,4 +1,7 @@
+pub mod Bodies
 pub mod Formats
 pub mod Frames
+mod Heads
 pub mod Joins
+pub mod Wholes
 pub mod Written

@@ -1,7 +1,7 @@
 -- How the parts of frames are spelled.
-use Rattle.std.specs.Prelude.{ℕ, Bool, true, false, ◌&&◌, not, List, [], ◌∷◌, Option}
+use Rattle.std.specs.Prelude.{ℕ, ◌≡◌, ◌<◌, ◌^◌, ⊤, length, Bool, true, false, ◌&&◌, not, List, [], ◌∷◌, ◌++◌, Option}
 use Rattle.codec.specs.Formats.{Format, Reader, Behind, byte, number4, number8, signed8, nothing}
-use Rattle.codec.specs.Formats.{mapped, ◌&◌, kept, tag, tagged, made_at, option}
+use Rattle.codec.specs.Formats.{mapped, ◌&◌, kept, tag, tagged, made_at, option, counted, bytes4}
 use Rattle.ids.specs.declared.names.Ref.{Ref}
 use Rattle.msg.specs.declared.body.Body.{Body}
 use Rattle.msg.specs.declared.body.Body.TheVariants as body
@@ -52,16 +52,37 @@ put v = reference v & byte & optional v
 abbrev pub get : Version → Format (Ref × (ℕ × ℕ))
 get v = reference v & byte & number4
 
+-- a label, references and bytes
+abbrev pub post : Version → Format (ℕ × (List (Option Ref) × List ℕ))
+post v = number4 & counted byte (optional v) & bytes4
+
+-- an object, a label, an offset, and a number of bytes
+abbrev pub fetch : Version → Format (Ref × (ℕ × (ℕ × ℕ)))
+fetch v = reference v & number4 & number4 & number4
+
+-- a body that such a space has
+abbrev pub IsFor : Bool → Body → Type 0
+IsFor wide (body.Post label rs bytes) = wide ≡ true
+IsFor wide (body.Fetch target label offset count) = wide ≡ true
+IsFor wide b = ⊤
+
 -- a tag and what the body says
-abbrev pub body_tag : Version → Body → Behind
-body_tag v body.Begin = tag 1 nothing tt
-body_tag v (body.Token t) = tag 2 token t
-body_tag v (body.Mark target) = tag 3 (reference v) target
-body_tag v (body.Give label r) = tag 4 (give v) (label, r)
-body_tag v (body.Put target place r) = tag 5 (put v) (target, (place, r))
-body_tag v (body.Get target place label) = tag 6 (get v) (target, (place, label))
-body_tag v body.Ended = tag 7 nothing tt
-body_tag v body.Swept = tag 8 nothing tt
+abbrev pub said : Version → Body → Behind
+said v body.Begin = tag 1 nothing tt
+said v (body.Token t) = tag 2 token t
+said v (body.Mark target) = tag 3 (reference v) target
+said v (body.Give label r) = tag 4 (give v) (label, r)
+said v (body.Put target place r) = tag 5 (put v) (target, (place, r))
+said v (body.Get target place label) = tag 6 (get v) (target, (place, label))
+said v body.Ended = tag 7 nothing tt
+said v body.Swept = tag 8 nothing tt
+said v (body.Post label rs bytes) = tag 9 (post v) (label, (rs, bytes))
+said v (body.Fetch target label offset count) =
+    tag 10 (fetch v) (target, (label, (offset, count)))
+
+-- the same, of a body that a wide space or a plain one has
+abbrev pub body_tag : Bool → Version → Body → Behind
+body_tag wide v b = record (said v b) { is_within = IsFor wide b × (said v b).is_within }
 
 unfoldable pub give_at : Version → Reader Body
 give_at v bytes = made_at (give v) (λ x. body.Give x.0 x.1) bytes
@@ -72,8 +93,15 @@ put_at v bytes = made_at (put v) (λ x. body.Put x.0 x.1.0 x.1.1) bytes
 unfoldable pub get_at : Version → Reader Body
 get_at v bytes = made_at (get v) (λ x. body.Get x.0 x.1.0 x.1.1) bytes
 
-abbrev pub bodies : Version → List (ℕ × Reader Body)
-bodies v =
+unfoldable pub post_at : Version → Reader Body
+post_at v bytes = made_at (post v) (λ x. body.Post x.0 x.1.0 x.1.1) bytes
+
+unfoldable pub fetch_at : Version → Reader Body
+fetch_at v bytes = made_at (fetch v) (λ x. body.Fetch x.0 x.1.0 x.1.1.0 x.1.1.1) bytes
+
+-- what every space has
+abbrev pub plain_bodies : Version → List (ℕ × Reader Body)
+plain_bodies v =
     (1, made_at nothing (λ _. body.Begin))
     ∷ (2, made_at token body.Token)
     ∷ (3, made_at (reference v) body.Mark)
@@ -84,8 +112,21 @@ bodies v =
     ∷ (8, made_at nothing (λ _. body.Swept))
     ∷ []
 
-unfoldable pub body_format : Version → Format Body
-body_format v = tagged (body_tag v) (bodies v)
+-- what only wide spaces have
+abbrev pub wide_bodies : Version → List (ℕ × Reader Body)
+wide_bodies v = (9, post_at v) ∷ (10, fetch_at v) ∷ []
+
+abbrev pub bodies : Bool → Version → List (ℕ × Reader Body)
+bodies true v = plain_bodies v ++ wide_bodies v
+bodies false v = plain_bodies v
+
+unfoldable pub body_format : Bool → Version → Format Body
+body_format wide v = tagged (body_tag wide v) (bodies wide v)
+
+-- one byte says how many references the body has
+abbrev pub IsCounted : Body → Type 0
+IsCounted (body.Post label rs bytes) = length rs < 2 ^ 8
+IsCounted b = ⊤
 
 -- ---- what follows a frame's first byte, in the second version
 
@@ -104,7 +145,7 @@ abbrev pub sent_fits : Sent → Bool
 sent_fits x = data_fits x.0.0 x.0.1.0 x.0.1.1 x.1.0 x.1.1
 
 unfoldable pub sent : Format Sent
-sent = kept (head & number8 & body_format Second) sent_fits
+sent = kept (head & number8 & body_format true Second) sent_fits
 
 -- A message belongs behind the first byte of those for which plain spaces have room, or behind that
 -- of the others.
@@ -116,7 +157,7 @@ abbrev pub is_framed : Bool → Sent → Bool
 is_framed plain x = sent_fits x && is_behind plain x.1.1
 
 unfoldable pub framed : Bool → Format Sent
-framed plain = kept (head & number8 & body_format Second) (is_framed plain)
+framed plain = kept (head & number8 & body_format (not plain) Second) (is_framed plain)
 
 abbrev pub head_fits : Head → Bool
 head_fits x = ack_fits x.0 x.1.0 x.1.1

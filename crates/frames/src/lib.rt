@@ -3,8 +3,9 @@
 //!
 //! A frame is all of its bytes, and its numbers are big-endian. An acknowledgement is the byte 42
 //! hex, the node that acknowledges and the other node in a byte each, and a number in eight bytes.
-//! A message is the byte 45 hex, the sender and the receiver in a byte each, the message's number
-//! in eight bytes, its stamp in eight bytes, and a body: a tag, and what the body says.
+//! A message is the byte 45 hex, or 46 if plain spaces have no room for it; the sender and the
+//! receiver in a byte each; the message's number in eight bytes; and its stamp in eight bytes. Then
+//! comes a body: a tag, and what the body says.
 //!
 //! | Tag | Body | What it says |
 //! |---|---|---|
@@ -16,6 +17,8 @@
 //! | 6 | Get | a reference, a place in one byte, and a label in four bytes |
 //! | 7 | Ended | |
 //! | 8 | Swept | |
+//! | 9 | Post | a label in four bytes, how many references in one byte, each of them optional, how many bytes in four bytes, and these |
+//! | 10 | Fetch | a reference, and a label, an offset and a count in four bytes each |
 //!
 //! A reference is its node in one byte, its slot in four and its generation in eight. An optional
 //! reference is the byte 0, or the byte 1 and a reference. In the first [`Version`], which only

@@ -33,6 +33,12 @@ pub const ENDED: u8 = 7;
 /// Says that the sender has swept.
 pub const SWEPT: u8 = 8;
 
+/// Before a letter with references and bytes, of a wide space.
+pub const POST: u8 = 9;
+
+/// Before a request for a word and bytes, of a wide space.
+pub const FETCH: u8 = 10;
+
 /// In place of a reference that is absent.
 pub const ABSENT: u8 = 0;
 

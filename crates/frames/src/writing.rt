@@ -1,25 +1,32 @@
-//! Writes frames as bytes. Each frame has one spelling. It is put together in a piece, which
-//! allocates nothing.
-ghost use Rattle.std.specs.Prelude.{◌≡◌, ◌≤◌, ◌+◌, ◌∷◌, ◌++◌, length, IfOk, IfErr};
+//! Writes frames as bytes. Each frame has one spelling. A frame without bytes is put together in a
+//! piece, which allocates nothing. Frames with references and bytes go through a writer.
+ghost use Rattle.std.specs.Prelude.{◌≡◌, ◌<◌, ◌≤◌, ◌+◌, ◌^◌, ◌∷◌, ◌++◌, length, IfOk, IfErr};
+ghost use Rattle.std.specs.Prelude.{Bool, true, false, not};
 ghost use Rattle.ids.specs.declared.refusal.Refusal.TheVariants.{Memory};
 ghost use Rattle.codec.specs.Formats.{number4, number8};
 ghost use Rattle.codec.specs.Pieces.{Adds};
-ghost use Rattle.codec.specs.Writing.{Puts, Writes};
+ghost use Rattle.codec.specs.Writing.{Puts, PutsAll, Writes};
 ghost use Rattle.codec.specs.declared.piece.TheConstants.{GREATEST_PIECE};
 ghost use Rattle.frames.specs.Formats.{reference, optional, colour, token, body_format, head};
+ghost use Rattle.frames.specs.Formats.{IsCounted};
 ghost use Rattle.frames.specs.declared.version.Version.TheVariants.{Second};
-ghost use Rattle.frames.specs.Grammar.{Fits, spelling, frame};
+ghost use Rattle.frames.specs.Grammar.{Fits, spelling, frame, first_byte, is_letter};
 ghost use Rattle.msg.specs.Frames.{plain_ack, plain_data_ref, plain_ref};
+ghost use Rattle.msg.specs.Limits.{is_plain_body, is_post};
+ghost use Rattle.msg.specs.declared.body.Body.TheVariants as body;
 
 use crate::tags::{
-    ABSENT, ACK, BEGIN, BLACK, DATA, ENDED, GET, GIVE, MARK, PRESENT, PUT, SWEPT, TOKEN, WHITE,
-    WIDE_DATA,
+    ABSENT, ACK, BEGIN, BLACK, DATA, ENDED, FETCH, GET, GIVE, MARK, POST, PRESENT, PUT, SWEPT,
+    TOKEN, WHITE, WIDE_DATA,
 };
 use byteorder::{BigEndian, ByteOrder};
 use codec::{Piece, Writer};
 use ids::{Ref, Refusal};
 use msg::{Ack, Body, Colour, DataRef, FrameRef, Token, is_plain_body};
 use std::alloc::Global;
+
+/// How many bytes a frame has at most that is no letter with references and bytes.
+pub const GREATEST_SHORT: usize = 48;
 
 // A reference after a tag.
 #[tactic(auto, unfolding(crate::specs::Numbers::number4, crate::specs::Numbers::number8))]
@@ -126,11 +133,54 @@ fn put_token(out: &mut Writer, t: Token)
     out.piece(piece);
 }
 
+// Appends optional references one after another.
+#[tactic(auto, using(crate::proofs::Joins::unwritten, crate::proofs::Joins::written_more))]
+fn put_references(out: &mut Writer, references: &[Option<Ref>])
+    ensures { PutsAll (optional Second) out.old out.new references.now }
+{
+    for reference in references {
+        put_optional(out, *reference);
+    }
+}
+
+// Appends a tag and a letter with references and bytes. (The writer isn't borrowed, so in the
+// caller it stays in registers.)
+#[tactic(auto, unfolding(crate::specs::Formats::body_format), using(crate::proofs::Joins::behind, crate::proofs::Joins::both, crate::proofs::Joins::first))]
+#[inline(never)]
+fn put_post(out: Writer, label: u32, references: &[Option<Ref>], bytes: &[u8]) -> Writer
+    requires { length references.now < 2 ^ 8 }
+    ensures { Puts (body_format true Second) out result
+        (body.Post label references.now bytes.now) }
+{
+    let mut out = out;
+    out.u8(POST);
+    out.u32(label);
+    out.u8(references.len() as u8);
+    put_references(&mut out, references);
+    out.bytes(bytes);
+    out
+}
+
+// Appends a tag and a Fetch. (As with a letter, the writer isn't borrowed.)
+#[tactic(auto, unfolding(crate::specs::Formats::body_format), using(crate::proofs::Joins::behind, crate::proofs::Joins::both))]
+#[inline(never)]
+fn put_fetch(out: Writer, target: Ref, label: u32, offset: u32, count: u32) -> Writer
+    ensures { Puts (body_format true Second) out result (body.Fetch target label offset count) }
+{
+    let mut out = out;
+    put_tagged(&mut out, FETCH, target);
+    out.u32(label);
+    out.u32(offset);
+    out.u32(count);
+    out
+}
+
 /// Appends a tag and what the message says.
 #[tactic(auto, unfolding(crate::specs::Formats::body_format), using(crate::proofs::Joins::behind, crate::proofs::Joins::both, crate::proofs::Joins::first))]
 #[inline(always)]
 pub fn put_body(out: &mut Writer, body: &Body)
-    ensures { Puts (body_format Second) out.old out.new body.now }
+    requires { IsCounted body.now }
+    ensures { (wide : Bool) → Puts (body_format wide Second) out.old out.new body.now }
 {
     match *body {
         Body::Begin => out.u8(BEGIN),
@@ -162,17 +212,30 @@ pub fn put_body(out: &mut Writer, body: &Body)
             out.u8(place);
             out.u32(label);
         }
+        Body::Post {
+            label,
+            ref references,
+            ref bytes,
+        } => *out = put_post(out.take(), label, references.as_slice(), bytes.as_slice()),
+        Body::Fetch {
+            target,
+            label,
+            offset,
+            count,
+        } => *out = put_fetch(out.take(), target, label, offset, count),
         Body::Ended => out.u8(ENDED),
         Body::Swept => out.u8(SWEPT),
     }
 }
 
-/// Appends a tag and what the message says to the piece, which must have room for them.
+/// Appends a tag and what the message says to the piece, which must have room for them. A letter
+/// with references and bytes has none in a piece; see [`put_body`].
 #[tactic(auto, unfolding(crate::specs::Formats::body_format), using(crate::proofs::Joins::gained))]
 #[inline(always)]
 pub fn add_body(piece: &mut Piece, body: &Body)
-    requires { length piece.old + 29 ≤ GREATEST_PIECE }
-    ensures { Adds (body_format Second) 29 piece.old piece.new body.now }
+    requires room { length piece.old + 29 ≤ GREATEST_PIECE }
+    requires short { is_post body.now ≡ false }
+    ensures { (wide : Bool) → Adds (body_format wide Second) 29 piece.old piece.new body.now }
 {
     match *body {
         Body::Begin => piece.u8(BEGIN),
@@ -209,6 +272,19 @@ pub fn add_body(piece: &mut Piece, body: &Body)
             piece.u8(place);
             piece.u32(label);
         }
+        Body::Post { .. } => unreachable!(),
+        Body::Fetch {
+            target,
+            label,
+            offset,
+            count,
+        } => {
+            piece.u8(FETCH);
+            add_reference(piece, target);
+            piece.u32(label);
+            piece.u32(offset);
+            piece.u32(count);
+        }
         Body::Ended => piece.u8(ENDED),
         Body::Swept => piece.u8(SWEPT),
     }
@@ -225,17 +301,40 @@ fn add_head(piece: &mut Piece, from: u8, to: u8, number: u64)
     piece.u64(number);
 }
 
-#[tactic(auto, unfolding(crate::specs::Grammar::frame, crate::specs::Formats::framed), using(crate::proofs::Joins::gained))]
+// Whether the message is no letter with references and bytes.
+fn is_short_body(body: &Body) -> bool
+    ensures { result ≡ not (is_post body.now) }
+{
+    !matches!(body, Body::Post { .. })
+}
+
+/// Whether the frame has at most [`GREATEST_SHORT`] bytes, so that a piece has room for it: it is
+/// no letter with references and bytes. All frames of plain spaces are short.
+#[inline(always)]
+pub fn is_short(f: &FrameRef) -> bool
+    ensures { result ≡ not (is_letter (plain_ref f.now)) }
+{
+    match f {
+        FrameRef::Data(message) => is_short_body(message.body),
+        FrameRef::Ack(_) => true,
+    }
+}
+
+// The first byte of a message.
+#[inline(always)]
+fn first_byte(body: &Body) -> u8
+    ensures { result ≡ first_byte (is_plain_body body.now) }
+{
+    if is_plain_body(body) { DATA } else { WIDE_DATA }
+}
+
 #[inline(always)]
 fn add_data(piece: &mut Piece, message: &DataRef)
-    requires { length piece.old + 48 ≤ GREATEST_PIECE }
+    requires room { length piece.old + 48 ≤ GREATEST_PIECE }
+    requires short { is_post message.now.body.now ≡ false }
     ensures { Adds frame 48 piece.old piece.new (plain_data_ref message.now) }
 {
-    piece.u8(if is_plain_body(message.body) {
-        DATA
-    } else {
-        WIDE_DATA
-    });
+    piece.u8(first_byte(message.body));
     add_head(piece, message.from, message.to, message.number);
     piece.u64(message.stamp);
     add_body(piece, message.body);
@@ -250,11 +349,13 @@ fn add_ack(piece: &mut Piece, ack: &Ack)
     add_head(piece, ack.by, ack.of, ack.number);
 }
 
-/// Appends the bytes that spell the frame to the piece, which must have room for them.
+/// Appends the bytes that spell the frame to the piece, which must have room for them. The frame
+/// must be short; see [`is_short`].
 #[tactic(auto, unfolding(crate::specs::Grammar::spelling), using(crate::proofs::Written::frame_fits))]
 #[inline(always)]
 pub fn add_frame(piece: &mut Piece, f: &FrameRef)
-    requires { length piece.old + 48 ≤ GREATEST_PIECE }
+    requires room { length piece.old + 48 ≤ GREATEST_PIECE }
+    requires short { is_letter (plain_ref f.now) ≡ false }
     ensures spelled { piece.new ≡ piece.old ++ spelling (plain_ref f.now) }
     ensures fits { Fits (plain_ref f.now) }
 {
@@ -262,6 +363,55 @@ pub fn add_frame(piece: &mut Piece, f: &FrameRef)
         FrameRef::Data(message) => add_data(piece, message),
         FrameRef::Ack(ack) => add_ack(piece, ack),
     }
+}
+
+#[tactic(auto, unfolding(crate::specs::Formats::head))]
+fn put_head(out: &mut Writer, from: u8, to: u8, number: u64)
+    ensures { Puts head out.old out.new (from, (to, number)) }
+{
+    let mut piece = Piece::new();
+    add_head(&mut piece, from, to, number);
+    out.piece(piece);
+}
+
+/// Appends the bytes that spell the frame of a message.
+pub fn put_data(out: &mut Writer, message: &DataRef)
+    ensures { Puts frame out.old out.new (plain_data_ref message.now) }
+{
+    out.u8(first_byte(message.body));
+    put_head(out, message.from, message.to, message.number);
+    out.u64(message.stamp);
+    put_body(out, message.body);
+}
+
+// How many bytes a letter's frame has besides its references and bytes.
+const LETTER_BYTES: usize = 29;
+
+// How many bytes an optional reference has at most.
+const REFERENCE_BYTES: usize = 14;
+
+// How many bytes the message's frame has at most.
+fn most_bytes(message: &DataRef) -> usize {
+    match message.body {
+        Body::Post {
+            references,
+            bytes,
+            ..
+        } => LETTER_BYTES + references.len() * REFERENCE_BYTES + bytes.len(),
+        _ => GREATEST_SHORT,
+    }
+}
+
+// The bytes that spell the frame of a message of any length.
+#[inline(never)]
+fn encode_data(alloc: Global, message: &DataRef) -> Result<Vec<u8>, Refusal>
+    ensures spelled { IfOk result (λ v. Fits (plain_data_ref message.now)
+        × (v.items ≡ spelling (plain_data_ref message.now))) }
+    ensures refused { IfErr result (λ e. e ≡ Memory) }
+{
+    let mut out = Writer::new(Vec::new(alloc), None, most_bytes(message));
+    put_data(&mut out, message);
+    out.finish()
 }
 
 /// The bytes that spell the frame.
@@ -274,6 +424,11 @@ pub fn encode(alloc: Global, f: &FrameRef) -> Result<Vec<u8>, Refusal>
         (λ v. Fits (plain_ref f.now) × (v.items ≡ spelling (plain_ref f.now))) }
     ensures refused { IfErr result (λ e. e ≡ Memory) }
 {
+    if let FrameRef::Data(message) = f
+        && !is_short_body(message.body)
+    {
+        return encode_data(alloc, message);
+    }
     let mut piece = Piece::new();
     add_frame(&mut piece, f);
     Ok(Vec::from_slice(alloc, piece.as_slice())?)

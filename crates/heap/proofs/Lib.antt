@@ -8,4 +8,5 @@ mod Growing
 mod Reclaims
 mod Settles
 mod Shades
+mod Taking
 mod Writes

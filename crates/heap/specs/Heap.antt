@@ -1,9 +1,10 @@
 -- The view of a `Heap` that contracts use.
-use Rattle.std.specs.Prelude.{◌≡◌, ℕ, ◌+◌, ◌≤◌, Bool, false, List, length, Result, slice_index_or, slice_set, ⊤}
+use Rattle.std.specs.Prelude.{◌≡◌, ℕ, ◌+◌, ◌≤◌, Bool, false, List, [], ◌∷◌, length, Option, Result, slice_index_or, slice_set, ⊤}
 pub use Rattle.arena.specs.Arena.{Has, Once}
 use Rattle.arena_slot.specs.declared.Slot as stored
 use Rattle.arena_slot.specs.declared.Slot.TheVariants as variant
 use Rattle.ids.specs.Limits.{Shaped}
+use Rattle.ids.specs.declared.names.Ref.{Ref}
 use Rattle.ids.specs.declared.refusal.Refusal.{Refusal}
 use Rattle.model.specs.declared.age.Scope.{Scope}
 use Rattle.model.specs.State.{Object, Slot, Free, Occupied, Retired, Heap, slot_at}
@@ -42,6 +43,11 @@ pub record Became (before after : HeapView) (h : Heap) (most : ℕ) : Type 0 whe
   pub limit : after.limit ≡ before.limit
   pub room : before.room ≤ after.room + most
   pub letter_room : after.letter_room ≡ before.letter_room
+
+-- as how many a letter with these references waits
+abbrev pub entries : List (Option Ref) → ℕ
+entries [] = 1
+entries (r ∷ rs) = length rs + 1
 
 abbrev pub IsFree : Slot → Type 0
 IsFree (Free g) = ⊤

@@ -30,6 +30,12 @@ pub const GREATEST_PLACES: u8 = 255;
 /// The greatest number of bytes of an object in any space; in a plain space, objects have none.
 pub const GREATEST_BYTES: u32 = 16_777_216;
 
+/// The greatest number of bytes of a letter in any space; in a plain space, letters have none.
+pub const GREATEST_LETTER: u32 = 65_535;
+
+/// How many bytes an object's word takes in the letter that answers a Fetch.
+pub const WORD_BYTES: u32 = 8;
+
 /// Counts the objects of a slot: 1 for its first object.
 pub type Generation = u64;
 

@@ -1,10 +1,10 @@
 -- A well-formed node has an image if all of its numbers fit into their fields and the image isn't
 -- too long: that of the node as it is after a save.
-use Rattle.std.proofs.Common.{◌≡◌, ℕ, ◌-◌, ◌<◌, ◌≤◌, ◌==◌, Bool, true, false, cond, List, [], ◌∷◌, length}
+use Rattle.std.proofs.Common.{◌≡◌, ℕ, suc, ◌+◌, ◌-◌, ◌<◌, ◌≤◌, ◌==◌, Bool, true, false, cond, List, [], ◌∷◌, length}
 use Rattle.std.proofs.Common.{map, drop, replicate, get_or, Option, Some, None, refl, sym, ap, ◌∙◌}
 use Rattle.std.proofs.Common.{arith, subst}
 use Rattle.std.specs.Prelude.{option_to_list, IsTrue, Result, Ok, Err, OnOk}
-use Rattle.std.specs.List.{AllByRecursion, zip, remove}
+use Rattle.std.specs.List.{AllByRecursion, list_all, zip, remove}
 use Rattle.std.proofs.lemmas.Bool.{and_from, cond_both, eqb-false, lt-ltb, le-leb}
 use Rattle.std.proofs.lemmas.List.{length-drop, length-replicate, ext_get_or, nil_from_length}
 use Rattle.std.proofs.lemmas.List.Edits.{length-remove}
@@ -14,7 +14,7 @@ use Rattle.std.proofs.lemmas.Slice.Zip.{length-zip, get_or-zip, firsts-zip, seco
 use Rattle.ids.specs.Limits.{Shaped, IsShape, reference_fits}
 use Rattle.ids.specs.declared.names.Ref.{Ref}
 use Rattle.ids.specs.declared.limits.TheConstants.{GREATEST_NODES, GREATEST_SLOTS, GREATEST_PLACES}
-use Rattle.ids.specs.declared.limits.TheConstants.{GREATEST_BYTES, PLAIN_PLACES}
+use Rattle.ids.specs.declared.limits.TheConstants.{GREATEST_BYTES, GREATEST_LETTER, PLAIN_PLACES, WORD_BYTES}
 use Rattle.ids.specs.declared.refusal.Refusal.{Refusal}
 use Rattle.heap.specs.Heap.{slot_of}
 use Rattle.model.proofs.Lookups.{get_or-replicate_any}
@@ -24,11 +24,13 @@ use Rattle.model.specs.Heaps.{no_letter}
 use Rattle.model.specs.References.{IfAny, IsWithin, IsSendable, IsPlaced, no_message}
 use Rattle.model.specs.Steps.{mentioned}
 use Rattle.model.specs.View.{Link, NodeView, no_link, all_kept, kept_view}
-use Rattle.model.specs.WellFormed.{IsSlotOf, AreReports}
+use Rattle.model.specs.Shading.{filled}
+use Rattle.model.specs.WellFormed.{AreLetters, IsSlotOf, AreReports}
 use Rattle.msg.specs.declared.body.Body.{Body}
 use Rattle.msg.specs.declared.body.Body.TheVariants as body
 use Rattle.msg.specs.declared.body.Message.{Message}
 use Rattle.msg.specs.declared.body.Token.{Token}
+use Rattle.frames.specs.Formats.{IsFor}
 use Rattle.frames.specs.declared.version.Version.{Version}
 use Rattle.frames.specs.declared.version.Version.TheVariants.{Second}
 use Rattle.msg.specs.Limits.{optional_fits, place_fits, body_fits}
@@ -36,7 +38,7 @@ use Rattle.node.specs.Invariant.{AllSendable, IsNode, IsStanding}
 use Rattle.frames.proofs.Written.{any_colour, any_token, any_reference, any_optional, any_body}
 use Rattle.codec.proofs.Growing.{each}
 use Rattle.codec.specs.Formats.{number2, number4, number8, signed8, bytes4}
-use Rattle.image_parts.specs.Grammar.{Fits, near, near_optional, letter_format, slot_format}
+use Rattle.image_parts.specs.Grammar.{Fits, near, near_optional, letter_format, more_format, slot_format}
 use Rattle.image_parts.specs.Grammar.{bytes_format, parts_format, parts_of, places_format, width_format}
 use Rattle.image_parts.specs.Grammar.{message_format}
 use Rattle.image_parts.specs.Grammar.{link_format, held_format, nodes_format, head_format}
@@ -55,6 +57,20 @@ use Rattle.image.proofs.Conditions.{standing_saved}
 use Rattle.image_parts.proofs.Tagged.{object_within}
 use Rattle.image_parts.proofs.Kept.{count_stored, stored_there}
 use Rattle.image.proofs.Elements.{every, all_from, all_remove, put_back}
+
+-- ---- what follows from the kind of the space
+
+placed_for : (shape : Shaped) (b : Body) → IsPlaced shape b → IsFor shape.wide b
+placed_for shape body.Begin placed = tt
+placed_for shape (body.Token token) placed = tt
+placed_for shape (body.Mark target) placed = tt
+placed_for shape (body.Give label o) placed = tt
+placed_for shape (body.Put target place o) placed = tt
+placed_for shape (body.Get target place label) placed = tt
+placed_for shape (body.Post label os bytes) placed = placed.0
+placed_for shape (body.Fetch target label offset count) placed = placed.0
+placed_for shape body.Ended placed = tt
+placed_for shape body.Swept placed = tt
 
 -- ---- within the limits
 
@@ -117,6 +133,13 @@ module _ (shape : Shaped) (sizes : IsShape shape) where
   any_near None is = refl
   any_near (Some r) is = reference r is.0
 
+  all_near : (os : List (Option Ref)) → AllByRecursion (IsWithin shape) (filled os)
+      → list_all optional_fits os ≡ true
+  all_near [] is = refl
+  all_near (None ∷ os) is = all_near os is
+  all_near (Some r ∷ os) is =
+      and_from (reference_fits r) (list_all optional_fits os) (reference r is.0) (all_near os is.1)
+
   one_place : (target : Ref) (place : ℕ) → IsWithin shape target → place < shape.places
       → IsTrue (place_fits target place)
   one_place target place is placed = and_from _ _ (reference target is)
@@ -131,22 +154,57 @@ module _ (shape : Shaped) (sizes : IsShape shape) where
   one_body (body.Put target place o) is placed =
       and_from _ _ (one_place target place is.0 placed) (any_near o is.1)
   one_body (body.Get target place label) is placed = one_place target place is.0 placed
+  one_body (body.Post label os bytes) is placed =
+      and_from _ _ (le-leb (length os) GREATEST_PLACES (omega (arith, placed.1, sizes.most_places)))
+      (and_from _ _ (le-leb (length bytes) GREATEST_LETTER placed.2) (all_near os is))
+  one_body (body.Fetch target label offset count) is placed =
+      and_from _ _ (reference target is.0)
+      (le-leb (WORD_BYTES + count) GREATEST_LETTER placed.1)
   one_body body.Ended is placed = refl
   one_body body.Swept is placed = refl
 
   messages : (xs : List Message) → ((k : ℕ) → IsSendable shape (get_or xs k no_message))
-      → AllByRecursion (message_format Second).IsWithin xs
+      → AllByRecursion (message_format shape.wide Second).IsWithin xs
   unfolding message_format number8
   messages =
-      all_from (IsSendable shape) no_message (message_format Second).IsWithin
-      (λ x is. (tt, (any_body Second x.body, one_body x.body is.references is.place)))
+      all_from (IsSendable shape) no_message (message_format shape.wide Second).IsWithin
+      (λ x is. (
+        tt,
+        (
+          any_body shape.wide Second x.body (placed_for shape x.body is.place),
+          one_body x.body is.references is.place,
+        ),
+      ))
+
+  -- ---- letters
+
+  -- only in wide spaces letters have several references, or bytes
+  all_more : (wide : Bool) → shape.wide ≡ wide → (l : Letter)
+      → (shape.wide ≡ false → (l.more ≡ 0) × (l.bytes ≡ []))
+      → (more_format wide).IsWithin (l.more, l.bytes)
+  unfolding bytes4 number4
+  all_more true is l plain = (tt, (tt, refl))
+  all_more false is l plain =
+      let none = plain is in
+      ap (λ (n : ℕ). (n, l.bytes)) none.0 ∙ ap (λ (b : List ℕ). (0, b)) none.1
+
+  letters : (own : ℕ) (ls : List Letter) → AreLetters shape own ls
+      → ((k : ℕ) → IfAny (IsWithin shape) (get_or ls k no_letter).reference)
+      → AllByRecursion (letter_format shape.wide Second).IsWithin ls
+  unfolding letter_format number4
+  letters own [] are references = tt
+  letters own (l ∷ ls) are references = (
+    (tt, (tt, (optional l.reference (references 0), all_more shape.wide refl l are.1.1))),
+    letters own ls are.2 (λ k. references (suc k)),
+  )
 
   others : (own : ℕ) (links : List Link) (got : List ℕ) → length got ≡ length links
       → AllSendable shape links
-      → AllByRecursion (link_format Second).IsWithin (remove (stored_links links got) own)
+      → AllByRecursion (link_format shape.wide Second).IsWithin
+      (remove (stored_links links got) own)
   unfolding link_format number4 number8
   others own links got same is =
-      let W = (link_format Second).IsWithin in
+      let W = (link_format shape.wide Second).IsWithin in
       all_remove W (stored_links links got) own
       (All-map W stored_link (zip links got)
       (All-from_get_or (λ x. W (stored_link x)) (zip links got) (no_link, 0)
@@ -275,7 +333,7 @@ module _ (n : NodeView) (is : IsNode n) where
 
   listed : (lists_format n.local.shape.wide Second (front_of (stored_by n))).IsWithin
       (told_of (stored_by n), (slots_of (stored_by n), others_of (stored_by n)))
-  unfolding lists_format told_format slots_format others_format letter_format number4 number8
+  unfolding lists_format told_format slots_format others_format number4 number8
   listed =
       let p = n.local in
       let heap = p.heap in
@@ -294,11 +352,8 @@ module _ (n : NodeView) (is : IsNode n) where
       each (IsWithin p.shape) (near Second).IsWithin
       (λ r within. (any_reference Second r, reference p.shape is.shape r within)) p.asked
       is.asked.within in
-      let letters =
-      all_from (λ (l : Letter). IfAny (IsWithin p.shape) l.reference) no_letter
-      (letter_format Second).IsWithin
-      (λ l within. (tt, (tt, optional p.shape is.shape l.reference within))) heap.letters
-      is.references.letters in
+      let waiting =
+      letters p.shape is.shape p.own heap.letters is.stocked.letters is.references.letters in
       let width : length (remove (stored_links n.links p.got) p.own) ≡ p.shape.nodes - 1 = omega (
         arith,
         own_inside,
@@ -310,7 +365,7 @@ module _ (n : NodeView) (is : IsNode n) where
         ((told, reports), (is.stocked.registers, registers)),
         (
           ((tt, (refl, slots)), ((tt, (refl, free)), (tt, (refl, grey)))),
-          ((tt, (refl, asked)), ((tt, (refl, letters)), (width, links))),
+          ((tt, (refl, asked)), ((tt, (refl, waiting)), (width, links))),
         ),
       )
 

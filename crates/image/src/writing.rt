@@ -40,11 +40,12 @@ fn put_stored(out: &mut Writer, node: &Core)
         registers: heap.registers().len() as u16,
         slots: state.shape.slots(),
     };
+    let wide = state.shape.is_wide();
     put_front(out, &head, node.phases(), node.ring());
     put_others_reports(out, node);
     put_registers(out, heap.registers());
-    put_slots(out, state.shape.is_wide(), heap);
-    put_others(out, &head, node.asked(), heap, node.links());
+    put_slots(out, wide, heap);
+    put_others(out, wide, &head, node.asked(), heap, node.links());
 }
 
 /// Appends the image of the node.

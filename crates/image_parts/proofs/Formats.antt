@@ -33,7 +33,7 @@ use Rattle.image_parts.specs.declared.layout.Layout.TheVariants as layout
 use Rattle.image_parts.specs.Grammar.{layouts, layout_format, Start, is_start, start_format, most_nodes}
 use Rattle.image_parts.specs.Grammar.{nodes_format, head_format}
 use Rattle.image_parts.specs.Grammar.{phases_format, held_format, ring_format, near, near_optional}
-use Rattle.image_parts.specs.Grammar.{near_body, width_format, places_format, no_bytes, bytes_format}
+use Rattle.image_parts.specs.Grammar.{near_body, width_format, places_format, always, bytes_format, more_format}
 use Rattle.image_parts.specs.Grammar.{Parts, parts_of, object_of, parts_format, occupied, only_wide_at}
 use Rattle.image_parts.specs.Grammar.{kind_tag, object_tag}
 use Rattle.image_parts.specs.Grammar.{occupied_at, slots_at, slot_format, letter_format, message_format}
@@ -93,17 +93,17 @@ slot_long wide v (slot.Occupied generation object) =
     object_long wide object.shared object.age v (generation, parts_of object)
 slot_long wide v slot.Retired = suc-le-suc zero-le
 
-pub letter_long : (v : Version) → IsLong (letter_format v)
+pub letter_long : (wide : Bool) (v : Version) → IsLong (letter_format wide v)
 unfolding letter_format
-letter_long v l = suc-le-suc zero-le
+letter_long wide v l = suc-le-suc zero-le
 
-pub message_long : (v : Version) → IsLong (message_format v)
+pub message_long : (wide : Bool) (v : Version) → IsLong (message_format wide v)
 unfolding message_format number8
-message_long v m = suc-le-suc zero-le
+message_long wide v m = suc-le-suc zero-le
 
-pub link_long : (v : Version) → IsLong (link_format v)
+pub link_long : (wide : Bool) (v : Version) → IsLong (link_format wide v)
 unfolding link_format number8
-link_long v l = suc-le-suc zero-le
+link_long wide v l = suc-le-suc zero-le
 
 -- ---- what the lists contain
 
@@ -113,21 +113,29 @@ near_grows = kept_grows _ _ reference_grows (λ _ is. is)
 near_optional_grows : Grows (near_optional First) (near_optional Second)
 near_optional_grows = kept_grows _ _ optional_grows (λ _ is. is)
 
-near_body_grows : Grows (near_body First) (near_body Second)
-near_body_grows = kept_grows _ _ body_grows (λ _ is. is)
+near_body_grows : (wide : Bool) → Grows (near_body wide First) (near_body wide Second)
+near_body_grows wide = kept_grows _ _ (body_grows wide) (λ _ is. is)
 
-none_takes : (bytes : List ℕ) (x : List ℕ × List ℕ) → IsBytes bytes
-    → no_bytes.read bytes ≡ Some x → Took no_bytes bytes x
-none_takes bytes x are e =
-    subst (Took no_bytes bytes) {x = ([], bytes)} (same_Some ([], bytes) x e)
-    (record { parts = refl; rest = are; fits = record { wide = tt; within = refl } })
+module _ {A : Type 0} (a : A) where
+  always_takes : (bytes : List ℕ) (x : A × List ℕ) → IsBytes bytes
+      → (always a).read bytes ≡ Some x → Took (always a) bytes x
+  always_takes bytes x are e =
+      subst (Took (always a) bytes) {x = (a, bytes)} (same_Some (a, bytes) x e)
+      (record { parts = refl; rest = are; fits = record { wide = tt; within = refl } })
+
+  always_sound : IsSound (always a)
+  always_sound = record {
+    takes = always_takes;
+    again = λ x rest fits. ap (λ (b : A). Some (b, rest)) (sym fits.within);
+  }
 
 bytes_sound : (wide : Bool) → IsSound (bytes_format wide)
 bytes_sound true = kept_sound _ _ bytes4_sound
-bytes_sound false = record {
-  takes = none_takes;
-  again = λ bytes rest fits. ap (λ (b : List ℕ). Some (b, rest)) (sym fits.within);
-}
+bytes_sound false = always_sound []
+
+more_sound : (wide : Bool) → IsSound (more_format wide)
+more_sound true = byte_sound ⊗ bytes4_sound
+more_sound false = always_sound (0, [])
 
 -- ---- slots, of a wide space or a plain one
 
@@ -243,15 +251,17 @@ module _ (wide : Bool) where
 
 -- ---- letters, messages and links
 
-letter_grows : Grows (letter_format First) (letter_format Second)
+letter_grows : (wide : Bool) → Grows (letter_format wide First) (letter_format wide Second)
 unfolding letter_format
-letter_grows =
-    mapped_grows _ _ (same byte_sound ⊛ same number4_sound ⊛ near_optional_grows)
+letter_grows wide =
+    mapped_grows _ _
+    (same byte_sound ⊛ same number4_sound ⊛ near_optional_grows ⊛ same (more_sound wide))
     (λ _. refl) (λ _. refl)
 
-message_grows : Grows (message_format First) (message_format Second)
+message_grows : (wide : Bool) → Grows (message_format wide First) (message_format wide Second)
 unfolding message_format
-message_grows = mapped_grows _ _ (same number8_sound ⊛ near_body_grows) (λ _. refl) (λ _. refl)
+message_grows wide =
+    mapped_grows _ _ (same number8_sound ⊛ near_body_grows wide) (λ _. refl) (λ _. refl)
 
 -- how many there are, and each of them
 all : {A : Type 0} (F : Version → Format A) → Grows (F First) (F Second)
@@ -259,11 +269,12 @@ all : {A : Type 0} (F : Version → Format A) → Grows (F First) (F Second)
     (counted number4 (F Second))
 all F g long = counted_grows g (long First) (long Second) number4 number4_sound
 
-link_grows : Grows (link_format First) (link_format Second)
+link_grows : (wide : Bool) → Grows (link_format wide First) (link_format wide Second)
 unfolding link_format
-link_grows =
+link_grows wide =
     mapped_grows _ _
-    (same number8_sound ⊛ all message_format message_grows message_long ⊛ same number8_sound)
+    (same number8_sound ⊛ all (message_format wide) (message_grows wide) (message_long wide)
+    ⊛ same number8_sound)
     (λ _. refl) (λ _. refl)
 
 -- ---- the whole
@@ -304,8 +315,9 @@ lists_grows wide f =
     (same (many_sound number8 number8_sound number8_long (reports_told f.0))
     ⊛ many_grows near_optional_grows (optional_long First) (optional_long Second) f.0.registers)
     ⊛ (all (slot_format wide) (slot_grows wide) (slot_long wide) ⊛ same numbers ⊛ same numbers)
-    ⊛ all near near_grows reference_long ⊛ all letter_format letter_grows letter_long
-    ⊛ many_grows link_grows (link_long First) (link_long Second) (links_told f.0)
+    ⊛ all near near_grows reference_long
+    ⊛ all (letter_format wide) (letter_grows wide) (letter_long wide)
+    ⊛ many_grows (link_grows wide) (link_long wide First) (link_long wide Second) (links_told f.0)
 
 pub stored_grows : (wide : Bool) → Grows (stored_format wide First) (stored_format wide Second)
 unfolding stored_format

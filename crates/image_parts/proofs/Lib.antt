@@ -3,5 +3,6 @@ pub mod Tagged
 pub mod Joins
 pub mod Kept
 pub mod Readings
+pub mod Letters
 pub mod Logs
 pub mod Registers

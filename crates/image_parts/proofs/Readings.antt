@@ -15,7 +15,7 @@ use Rattle.image_parts.specs.Layouts.{widths, is_wide, IsTooLong, says_wide}
 use Rattle.image_parts.specs.declared.layout.Layout.{Layout}
 use Rattle.image_parts.specs.declared.layout.Layout.TheVariants as layout
 use Rattle.image_parts.specs.Grammar.{Stored, Fits, IsImage, spelling, image_format, stored_format}
-use Rattle.image_parts.specs.Grammar.{no_bytes, rest_format, behind_format, layout_behind, layouts, start_format, layout_format}
+use Rattle.image_parts.specs.Grammar.{always, rest_format, behind_format, layout_behind, layouts, start_format, layout_format}
 use Rattle.image_parts.specs.Grammar.{reports_told, links_told, front_format, head_format, nodes_format}
 use Rattle.image_parts.specs.Grammar.{lists_format, told_format, others_format}
 use Rattle.image_parts.proofs.Formats.{image_sound}
@@ -51,8 +51,8 @@ no_spelling_begins_another l m s t rest p q same =
 
 -- ---- what the code reads
 
--- no bytes
-pub none_read : (a : Reader) → Reads no_bytes a a []
+-- what isn't spelled
+pub none_read : {A : Type 0} {x : A} (a : Reader) → Reads (always x) a a x
 none_read a = record { is = refl }
 
 -- the rest, as the layout says it

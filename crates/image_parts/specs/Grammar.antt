@@ -117,8 +117,8 @@ near v = kept (reference v) reference_fits
 abbrev pub near_optional : Version → Format (Option Ref)
 near_optional v = kept (optional v) optional_fits
 
-abbrev pub near_body : Version → Format Body
-near_body v = kept (body_format v) body_fits
+abbrev pub near_body : Bool → Version → Format Body
+near_body wide v = kept (body_format wide v) body_fits
 
 -- how many places there are
 unfoldable pub width_format : Format ℕ
@@ -127,19 +127,19 @@ width_format = kept byte (λ n. nat_le n GREATEST_PLACES)
 unfoldable pub places_format : Version → Format (List (Option Ref))
 places_format v = counted width_format (near_optional v)
 
--- no bytes, which aren't spelled
-abbrev pub no_bytes : Format (List ℕ)
-no_bytes = record {
+-- this value, which isn't spelled
+abbrev pub always : {A : Type 0} → A → Format A
+always a = record {
   spell = λ _. [];
   IsWide = λ _. ⊤;
-  IsWithin = λ bytes. bytes ≡ [];
-  read = λ rest. Some ([], rest);
+  IsWithin = λ x. x ≡ a;
+  read = λ rest. Some (a, rest);
 }
 
 -- the bytes of an object, of a wide space or a plain one
 abbrev pub bytes_format : Bool → Format (List ℕ)
 bytes_format true = kept bytes4 (λ bytes. nat_le (length bytes) GREATEST_BYTES)
-bytes_format false = no_bytes
+bytes_format false = always []
 
 -- what is spelled of an object besides whether it is shared, and its age: its mark, its word, its
 -- bytes and its places
@@ -218,20 +218,40 @@ slots_at wide v =
 unfoldable pub slot_format : Bool → Version → Format StoredSlot
 slot_format wide v = tagged (slot_tag wide v) (slots_at wide v)
 
-unfoldable pub letter_format : Version → Format Letter
-letter_format v =
-    mapped (byte & number4 & near_optional v)
-    (λ x. record { from = x.0; label = x.1.0; reference = x.1.1 })
-    (λ l. (l.from, (l.label, l.reference)))
+-- how many more references of a letter follow, and its bytes, which plain spaces don't have
+abbrev pub more_format : Bool → Format (ℕ × List ℕ)
+more_format true = byte & bytes4
+more_format false = always (0, [])
 
-unfoldable pub message_format : Version → Format Message
-message_format v =
-    mapped (number8 & near_body v) (λ x. record { stamp = x.0; body = x.1 })
+-- what every letter has: its sender, its label and a reference, as it is written
+abbrev pub letter_front : Format (ℕ × (ℕ × Option Ref))
+letter_front = byte & number4 & optional Second
+
+abbrev pub LetterParts : Type 0
+LetterParts = ℕ × (ℕ × (Option Ref × (ℕ × List ℕ)))
+
+abbrev pub letter_of : LetterParts → Letter
+letter_of x = record {
+  from = x.0;
+  label = x.1.0;
+  reference = x.1.1.0;
+  more = x.1.1.1.0;
+  bytes = x.1.1.1.1;
+}
+
+unfoldable pub letter_format : Bool → Version → Format Letter
+letter_format wide v =
+    mapped (byte & number4 & near_optional v & more_format wide) letter_of
+    (λ l. (l.from, (l.label, (l.reference, (l.more, l.bytes)))))
+
+unfoldable pub message_format : Bool → Version → Format Message
+message_format wide v =
+    mapped (number8 & near_body wide v) (λ x. record { stamp = x.0; body = x.1 })
     (λ m. (m.stamp, m.body))
 
-unfoldable pub link_format : Version → Format StoredLink
-link_format v =
-    mapped (number8 & counted number4 (message_format v) & number8)
+unfoldable pub link_format : Bool → Version → Format StoredLink
+link_format wide v =
+    mapped (number8 & counted number4 (message_format wide v) & number8)
     (λ x. record { base = x.0; unacknowledged = x.1.0; received = x.1.1 })
     (λ l. (l.base, (l.unacknowledged, l.received)))
 
@@ -270,21 +290,21 @@ slots_format wide v =
 abbrev pub Others : Type 0
 Others = List Ref × (List Letter × List StoredLink)
 
-unfoldable pub others_format : Version → Head → Format Others
-others_format v h =
-    counted number4 (near v) & counted number4 (letter_format v)
-    & many (link_format v) (links_told h)
+unfoldable pub others_format : Bool → Version → Head → Format Others
+others_format wide v h =
+    counted number4 (near v) & counted number4 (letter_format wide v)
+    & many (link_format wide v) (links_told h)
 
 -- the references that were asked for, and the letters
-abbrev pub waiting_format : Version → Format (List Ref × List Letter)
-waiting_format v = counted number4 (near v) & counted number4 (letter_format v)
+abbrev pub waiting_format : Bool → Version → Format (List Ref × List Letter)
+waiting_format wide v = counted number4 (near v) & counted number4 (letter_format wide v)
 
 -- what follows the front
 abbrev pub Lists : Type 0
 Lists = Told × (Slots × Others)
 
 unfoldable pub lists_format : Bool → Version → Front → Format Lists
-lists_format wide v f = told_format v f.0 & slots_format wide v & others_format v f.0
+lists_format wide v f = told_format v f.0 & slots_format wide v & others_format wide v f.0
 
 abbrev pub stored : Front × Lists → Stored
 stored x =

@@ -1,13 +1,15 @@
 //! The links between a node and the others as bytes. An image has, for each link, the messages that
 //! aren't acknowledged and the number that was received last, but never early messages.
-ghost use Rattle.std.specs.Prelude.{◌≡◌, ◌<◌, ◌≤◌, ◌+◌, ◌==◌, cond, [], ◌∷◌, ◌++◌, length, slice_index_or};
+ghost use Rattle.std.specs.Prelude.{◌≡◌, ◌<◌, ◌≤◌, ◌+◌, ◌==◌, ℕ, true, cond, [], ◌∷◌, ◌++◌, length, slice_index_or};
 ghost use Rattle.std.specs.List.{remove};
 ghost use Rattle.codec.specs.Formats.{number4, number8, counted};
 ghost use Rattle.codec.specs.Writing.{Puts, PutsAll};
 ghost use Rattle.link.specs.Links.{link_at, got_at, IsLinks};
 ghost use Rattle.frames.specs.declared.version.Version.TheVariants.{Second};
 ghost use Rattle.image_parts.specs.Grammar.{message_format, link_format};
+ghost use Rattle.image_parts.specs.Links.{AreCounted};
 ghost use Rattle.image_parts.specs.Stored.{stored_link, stored_links};
+ghost use Rattle.frames.specs.Formats.{IsCounted};
 
 use byteorder::{BigEndian, ByteOrder};
 use codec::Writer;
@@ -43,7 +45,8 @@ fn message_at(links: &Links, to: u8, place: u64) -> &Message
 #[tactic(auto, unfolding(crate::specs::Grammar::message_format), using(crate::proofs::Joins::both))]
 #[inline(always)]
 fn put_message(out: &mut Writer, message: &Message)
-    ensures { Puts (message_format Second) out.old out.new message.now }
+    requires { IsCounted message.now.body }
+    ensures { Puts (message_format true Second) out.old out.new message.now }
 {
     out.u64(message.stamp);
     put_body(out, &message.body);
@@ -52,8 +55,9 @@ fn put_message(out: &mut Writer, message: &Message)
 // Appends how many messages to the node are kept, in four bytes, and the messages.
 #[tactic(auto, using(crate::proofs::Joins::both, crate::proofs::Joins::unwritten, crate::proofs::Joins::written_more))]
 fn put_messages(out: &mut Writer, links: &Links, to: u8)
-    requires { to < length links.now.links }
-    ensures { Puts (counted number4 (message_format Second)) out.old out.new
+    requires there { to < length links.now.links }
+    requires counted { AreCounted (link_at links.now to) }
+    ensures { Puts (counted number4 (message_format true Second)) out.old out.new
         (link_at links.now to).unacknowledged }
 {
     let count = message_count(links, to);
@@ -80,7 +84,7 @@ fn idle_link(base: u64, taken: u64) -> [u8; 20]
 fn put_idle(out: &mut Writer, links: &Links, to: u8)
     requires there { to < length links.now.links }
     requires idle { (link_at links.now to).unacknowledged ≡ [] }
-    ensures { Puts (link_format Second) out.old out.new
+    ensures { Puts (link_format true Second) out.old out.new
         (stored_link (link_at links.now to, got_at links.now to)) }
 {
     out.array(idle_link(links.base(to), links.taken(to)));
@@ -88,8 +92,9 @@ fn put_idle(out: &mut Writer, links: &Links, to: u8)
 
 #[tactic(auto, unfolding(crate::specs::Grammar::link_format), using(crate::proofs::Joins::both))]
 fn put_busy(out: &mut Writer, links: &Links, to: u8)
-    requires { to < length links.now.links }
-    ensures { Puts (link_format Second) out.old out.new
+    requires there { to < length links.now.links }
+    requires counted { AreCounted (link_at links.now to) }
+    ensures { Puts (link_format true Second) out.old out.new
         (stored_link (link_at links.now to, got_at links.now to)) }
 {
     out.u64(links.base(to));
@@ -99,8 +104,9 @@ fn put_busy(out: &mut Writer, links: &Links, to: u8)
 
 // Appends the link to a node. Most links have no messages.
 fn put_link(out: &mut Writer, links: &Links, to: u8)
-    requires { to < length links.now.links }
-    ensures { Puts (link_format Second) out.old out.new
+    requires there { to < length links.now.links }
+    requires counted { AreCounted (link_at links.now to) }
+    ensures { Puts (link_format true Second) out.old out.new
         (stored_link (link_at links.now to, got_at links.now to)) }
 {
     if message_count(links, to) == 0 {
@@ -113,8 +119,9 @@ fn put_link(out: &mut Writer, links: &Links, to: u8)
 // Appends the link to a node, unless that is `own`.
 #[tactic(auto, using(crate::proofs::Joins::unwritten, crate::proofs::Joins::alone))]
 fn put_other(out: &mut Writer, own: u8, links: &Links, to: u8)
-    requires { to < length links.now.links }
-    ensures { PutsAll (link_format Second) out.old out.new (cond (to == own) []
+    requires there { to < length links.now.links }
+    requires counted { AreCounted (link_at links.now to) }
+    ensures { PutsAll (link_format true Second) out.old out.new (cond (to == own) []
         (stored_link (link_at links.now to, got_at links.now to) ∷ [])) }
 {
     if to == own {
@@ -126,7 +133,8 @@ fn put_other(out: &mut Writer, own: u8, links: &Links, to: u8)
 /// Appends the links to all nodes except `own`.
 #[tactic(auto, using(crate::proofs::Joins::unwritten))]
 pub(crate) fn put_links(out: &mut Writer, own: u8, links: &Links)
-    ensures { PutsAll (link_format Second) out.old out.new
+    requires { (to : ℕ) → AreCounted (link_at links.now to) }
+    ensures { PutsAll (link_format true Second) out.old out.new
         (remove (stored_links links.now.links links.now.got) own) }
 {
     for to in 0..links.width() {

@@ -1,6 +1,6 @@
 //! Lists of values of one format. A list whose count exceeds the number of bytes left is rejected
 //! before anything is allocated.
-ghost use Rattle.std.specs.Prelude.{◌≡◌, ◌<◌, ◌≤◌, ◌+◌, ◌-◌, true, length, take, drop, is_none, IfOk, IfErr};
+ghost use Rattle.std.specs.Prelude.{◌≡◌, ◌<◌, ◌≤◌, ◌+◌, ◌-◌, Bool, true, length, take, drop, is_none, IfOk, IfErr};
 ghost use Rattle.std.specs.List.{list_all};
 ghost use Rattle.ids.specs.declared.refusal.Refusal.TheVariants.{Memory};
 ghost use Rattle.codec.specs.Formats.{Format, number4, number8, many, counted};
@@ -36,13 +36,18 @@ pub(crate) trait Writable {
 
 /// An element of a list that is read.
 pub(crate) trait Readable: Sized + Drop {
-    /// How it is spelled in each version.
-    ghost format: { Version → Format Self };
+    /// How it is spelled in each version, in wide spaces and in plain ones.
+    ghost format: { Bool → Version → Format Self };
 
     /// The value at the front of what is left. Fails only with `Memory`, if an allocation fails. If
     /// there is no such value, the reader has failed.
-    fn read(alloc: Global, version: Version, reader: &mut Reader) -> Result<Self, Refusal>
-        ensures value { IfOk result (Reads (format version) reader.old reader.new) }
+    fn read(
+        alloc: Global,
+        wide: bool,
+        version: Version,
+        reader: &mut Reader,
+    ) -> Result<Self, Refusal>
+        ensures value { IfOk result (Reads (format wide version) reader.old reader.new) }
         ensures refused { IfErr result (λ e. e ≡ Memory) };
 }
 
@@ -184,17 +189,27 @@ impl Writable for Option<Ref> {
 }
 
 impl Readable for u32 {
-    ghost format = { λ _. number4 };
+    ghost format = { λ _ _. number4 };
 
-    fn read(_alloc: Global, _version: Version, reader: &mut Reader) -> Result<u32, Refusal> {
+    fn read(
+        _alloc: Global,
+        _wide: bool,
+        _version: Version,
+        reader: &mut Reader,
+    ) -> Result<u32, Refusal> {
         Ok(reader.u32())
     }
 }
 
 impl Readable for u64 {
-    ghost format = { λ _. number8 };
+    ghost format = { λ _ _. number8 };
 
-    fn read(_alloc: Global, _version: Version, reader: &mut Reader) -> Result<u64, Refusal> {
+    fn read(
+        _alloc: Global,
+        _wide: bool,
+        _version: Version,
+        reader: &mut Reader,
+    ) -> Result<u64, Refusal> {
         Ok(reader.u64())
     }
 }
@@ -206,12 +221,13 @@ impl Readable for u64 {
 #[inline(always)]
 pub(crate) fn many<T: Readable>(
     alloc: Global,
+    wide: bool,
     version: Version,
     count: usize,
     reader: &mut Reader,
 ) -> Result<Vec<T>, Refusal>
     ensures value { IfOk result
-        (λ v. Reads (many (T.format version) count) reader.old reader.new v.items) }
+        (λ v. Reads (many (T.format wide version) count) reader.old reader.new v.items) }
     ensures few { IfOk result (λ v. length v.items ≤ count) }
     ensures refused { IfErr result (λ e. e ≡ Memory) }
 {
@@ -224,7 +240,7 @@ pub(crate) fn many<T: Readable>(
         if !reader.is_open() {
             break;
         }
-        parts.push(T::read(alloc, version, reader)?)?;
+        parts.push(T::read(alloc, wide, version, reader)?)?;
     }
     Ok(parts)
 }
@@ -233,13 +249,14 @@ pub(crate) fn many<T: Readable>(
 #[tactic(auto, using(crate::proofs::Joins::counted_read))]
 pub(crate) fn counted<T: Readable>(
     alloc: Global,
+    wide: bool,
     version: Version,
     reader: &mut Reader,
 ) -> Result<Vec<T>, Refusal>
     ensures value { IfOk result
-        (λ v. Reads (counted number4 (T.format version)) reader.old reader.new v.items) }
+        (λ v. Reads (counted number4 (T.format wide version)) reader.old reader.new v.items) }
     ensures refused { IfErr result (λ e. e ≡ Memory) }
 {
     let count = reader.u32();
-    many(alloc, version, count as usize, reader)
+    many(alloc, wide, version, count as usize, reader)
 }

@@ -3,7 +3,8 @@
 ghost use Rattle.std.specs.Prelude.{◌≡◌, ◌≤◌, ◌==◌, ◌&&◌, true, false, drop, length, Some, IfOk, IfErr, ◌↔◌, IsTrue};
 ghost use Rattle.ids.specs.declared.refusal.Refusal.TheVariants.{BadImage, Memory};
 ghost use Rattle.ids.specs.declared.limits.TheConstants.{GREATEST_BYTES, GREATEST_PLACES};
-ghost use Rattle.codec.specs.Formats.{byte, number4, ◌&◌, behind, many, whole_at};
+ghost use Rattle.codec.specs.Formats.{byte, number4, bytes4, ◌&◌, behind, many, whole_at};
+ghost use Rattle.frames.specs.Formats.{body_format};
 ghost use Rattle.codec.specs.Reading.{Gives};
 ghost use Rattle.codec.specs.Readers.{Reads, Takes};
 ghost use Rattle.image_parts.specs.Grammar.{reports_told, layouts, layout_format, start_format, most_nodes};
@@ -11,7 +12,7 @@ ghost use Rattle.image_parts.specs.Grammar.{nodes_fit, nodes_format};
 ghost use Rattle.image_parts.specs.Grammar.{head_format, phases_format, held_format, ring_format, near};
 ghost use Rattle.image_parts.specs.Grammar.{near_optional, width_format, places_format, bytes_format};
 ghost use Rattle.image_parts.specs.Grammar.{only_wide_at, parts_format, parts_of};
-ghost use Rattle.image_parts.specs.Grammar.{occupied_at, slot_format, letter_format, message_format};
+ghost use Rattle.image_parts.specs.Grammar.{occupied_at, slot_format, letter_format, message_format, more_format};
 ghost use Rattle.image_parts.specs.Grammar.{link_format, front_format, told_format, slots_format};
 ghost use Rattle.image_parts.specs.Grammar.{others_format, stored_format, image_format};
 ghost use Rattle.image_parts.specs.Logs.{begins_logged, logged_at, version_in};
@@ -30,6 +31,7 @@ use cycles::Ring;
 use frames::Version;
 use frames::reading::{
     read_body, read_colour, read_generation, read_optional, read_reference, read_token,
+    read_wide_body,
 };
 use heap::{HeapParts, Object, Slot, Slots};
 use ids::{
@@ -37,7 +39,7 @@ use ids::{
     Refusal,
 };
 use model::{Age, Letter};
-use msg::{Message, Token, body_fits, optional_fits};
+use msg::{Body, Frozen, Message, Token, body_fits, optional_fits};
 use std::alloc::Global;
 use std::collections::VecDeque;
 
@@ -218,7 +220,7 @@ fn read_places(
     ensures refused { IfErr result (λ e. e ≡ Memory) }
 {
     let width = read_width(reader);
-    many(alloc, version, width as usize, reader)
+    many(alloc, false, version, width as usize, reader)
 }
 
 // The bytes of an object of a wide space, which aren't copied yet.
@@ -359,10 +361,15 @@ fn read_slot(
 }
 
 impl Readable for Ref {
-    ghost format = { near };
+    ghost format = { λ _. near };
 
     #[tactic(auto, using(crate::proofs::Joins::passed))]
-    fn read(_alloc: Global, version: Version, reader: &mut Reader) -> Result<Ref, Refusal> {
+    fn read(
+        _alloc: Global,
+        _wide: bool,
+        version: Version,
+        reader: &mut Reader,
+    ) -> Result<Ref, Refusal> {
         let reference = read_reference(reader, version);
         reader.check(reference.fits());
         Ok(reference)
@@ -370,35 +377,94 @@ impl Readable for Ref {
 }
 
 impl Readable for Option<Ref> {
-    ghost format = { near_optional };
+    ghost format = { λ _. near_optional };
 
-    fn read(_alloc: Global, version: Version, reader: &mut Reader) -> Result<Option<Ref>, Refusal> {
+    fn read(
+        _alloc: Global,
+        _wide: bool,
+        version: Version,
+        reader: &mut Reader,
+    ) -> Result<Option<Ref>, Refusal> {
         Ok(read_near_optional(version, reader))
     }
+}
+
+// The bytes of a letter.
+fn read_letter_bytes(alloc: Global, reader: &mut Reader) -> Result<Frozen<u8>, Refusal>
+    ensures value { IfOk result (Reads bytes4 reader.old reader.new) }
+    ensures refused { IfErr result (λ e. e ≡ Memory) }
+{
+    Ok(Frozen::new(alloc, reader.bytes())?)
+}
+
+// How many more references of a letter follow, and its bytes. Only in wide spaces are letters
+// spelled with them.
+#[tactic(auto, using(crate::proofs::Joins::both_read, crate::proofs::Joins::none_read))]
+fn read_more(alloc: Global, wide: bool, reader: &mut Reader) -> Result<(u8, Frozen<u8>), Refusal>
+    ensures value { IfOk result
+        (λ x. Reads (more_format wide) reader.old reader.new (x.0, x.1)) }
+    ensures refused { IfErr result (λ e. e ≡ Memory) }
+{
+    if !wide {
+        return Ok((0, Frozen::empty()));
+    }
+    let more = reader.u8();
+    let bytes = read_letter_bytes(alloc, reader)?;
+    Ok((more, bytes))
 }
 
 impl Readable for Letter {
     ghost format = { letter_format };
 
     #[tactic(auto, unfolding(crate::specs::Grammar::letter_format), using(crate::proofs::Joins::both_read, crate::proofs::Joins::made))]
-    fn read(_alloc: Global, version: Version, reader: &mut Reader) -> Result<Letter, Refusal> {
+    fn read(
+        alloc: Global,
+        wide: bool,
+        version: Version,
+        reader: &mut Reader,
+    ) -> Result<Letter, Refusal> {
         let from = reader.u8();
         let label = reader.u32();
         let reference = read_near_optional(version, reader);
+        let (more, bytes) = read_more(alloc, wide, reader)?;
         Ok(Letter {
             from,
             label,
             reference,
+            more,
+            bytes,
         })
     }
+}
+
+// What a message says, in a wide space or a plain one.
+#[inline(always)]
+fn read_any_body(
+    alloc: Global,
+    wide: bool,
+    version: Version,
+    reader: &mut Reader,
+) -> Result<Body, Refusal>
+    ensures value { IfOk result (Reads (body_format wide version) reader.old reader.new) }
+    ensures refused { IfErr result (λ e. e ≡ Memory) }
+{
+    if wide {
+        return read_wide_body(alloc, reader, version);
+    }
+    Ok(read_body(reader, version))
 }
 
 impl Readable for Message {
     ghost format = { message_format };
 
-    fn read(_alloc: Global, version: Version, reader: &mut Reader) -> Result<Message, Refusal> {
+    fn read(
+        alloc: Global,
+        wide: bool,
+        version: Version,
+        reader: &mut Reader,
+    ) -> Result<Message, Refusal> {
         let stamp = reader.u64();
-        let body = read_body(reader, version);
+        let body = read_any_body(alloc, wide, version, reader)?;
         reader.check(body_fits(&body));
         Ok(Message { stamp, body })
     }
@@ -408,9 +474,14 @@ impl Readable for StoredLink {
     ghost format = { link_format };
 
     #[tactic(auto, unfolding(crate::specs::Grammar::link_format), using(crate::proofs::Joins::both_read, crate::proofs::Joins::made))]
-    fn read(alloc: Global, version: Version, reader: &mut Reader) -> Result<StoredLink, Refusal> {
+    fn read(
+        alloc: Global,
+        wide: bool,
+        version: Version,
+        reader: &mut Reader,
+    ) -> Result<StoredLink, Refusal> {
         let base = reader.u64();
-        let unacknowledged = counted(alloc, version, reader)?;
+        let unacknowledged = counted(alloc, wide, version, reader)?;
         let received = reader.u64();
         Ok(StoredLink {
             base,
@@ -454,8 +525,8 @@ fn read_told(
         (x.0.items, x.1.items)) }
     ensures refused { IfErr result (λ e. e ≡ Memory) }
 {
-    let reports = many(alloc, version, reports_told(head), reader)?;
-    let registers = many(alloc, version, usize::from(head.registers), reader)?;
+    let reports = many(alloc, false, version, reports_told(head), reader)?;
+    let registers = many(alloc, false, version, usize::from(head.registers), reader)?;
     Ok((reports, registers))
 }
 
@@ -520,8 +591,8 @@ fn read_slots(
 {
     let count = reader.u32();
     let slots = read_slot_list(alloc, wide, version, count, reader)?;
-    let free = counted(alloc, version, reader)?;
-    let grey = counted(alloc, version, reader)?;
+    let free = counted(alloc, wide, version, reader)?;
+    let grey = counted(alloc, wide, version, reader)?;
     Ok((slots, (free, grey)))
 }
 
@@ -529,18 +600,19 @@ fn read_slots(
 #[tactic(auto, unfolding(crate::specs::Grammar::others_format), using(crate::proofs::Joins::both_read))]
 fn read_others(
     alloc: Global,
+    wide: bool,
     version: Version,
     head: Head,
     reader: &mut Reader,
 ) -> Result<(Vec<Ref>, (Vec<Letter>, Vec<StoredLink>)), Refusal>
-    ensures value { IfOk result (λ x. Reads (others_format version head) reader.old reader.new
+    ensures value { IfOk result (λ x. Reads (others_format wide version head) reader.old reader.new
         (x.0.items, (x.1.0.items, x.1.1.items))) }
     ensures refused { IfErr result (λ e. e ≡ Memory) }
 {
-    let asked = counted(alloc, version, reader)?;
-    let letters = counted(alloc, version, reader)?;
+    let asked = counted(alloc, wide, version, reader)?;
+    let letters = counted(alloc, wide, version, reader)?;
     let others = usize::from(head.nodes.saturating_sub(1));
-    let links = many(alloc, version, others, reader)?;
+    let links = many(alloc, wide, version, others, reader)?;
     Ok((asked, (letters, links)))
 }
 
@@ -557,7 +629,7 @@ fn read_stored(
     let (head, (phases, ring)) = read_front(version, reader);
     let (reports, registers) = read_told(alloc, version, head, reader)?;
     let (slots, (free, grey)) = read_slots(alloc, wide, version, reader)?;
-    let (asked, (letters, links)) = read_others(alloc, version, head, reader)?;
+    let (asked, (letters, links)) = read_others(alloc, wide, version, head, reader)?;
     let heap = HeapParts {
         slots,
         free,

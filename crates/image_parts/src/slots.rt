@@ -7,7 +7,8 @@ ghost use Rattle.arena_slot.specs.declared.Slot.TheVariants.{Free, Occupied};
 ghost use Rattle.codec.specs.Formats.{number4, number8, counted};
 ghost use Rattle.codec.specs.Writing.{Puts};
 ghost use Rattle.frames.specs.declared.version.Version.TheVariants.{Second};
-ghost use Rattle.image_parts.specs.Grammar.{kind_tag, slot_format, letter_format};
+ghost use Rattle.image_parts.specs.Grammar.{kind_tag, slot_format, letter_front, letter_format};
+ghost use Rattle.image_parts.specs.Grammar.{more_format};
 ghost use Rattle.image_parts.specs.Stored.{stored_slot};
 
 use crate::lists::put_all;
@@ -172,9 +173,9 @@ pub(crate) fn put_free_list(out: &mut Writer, heap: &Heap)
 
 // ---- letters
 
-fn letter_at(heap: &Heap, number: usize) -> Letter
+fn letter_at(heap: &Heap, number: usize) -> &Letter
     requires { number < length heap.now.heap.letters }
-    ensures { result ≡ slice_index_or heap.now.heap.letters number result }
+    ensures { result.now ≡ slice_index_or heap.now.heap.letters number result.now }
 {
     match heap.letter(number) {
         Some(letter) => letter,
@@ -182,9 +183,12 @@ fn letter_at(heap: &Heap, number: usize) -> Letter
     }
 }
 
-#[tactic(auto, unfolding(crate::specs::Grammar::letter_format), using(crate::proofs::Joins::gained, crate::proofs::Joins::piece_written))]
-fn put_letter(out: &mut Writer, letter: Letter)
-    ensures { Puts (letter_format Second) out.old out.new letter }
+// What every letter has.
+#[tactic(auto, using(crate::proofs::Joins::gained, crate::proofs::Joins::piece_written))]
+#[inline(always)]
+fn put_front(out: &mut Writer, letter: &Letter)
+    ensures { Puts letter_front out.old out.new
+        (letter.now.from, (letter.now.label, letter.now.reference)) }
 {
     let mut piece = Piece::new();
     piece.u8(letter.from);
@@ -193,14 +197,36 @@ fn put_letter(out: &mut Writer, letter: Letter)
     out.append(piece.as_slice());
 }
 
+// What letters of wide spaces have besides.
+#[tactic(auto, using(crate::proofs::Joins::both, crate::proofs::Joins::first))]
+#[inline(never)]
+fn put_more(out: Writer, letter: &Letter) -> Writer
+    ensures { Puts (more_format true) out result (letter.now.more, letter.now.bytes) }
+{
+    let mut out = out;
+    out.u8(letter.more);
+    out.bytes(letter.bytes.as_slice());
+    out
+}
+
+fn put_letter(out: &mut Writer, wide: bool, letter: &Letter)
+    ensures { Puts (letter_format wide Second) out.old out.new letter.now }
+{
+    put_front(out, letter);
+    if wide {
+        *out = put_more(out.take(), letter);
+    }
+}
+
 /// Appends how many letters wait, in four bytes, and the letters.
 #[tactic(auto, using(crate::proofs::Joins::both, crate::proofs::Joins::unwritten, crate::proofs::Joins::written_more))]
-pub(crate) fn put_letters(out: &mut Writer, heap: &Heap)
-    ensures { Puts (counted number4 (letter_format Second)) out.old out.new heap.now.heap.letters }
+pub(crate) fn put_letters(out: &mut Writer, wide: bool, heap: &Heap)
+    ensures { Puts (counted number4 (letter_format wide Second)) out.old out.new
+        heap.now.heap.letters }
 {
     if out.count(heap.letters()) {
         for number in 0..heap.letters() {
-            put_letter(out, letter_at(heap, number));
+            put_letter(out, wide, letter_at(heap, number));
         }
     }
 }

@@ -1,6 +1,6 @@
 //! Writes the parts of an image as bytes. They follow one another without gaps, each in its own
 //! format.
-ghost use Rattle.std.specs.Prelude.{◌≡◌, ◌≤◌, ◌+◌, false, [], length, map};
+ghost use Rattle.std.specs.Prelude.{◌≡◌, ◌≤◌, ◌+◌, ℕ, Bool, false, [], length, map};
 ghost use Rattle.std.specs.List.{remove};
 ghost use Rattle.codec.specs.Formats.{many, number8};
 ghost use Rattle.codec.specs.Pieces.{Adds};
@@ -11,6 +11,8 @@ ghost use Rattle.image_parts.specs.Grammar.{head_format, phases_format, held_for
 ghost use Rattle.image_parts.specs.Grammar.{start_format, front_format, slots_format};
 ghost use Rattle.image_parts.specs.Grammar.{others_format, waiting_format};
 ghost use Rattle.image_parts.specs.Stored.{phases_by, stored_slot, stored_links};
+ghost use Rattle.image_parts.specs.Links.{AreCounted};
+ghost use Rattle.link.specs.Links.{link_at};
 
 use crate::layout::Layout;
 use crate::links::put_links;
@@ -127,29 +129,36 @@ pub fn put_slots(out: &mut Writer, wide: bool, heap: &Heap)
 // The two counts of a node that asked for nothing and has no letters.
 #[tactic(auto, unfolding(crate::specs::Numbers::number4))]
 fn put_none_waiting(out: &mut Writer)
-    ensures { Puts (waiting_format Second) out.old out.new ([], []) }
+    ensures { (wide : Bool) → Puts (waiting_format wide Second) out.old out.new ([], []) }
 {
     out.array([0; 8]);
 }
 
 // Appends the references that were asked for, and the letters.
 #[tactic(auto, using(crate::proofs::Joins::both))]
-fn put_waiting(out: &mut Writer, asked: &[Ref], heap: &Heap)
-    ensures { Puts (waiting_format Second) out.old out.new (asked.now, heap.now.heap.letters) }
+fn put_waiting(out: &mut Writer, wide: bool, asked: &[Ref], heap: &Heap)
+    ensures { Puts (waiting_format wide Second) out.old out.new (asked.now, heap.now.heap.letters) }
 {
     if asked.is_empty() && heap.letters() == 0 {
         put_none_waiting(out);
         return;
     }
     put_counted(out, asked);
-    put_letters(out, heap);
+    put_letters(out, wide, heap);
 }
 
 /// Appends the references that were asked for, the letters, and the links to all nodes except the
-/// head's own.
-#[tactic(auto, unfolding(crate::specs::Grammar::others_format), using(crate::proofs::Joins::both))]
-pub fn put_others(out: &mut Writer, head: &Head, asked: &[Ref], heap: &Heap, links: &Links)
-    ensures { Puts (others_format Second head.now) out.old out.new (
+/// head's own, of a node of a wide space or a plain one.
+pub fn put_others(
+    out: &mut Writer,
+    wide: bool,
+    head: &Head,
+    asked: &[Ref],
+    heap: &Heap,
+    links: &Links,
+)
+    requires { (to : ℕ) → AreCounted (link_at links.now to) }
+    ensures { Puts (others_format wide Second head.now) out.old out.new (
       asked.now,
       (
         heap.now.heap.letters,
@@ -157,6 +166,6 @@ pub fn put_others(out: &mut Writer, head: &Head, asked: &[Ref], heap: &Heap, lin
       ),
     ) }
 {
-    put_waiting(out, asked, heap);
+    put_waiting(out, wide, asked, heap);
     put_links(out, head.own, links);
 }

@@ -56,6 +56,10 @@ no-node-refuses (event.SetWord object word) own passed = nothing-below-zero obje
 no-node-refuses (event.SetBytes object bytes) own passed = nothing-below-zero object passed.0
 no-node-refuses (event.Patch object offset bytes) own passed = nothing-below-zero object passed.0
 no-node-refuses (event.Give to label register) own passed = nothing-below-zero to passed.0
+no-node-refuses (event.Post to label first count bytes) own passed =
+    nothing-below-zero to passed.0
+no-node-refuses (event.Fetch object label offset count) own passed =
+    nothing-below-zero object passed.0
 no-node-refuses (event.Accept register) own passed = nothing-below-zero register passed.0
 no-node-refuses (event.Put object place register) own passed = nothing-below-zero object passed.0
 no-node-refuses (event.Get object place label) own passed = nothing-below-zero object passed.0

@@ -38,6 +38,8 @@ pub reference-balance : (cycle stamp : ℕ) (b : Body) → is_reference b ≡ tr
 reference-balance cycle stamp (body.Give label reference) is = refl
 reference-balance cycle stamp (body.Put target place reference) is = refl
 reference-balance cycle stamp (body.Get target place label) is = refl
+reference-balance cycle stamp (body.Post label references bytes) is = refl
+reference-balance cycle stamp (body.Fetch target label offset count) is = refl
 reference-balance cycle stamp b is = absurd cc
 
 pub reference-counts : (cycle stamp : ℕ) (b : Body) → is_reference b ≡ true
@@ -45,6 +47,8 @@ pub reference-counts : (cycle stamp : ℕ) (b : Body) → is_reference b ≡ tru
 reference-counts cycle stamp (body.Give label reference) is = refl
 reference-counts cycle stamp (body.Put target place reference) is = refl
 reference-counts cycle stamp (body.Get target place label) is = refl
+reference-counts cycle stamp (body.Post label references bytes) is = refl
+reference-counts cycle stamp (body.Fetch target label offset count) is = refl
 reference-counts cycle stamp b is = absurd cc
 
 pub reference-fresh : (cycle : ℕ) (x : Message) → is_reference x.body ≡ true

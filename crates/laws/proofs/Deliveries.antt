@@ -46,13 +46,15 @@ pub target-own : (n : ℕ) (c : Cut) (from to s : ℕ) (b : Body) → BodyFits n
 target-own n c from to s (body.Mark target) fits = fits.0
 target-own n c from to s (body.Put target place reference) fits = fits.0
 target-own n c from to s (body.Get target place label) fits = fits.0
+target-own n c from to s (body.Fetch target label offset count) fits = fits.0
 target-own n c from to s b fits = tt
 
-target-mentioned : (P : Ref → Type 0) (b : Body) → AllByRecursion P (mentioned b)
+pub target-mentioned : (P : Ref → Type 0) (b : Body) → AllByRecursion P (mentioned b)
     → IfAny P (target_of b)
 target-mentioned P (body.Mark target) all = all.0
 target-mentioned P (body.Put target place reference) all = all.0
 target-mentioned P (body.Get target place label) all = all.0
+target-mentioned P (body.Fetch target label offset count) all = all.0
 target-mentioned P b all = tt
 
 received-target : {shape : Shaped} {t : NodeState} (w : World) (m : Delivery) (r : Ref)
@@ -201,6 +203,9 @@ module _ {shape : Shaped} {c : Cut} {from to place : ℕ} {x : Message}
       places : here.shape.places ≡ shape.places
       places = ap (λ (z : Shaped). z.places) (h.inv.base.shapes to h.inside)
 
+      wide : here.shape.wide ≡ shape.wide
+      wide = ap (λ (z : Shaped). z.wide) (h.inv.base.shapes to h.inside)
+
       by : (b : Body) → BodyFits shape.nodes (phases_of c) from to x.stamp b → IsPlaced shape b
           → may_follow here from b ≡ true
       by body.Begin f _ = eq-eqb from 0 f.0
@@ -217,6 +222,12 @@ module _ {shape : Shaped} {c : Cut} {from to place : ℕ} {x : Message}
       by (body.Get target slot label) f fit =
           and_from _ _ (eq-eqb target.node here.own (f.0 ∙ sym own))
           (lt-ltb slot here.shape.places (omega (arith, fit, places)))
+      by (body.Post label references bytes) f fit =
+          and_from _ _ (wide ∙ fit.0)
+          (and_from _ _ (le-leb _ _ (omega (arith, fit.1, places))) (le-leb _ _ fit.2))
+      by (body.Fetch target label offset count) f fit =
+          and_from _ _ (eq-eqb target.node here.own (f.0 ∙ sym own))
+          (and_from _ _ (wide ∙ fit.0) (le-leb _ _ fit.1))
       by body.Ended f _ = eq-eqb from 0 f.0
       by body.Swept f _ = eq-eqb here.own 0 (own ∙ f.0)
 
@@ -307,6 +318,8 @@ module _ {shape : Shaped} {c : Cut} {from to place : ℕ} {x : Message}
       by (body.Give label reference) e f = refl
       by (body.Put target slot reference) e f = refl
       by (body.Get target slot label) e f = refl
+      by (body.Post label references bytes) e f = refl
+      by (body.Fetch target label offset count) e f = refl
       by (body.Token t) e f = settled-token t e f.1 f.2
       by body.Ended e f =
           let both = rest-settled f.1 f.2 in

@@ -1,6 +1,6 @@
 -- What a node does, compared with a space without a collector, for each event of a program and the
 -- receipt of each message.
-use Rattle.std.proofs.Common.{◌≡◌, ◌≢◌, ℕ, Bool, true, not, cond, ◌==◌, ◌&&◌, List, [], ◌∷◌, ◌++◌, ◌⊎◌, set, Option, None, Some, option_to_list, refl, sym, ap, ◌∙◌, subst, ⊎_elim, inl, inr, append-nil}
+use Rattle.std.proofs.Common.{◌≡◌, ◌≢◌, ℕ, Bool, true, not, cond, ◌==◌, ◌&&◌, List, [], ◌∷◌, ◌++◌, ◌⊎◌, set, Option, None, Some, option_to_list, refl, sym, ap, ◌∙◌, subst, ⊎_elim, inl, inr, append-nil, zero, suc}
 use Rattle.std.specs.Prelude.{is_some, option_map}
 use Rattle.std.proofs.lemmas.Bool.{cases_eq, cond_both, cond-true, cond-false, eq-eqb, ne_eqb, eqb-true, and_from, false_from_ne_true}
 use Rattle.ids.specs.declared.names.Ref.{Ref}
@@ -11,13 +11,13 @@ use Rattle.model.specs.declared.event.Event.{Event}
 use Rattle.model.specs.declared.event.Event.TheVariants as event
 use Rattle.model.specs.Checks.{AllPass}
 use Rattle.model.specs.State.{Object, Occupied, Heap, LocalState, register_at, slot_at}
-use Rattle.model.specs.Heaps.{alloc_heap, with_object, new_reference, new_object, named, object_at, has_place, place_of, word_of, overwritten, with_register, register_copied, letter_taken, with_letter, with_rewritten, placing, place_loaded, next_slot, generation_for, oldest_letter}
+use Rattle.model.specs.Heaps.{alloc_heap, with_object, new_reference, new_object, named, object_at, has_place, place_of, word_of, overwritten, with_register, register_copied, with_letter, with_rewritten, placing, place_loaded, next_slot, generation_for, oldest_letter, accepting, told_of, simple_letter, with_letters, letters_of, contents, fetched, letter_taken, letters_taken}
 use Rattle.model.specs.Effects.{Work}
 use Rattle.model.specs.Counting.{is_reference, append, stamped}
 use Rattle.model.specs.Shading.{is_same, see_to}
 use Rattle.model.specs.declared.event.Answer.TheVariants as answer
 use Rattle.model.specs.Steps.{tests, made, take_body, target_of, carried, share}
-use Rattle.laws.specs.Objects.{Thing, Space, object_in, has_that, content_of, word_in, with_desk, with_thing, rewriting, posted, is_program, new_thing, IsAnswer, does, follows, with_place, with_word, with_bytes, with_patch}
+use Rattle.laws.specs.Objects.{Thing, Space, object_in, has_that, content_of, word_in, with_desk, with_thing, rewriting, posted, is_program, new_thing, IsAnswer, does, follows, with_place, with_word, with_bytes, with_patch, fetched_of}
 use Rattle.laws.specs.Sights.{thing_of, programs}
 use Rattle.model.proofs.Slots.{found-object}
 use Rattle.model.proofs.Ages.{noted_for, noted-keeps}
@@ -28,6 +28,7 @@ use Rattle.laws.proofs.GoodHeaps.{own_reference}
 use Rattle.model.proofs.Naming.{same-is, is-same}
 use Rattle.laws.proofs.Things.{desk_of, Kept, kept-same, kept-desk, still-remembering, LivesIn, lives-rewritten, rewriting-back, posts, posts-append, IsQuiet, quiet-posts, quiet-append}
 use Rattle.laws.proofs.Unseen.{none-quiet, calm-collects, calm-shares}
+use Rattle.model.proofs.Walk.{taken-roots}
 
 -- Node i of a space without a collector has this heap's registers and letters, and its objects.
 pub record Here (s : Space) (i : ℕ) (h : Heap) : Type 0 where
@@ -200,6 +201,11 @@ pub thing-place : (o : Option Object) (place : ℕ)
 thing-place None place = refl
 thing-place (Some o) place = refl
 
+thing-fetched : (o : Option Object) (offset count : ℕ)
+    → fetched_of (option_map thing_of o) offset count ≡ fetched o offset count
+thing-fetched None offset count = refl
+thing-fetched (Some o) offset count = refl
+
 pub thing-word : (o : Option Object) → word_in (option_map thing_of o) ≡ word_of o
 thing-word None = refl
 thing-word (Some o) = refl
@@ -337,6 +343,12 @@ own-loads {s = s} p counts register object place d =
     (here-kept d.here calm.still.kept).lives
     (quiet-append w.sends [] calm.quiet none-quiet)
 
+-- a letter goes into registers
+desk-taken : (n : ℕ) (h : Heap) (register : ℕ)
+    → letters_taken n (desk_of h) register ≡ desk_of (letters_taken n h register)
+desk-taken zero h register = refl
+desk-taken (suc n) h register = desk-taken n (letter_taken h register) (suc register)
+
 -- the event does the same to registers, letters and objects in both, and sends the same
 pub own-does : {s : Space} (p : LocalState) (counts : List ℕ) (e : Event)
     → is_program e ≡ true → Doing s p e
@@ -389,8 +401,26 @@ own-does {s = s} p counts (event.Give to label register) is d =
     (made p counts (event.Give to label register)).local.heap
     (made p counts (event.Give to label register)).sends) (sym d.here.desk)
     (effects-shared p to (body.Give label (register_at p.heap register)) refl d.here)
-own-does p counts (event.Accept register) is d =
-    effects-desk _ (ap (λ (z : Heap). letter_taken z register) d.here.desk) d.here.lives none-quiet
+own-does {s = s} p counts (event.Accept register) is d =
+    let n : ℕ = suc (oldest_letter p.heap).more in
+    effects-desk _
+    (ap (λ (z : Heap). accepting z register) d.here.desk ∙ desk-taken n p.heap register)
+    (subst (λ (z : Heap). LivesIn s p.own z) (sym (taken-roots n p.heap register)) d.here.lives)
+    none-quiet
+own-does {s = s} p counts (event.Post to label first count bytes) is d =
+    subst (λ (z : Heap).
+    Effects s (posted s p.own to (body.Post label (contents z first count) bytes.now)) p.own
+    (made p counts (event.Post to label first count bytes)).local.heap
+    (made p counts (event.Post to label first count bytes)).sends) (sym d.here.desk)
+    (effects-shared p to (body.Post label (contents p.heap first count) bytes.now) refl d.here)
+own-does {s = s} p counts (event.Fetch object label offset count) is d =
+    subst (λ (z : Heap).
+    Effects s
+    (posted s p.own (named z object).node (body.Fetch (named z object) label offset count)) p.own
+    (made p counts (event.Fetch object label offset count)).local.heap
+    (made p counts (event.Fetch object label offset count)).sends) (sym d.here.desk)
+    (effects-shared p (named p.heap object).node
+    (body.Fetch (named p.heap object) label offset count) refl d.here)
 own-does {s = s} p counts (event.Put object place register) is d =
     subst (λ (z : Heap).
     Effects s
@@ -424,7 +454,9 @@ own-answers p counts (event.Word object) is d =
     ∙ thing-word found))
 own-answers p counts (event.Give to label register) is d = (_, refl)
 own-answers p counts (event.Accept register) is d =
-    ap (λ (z : Heap). answer.Letter (oldest_letter z)) (sym d.here.desk)
+    ap (λ (z : Heap). answer.Letter (told_of (oldest_letter z))) (sym d.here.desk)
+own-answers p counts (event.Post to label first count bytes) is d = (_, refl)
+own-answers p counts (event.Fetch object label offset count) is d = (_, refl)
 own-answers p counts (event.Put object place register) is d = (_, refl)
 own-answers p counts (event.Get object place label) is d = (_, refl)
 own-answers p counts (event.Reclaim scope) never d = absurd cc
@@ -443,8 +475,7 @@ own-answers p counts e is d = refl
 pub record Following (s : Space) (i : ℕ) (b : Body) (p : LocalState) : Type 0 where
   pub here : Here s i p.heap
   pub own : (r : Ref) → target_of b ≡ Some r → r.node ≡ i
-  pub there : (target : Ref) (place label : ℕ) → b ≡ body.Get target place label
-      → is_some (object_at p.heap target) ≡ true
+  pub there : (r : Ref) → target_of b ≡ Some r → is_some (object_at p.heap r) ≡ true
 
 pub body-does : {s : Space} {i : ℕ} (from stamp : ℕ) (b : Body) (p : LocalState)
     → is_reference b ≡ true → Following s i b p
@@ -453,9 +484,23 @@ pub body-does : {s : Space} {i : ℕ} (from stamp : ℕ) (b : Body) (p : LocalSt
 unfolding take_body append
 body-does from stamp (body.Give label reference) p is f =
     effects-desk _
-    (ap (λ (z : Heap).
-    with_letter z (record { from = from; label = label; reference = reference })) f.here.desk)
+    (ap (λ (z : Heap). with_letter z (simple_letter from label reference)) f.here.desk)
     f.here.lives none-quiet
+body-does from stamp (body.Post label references bytes) p is f =
+    effects-desk _
+    (ap (λ (z : Heap). with_letters z (letters_of from label references bytes)) f.here.desk)
+    f.here.lives none-quiet
+body-does {s = s} {i = i} from stamp (body.Fetch target label offset count) p is f =
+    let found : Option Object = object_at p.heap target in
+    let bytes : List ℕ = fetched found offset count in
+    let same : fetched_of (s.objects target) offset count ≡ bytes =
+    ap (λ (z : Option Thing). fetched_of z offset count)
+    (found-same target f.here (f.own target refl) (f.there target refl))
+    ∙ thing-fetched found offset count in
+    subst (λ (z : List ℕ). Effects s (posted s i from (body.Post label [] z)) i p.heap
+    ((from, stamped p (body.Post label [] bytes)) ∷ []))
+    (sym same)
+    (effects-shared p from (body.Post label [] bytes) refl f.here)
 body-does from stamp (body.Put target place reference) p is f =
     effects-placed p.own target place reference (f.own target refl) f.here
 body-does {s = s} {i = i} from stamp (body.Get target place label) p is f =
@@ -465,7 +510,7 @@ body-does {s = s} {i = i} from stamp (body.Get target place label) p is f =
     let calm = calm-collects.sees true (option_to_list v) p in
     let same : content_of (s.objects target) place ≡ v =
     ap (λ (z : Option Thing). content_of z place)
-    (found-same target f.here (f.own target refl) (f.there target place label refl))
+    (found-same target f.here (f.own target refl) (f.there target refl))
     ∙ thing-place found place in
     subst (λ (z : Option Ref). Effects s (posted s i from (body.Give label z)) i
     (share (option_to_list v) w.local).local.heap

@@ -226,6 +226,10 @@ module _ {shape : Shaped} {c d : Cut} {t : Token} (h : Ending shape c d t) where
       (fits.0, end-stamps refl flight fits.1)
   end-fits from to place stamp (body.Get target slot label) flight fits =
       (fits.0, end-stamps refl flight fits.1)
+  end-fits from to place stamp (body.Post label references bytes) flight fits =
+      end-stamps refl flight fits
+  end-fits from to place stamp (body.Fetch target label offset count) flight fits =
+      (fits.0, end-stamps refl flight fits.1)
   end-fits from to place stamp body.Ended flight fits =
       absurd (let w = fits.1 in omega (arith, w, h.marking))
   end-fits from to place stamp body.Swept flight fits =
@@ -257,6 +261,9 @@ module _ {shape : Shaped} {c d : Cut} {t : Token} (h : Ending shape c d t) where
       by (body.Give label reference) e f = now (body.Give label reference) e refl f
       by (body.Put target slot reference) e f = now (body.Put target slot reference) e refl f.1
       by (body.Get target slot label) e f = now (body.Get target slot label) e refl f.1
+      by (body.Post label references bytes) e f = now (body.Post label references bytes) e refl f
+      by (body.Fetch target label offset count) e f =
+          now (body.Fetch target label offset count) e refl f.1
       by b e f = tt
 
   end-heap : (j : ℕ) → (d j).local.heap ≡ (c j).local.heap

@@ -10,8 +10,8 @@ use Rattle.model.specs.declared.event.Event.TheVariants as event
 use Rattle.model.specs.declared.event.Answer.TheVariants as answer
 use Rattle.model.specs.declared.event.Letter.{Letter}
 use Rattle.model.specs.Checks.{AllPass}
-use Rattle.model.specs.State.{Object, Occupied, LocalState, slot_at, register_at, Phases}
-use Rattle.model.specs.Heaps.{no_letter, no_reference, named, new_reference, oldest_letter, with_letter, letter_taken, object_at, place_of, place_loaded, overwritten}
+use Rattle.model.specs.State.{Object, Occupied, LocalState, slot_at, register_at, Phases, Heap}
+use Rattle.model.specs.Heaps.{no_letter, no_reference, named, new_reference, oldest_letter, with_letter, object_at, place_of, place_loaded, overwritten, simple_letter, letters_of, letters_taken, with_letters, contents, fetched}
 use Rattle.model.specs.References.{IfAny}
 use Rattle.model.specs.Effects.{Work, at_rest, Effect, answers}
 use Rattle.model.specs.Counting.{stamped}
@@ -20,19 +20,22 @@ use Rattle.model.specs.Collecting.{without_token, whitened, is_concluded, new_to
 use Rattle.model.specs.Reclaiming.{reclaimed}
 use Rattle.model.specs.Steps.{is_own, tests, made, carried, taken_in, settled, take_carried, take_body, count_in}
 use Rattle.model.specs.Cuts.{Among}
-use Rattle.model.proofs.Lookups.{at_set, at_push}
+use Rattle.model.proofs.Lookups.{at_push}
 use Rattle.model.proofs.Slots.{occupied-within}
 use Rattle.model.proofs.Leaving.{stands-walks}
 use Rattle.model.proofs.Shading.{see_to-none}
 use Rattle.model.proofs.Joining.{join-phases}
-use Rattle.model.proofs.Walk.{joined-walks, carried-walks}
+use Rattle.model.proofs.Walk.{joined-walks, carried-walks, taken-roots}
 use Rattle.laws.proofs.Lookups.{any-list, any-there, all-among}
 use Rattle.laws.proofs.Invariant.{Tidy}
 use Rattle.laws.proofs.Dressing.{option-holds}
 use Rattle.laws.proofs.Sweeps.{SweptHeap, swept-some, Lessens, swept-lessens, reclaimed-lessens}
-use Rattle.laws.proofs.OwnEvents.{letters-dropped}
 use Rattle.laws.proofs.GoodHeaps.{read-good, last-among, fewer-among, grey-good, heap-rooted, heap-registered, heap-fewer_grey, heap-rewritten, heap-placed, word-good, bytes-good, heap-object, heap-less}
 use Rattle.laws.proofs.Good.{GoodPart, GoodMessage, GoodDone, done-quiet, done-through, part-with, part-ringed, idle-good, append-good, post-good, announce-good, join-good, see-good}
+use Rattle.model.proofs.References.{holds-filled, contents-any}
+use Rattle.laws.proofs.Acting.{all-from}
+use Rattle.laws.proofs.Letters.{roots-letters, roots-taken}
+use Rattle.std.specs.List.{AllByRecursion}
 
 -- what a node's own event also relies on
 pub record Ready (p : LocalState) : Type 0 where
@@ -83,6 +86,21 @@ get-good : {G : Ref → Type 0} {since : ℕ} (stamp : ℕ) (target : Ref) (plac
     → GoodMessage G since (record { stamp = stamp; body = body.Get target place label })
 get-good {G = G} stamp target place label here =
     reference-good (record { stamp = stamp; body = body.Get target place label })
+    (λ r e. absurd cc)
+    (λ r a.
+    ⊎_elim {C = G r} (λ (e : r ≡ target). subst G (sym e) here) (λ never. absurd never) a)
+
+post-is-good : {G : Ref → Type 0} {since : ℕ} (stamp label : ℕ) (rs : List (Option Ref))
+    (bytes : List ℕ) → ((r : Ref) → Among r (filled rs) → G r)
+    → GoodMessage G since (record { stamp = stamp; body = body.Post label rs bytes })
+post-is-good stamp label rs bytes all =
+    reference-good (record { stamp = stamp; body = body.Post label rs bytes }) (λ r e. absurd cc) all
+
+fetch-good : {G : Ref → Type 0} {since : ℕ} (stamp : ℕ) (target : Ref) (label offset count : ℕ)
+    → G target
+    → GoodMessage G since (record { stamp = stamp; body = body.Fetch target label offset count })
+fetch-good {G = G} stamp target label offset count here =
+    reference-good (record { stamp = stamp; body = body.Fetch target label offset count })
     (λ r e. absurd cc)
     (λ r a.
     ⊎_elim {C = G r} (λ (e : r ≡ target). subst G (sym e) here) (λ never. absurd never) a)
@@ -249,17 +267,24 @@ own-good p counts (event.Give to label register) own passes r new good =
     post-good to (body.Give label (register_at p.heap register)) p
     (give-good p.phases.cycle label (register_at p.heap register)
     (good.heap.roots.registers register)) good
+own-good {G = G} p counts (event.Post to label first count bytes) own passes r new good =
+    let rs : List (Option Ref) = contents p.heap first count in
+    let known : AllByRecursion G (filled rs) =
+    holds-filled G rs (contents-any G p.heap first count good.heap.roots.registers) in
+    post-good to (body.Post label rs bytes.now) p
+    (post-is-good p.phases.cycle label rs bytes.now (λ r a. all-among G (filled rs) known r a)) good
+own-good {G = G} p counts (event.Fetch object label offset count) own passes r new good =
+    post-good (named p.heap object).node (body.Fetch (named p.heap object) label offset count) p
+    (fetch-good p.phases.cycle (named p.heap object) label offset count
+    (any-there G (register_at p.heap object) no_reference passes.1.0
+    (good.heap.roots.registers object))) good
 own-good {G = G} p counts (event.Accept register) own passes r new good =
+    let n : ℕ = suc (oldest_letter p.heap).more in
+    let same = taken-roots n p.heap register in
     done-quiet (part-with _ good
-    (heap-rooted (letter_taken p.heap register) refl refl
-    (record {
-      registers = λ k.
-          at_set (IfAny G) p.heap.registers register k (oldest_letter p.heap).reference None
-          (good.heap.roots.letters 0) (good.heap.roots.registers k);
-      letters = λ k.
-          subst (λ (z : Letter). IfAny G z.reference) (sym (letters-dropped p.heap.letters k))
-          (good.heap.roots.letters (suc k));
-    })
+    (heap-rooted (letters_taken n p.heap register)
+    (ap (λ (z : Heap). z.slots) same) (ap (λ (z : Heap). z.grey) same)
+    (roots-taken G n p.heap register good.heap.roots)
     good.heap))
 own-good {G = G} p counts (event.Put object place register) own passes r new good =
     post-good (named p.heap object).node
@@ -351,7 +376,7 @@ body-good {G = G} p from stamp (body.Mark target) message fits good =
     (λ (e : r ≡ target). subst G (sym e) (message.asks target refl (omega (arith, there, fits))))
     (λ never. absurd never) a)
 body-good {G = G} p from stamp (body.Give label reference) message fits good =
-    let l : Letter = record { from = from; label = label; reference = reference } in
+    let l : Letter = simple_letter from label reference in
     done-quiet (part-with _ good
     (heap-rooted (with_letter p.heap l) refl refl
     (record {
@@ -362,6 +387,15 @@ body-good {G = G} p from stamp (body.Give label reference) message fits good =
           tt (good.heap.roots.letters k);
     })
     good.heap))
+body-good {G = G} p from stamp (body.Post label rs bytes) message fits good =
+    done-quiet (part-with _ good
+    (heap-rooted (with_letters p.heap (letters_of from label rs bytes)) refl refl
+    (roots-letters G p.heap from label rs bytes good.heap.roots
+    (all-from G (filled rs) message.carries))
+    good.heap))
+body-good {G = G} p from stamp (body.Fetch target label offset count) message fits good =
+    post-good from (body.Post label [] (fetched (object_at p.heap target) offset count)) p
+    (post-is-good _ label [] _ (λ r never. absurd never)) good
 body-good {G = G} p from stamp (body.Put target place reference) message fits good =
     done-quiet (part-with _ good
     (heap-placed p.own target place reference

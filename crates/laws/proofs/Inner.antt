@@ -144,6 +144,7 @@ pub record StaysIn (s : Slot) (cycle g : ℕ) (x : Object) : Type 0 where
 abbrev pub TargetsAt : ℕ → Body → Type 0
 TargetsAt to (body.Put target place reference) = target.node ≡ to
 TargetsAt to (body.Get target place label) = target.node ≡ to
+TargetsAt to (body.Fetch target label offset count) = target.node ≡ to
 TargetsAt to b = Unit {0}
 
 -- what the node sends
@@ -313,6 +314,8 @@ module _ {shape : Shaped} {c d : Cut} {i : ℕ} {q : LocalState} {ms : List (ℕ
       fits-reference (body.Give label reference) is here stamp = stamp
       fits-reference (body.Put target place reference) is here stamp = (here, stamp)
       fits-reference (body.Get target place label) is here stamp = (here, stamp)
+      fits-reference (body.Post label references bytes) is here stamp = stamp
+      fits-reference (body.Fetch target label offset count) is here stamp = (here, stamp)
       fits-reference b is here stamp = absurd cc
 
   sent-plain : (to : ℕ) (x : Message) → Sent shape.nodes c i to x → is_single x.body ≡ false

@@ -127,6 +127,9 @@ BodyFits n ph from to s (body.Mark r) = (r.node ≡ to) × Marking (ph 0) × (s 
 BodyFits n ph from to s (body.Give label reference) = StampFits (ph 0) s
 BodyFits n ph from to s (body.Put target place reference) = (target.node ≡ to) × StampFits (ph 0) s
 BodyFits n ph from to s (body.Get target place label) = (target.node ≡ to) × StampFits (ph 0) s
+BodyFits n ph from to s (body.Post label references bytes) = StampFits (ph 0) s
+BodyFits n ph from to s (body.Fetch target label offset count) =
+    (target.node ≡ to) × StampFits (ph 0) s
 BodyFits n ph from to s body.Ended =
     (from ≡ 0) × Resting (ph 0) × (s ≡ (ph 0).cycle) × ((ph to).ended < (ph 0).cycle)
 BodyFits n ph from to s body.Swept =

@@ -8,6 +8,7 @@ pub mod Turns
 pub mod Sums
 pub mod Safra
 pub mod Invariant
+pub mod Letters
 pub mod Base
 pub mod Placed
 pub mod Net

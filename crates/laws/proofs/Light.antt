@@ -30,6 +30,8 @@ idle-mentions (body.Mark r) is = absurd cc
 idle-mentions (body.Give label reference) is = absurd cc
 idle-mentions (body.Put target place reference) is = absurd cc
 idle-mentions (body.Get target place label) is = absurd cc
+idle-mentions (body.Post label references bytes) is = absurd cc
+idle-mentions (body.Fetch target label offset count) is = absurd cc
 idle-mentions b is = refl
 
 pub idle-carries : (b : Body) → is_idle b ≡ true → carried b ≡ []
@@ -37,6 +39,8 @@ idle-carries (body.Mark r) is = absurd cc
 idle-carries (body.Give label reference) is = absurd cc
 idle-carries (body.Put target place reference) is = absurd cc
 idle-carries (body.Get target place label) is = absurd cc
+idle-carries (body.Post label references bytes) is = absurd cc
+idle-carries (body.Fetch target label offset count) is = absurd cc
 idle-carries b is = refl
 
 pub idle-counts : (cycle : ℕ) (x : Message) → is_idle x.body ≡ true
@@ -49,6 +53,8 @@ idle-counts cycle x is = by x.body is
     by (body.Give label reference) i = absurd cc
     by (body.Put target place reference) i = absurd cc
     by (body.Get target place label) i = absurd cc
+    by (body.Post label references bytes) i = absurd cc
+    by (body.Fetch target label offset count) i = absurd cc
     by b i = (refl, refl)
 
 pub record Light (shape : Shaped) (c d : Cut) (i : ℕ) (q : LocalState) (ms : List (ℕ × Message))

@@ -117,6 +117,10 @@ reached-safe {c = c} inv r (in_message from to place x flight among) =
         all-among (Safe c) (carried (body.Put target place reference)) all r a
     carried-safe (body.Get target place label) all a =
         all-among (Safe c) (carried (body.Get target place label)) all r a
+    carried-safe (body.Post label references bytes) all a =
+        all-among (Safe c) (carried (body.Post label references bytes)) all r a
+    carried-safe (body.Fetch target label offset count) all a =
+        all-among (Safe c) (carried (body.Fetch target label offset count)) all r a
     carried-safe b all never = absurd never
 reached-safe {c = c} inv r (in_place owner o k reached there place) =
     let safe : Safe c owner = reached-safe inv owner reached in
@@ -166,6 +170,9 @@ ended-delivered {shape = shape} {c = c} cycle from to s b inv done fits = by b f
     by (body.Give label reference) f = late (body.Give label reference) refl f
     by (body.Put target place reference) f = late (body.Put target place reference) refl f.1
     by (body.Get target place label) f = late (body.Get target place label) refl f.1
+    by (body.Post label references bytes) f = late (body.Post label references bytes) refl f
+    by (body.Fetch target label offset count) f =
+        late (body.Fetch target label offset count) refl f.1
     by b f = refl
 
 ended-joined : {shape : Shaped} {c : Cut} (cycle j : ℕ) → Inv shape c → j < shape.nodes

@@ -106,6 +106,10 @@ mentioned-good G x good r mention = by x.body refl mention
         good.carries r (subst (λ (z : Body). Among r (carried z)) (sym is) a)
     by (body.Get target place label) is a =
         good.carries r (subst (λ (z : Body). Among r (carried z)) (sym is) a)
+    by (body.Post label references bytes) is a =
+        good.carries r (subst (λ (z : Body). Among r (carried z)) (sym is) a)
+    by (body.Fetch target label offset count) is a =
+        good.carries r (subst (λ (z : Body). Among r (carried z)) (sym is) a)
     by b is never = absurd never
 
 sent-good : {c : Cut} (i : ℕ) (x : Message)

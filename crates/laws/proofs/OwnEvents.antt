@@ -1,5 +1,5 @@
 -- The invariant after each event of a program.
-use Rattle.std.proofs.Common.{◌≡◌, ℕ, suc, ◌<◌, ◌⊎◌, ◌==◌, Bool, true, false, not, cond, List, [], ◌∷◌, drop, get_or, set, Option, None, Some, option_to_list, refl, sym, ap, ◌∙◌, subst, inl, inr, arith, append-nil}
+use Rattle.std.proofs.Common.{◌≡◌, ℕ, suc, ◌<◌, ◌⊎◌, ◌==◌, Bool, true, false, not, cond, List, [], ◌∷◌, get_or, set, Option, None, Some, option_to_list, refl, sym, ap, ◌∙◌, subst, inl, inr, arith, append-nil}
 use Rattle.std.proofs.lemmas.Bool.{ltb-true, eqb-true, cond_both}
 use Rattle.ids.specs.Limits.{Shaped}
 use Rattle.ids.specs.declared.names.Ref.{Ref}
@@ -11,7 +11,7 @@ use Rattle.model.specs.declared.event.Event.TheVariants as event
 use Rattle.model.specs.declared.event.Letter.{Letter}
 use Rattle.model.specs.Checks.{AllPass}
 use Rattle.model.specs.State.{Object, Occupied, Heap, Phases, NodeState, register_at, slot_at}
-use Rattle.model.specs.Heaps.{no_letter, with_object, new_object, new_reference, no_reference, named, object_at, place_of, place_loaded, oldest_letter, with_place, placing, remembering, filling, patching, with_rewritten, sharing}
+use Rattle.model.specs.Heaps.{with_object, new_object, new_reference, no_reference, named, object_at, place_of, place_loaded, oldest_letter, with_place, placing, remembering, filling, patching, with_rewritten, sharing, contents, letters_taken}
 use Rattle.model.specs.References.{IfAny}
 use Rattle.model.specs.Effects.{Work}
 use Rattle.model.specs.Counting.{append}
@@ -21,7 +21,7 @@ use Rattle.model.specs.Cuts.{Cut, Among, Becomes}
 use Rattle.model.proofs.Lookups.{all-map, at_set, at_set_if}
 use Rattle.model.proofs.Slots.{found-object, same-object}
 use Rattle.model.proofs.Ages.{noted_for, noted-keeps}
-use Rattle.model.proofs.Walk.{work_in}
+use Rattle.model.proofs.Walk.{work_in, taken-roots}
 use Rattle.laws.proofs.Lookups.{any-map, any-some, any-list, any-there}
 use Rattle.laws.proofs.Invariant.{cycle_of, Resting, Safe, Holds, holds_marked, holds_asked, RootsAll, Inv}
 use Rattle.laws.proofs.Inner.{Known, known-roots, resting-joined, occupied-inside}
@@ -30,6 +30,8 @@ use Rattle.laws.proofs.Slots.{object-placed}
 use Rattle.laws.proofs.HeapSteps.{re_rooted, roots-inner, Rewriting, rewrite-inner, object-inner}
 use Rattle.laws.proofs.Counts.{append-reference, Sending, send-inner}
 use Rattle.laws.proofs.Moves.{worked, Moves, inner-moves, moves-through, moves-none, Met, Shadeable, shade-met}
+use Rattle.model.proofs.References.{holds-filled, contents-any}
+use Rattle.laws.proofs.Letters.{roots-taken}
 
 -- ---- the steps that make up events
 
@@ -52,11 +54,6 @@ register-known {c = c} {i = i} k v inv known =
           at_set (IfAny (Known c i)) (c i).local.heap.registers k j v None known (old.registers j);
       letters = old.letters;
     }
-
-pub letters-dropped : (ls : List Letter) (k : ℕ)
-    → get_or (drop 1 ls) k no_letter ≡ get_or ls (suc k) no_letter
-letters-dropped [] k = refl
-letters-dropped (l ∷ ls) k = refl
 
 -- a place of an object gets a known reference, or nothing
 pub place-rewriting : {c : Cut} {i : ℕ} (place : ℕ) (v : Option Ref) → IfAny (Known c i) v
@@ -351,21 +348,47 @@ program-moves {shape = shape} {c = c} i counts (event.Give to label register) pl
       targets = tt;
     } in
     post-moves sends step.becomes
-program-moves {c = c} i counts (event.Accept register) plain step =
-    let old = known-roots i step.inv in
-    let known : RootsAll (Known c i) (record (c i).local.heap {
-      registers = set (c i).local.heap.registers register
-          (oldest_letter (c i).local.heap).reference;
-      letters = drop 1 (c i).local.heap.letters;
-    }) = record {
-      registers = λ j.
-          at_set (IfAny (Known c i)) (c i).local.heap.registers register j
-          (oldest_letter (c i).local.heap).reference None (old.letters 0) (old.registers j);
-      letters = λ k.
-          subst (λ (z : Letter). IfAny (Known c i) z.reference)
-          (sym (letters-dropped (c i).local.heap.letters k)) (old.letters (suc k));
+program-moves {c = c} {d = d} i counts (event.Accept register) plain step =
+    let h : Heap = (c i).local.heap in
+    let n : ℕ = suc (oldest_letter h).more in
+    let taken : Heap = letters_taken n h register in
+    let same = taken-roots n h register in
+    roots-moves taken.registers taken.letters step.inside
+    (subst (λ (z : Heap). Becomes c d i (with_heap (c i) z)) same step.becomes)
+    (subst (RootsAll (Known c i)) same
+    (roots-taken (Known c i) n h register (known-roots i step.inv)))
+    step.inv
+program-moves {shape = shape} {c = c} i counts (event.Post to label first count bytes) plain step =
+    let h : Heap = (c i).local.heap in
+    let rs : List (Option Ref) = contents h first count in
+    let nodes : (c i).local.shape.nodes ≡ shape.nodes =
+    ap (λ (z : Shaped). z.nodes) (step.inv.base.shapes i step.inside) in
+    let receiver : to < (c i).local.shape.nodes = ltb-true to _ step.passed.0 in
+    let sends : Sending shape c i to (body.Post label rs bytes.now) = record {
+      inv = step.inv;
+      inside = step.inside;
+      receiver = omega (arith, receiver, nodes);
+      reference = refl;
+      known = holds-filled (Known c i) rs
+          (contents-any (Known c i) h first count (known-roots i step.inv).registers);
+      targets = tt;
     } in
-    roots-moves _ _ step.inside step.becomes known step.inv
+    post-moves sends step.becomes
+program-moves {shape = shape} {c = c} i counts (event.Fetch object label offset count) plain step =
+    let r : Ref = named (c i).local.heap object in
+    let known : Known c i r =
+    any-there (Known c i) (register_at (c i).local.heap object) no_reference step.passed.1.0
+    ((known-roots i step.inv).registers object) in
+    let sends : Sending shape c i r.node (body.Fetch r label offset count) = record {
+      inv = step.inv;
+      inside = step.inside;
+      receiver = occupied-inside r.node r.slot r.generation known.safe.object step.inv.base
+          known.safe.there;
+      reference = refl;
+      known = (known, tt);
+      targets = refl;
+    } in
+    post-moves sends step.becomes
 program-moves {shape = shape} {c = c} i counts (event.Put object place register) plain step =
     let r : Ref = named (c i).local.heap object in
     let known : Known c i r =

@@ -58,6 +58,8 @@ fits-moved {ph} {qh} {from} {to} {b} n s alike = by b refl
     by (body.Give label reference) e h = stamps h
     by (body.Put target place reference) e h = (h.0, stamps h.1)
     by (body.Get target place label) e h = (h.0, stamps h.1)
+    by (body.Post label references bytes) e h = stamps h
+    by (body.Fetch target label offset count) e h = (h.0, stamps h.1)
     by body.Ended e h = (
       h.0,
       (let r = h.1 in omega (arith, r, first.0, first.1)),

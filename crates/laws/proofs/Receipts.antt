@@ -11,11 +11,11 @@ use Rattle.msg.specs.declared.body.Token.{Token}
 use Rattle.msg.specs.declared.body.Message.{Message}
 use Rattle.model.specs.declared.event.Letter.{Letter}
 use Rattle.model.specs.State.{Object, Occupied, Phases, LocalState, NodeState, slot_at, got_from}
-use Rattle.model.specs.Heaps.{no_letter, with_place}
+use Rattle.model.specs.Heaps.{no_letter, with_place, simple_letter, letters_of}
 use Rattle.model.specs.References.{IfAny}
 use Rattle.model.specs.Effects.{Work, then}
 use Rattle.model.specs.Counting.{is_reference}
-use Rattle.model.specs.Shading.{join, joined, see_to}
+use Rattle.model.specs.Shading.{join, joined, see_to, filled}
 use Rattle.model.specs.Steps.{carried, count_in, take_carried, take_body, settled, counted}
 use Rattle.model.specs.Cuts.{Cut, taken, IsInFlight, Among, Becomes}
 use Rattle.model.proofs.Lookups.{at_push}
@@ -25,13 +25,14 @@ use Rattle.laws.proofs.Lookups.{all-among}
 use Rattle.laws.proofs.Turns.{at_turn, flies}
 use Rattle.laws.proofs.Invariant.{phases_of, cycle_of, Marking, Resting, Joined, Safe, Holds, holds_marked, holds_asked, Covered, StampFits, Inv}
 use Rattle.laws.proofs.Inner.{Known, known-roots, inner-inv, marking-open, open-joined, mentioned-carried}
-use Rattle.laws.proofs.Acting.{with_heap, put, put-here, becomes-put, latest}
+use Rattle.laws.proofs.Acting.{with_heap, put, put-here, becomes-put, latest, all-from}
 use Rattle.laws.proofs.HeapSteps.{re_rooted}
 use Rattle.laws.proofs.Counts.{reference-counts, Kind, mark-kind, reference-kind, Counting, counted_local, count-inner}
 use Rattle.laws.proofs.Moves.{worked, Moves, moves-through, Met, Shadeable, shade-met, Vouchable, vouch-met, append_all-append}
 use Rattle.laws.proofs.OwnEvents.{roots-moves, rewrite-moves, known-option}
 use Rattle.laws.proofs.Joins.{entering, enter-turn, enter-slots, Joining, join-inv}
 use Rattle.laws.proofs.Dressing.{Dressing, dress-moves, roots-all}
+use Rattle.laws.proofs.Letters.{roots-letters}
 
 -- from the cut before to the one after some steps of the node
 pub becomes-from : {c d e : Cut} {i : ℕ} {s t : NodeState} → Becomes c d i s → Becomes c e i t
@@ -313,7 +314,7 @@ take-give {shape = shape} {c = c} {d = d} {i = i} {j = j} {stamp = stamp} label 
     let b : Body = body.Give label reference in
     let x : Message = record { stamp = stamp; body = b } in
     let w : Work = take_carried stamp b (c i).local in
-    let l : Letter = record { from = j; label = label; reference = reference } in
+    let l : Letter = simple_letter j label reference in
     let s1 : NodeState = worked (c i) w in
     let c1 : Cut = put c i s1 in
     let s2 : NodeState = re_rooted s1 s1.local.heap.registers (s1.local.heap.letters ++ l ∷ []) in
@@ -334,6 +335,38 @@ take-give {shape = shape} {c = c} {d = d} {i = i} {j = j} {stamp = stamp} label 
           at_push (λ z. IfAny (Known c1 i) z.reference) (c1 i).local.heap.letters k l no_letter
           (known-option reference met.known) tt (old.letters k);
     }) met.moves.inv in
+    let moves : Moves shape c c2 i = moves-through met.moves second in
+    reference-last s refl fits moves (becomes-through (becomes-put c i s1) (becomes-put c1 i s2))
+    becomes
+
+-- a letter with references and bytes
+pub take-post : {shape : Shaped} {c d : Cut} {i j stamp : ℕ} (label : ℕ) (rs : List (Option Ref))
+    (bytes : List ℕ)
+    → Taking shape c i j (record { stamp = stamp; body = body.Post label rs bytes })
+    → StampFits (phases_of c 0) stamp → Settles c d i j stamp (body.Post label rs bytes)
+    → Inv shape d
+unfolding take_body
+take-post {shape = shape} {c = c} {d = d} {i = i} {j = j} {stamp = stamp} label rs bytes s fits
+    becomes =
+    let b : Body = body.Post label rs bytes in
+    let w : Work = take_carried stamp b (c i).local in
+    let ls : List Letter = letters_of j label rs bytes in
+    let s1 : NodeState = worked (c i) w in
+    let c1 : Cut = put c i s1 in
+    let s2 : NodeState = re_rooted s1 s1.local.heap.registers (s1.local.heap.letters ++ ls) in
+    let c2 : Cut = put c1 i s2 in
+    let met : Met shape c c1 i (carried b) = carried-met s refl fits (becomes-put c i s1) in
+    let at1 : c1 i ≡ s1 = put-here c i s1 in
+    let b2 : Becomes c1 c2 i
+    (re_rooted (c1 i) (c1 i).local.heap.registers ((c1 i).local.heap.letters ++ ls)) =
+    subst (λ (z : NodeState).
+    Becomes c1 c2 i (re_rooted z z.local.heap.registers (z.local.heap.letters ++ ls)))
+    (sym at1) (becomes-put c1 i s2) in
+    let second : Moves shape c1 c2 i =
+    roots-moves (c1 i).local.heap.registers ((c1 i).local.heap.letters ++ ls) s.inside b2
+    (roots-letters (Known c1 i) (c1 i).local.heap j label rs bytes (known-roots i met.moves.inv)
+    (all-from (Known c1 i) (filled rs) met.known))
+    met.moves.inv in
     let moves : Moves shape c c2 i = moves-through met.moves second in
     reference-last s refl fits moves (becomes-through (becomes-put c i s1) (becomes-put c1 i s2))
     becomes

@@ -1,6 +1,6 @@
 -- The invariant after a node has received a Get, which it answers, or a message of the ring or of
 -- the phases; and so after any receipt.
-use Rattle.std.proofs.Common.{◌≡◌, ◌≢◌, ℕ, ◌+◌, ◌<◌, ◌≤◌, ◌⊎◌, ltb, ltb-true, true, false, List, length, get_or, set, Option, Some, option_to_list, refl, sym, ap, ◌∙◌, subst, ⊎_elim, inl, inr, arith, le_refl, length-set, get_or-set_same, get_or-set_other}
+use Rattle.std.proofs.Common.{◌≡◌, ◌≢◌, ℕ, ◌+◌, ◌<◌, ◌≤◌, ◌⊎◌, ltb, ltb-true, true, false, List, [], length, get_or, set, Option, Some, option_to_list, refl, sym, ap, ◌∙◌, subst, ⊎_elim, inl, inr, arith, le_refl, length-set, get_or-set_same, get_or-set_other}
 use Rattle.std.proofs.lemmas.Bool.{cases_Bool, cases_eq, cond-true, cond-false, eq-eqb, ltb-false, both_ways, not_from_true}
 use Rattle.std.proofs.Math.Path.{fun_ext}
 use Rattle.ids.specs.Limits.{Shaped}
@@ -10,7 +10,7 @@ use Rattle.msg.specs.declared.body.Body.TheVariants as body
 use Rattle.msg.specs.declared.body.Token.{Token}
 use Rattle.msg.specs.declared.body.Message.{Message}
 use Rattle.model.specs.State.{Phases, LocalState, NodeState, got_from}
-use Rattle.model.specs.Heaps.{object_at, place_of}
+use Rattle.model.specs.Heaps.{object_at, place_of, fetched}
 use Rattle.model.specs.Effects.{Work, at_rest, then}
 use Rattle.model.specs.Counting.{is_idle}
 use Rattle.model.specs.Shading.{is_open, join, joined, see_to}
@@ -30,7 +30,7 @@ use Rattle.laws.proofs.Lookups.{any-list}
 use Rattle.laws.proofs.Light.{idle-carries, Hears, hears-turn}
 use Rattle.laws.proofs.TokenSteps.{arrive-inv}
 use Rattle.laws.proofs.PhaseSteps.{hear-inv}
-use Rattle.laws.proofs.Receipts.{HasJoined, join-step, Taking, becomes-from, carried-met, Settles, take-give, take-put, take-mark, becomes-through, followed, settled-bare, reference-last}
+use Rattle.laws.proofs.Receipts.{HasJoined, join-step, Taking, becomes-from, carried-met, Settles, take-give, take-post, take-put, take-mark, becomes-through, followed, settled-bare, reference-last}
 
 -- ---- a place is read for another node
 
@@ -94,6 +94,44 @@ take-get {shape = shape} {c = c} {d = d} {i = i} {j = j} {stamp = stamp} target 
     (subst (Becomes c c3 i) follows
     (becomes-through (becomes-put c i s1)
     (becomes-through (becomes-put c1 i s2) (becomes-put c2 i s3))))
+    becomes
+
+-- ---- a word and bytes are read for another node
+
+pub take-fetch : {shape : Shaped} {c d : Cut} {i j stamp : ℕ} (target : Ref)
+    (label offset count : ℕ)
+    → Taking shape c i j (record { stamp = stamp; body = body.Fetch target label offset count })
+    → StampFits (phases_of c 0) stamp
+    → Settles c d i j stamp (body.Fetch target label offset count) → Inv shape d
+unfolding take_body
+take-fetch {shape = shape} {c = c} {d = d} {i = i} {j = j} {stamp = stamp} target label offset count
+    s fits becomes =
+    let b : Body = body.Fetch target label offset count in
+    let x : Message = record { stamp = stamp; body = b } in
+    let s1 : NodeState = worked (c i) (take_carried stamp b (c i).local) in
+    let c1 : Cut = put c i s1 in
+    let at1 : c1 i ≡ s1 = put-here c i s1 in
+    let says : NodeState → Body =
+    λ z. body.Post label [] (fetched (object_at z.local.heap target) offset count) in
+    let s2 : NodeState = worked s1 (post j (says s1) s1.local) in
+    let c2 : Cut = put c1 i s2 in
+    let met : Met shape c c1 i (carried b) = carried-met s refl fits (becomes-put c i s1) in
+    let sender : j < shape.nodes = (flight-inside j i (taken c j i) x s.inv.base s.flight).0 in
+    let sends : Sending shape c1 i j (says (c1 i)) = record {
+      inv = met.moves.inv;
+      inside = s.inside;
+      receiver = sender;
+      reference = refl;
+      known = tt;
+      targets = tt;
+    } in
+    let b2 : Becomes c1 c2 i (worked (c1 i) (post j (says (c1 i)) (c1 i).local)) =
+    subst (λ (z : NodeState). Becomes c1 c2 i (worked z (post j (says z) z.local)))
+    (sym at1)
+    (becomes-put c1 i s2) in
+    let moves : Moves shape c c2 i = moves-through met.moves (post-moves sends b2) in
+    reference-last s refl fits moves
+    (becomes-through (becomes-put c i s1) (becomes-put c1 i s2))
     becomes
 
 -- ---- messages that carry nothing
@@ -382,6 +420,10 @@ settle-inv stamp (body.Put target place reference) s becomes fits =
     take-put target place reference s fits.1 becomes
 settle-inv stamp (body.Get target place label) s becomes fits =
     take-get target place label s fits.0 fits.1 becomes
+settle-inv stamp (body.Post label references bytes) s becomes fits =
+    take-post label references bytes s fits becomes
+settle-inv stamp (body.Fetch target label offset count) s becomes fits =
+    take-fetch target label offset count s fits.1 becomes
 settle-inv stamp body.Ended s becomes fits = take-ended s becomes
 settle-inv stamp body.Swept s becomes fits = take-swept s becomes
 
@@ -400,6 +442,12 @@ stamp-most n ph from to s (body.Put target place reference) f =
     ⊎_elim {C = s ≤ (ph 0).cycle} (λ now. omega (arith, now))
     (λ b. (let w = b.1 in omega (arith, w))) f.1
 stamp-most n ph from to s (body.Get target place label) f =
+    ⊎_elim {C = s ≤ (ph 0).cycle} (λ now. omega (arith, now))
+    (λ b. (let w = b.1 in omega (arith, w))) f.1
+stamp-most n ph from to s (body.Post label references bytes) f =
+    ⊎_elim {C = s ≤ (ph 0).cycle} (λ now. omega (arith, now))
+    (λ b. (let w = b.1 in omega (arith, w))) f
+stamp-most n ph from to s (body.Fetch target label offset count) f =
     ⊎_elim {C = s ≤ (ph 0).cycle} (λ now. omega (arith, now))
     (λ b. (let w = b.1 in omega (arith, w))) f.1
 stamp-most n ph from to s body.Ended f = omega (arith, f.2)

@@ -5,7 +5,6 @@ use Rattle.std.proofs.Common.{◌≡◌, ◌≢◌, ℕ, ◌+◌, ◌<◌, ◌�
 use Rattle.std.specs.Prelude.{is_some}
 use Rattle.std.proofs.lemmas.Bool.{cases_eq, cond-true, cond-false, eq-eqb, ne_eqb, eqb-true, and_from}
 use Rattle.std.proofs.Math.Path.{fun_ext}
-use Rattle.std.specs.List.{AllByRecursion}
 use Rattle.model.specs.References.{IfAny}
 use Rattle.ids.specs.Limits.{Shaped}
 use Rattle.ids.specs.declared.names.Ref.{Ref}
@@ -17,11 +16,11 @@ use Rattle.model.specs.declared.event.Event.TheVariants as event
 use Rattle.model.specs.declared.event.Answer.{Answer}
 use Rattle.model.specs.Checks.{AllPass}
 use Rattle.model.specs.State.{Object, LocalState, NodeState, slot_at, got_from, sent_to}
-use Rattle.model.specs.Heaps.{is_filled, named, no_reference, object_at, place_of, place_loaded}
+use Rattle.model.specs.Heaps.{is_filled, named, no_reference, object_at, place_of, place_loaded, fetched}
 use Rattle.model.specs.Effects.{Work, Effect}
 use Rattle.model.specs.Counting.{is_reference, stamped, append}
 use Rattle.model.specs.Shading.{joined, see_to}
-use Rattle.model.specs.Steps.{tests, made, is_own, mentioned, take_carried, count_in, take_body, settled, taken_in, append_all, post}
+use Rattle.model.specs.Steps.{tests, made, is_own, take_carried, count_in, take_body, settled, taken_in, append_all, post}
 use Rattle.model.specs.Cuts.{Cut, taken, IsInFlight, Becomes}
 use Rattle.laws.specs.Objects.{Space, with_messages, is_program, does, arrives}
 use Rattle.laws.specs.Sights.{programs}
@@ -32,9 +31,9 @@ use Rattle.laws.proofs.Lookups.{any-there}
 use Rattle.laws.proofs.StepFacts.{Stepped}
 use Rattle.laws.proofs.Turns.{at_becomes}
 use Rattle.laws.proofs.Moves.{worked}
-use Rattle.laws.proofs.Invariant.{phases_of, Safe, BodyFits, Inv}
+use Rattle.laws.proofs.Invariant.{Safe, Inv}
 use Rattle.laws.proofs.Inner.{occupied-inside}
-use Rattle.laws.proofs.Deliveries.{target-own}
+use Rattle.laws.proofs.Deliveries.{target-own, target-mentioned}
 use Rattle.laws.proofs.Past.{PastAt, Ages, ages-own, ages-taken}
 use Rattle.laws.proofs.GoodHeaps.{own_reference}
 use Rattle.laws.proofs.Things.{still-through, quiet-append, posts, posts-append, quiet-posts, sent-posts, drop-first}
@@ -176,6 +175,16 @@ own-inside {shape = shape} {c = c} {i = i} counts (event.Give j label register) 
     let same : (c i).local.shape.nodes ≡ shape.nodes =
     ap (λ (z : Shaped). z.nodes) (x.inv.base.shapes i x.inside) in
     one-inside j _ shape.nodes to (omega (arith, below, same)) past
+own-inside {shape = shape} {c = c} {i = i} counts (event.Post j label first count bytes) own x
+    passed to past =
+    let below : j < (c i).local.shape.nodes = ltb-true j _ passed.0 in
+    let same : (c i).local.shape.nodes ≡ shape.nodes =
+    ap (λ (z : Shaped). z.nodes) (x.inv.base.shapes i x.inside) in
+    one-inside j _ shape.nodes to (omega (arith, below, same)) past
+own-inside {shape = shape} {c = c} {i = i} counts (event.Fetch object label offset count) own x
+    passed to past =
+    one-inside (named (c i).local.heap object).node _ shape.nodes to
+    (named-inside i object x.inv passed.1.0) past
 own-inside {shape = shape} {c = c} {i = i} counts (event.Put object place register) own x passed to
     past =
     one-inside (named (c i).local.heap object).node _ shape.nodes to
@@ -272,6 +281,10 @@ body-inside from stamp (body.Get target place label) p k n inside past =
     ∙ ap (λ (z : List Body). z ++ posts k last)
     (quiet-posts k w.sends (calm-collects.sees true (option_to_list v) p).quiet)
     ∙ one-inside from (stamped w.local (body.Give label v)) n k inside past
+body-inside from stamp (body.Post label references bytes) p k n inside past = refl
+body-inside from stamp (body.Fetch target label offset count) p k n inside past =
+    one-inside from
+    (stamped p (body.Post label [] (fetched (object_at p.heap target) offset count))) n k inside past
 body-inside from stamp (body.Mark target) p k n inside past =
     quiet-posts k _ (quiet-walks calm-collects from stamp (body.Mark target) p refl).quiet
 body-inside from stamp b p k n inside past = refl
@@ -377,13 +390,15 @@ module _ {shape : Shaped} {s : Space} {c d : Cut} {from to : ℕ} {x : Message}
         subst (IfAny (λ (z : Ref). z.node ≡ to)) about
         (target-own shape.nodes c from to x.stamp x.body
         (h.at.inv.messages.fits from to (taken c from to) x h.flight));
-    there = λ target place label is.
+    there = λ target about.
         (let safe : Safe c target =
-        (subst (λ (z : Body). AllByRecursion (Safe c) (mentioned z)) is
-        (h.at.inv.closed.messages from to (taken c from to) x h.flight)).0 in
+        subst (IfAny (Safe c)) about
+        (target-mentioned (Safe c) x.body
+        (h.at.inv.closed.messages from to (taken c from to) x h.flight)) in
         let own : target.node ≡ to =
-        (subst (λ (z : Body). BodyFits shape.nodes (phases_of c) from to x.stamp z) is
-        (h.at.inv.messages.fits from to (taken c from to) x h.flight)).0 in
+        subst (IfAny (λ (z : Ref). z.node ≡ to)) about
+        (target-own shape.nodes c from to x.stamp x.body
+        (h.at.inv.messages.fits from to (taken c from to) x h.flight)) in
         let later = calm-first.still.lasting target.slot target.generation safe.object
         (ap (λ (z : ℕ). slot_at (c z).local.heap target.slot) (sym own) ∙ safe.there) in
         ap (λ (z : Option Object). is_some z)

@@ -178,6 +178,8 @@ reference-mentions : (b : Body) → is_reference b ≡ true → mentioned b ≡ 
 reference-mentions (body.Give label reference) is = refl
 reference-mentions (body.Put target place reference) is = refl
 reference-mentions (body.Get target place label) is = refl
+reference-mentions (body.Post label references bytes) is = refl
+reference-mentions (body.Fetch target label offset count) is = refl
 reference-mentions b is = absurd cc
 
 -- the only message that is appended

@@ -133,6 +133,9 @@ module _ {shape : Shaped} {c d : Cut} {grey : List ℕ} (h : Starting shape c d 
   start-fits from to place s (body.Give label reference) flight f = start-stamp s f
   start-fits from to place s (body.Put target slot reference) flight f = (f.0, start-stamp s f.1)
   start-fits from to place s (body.Get target slot label) flight f = (f.0, start-stamp s f.1)
+  start-fits from to place s (body.Post label references bytes) flight f = start-stamp s f
+  start-fits from to place s (body.Fetch target label offset count) flight f =
+      (f.0, start-stamp s f.1)
   start-fits from to place s body.Ended flight f =
       absurd (let w = f.3 in
       let inside = (flight-inside from to place _ h.inv.base flight).1 in
@@ -178,6 +181,10 @@ module _ {shape : Shaped} {c d : Cut} {grey : List ℕ} (h : Starting shape c d 
       by (body.Put target slot r) f = reference (body.Put target slot r) refl (stamp-now f.1)
       by (body.Get target slot label) f =
           reference (body.Get target slot label) refl (stamp-now f.1)
+      by (body.Post label references bytes) f =
+          reference (body.Post label references bytes) refl (stamp-now f)
+      by (body.Fetch target label offset count) f =
+          reference (body.Fetch target label offset count) refl (stamp-now f.1)
       by b f = (refl, refl, refl)
 
   start-flight : (from to : ℕ) → in_flight d from to ≡ in_flight c from to
@@ -359,4 +366,7 @@ module _ {shape : Shaped} {c d : Cut} {grey : List ℕ} (h : Starting shape c d 
       carries-none from to s (body.Give label r) f e = absurd (start-stale _ f e)
       carries-none from to s (body.Put target slot r) f e = absurd (start-stale _ f.1 e)
       carries-none from to s (body.Get target slot label) f e = absurd (start-stale _ f.1 e)
+      carries-none from to s (body.Post label references bytes) f e = absurd (start-stale _ f e)
+      carries-none from to s (body.Fetch target label offset count) f e =
+          absurd (start-stale _ f.1 e)
       carries-none from to s b f e = tt

@@ -8,7 +8,7 @@ use Rattle.model.specs.declared.event.Event.{Event}
 use Rattle.model.specs.declared.event.Event.TheVariants as event
 use Rattle.model.specs.Checks.{guarded, AllPass}
 use Rattle.model.specs.State.{Object, Heap, LocalState, NodeState}
-use Rattle.model.specs.Heaps.{is_register, is_filled, is_local, has_slot, has_place, named, object_at, own_tests, copy_tests, drop_tests, word_tests, register_tests, put_tests, get_tests, accept_tests, bytes_of, has_range, heap_bytes}
+use Rattle.model.specs.Heaps.{is_register, is_filled, is_local, has_slot, has_place, named, object_at, own_tests, copy_tests, drop_tests, word_tests, register_tests, put_tests, get_tests, accept_tests, bytes_of, has_range, heap_bytes, post_tests, fetch_tests}
 use Rattle.model.specs.Steps.{tests, made, fits, all_tests, checked, act}
 use Rattle.laws.specs.Objects.{Thing, Space, object_in, has_that, bytes_in, bytes_told, is_program, checks, IsLimit, MayBeTold}
 use Rattle.laws.specs.Sights.{thing_of}
@@ -227,6 +227,13 @@ tests-alike p (event.Give to label register) is x =
     ap (λ (z : Heap). guarded {A = Unit {0}}
     ((nat_lt to p.shape.nodes, NoNode) ∷ (not (to == p.own), SelfSend) ∷ register_tests z register)
     tt) (sym x.here.desk)
+tests-alike p (event.Post to label first count bytes) is x =
+    ap (λ (z : Heap). guarded {A = Unit {0}}
+    ((nat_lt to p.shape.nodes, NoNode) ∷ (not (to == p.own), SelfSend) ∷ post_tests
+    p.shape z first count (length bytes.now)) tt) (sym x.here.desk)
+tests-alike p (event.Fetch object label offset count) is x =
+    ap (λ (z : Heap). guarded {A = Unit {0}} (fetch_tests p.shape p.own z object count) tt)
+    (sym x.here.desk)
 tests-alike p (event.Accept register) is x =
     ap (λ (z : Heap). guarded {A = Unit {0}} (accept_tests z register) tt) (sym x.here.desk)
 tests-alike p (event.Put object place register) is x =
@@ -265,6 +272,10 @@ limit-refused p counts (event.Alloc register places) r is h = slot-refused _ _ r
 limit-refused p counts (event.Load register object place) r is h =
     sym (last-refusal [] (fits counts _, LinkSpent) _ r tt h)
 limit-refused p counts (event.Give to label register) r is h =
+    sym (last-refusal [] (fits counts _, LinkSpent) _ r tt h)
+limit-refused p counts (event.Post to label first count bytes) r is h =
+    sym (last-refusal [] (fits counts _, LinkSpent) _ r tt h)
+limit-refused p counts (event.Fetch object label offset count) r is h =
     sym (last-refusal [] (fits counts _, LinkSpent) _ r tt h)
 limit-refused p counts (event.Put object place register) r is h =
     sym (last-refusal [] (fits counts _, LinkSpent) _ r tt h)

@@ -16,3 +16,4 @@ mod TurnRows
 mod LimitRows
 mod GarbageRows
 mod SightRows
+mod LetterRows

@@ -11,6 +11,7 @@ use Rattle.msg.specs.declared.body.Body.{Body}
 use Rattle.msg.specs.declared.body.Body.TheVariants as body
 use Rattle.msg.specs.declared.body.Message.{Message}
 use Rattle.model.specs.State.{Slot, Free, Occupied, Retired, Heap, LocalState, slot_at, sent_to}
+use Rattle.model.specs.Heaps.{letters_of}
 use Rattle.model.specs.Collecting.{places_in}
 use Rattle.model.specs.Cuts.{Cut}
 use Rattle.model.specs.Agreement.{weighed, in_flight}
@@ -29,6 +30,9 @@ sum_to (suc n) f = sum_to n f + f n
 --   its Mark in the next cycle.
 -- * A Get may make the receiver send a Mark of what it reads, which costs 2, and a Give, which
 --   costs 8: its own 7, and its number on its link.
+-- * A Post costs as much as a Give for each of its references, except that it is received once; as a
+--   letter without any, if it has none. A Fetch carries one reference, and may make the receiver send a
+--   Post without references, which costs as much as a Give.
 abbrev pub cost_of : Body → ℕ
 cost_of body.Begin = 1
 cost_of (body.Token token) = 0
@@ -36,6 +40,8 @@ cost_of (body.Mark target) = 1
 cost_of (body.Give label reference) = 7
 cost_of (body.Put target place reference) = 5
 cost_of (body.Get target place label) = 13
+cost_of (body.Post label references bytes) = 1 + 6 * length (letters_of 0 label references bytes)
+cost_of (body.Fetch target label offset count) = 11
 cost_of body.Ended = 1
 cost_of body.Swept = 1
 

@@ -2,6 +2,7 @@
 -- what each node's program holds, and the messages of programs in flight. No object is ever freed.
 -- There are no marks, cycles, tokens, slots, free lists or numbers of messages.
 use Rattle.std.specs.Prelude.{◌≡◌, ◌≢◌, ℕ, ◌<◌, ◌⊎◌, Bool, true, false, cond, ◌==◌, ◌&&◌, not, is_some, nat_lt, nat_le, List, [], ◌∷◌, ◌++◌, length, take, drop, replicate, slice_set, slice_index_or, Option, None, Some, option_map, Result, Ok, Err, IsTrue}
+use Rattle.std.specs.Int.{w64, to_be_bytes}
 use Rattle.ids.specs.Limits.{Shaped}
 use Rattle.ids.specs.declared.names.Ref.{Ref}
 use Rattle.ids.specs.declared.refusal.Refusal.{Refusal}
@@ -14,7 +15,7 @@ use Rattle.model.specs.declared.event.Answer.{Answer}
 use Rattle.model.specs.declared.event.Answer.TheVariants as answer
 use Rattle.model.specs.Checks.{guarded, AllPass}
 use Rattle.model.specs.State.{Heap, register_at, node_at}
-use Rattle.model.specs.Heaps.{is_register, is_filled, is_local, with_register, register_copied, named, no_reference, oldest_letter, letter_taken, with_letter, own_tests, register_tests, copy_tests, drop_tests, put_tests, get_tests, accept_tests, has_range, overwritten}
+use Rattle.model.specs.Heaps.{is_register, is_filled, is_local, with_register, register_copied, named, no_reference, oldest_letter, accepting, told_of, with_letter, with_letters, simple_letter, letters_of, contents, post_tests, fetch_tests, own_tests, register_tests, copy_tests, drop_tests, put_tests, get_tests, accept_tests, has_range, overwritten}
 use Rattle.model.specs.Shading.{is_same}
 use Rattle.model.specs.World.{new_nodes}
 
@@ -29,7 +30,7 @@ pub record Space : Type 0 where
   pub objects : Ref → Option Thing
   -- each node's registers and letters, as a heap without slots, so that the tests of heaps apply
   pub desk : ℕ → Heap
-  -- the Gives, Puts and Gets that one node sent another and that haven't arrived, oldest first
+  -- the messages of programs that one node sent another and that haven't arrived, oldest first
   pub under_way : ℕ → ℕ → List Body
 
 -- a new space
@@ -58,6 +59,13 @@ word_in (Some o) = o.word
 abbrev pub bytes_in : Option Thing → List ℕ
 bytes_in None = []
 bytes_in (Some o) = o.bytes
+
+-- the object's word, and a range of its bytes if it has that
+abbrev pub fetched_of : Option Thing → ℕ → ℕ → List ℕ
+fetched_of None offset count = []
+fetched_of (Some o) offset count =
+    to_be_bytes w64 o.word
+    ++ cond (has_range o.bytes offset count) (take count (drop offset o.bytes)) []
 
 -- ---- writing
 
@@ -112,6 +120,8 @@ abbrev pub IsLimit : Event → Refusal → Type 0
 IsLimit (event.Alloc register places) e = e ≡ ArenaFull
 IsLimit (event.Load register object place) e = e ≡ LinkSpent
 IsLimit (event.Give to label register) e = e ≡ LinkSpent
+IsLimit (event.Post to label first count bytes) e = e ≡ LinkSpent
+IsLimit (event.Fetch object label offset count) e = e ≡ LinkSpent
 IsLimit (event.Put object place register) e = e ≡ LinkSpent
 IsLimit (event.Get object place label) e = e ≡ LinkSpent
 IsLimit event e = ⊥
@@ -169,11 +179,16 @@ module _ (s : Space) (i : ℕ) where
   checks shape (event.Give to label register) =
       (nat_lt to shape.nodes, NoNode) ∷ (not (to == i), SelfSend) ∷ register_tests
       (s.desk i) register
+  checks shape (event.Post to label first count bytes) =
+      (nat_lt to shape.nodes, NoNode) ∷ (not (to == i), SelfSend) ∷ post_tests
+      shape (s.desk i) first count (length bytes.now)
   checks shape (event.Accept register) = accept_tests (s.desk i) register
   checks shape (event.Put object place register) =
       put_tests shape.places i (s.desk i) object place register
   checks shape (event.Get object place label) =
       get_tests shape.places i (s.desk i) object place
+  checks shape (event.Fetch object label offset count) =
+      fetch_tests shape i (s.desk i) object count
   checks shape e = []
 
   -- The answers that an event may get if it passes these tests. A new object gets any reference of
@@ -185,9 +200,11 @@ module _ (s : Space) (i : ℕ) where
       a ≡ answer.Value (content_of (object_in object) place)
   IsAnswer (event.Word object) a = a ≡ answer.Word (word_in (object_in object))
   IsAnswer (event.Give to label register) a = (number : ℕ) × (a ≡ answer.Sent number)
-  IsAnswer (event.Accept register) a = a ≡ answer.Letter (oldest_letter (s.desk i))
+  IsAnswer (event.Post to label first count bytes) a = (number : ℕ) × (a ≡ answer.Sent number)
+  IsAnswer (event.Accept register) a = a ≡ answer.Letter (told_of (oldest_letter (s.desk i)))
   IsAnswer (event.Put object place register) a = (number : ℕ) × (a ≡ answer.Sent number)
   IsAnswer (event.Get object place label) a = (number : ℕ) × (a ≡ answer.Sent number)
+  IsAnswer (event.Fetch object label offset count) a = (number : ℕ) × (a ≡ answer.Sent number)
   IsAnswer e a = a ≡ answer.Done
 
   -- what the program may be told about an event: an answer if every test passes, the refusal of the
@@ -220,23 +237,31 @@ module _ (s : Space) (i : ℕ) where
   does (event.SetBytes object bytes) a = with_bytes s (named_by object) bytes.now
   does (event.Patch object offset bytes) a = with_patch s (named_by object) offset bytes.now
   does (event.Give to label register) a = posted s i to (body.Give label (held register))
-  does (event.Accept register) a = with_desk s i (letter_taken (s.desk i) register)
+  does (event.Post to label first count bytes) a =
+      posted s i to (body.Post label (contents (s.desk i) first count) bytes.now)
+  does (event.Accept register) a = with_desk s i (accepting (s.desk i) register)
   does (event.Put object place register) a =
       posted s i (named_by object).node (body.Put (named_by object) place (held register))
   does (event.Get object place label) a =
       posted s i (named_by object).node (body.Get (named_by object) place label)
+  does (event.Fetch object label offset count) a =
+      posted s i (named_by object).node (body.Fetch (named_by object) label offset count)
   does e a = s
 
 -- ---- what arrives
 
--- a letter is added; a place is written; the content of a place is sent back
+-- A letter is added; a place is written; the content of a place is sent back, or an object's word
+-- and bytes.
 abbrev pub follows : Space → ℕ → ℕ → Body → Space
 follows s from to (body.Give label reference) =
-    with_desk s to
-    (with_letter (s.desk to) (record { from = from; label = label; reference = reference }))
+    with_desk s to (with_letter (s.desk to) (simple_letter from label reference))
+follows s from to (body.Post label references bytes) =
+    with_desk s to (with_letters (s.desk to) (letters_of from label references bytes))
 follows s from to (body.Put target place reference) = with_place s target place reference
 follows s from to (body.Get target place label) =
     posted s to from (body.Give label (content_of (s.objects target) place))
+follows s from to (body.Fetch target label offset count) =
+    posted s to from (body.Post label [] (fetched_of (s.objects target) offset count))
 follows s from to b = s
 
 -- the first message in flight arrives

@@ -1,6 +1,8 @@
 -- Reads and writes of a place that may be past the end.
 use Rattle.std.proofs.Common.{◌≡◌, ℕ, zero, suc, ◌+◌, ◌-◌, ◌<◌, List, [], ◌∷◌, ◌++◌, length, drop, replicate, Option, Some, None, get_or, set, slice_get, refl, ap, ◌∙◌, arith}
 use Rattle.std.proofs.lemmas.List.{length-append, length-replicate, replicate_more}
+use Rattle.std.specs.Prelude.{true, is_none}
+use Rattle.std.specs.List.{list_all}
 use Rattle.circular_buffer.specs.Buffer.{keep_last}
 use Rattle.msg.specs.declared.frame.Data.{Data}
 
@@ -20,6 +22,13 @@ pub set_none : (xs : List (Option Data)) (i : ℕ) (x : Option Data) → slice_g
 set_none [] i x none = refl
 set_none (y ∷ xs) zero x none = absurd cc
 set_none (y ∷ xs) (suc i) x none = ap (λ (z : List (Option Data)). y ∷ z) (set_none xs i x none)
+
+-- what has no frame anywhere
+pub all-none : (xs : List (Option Data)) → list_all is_none xs ≡ true
+    → xs ≡ replicate (length xs) None
+all-none [] all = refl
+all-none (None ∷ xs) all = ap (λ (z : List (Option Data)). None ∷ z) (all-none xs all)
+all-none (Some d ∷ xs) all = absurd cc
 
 -- a place is pushed while there is room
 pub pushed : (n k : ℕ) (xs : List (Option Data)) → xs ≡ replicate k None → k < n

@@ -1,6 +1,7 @@
 //! Early messages, in places by their numbers. All room for them is allocated at the beginning, so
 //! keeping one never fails.
-ghost use Rattle.std.specs.Prelude.{◌≡◌, ◌<◌, length, option_copied, replicate, IfOk, IfErr};
+ghost use Rattle.std.specs.Prelude.{◌≡◌, ◌<◌, length, option_copied, replicate, is_none, IfOk, IfErr};
+ghost use Rattle.std.specs.List.{list_all};
 ghost use Rattle.ids.specs.declared.limits.TheConstants.{WINDOW};
 ghost use Rattle.ids.specs.declared.refusal.Refusal.TheVariants.{Memory};
 ghost use Rattle.link.specs.Early.{no_early, place_at, placed, shifted, emptied};
@@ -17,18 +18,23 @@ use std::marker::Model;
 #[derive(Drop)]
 pub struct EarlyFrames {
     places: HeapCircularBuffer<Option<Data>, Global>,
+    // If it is true, no place has a frame, so removing the first one changes nothing.
+    empty: bool,
 }
 
 impl Model for EarlyFrames {
-    ghost use Rattle.std.specs.Prelude.{◌≡◌, List, Option, length};
+    ghost use Rattle.std.specs.Prelude.{◌≡◌, List, Option, length, IsTrue};
     ghost use Rattle.ids.specs.declared.limits.TheConstants.{WINDOW};
     ghost use Rattle.msg.specs.declared.frame.Data.{Data};
+    ghost use Rattle.link.specs.Early.{no_early};
 
     ghost Value = { List (Option Data) };
 
     ghost view = { λ e. e.places.items };
 
-    ghost invariant = { λ e. (e.places.capacity ≡ WINDOW) × (length e.places.items ≡ WINDOW) };
+    ghost invariant = { λ e. (e.places.capacity ≡ WINDOW)
+        × (length e.places.items ≡ WINDOW)
+        × (IsTrue e.empty → e.places.items ≡ no_early) };
 }
 
 impl EarlyFrames {
@@ -42,7 +48,10 @@ impl EarlyFrames {
         for _place in 0..WINDOW {
             places.push_back(None);
         }
-        Ok(EarlyFrames { places })
+        Ok(EarlyFrames {
+            places,
+            empty: true,
+        })
     }
 
     /// The same for each node of a space of `width` nodes.
@@ -76,6 +85,7 @@ impl EarlyFrames {
         if self.at(place).is_some() {
             return;
         }
+        self.empty = false;
         if let Some(free) = self.places.get_mut(place) {
             *free = Some(frame);
         }
@@ -83,10 +93,22 @@ impl EarlyFrames {
 
     /// Removes the first place and adds an empty one at the end, after the next message was
     /// received.
+    #[inline(always)]
     pub fn shift(&mut self)
         ensures { self.new ≡ shifted self.old }
     {
+        if !self.empty {
+            self.shift_frames();
+        }
+    }
+
+    // The same, if some place may have a frame.
+    #[inline(never)]
+    fn shift_frames(&mut self)
+        ensures { self.new ≡ shifted self.old }
+    {
         self.places.push_back(None);
+        self.empty = are_empty(&self.places);
     }
 
     /// Empties the first place.
@@ -97,4 +119,10 @@ impl EarlyFrames {
             *front = None;
         }
     }
+}
+
+fn are_empty(places: &HeapCircularBuffer<Option<Data>, Global>) -> bool
+    ensures { result ≡ list_all is_none places.now.items }
+{
+    places.iter().all(|place| place.is_none())
 }

@@ -120,6 +120,7 @@ impl Links {
     /// [`Refusal::LinkSpent`] if that link has no number left, and otherwise with
     /// [`Refusal::Memory`] if an allocation fails. The links are then as they were. An allocation
     /// moves all messages that are kept for that node, and doubles the room for them.
+    #[inline(always)]
     pub fn append(&mut self, to: u8, message: Message) -> Result<u64, Refusal>
         requires { to < length self.old.links }
         ensures fits { OnOk result (fits_to self.old to message ≡ true) }
@@ -189,7 +190,7 @@ impl Links {
         ensures sound { IsLinks self.old → IsLinks self.new }
     {
         if to != own {
-            self.append(to, message.copy())?;
+            self.append(to, message.copy()?)?;
         }
         Ok(())
     }

@@ -91,6 +91,7 @@ impl Sender {
     /// Appends a message, and returns its number. It fails with [`Refusal::LinkSpent`] if no number
     /// is left, and otherwise with [`Refusal::Memory`] if an allocation fails. The sender is then
     /// as it was.
+    #[inline(always)]
     pub fn append(&mut self, message: Message) -> Result<u64, Refusal>
         ensures room { OnOk result (used self.old < GREATEST_NUMBER) }
         ensures done { OnOk result (self.new ≡ appended self.old message) }
@@ -105,7 +106,8 @@ impl Sender {
         if number >= GREATEST_NUMBER {
             return Err(Refusal::LinkSpent);
         }
-        self.unacknowledged.push_back(message)?;
+        self.unacknowledged.reserve(1)?;
+        self.unacknowledged.push_back_reserved(message);
         Ok(number + 1)
     }
 

@@ -1,5 +1,5 @@
 -- What `run` prints for a line of its script, and the status of the line.
-use Rattle.std.specs.Prelude.{◌≡◌, ◌≢◌, ◌⊎◌, ◌<◌, ℕ, ◌+◌, Bool, max, List, [], ◌∷◌, ◌++◌, codes, decimal, length, map, string_bytes, Option, Some, None, Result, Ok, Err}
+use Rattle.std.specs.Prelude.{◌≡◌, ◌≢◌, ◌⊎◌, ◌<◌, ℕ, ◌+◌, Bool, true, false, max, List, [], ◌∷◌, ◌++◌, codes, decimal, length, map, string_bytes, Option, Some, None, Result, Ok, Err}
 use Rattle.std.specs.Io.KnownBytes.{Appends}
 use Rattle.std.specs.Str.Lines.{lines}
 use Rattle.ids.specs.declared.refusal.Refusal.{Refusal}
@@ -85,8 +85,8 @@ IsTrace (told.Trace texts) = Unit {0}
 IsTrace (told.Refused e) = Unit {0}
 IsTrace t = ⊥
 
--- Bytes that a word spells were written, or there was no memory for them. If the word spells none,
--- the line is outside the grammar.
+-- Bytes that a word spells were written or sent, or there was no memory for them. If the word spells
+-- none, the line is outside the grammar.
 abbrev pub IsWritten : Result (List ℕ) FromHexError → Told → Type 0
 IsWritten (Ok bytes) t = IsAnswer t
 IsWritten (Err e) t = (t ≡ told.NoCommand) ⊎ (t ≡ told.Refused refusal.Memory)
@@ -103,6 +103,26 @@ IsSpelled count (told.Bytes text) = Spells count (string_bytes text)
 IsSpelled count (told.Refused e) = Unit {0}
 IsSpelled count t = ⊥
 
+-- the text spells bytes
+pub record SpellsSome (text : List ℕ) : Type 0 where
+  pub bytes : List ℕ
+  pub spelled : text ≡ hex_text bytes
+
+-- the bytes of a letter, or a refusal
+abbrev pub IsLetter : Told → Type 0
+IsLetter (told.Bytes text) = SpellsSome (string_bytes text)
+IsLetter (told.Refused e) = Unit {0}
+IsLetter t = ⊥
+
+-- the line has a meaning only in wide spaces
+abbrev pub is_only_wide : RunLine → Bool
+is_only_wide (said.SetBytes node object hex) = true
+is_only_wide (said.Patch node object offset hex) = true
+is_only_wide (said.Bytes node object offset count) = true
+is_only_wide (said.Post node to label first count hex) = true
+is_only_wide (said.Letter node) = true
+is_only_wide l = false
+
 -- what kind of outcome a line has that says this
 abbrev pub IsToldOf : Option RunLine → Told → Type 0
 IsToldOf None t = t ≡ told.NoCommand
@@ -112,6 +132,8 @@ IsToldOf (Some (said.Restart node)) t = IsAnswer t
 IsToldOf (Some (said.SetBytes node object hex)) t = IsWritten (hex_bytes hex.now) t
 IsToldOf (Some (said.Patch node object offset hex)) t = IsWritten (hex_bytes hex.now) t
 IsToldOf (Some (said.Bytes node object offset count)) t = IsSpelled count t
+IsToldOf (Some (said.Post node to label first count hex)) t = IsWritten (hex_bytes hex.now) t
+IsToldOf (Some (said.Letter node)) t = IsLetter t
 IsToldOf (Some said.Cycle) t = IsEnd t
 IsToldOf (Some (said.Await node register)) t = IsAwaited t
 IsToldOf (Some (said.Trace node)) t = IsTrace t

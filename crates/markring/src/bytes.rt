@@ -1,7 +1,7 @@
-//! Lines of `run` about bytes of objects. Only wide spaces have them.
+//! Lines of `run` about bytes of objects and of letters. Only wide spaces have them.
 ghost use Rattle.std.specs.Prelude.{IfOk, string_bytes};
 ghost use Rattle.commands.specs.Script.{hex_bytes};
-ghost use Rattle.markring.specs.Told.{IsSpelled, IsWritten, Spells};
+ghost use Rattle.markring.specs.Told.{IsLetter, IsSpelled, IsWritten, Spells, SpellsSome};
 
 use crate::asking::act;
 use crate::running::{Told, told_of};
@@ -20,18 +20,18 @@ pub(crate) struct Bytes {
     pub(crate) wide: bool,
 }
 
-/// Gives a node the event that writes the bytes that the word spells.
+/// Gives a node the event that writes or sends the bytes that the word spells.
 pub(crate) fn write<R: Wait, D: Disk + Drop>(
     rt: &R,
     space: &Space<D>,
-    bytes: Bytes,
+    alloc: Global,
     node: u8,
     writing: Writing,
     word: &str,
 ) -> Told
     ensures { IsWritten (hex_bytes word.now) result }
 {
-    match bytes_spelled(bytes.alloc, word) {
+    match bytes_spelled(alloc, word) {
         Ok(spelled) => told_of(act(rt, space, node, &writing.event(spelled.as_slice()))),
         Err(FromHexError::OutOfMemory) => Told::Refused(Refusal::Memory),
         Err(_) => Told::NoCommand,
@@ -42,7 +42,7 @@ pub(crate) fn write<R: Wait, D: Disk + Drop>(
 pub(crate) fn read<R: Wait, D: Disk + Drop>(
     rt: &R,
     space: &Space<D>,
-    bytes: Bytes,
+    alloc: Global,
     node: u8,
     object: u16,
     offset: u32,
@@ -50,7 +50,7 @@ pub(crate) fn read<R: Wait, D: Disk + Drop>(
 ) -> Told
     ensures { IsSpelled count result }
 {
-    match text(rt, space, bytes.alloc, node, object, offset, count) {
+    match text(rt, space, alloc, node, object, offset, count) {
         Ok(text) => Told::Bytes(text),
         Err(refusal) => Told::Refused(refusal),
     }
@@ -77,5 +77,39 @@ fn text<R: Wait, D: Disk + Drop>(
     let mut buffer = Vec::new(alloc);
     buffer.resize(count as usize, 0)?;
     program.bytes(rt, object, offset, buffer.as_mut_slice())?;
+    Ok(text_of_bytes(alloc, buffer.as_slice())?)
+}
+
+/// The text of the bytes of a node's oldest letter, or why they can't be read.
+pub(crate) fn letter<R: Wait, D: Disk + Drop>(
+    rt: &R,
+    space: &Space<D>,
+    alloc: Global,
+    node: u8,
+) -> Told
+    ensures { IsLetter result }
+{
+    match letter_text(rt, space, alloc, node) {
+        Ok(text) => Told::Bytes(text),
+        Err(refusal) => Told::Refused(refusal),
+    }
+}
+
+fn letter_text<R: Wait, D: Disk + Drop>(
+    rt: &R,
+    space: &Space<D>,
+    alloc: Global,
+    node: u8,
+) -> Result<String, Refusal>
+    ensures { IfOk result (λ text. SpellsSome (string_bytes text)) }
+{
+    let Some(program) = space.program(node) else {
+        return Err(Refusal::NoNode);
+    };
+    // No other thread accepts letters, so the oldest one is the same in both calls.
+    let letter = program.letter(rt)?;
+    let mut buffer = Vec::new(alloc);
+    buffer.resize(letter.length, 0)?;
+    program.letter_bytes(rt, buffer.as_mut_slice())?;
     Ok(text_of_bytes(alloc, buffer.as_slice())?)
 }

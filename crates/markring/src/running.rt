@@ -1,17 +1,18 @@
 //! Runs a script on node threads. The main thread acts as the program of every node, next to a
 //! worker for each. To wait for something, it polls.
-ghost use Rattle.std.specs.Prelude.{◌≡◌, ◌≤◌, ◌++◌, ◌∷◌, [], IfOk, OnOk, codes, map, string_bytes, true};
+ghost use Rattle.std.specs.Prelude.{◌≡◌, ◌≤◌, ◌++◌, ◌∷◌, [], IfOk, OnOk, Some, codes, map, string_bytes, true};
 ghost use Rattle.std.specs.Arc.{arc_value};
 ghost use Rattle.std.specs.Io.KnownBytes.{Appends};
 ghost use Rattle.ids.specs.declared.refusal.Refusal.TheVariants.{Memory};
+ghost use Rattle.script.specs.RunLines.{is_own_said, plain_said};
 ghost use Rattle.script.specs.Text.{refused_text};
 ghost use Rattle.wire.specs.Readers.{IsWatchOf};
-ghost use Rattle.markring.specs.Told.{IsAnswer, IsAwaited, IsEnd, IsTold, IsVerdict};
+ghost use Rattle.markring.specs.Told.{IsAnswer, IsAwaited, IsEnd, IsTold, IsToldOf, IsVerdict};
 ghost use Rattle.markring.specs.Told.{PrintsLine, PrintsTold};
-ghost use Rattle.markring.specs.Told.{status_after, told_of, told_text, trace_text};
+ghost use Rattle.markring.specs.Told.{is_only_wide, status_after, told_of, told_text, trace_text};
 
 use crate::asking::{LastRefusal, accept_last, act};
-use crate::bytes::{Bytes, read, write};
+use crate::bytes::{Bytes, letter, read, write};
 use commands::{Writing, next_line};
 use disk::{Disk, FileDisk, MemoryDisk};
 use ids::Refusal;
@@ -294,45 +295,96 @@ fn take_line<R: Clock + Wait, D: Disk + Drop>(
     ensures told { IsTold bytes.wide text.now result }
 {
     match RunLine::parse(bytes.wide, text) {
-        Some(RunLine::Blank) => Told::Nothing,
-        Some(RunLine::Act(node, event)) => told_of(act(rt, space, node, &event)),
-        Some(RunLine::Restart(node)) => match space.restart(rt, node) {
+        Some(said) => take_said(rt, space, bytes, watch, &said),
+        None => Told::NoCommand,
+    }
+}
+
+// The same for a line that was read.
+fn take_said<R: Clock + Wait, D: Disk + Drop>(
+    rt: &R,
+    space: &Space<D>,
+    bytes: Bytes,
+    watch: &mut Watch,
+    said: &RunLine,
+) -> Told
+    requires watch { IsWatchOf (arc_value space.now.wire) watch.old }
+    requires own { is_own_said said.now ≡ true }
+    ensures watch { IsWatchOf (arc_value space.now.wire) watch.new }
+    ensures told { IsToldOf (Some (plain_said said.now)) result }
+{
+    match said {
+        RunLine::Blank => Told::Nothing,
+        RunLine::Act(node, event) => told_of(act(rt, space, *node, event)),
+        RunLine::Restart(node) => match space.restart(rt, *node) {
             Ok(()) => Told::Outcome(Outcome::Done),
             Err(refusal) => Told::Refused(refusal),
         },
-        Some(RunLine::SetBytes { node, object, hex }) => {
-            write(rt, space, bytes, node, Writing::All { object }, hex)
+        RunLine::SetBytes { .. }
+        | RunLine::Patch { .. }
+        | RunLine::Bytes { .. }
+        | RunLine::Post { .. }
+        | RunLine::Letter(_) => only_wide(rt, space, bytes.alloc, said),
+        RunLine::Cycle => cycle(rt, space, watch),
+        RunLine::Await { node, register } => await_letter(rt, space, *node, *register),
+        RunLine::Trace(node) => match trace(rt, space, *node) {
+            Ok(texts) => Told::Trace(texts),
+            Err(refusal) => Told::Refused(refusal),
+        },
+    }
+}
+
+// Does what a line says about bytes, which only wide spaces have.
+fn only_wide<R: Wait, D: Disk + Drop>(
+    rt: &R,
+    space: &Space<D>,
+    alloc: Global,
+    said: &RunLine,
+) -> Told
+    requires { is_only_wide said.now ≡ true }
+    ensures { IsToldOf (Some (plain_said said.now)) result }
+{
+    match *said {
+        RunLine::SetBytes { node, object, hex } => {
+            write(rt, space, alloc, node, Writing::All { object }, hex)
         }
-        Some(
-            RunLine::Patch {
-                node,
-                object,
-                offset,
-                hex,
-            },
-        ) => write(
+        RunLine::Patch {
+            node,
+            object,
+            offset,
+            hex,
+        } => write(
             rt,
             space,
-            bytes,
+            alloc,
             node,
             Writing::Part { object, offset },
             hex,
         ),
-        Some(
-            RunLine::Bytes {
-                node,
-                object,
-                offset,
+        RunLine::Post {
+            node,
+            to,
+            label,
+            first,
+            count,
+            hex,
+        } => {
+            let letter = Writing::Letter {
+                to,
+                label,
+                first,
                 count,
-            },
-        ) => read(rt, space, bytes, node, object, offset, count),
-        Some(RunLine::Cycle) => cycle(rt, space, watch),
-        Some(RunLine::Await { node, register }) => await_letter(rt, space, node, register),
-        Some(RunLine::Trace(node)) => match trace(rt, space, node) {
-            Ok(texts) => Told::Trace(texts),
-            Err(refusal) => Told::Refused(refusal),
-        },
-        None => Told::NoCommand,
+            };
+            write(rt, space, alloc, node, letter, hex)
+        }
+        RunLine::Bytes {
+            node,
+            object,
+            offset,
+            count,
+        } => read(rt, space, alloc, node, object, offset, count),
+        RunLine::Letter(node) => letter(rt, space, alloc, node),
+        _ => unreachable!(),
     }
 }
 

@@ -8,6 +8,7 @@
 
 mod cell_events;
 mod cells;
+mod letters;
 mod node_events;
 mod nodes;
 mod objects;

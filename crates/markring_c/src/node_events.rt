@@ -15,10 +15,11 @@ use std::alloc::Global;
 pub(crate) fn act(alloc: Global, node: &mut NodeHandle, event: Event, answer: &mut CAnswer) -> i32
     ensures { NodeCalled event.entry node.old.held node.new.held result answer.old answer.new }
 {
-    match node.noted_turn(alloc, &event) {
-        Some(from) => next_noting(alloc, node, from, answer),
-        None => answered(node.act_plain(alloc, event), answer),
+    if let Some(from) = node.noted_turn(alloc, &event) {
+        drop(event);
+        return next_noting(alloc, node, from, answer);
     }
+    answered(node.act_plain(alloc, event), answer)
 }
 
 #[inline(never)]

@@ -7,7 +7,7 @@ ghost use Rattle.c_values.specs.Fields.{bit, described, event_of, reference_fiel
 ghost use Rattle.c_handles.specs.Lone.{Made, Read, TookIn};
 ghost use Rattle.c_values.specs.Bytes.{WroteIf};
 ghost use Rattle.c_values.specs.Faults.{Filled, Freed, Through};
-ghost use Rattle.c_handles.specs.Frames.{HandlePacks, ack_bytes, frame_bytes};
+ghost use Rattle.c_handles.specs.Frames.{HandleFrame, HandlePacks, ack_bytes};
 ghost use Rattle.c_handles.specs.Batches.{HandleBatched, Reopened, batch_of, size_of};
 ghost use Rattle.c_handles.specs.Images.{HandleImaged, Kept, Logs, Released, SizedSame};
 ghost use Rattle.c_handles.specs.Reads.{link_of, object_bytes, object_len, register_of, waiting_number};
@@ -240,8 +240,8 @@ pub extern "C" fn markring_node_frame_at(
     needed: &mut usize,
 ) -> i32
     ensures same { node.new.held ≡ node.old.held }
-    ensures wrote { Finishes (λ r. WroteIf (read (λ n. frame_bytes n.node.core to place)
-        node.old.held) r buffer.old buffer.new needed.old needed.new) result }
+    ensures wrote { Finishes (λ r. HandleFrame node.old.held to place r buffer.old buffer.new
+        needed.old needed.new) result }
 {
     status(node.frame_at(alloc, to, place, buffer, needed))
 }

@@ -4,11 +4,12 @@ use Rattle.std.specs.List.{AllByRecursion}
 use Rattle.std.specs.Option.{option_to_list}
 use Rattle.std.proofs.lemmas.Bool.{cond_both}
 use Rattle.std.proofs.lemmas.Grind.{get_or_after_one}
+use Rattle.std.proofs.lemmas.List.{append-nil, append_assoc, get_or-drop}
 use Rattle.ids.specs.Limits.{Shaped}
 use Rattle.ids.specs.declared.names.Ref.{Ref}
 use Rattle.model.specs.declared.event.Letter.{Letter}
-use Rattle.model.specs.State.{Object, Slot, Free, Occupied, Retired, Heap, slot_at, new_heap}
-use Rattle.model.specs.Heaps.{remembering, sharing, share_all, with_register, with_object, new_object, next_generation, slots_with, object_of, object_at, place_of, rewritten, with_rewritten, with_place, with_word, with_letter, no_letter}
+use Rattle.model.specs.State.{Object, Slot, Free, Occupied, Retired, Heap, register_at, slot_at, new_heap}
+use Rattle.model.specs.Heaps.{remembering, sharing, share_all, with_register, with_object, new_object, next_generation, slots_with, object_of, object_at, place_of, rewritten, with_rewritten, with_place, with_word, with_letter, with_letters, no_letter, oldest_letter, letter_taken, letters_taken, more_letters, letters_of, contents}
 use Rattle.model.specs.Shading.{is_unmarked, with_mark, make_grey, make_all_grey, filled, reference_of, roots, without_last_grey}
 use Rattle.model.specs.Collecting.{places_in}
 use Rattle.model.specs.References.{IfAny, HoldsOnly}
@@ -153,6 +154,44 @@ holds-letter_gone P h all = record {
   places = all.places;
 }
 
+-- several letters are added, and a letter is taken into registers
+pub holds-with_letters : (P : Ref → Type 0) (h : Heap) (ls : List Letter) → HoldsOnly P h
+    → AllByRecursion (λ (l : Letter). IfAny P l.reference) ls → HoldsOnly P (with_letters h ls)
+holds-with_letters P h [] all here = rw (append-nil h.letters) all
+holds-with_letters P h (l ∷ ls) all here =
+    subst (λ (z : List Letter). HoldsOnly P (record h { letters = z }))
+    (append_assoc h.letters (l ∷ []) ls)
+    (holds-with_letters P (with_letter h l) ls (holds-with_letter P h l all here.0) here.1)
+
+pub holds-letter_taken : (P : Ref → Type 0) (h : Heap) (register : ℕ) → HoldsOnly P h
+    → HoldsOnly P (letter_taken h register)
+holds-letter_taken P h register all =
+    holds-with_register P (record h { letters = drop 1 h.letters }) register
+    (oldest_letter h).reference (holds-letter_gone P h all) (all.letters 0)
+
+pub holds-letters_taken : (P : Ref → Type 0) (n : ℕ) (h : Heap) (register : ℕ) → HoldsOnly P h
+    → HoldsOnly P (letters_taken n h register)
+holds-letters_taken P zero h register all = all
+holds-letters_taken P (suc n) h register all =
+    holds-letters_taken P n (letter_taken h register) (suc register)
+    (holds-letter_taken P h register all)
+
+-- the references of a letter as it waits
+more-references : (P : Ref → Type 0) (from label : ℕ) (rs : List (Option Ref))
+    → AllByRecursion P (filled rs)
+    → AllByRecursion (λ (l : Letter). IfAny P l.reference) (more_letters from label rs)
+more-references P from label [] all = tt
+more-references P from label (None ∷ rs) all = (tt, more-references P from label rs all)
+more-references P from label (Some r ∷ rs) all = (all.0, more-references P from label rs all.1)
+
+pub new-references : (P : Ref → Type 0) (from label : ℕ) (rs : List (Option Ref)) (bytes : List ℕ)
+    → AllByRecursion P (filled rs)
+    → AllByRecursion (λ (l : Letter). IfAny P l.reference) (letters_of from label rs bytes)
+new-references P from label [] bytes all = (tt, tt)
+new-references P from label (None ∷ rs) bytes all = (tt, more-references P from label rs all)
+new-references P from label (Some r ∷ rs) bytes all =
+    (all.0, more-references P from label rs all.1)
+
 -- an optional reference as a list
 pub any-list : (P : Ref → Type 0) (v : Option Ref) → IfAny P v → AllByRecursion P (option_to_list v)
 any-list P None h = tt
@@ -214,6 +253,26 @@ holds-filled P (o ∷ os) h =
     all-append P (option_to_list o) (filled os)
     (any-list P o (h zero))
     (holds-filled P os (λ k. h (suc k)))
+
+-- what some of the registers hold
+any-take : (P : Ref → Type 0) (n : ℕ) (os : List (Option Ref))
+    → ((k : ℕ) → IfAny P (get_or os k None)) → (k : ℕ) → IfAny P (get_or (take n os) k None)
+any-take P zero os h k = tt
+any-take P (suc n) [] h k = tt
+any-take P (suc n) (o ∷ os) h zero = h zero
+any-take P (suc n) (o ∷ os) h (suc k) = any-take P n os (λ i. h (suc i)) k
+
+pub contents-any : (P : Ref → Type 0) (h : Heap) (first count : ℕ)
+    → ((k : ℕ) → IfAny P (register_at h k)) → (k : ℕ)
+    → IfAny P (get_or (contents h first count) k None)
+contents-any P h first count all =
+    any-take P count (drop first h.registers)
+    (λ k. subst (IfAny P) (sym (get_or-drop first h.registers k None)) (all (first + k)))
+
+pub holds-contents : (P : Ref → Type 0) (h : Heap) (first count : ℕ) → HoldsOnly P h
+    → AllByRecursion P (filled (contents h first count))
+holds-contents P h first count all =
+    holds-filled P (contents h first count) (contents-any P h first count all.registers)
 
 letter-references : (P : Ref → Type 0) (ls : List Letter)
     → ((k : ℕ) → IfAny P (get_or ls k no_letter).reference) → (k : ℕ)

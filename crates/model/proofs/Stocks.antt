@@ -1,7 +1,7 @@
 -- Each change of a node's heap keeps what is true of the heap of every node.
 use Rattle.std.proofs.Common.{⊎_elim, filter, ◌≡◌, ◌≢◌, ℕ, zero, suc, ◌+◌, ◌-◌, ◌<◌, ◌≤◌, ◌==◌, Bool, true, false, eqb, List, [], ◌∷◌, ◌++◌, length, map, take, drop, get_or, Option, Some, None, refl, sym, ap, ◌∙◌, subst, arith, get_or-set_same}
 use Rattle.std.specs.List.{AllByRecursion, IsDistinct}
-use Rattle.std.proofs.lemmas.Bool.{cond_both, cond-true, leb-true, eqb-true, eqb-false, eq-eqb, ne_eqb, not-true}
+use Rattle.std.proofs.lemmas.Bool.{cond_both, cond-true, true≢false, leb-true, eqb-true, eqb-false, eq-eqb, ne_eqb, not-true}
 use Rattle.std.proofs.lemmas.List.{length-append, length-drop, length-set, length-replicate, length-take-le, get_or_append_left}
 use Rattle.ids.specs.Limits.{Shaped}
 use Rattle.ids.specs.declared.limits.TheConstants.{GREATEST_GENERATION}
@@ -11,11 +11,11 @@ use Rattle.model.specs.declared.age.Age.TheVariants.{Young, Old}
 use Rattle.model.specs.declared.age.Scope.{Scope}
 use Rattle.model.specs.declared.event.Letter.{Letter}
 use Rattle.model.specs.State.{Object, Slot, Free, Occupied, Retired, Heap, LocalState, slot_at, new_heap}
-use Rattle.model.specs.Heaps.{sharing, share_all, with_register, with_object, new_object, next_generation, slots_with, object_at, rewritten, with_rewritten, with_place, placing, remembered, remembering, with_word, with_letter, filling, patching, has_range, overwritten}
+use Rattle.model.specs.Heaps.{sharing, share_all, with_register, with_object, new_object, next_generation, slots_with, object_at, rewritten, with_rewritten, with_place, placing, remembered, remembering, with_word, with_letters, oldest_letter, letter_taken, letters_taken, more_letters, letters_of, simple_letter, filling, patching, has_range, overwritten}
 use Rattle.model.specs.Shading.{is_open, is_unmarked, with_mark, make_grey, make_all_grey, is_calm, without_last_grey}
 use Rattle.model.specs.Collecting.{is_garbage, generation_in, vacated_slot, Sweeping, sweep_some}
 use Rattle.model.specs.Reclaiming.{is_occupied, reclaiming, left_grey, slot_aged, aged, freed_within, reclaimed}
-use Rattle.model.specs.WellFormed.{IsOther, IsObject, IsSlotOf, HasMarked, IsStocked, IsHeld}
+use Rattle.model.specs.WellFormed.{AreLetters, IsOther, IsObject, IsSlotOf, HasMarked, IsStocked, IsHeld}
 use Rattle.model.proofs.Lookups.{all-map, at_set, at_set_if, at_push}
 use Rattle.model.proofs.References.{all-append}
 use Rattle.model.proofs.Ages.{noted-keeps, aged-at}
@@ -48,11 +48,6 @@ distinct-take same zero xs once = tt
 distinct-take same (suc n) [] once = tt
 distinct-take {A = A} same (suc n) (x ∷ xs) once =
     (all-take (λ (y : A). same x y ≡ false) n xs once.0, distinct-take same n xs once.1)
-
-all-rest : {A : Type 0} (P : A → Type 0) (xs : List A) → AllByRecursion P xs
-    → AllByRecursion P (drop 1 xs)
-all-rest P [] all = tt
-all-rest P (x ∷ xs) all = all.1
 
 none-left : (xs : List ℕ) → length xs ≡ 0 → xs ≡ []
 none-left [] none = refl
@@ -97,6 +92,56 @@ length-overwritten xs offset ys =
         let back = length-drop (offset + length ys) xs in
         omega (arith, fits, outer, inner, front, back)
 
+-- ---- letters
+
+module _ (shape : Shaped) (own : ℕ) where
+  letters-append : (ls ms : List Letter) → AreLetters shape own ls → AreLetters shape own ms
+      → AreLetters shape own (ls ++ ms)
+  letters-append [] ms first second = second
+  letters-append (l ∷ ls) ms first second = (
+    first.0,
+    (omega (arith, first.1.0, length-append ls ms), first.1.1),
+    letters-append ls ms first.2 second,
+  )
+
+  letters-rest : (ls : List Letter) → AreLetters shape own ls → AreLetters shape own (drop 1 ls)
+  letters-rest [] all = tt
+  letters-rest (l ∷ ls) all = all.2
+
+  length-more : (from label : ℕ) (rs : List (Option Ref))
+      → length (more_letters from label rs) ≡ length rs
+  length-more from label [] = refl
+  length-more from label (r ∷ rs) = ap suc (length-more from label rs)
+
+  in-wide : {P : Type 0} → shape.wide ≡ true → shape.wide ≡ false → P
+  in-wide wide plain = absurd (true≢false (sym wide ∙ plain))
+
+  more-letters : (from label : ℕ) (rs : List (Option Ref)) → shape.wide ≡ true
+      → IsOther shape own from → AreLetters shape own (more_letters from label rs)
+  more-letters from label [] wide other = tt
+  more-letters from label (r ∷ rs) wide other = (
+    other,
+    (omega (arith, length-more from label rs), in-wide wide),
+    more-letters from label rs wide other,
+  )
+
+  -- a letter as it waits
+  pub new-letters : (from label : ℕ) (rs : List (Option Ref)) (bytes : List ℕ)
+      → shape.wide ≡ true → IsOther shape own from
+      → AreLetters shape own (letters_of from label rs bytes)
+  new-letters from label [] bytes wide other =
+      (other, (omega arith, in-wide wide), tt)
+  new-letters from label (r ∷ rs) bytes wide other = (
+    other,
+    (omega (arith, length-more from label rs), in-wide wide),
+    more-letters from label rs wide other,
+  )
+
+  -- a letter with at most one reference, and no bytes
+  pub new-letter : (from label : ℕ) (r : Option Ref) → IsOther shape own from
+      → AreLetters shape own (simple_letter from label r ∷ [])
+  new-letter from label r other = (other, (omega arith, λ plain. (refl, refl)), tt)
+
 -- ---- a new heap
 
 pub stocked-new : (shape : Shaped) (own : ℕ) → IsStocked shape own 0 0 (new_heap shape)
@@ -125,23 +170,24 @@ module _ {shape : Shaped} {own cycle ended : ℕ} {h : Heap} (old : IsStocked sh
       calm = old.calm;
     }
 
-    pub stocked-letter : (l : Letter) → IsOther shape own l.from
-        → IsStocked shape own cycle ended (with_letter h l)
-    stocked-letter l from = record {
+    pub stocked-letters : (ls : List Letter) → AreLetters shape own ls
+        → IsStocked shape own cycle ended (with_letters h ls)
+    stocked-letters ls all = record {
       registers = old.registers;
-      letters = all-append (λ (z : Letter). IsOther shape own z.from) h.letters (l ∷ []) old.letters
-          (from, tt);
+      letters = letters-append shape own h.letters ls old.letters all;
       slots = old.slots;
       grey = old.grey;
       once = old.once;
       calm = old.calm;
     }
 
-    pub stocked-letter_gone
-        : IsStocked shape own cycle ended (record h { letters = drop 1 h.letters })
-    stocked-letter_gone = record {
-      registers = old.registers;
-      letters = all-rest (λ (z : Letter). IsOther shape own z.from) h.letters old.letters;
+    -- what waits longest is taken
+    pub stocked-letter_taken : (register : ℕ)
+        → IsStocked shape own cycle ended (letter_taken h register)
+    stocked-letter_taken register = record {
+      registers =
+          length-set h.registers register (oldest_letter h).reference ∙ old.registers;
+      letters = letters-rest shape own h.letters old.letters;
       slots = old.slots;
       grey = old.grey;
       once = old.once;
@@ -508,7 +554,7 @@ freed-stocked : {shape : Shaped} {own cycle ended : ℕ} {h g : Heap} (grey : Li
     → (ended ≡ cycle → grey ≡ []) → IsStocked shape own cycle ended (record g { grey = grey })
 freed-stocked {shape} {own} {cycle} {ended} {h} {g} grey f old marked once calm = record {
   registers = ap length f.registers ∙ old.registers;
-  letters = subst (AllByRecursion (λ (l : Letter). IsOther shape own l.from)) (sym f.letters)
+  letters = subst (AreLetters shape own) (sym f.letters)
       old.letters;
   slots = λ k.
       ⊎_elim {C = IsSlotOf shape cycle (slot_at g k)}
@@ -613,3 +659,11 @@ stocked-aged {shape} {own} {cycle} {ended} {h} old =
 pub stocked-reclaimed : {shape : Shaped} {own cycle ended : ℕ} {h : Heap} (scope : Scope)
     → IsStocked shape own cycle ended h → IsStocked shape own cycle ended (reclaimed scope own h)
 stocked-reclaimed scope old = stocked-aged (stocked-freed scope old)
+
+-- a letter is taken into registers
+pub stocked-letters_taken : {shape : Shaped} {own cycle ended : ℕ} (n : ℕ) {h : Heap}
+    → IsStocked shape own cycle ended h → (register : ℕ)
+    → IsStocked shape own cycle ended (letters_taken n h register)
+stocked-letters_taken zero old register = old
+stocked-letters_taken (suc n) old register =
+    stocked-letters_taken n (stocked-letter_taken old register) (suc register)

@@ -1,7 +1,7 @@
 -- A relation between a node and some work is proved for every event and every message once it is
 -- proved for the elementary moves that these are made of. So a lemma by cases of all events and
 -- bodies is here and nowhere else.
-use Rattle.std.proofs.Common.{◌≡◌, ℕ, ◌+◌, ◌<◌, ◌==◌, Bool, true, false, cond, not, List, [], Option, option_to_list, refl, ◌∙◌, ltb, ltb-true, arith, ◌∷◌}
+use Rattle.std.proofs.Common.{◌≡◌, ℕ, zero, suc, sym, subst, ◌+◌, ◌<◌, ◌==◌, Bool, true, false, cond, not, List, [], Option, option_to_list, refl, ◌∙◌, ltb, ltb-true, arith, ◌∷◌}
 use Rattle.std.proofs.lemmas.Bool.{cond_both}
 use Rattle.ids.specs.declared.names.Ref.{Ref}
 use Rattle.msg.specs.declared.body.Body.{Body}
@@ -12,7 +12,7 @@ use Rattle.model.specs.declared.event.Event.TheVariants as event
 use Rattle.model.specs.declared.event.Answer.TheVariants as answer
 use Rattle.model.specs.declared.event.Letter.{Letter}
 use Rattle.model.specs.State.{Object, Heap, Ring, LocalState, slot_at}
-use Rattle.model.specs.Heaps.{with_rewritten, with_place, placing, remembering, alloc_heap, object_at, place_of, sharing}
+use Rattle.model.specs.Heaps.{with_rewritten, with_place, placing, remembering, alloc_heap, object_at, place_of, sharing, oldest_letter, letter_taken, letters_taken}
 use Rattle.model.proofs.Ages.{noted_for, noted-keeps}
 use Rattle.model.specs.Effects.{Work, at_rest, then, Effect, answers}
 use Rattle.model.specs.Counting.{is_reference, is_idle, append, announce}
@@ -52,6 +52,8 @@ pub idle-quiet : (b : Body) → is_idle b ≡ true → is_reference b ≡ false
 idle-quiet (body.Give label reference) idle = absurd cc
 idle-quiet (body.Put target place reference) idle = absurd cc
 idle-quiet (body.Get target place label) idle = absurd cc
+idle-quiet (body.Post label references bytes) idle = absurd cc
+idle-quiet (body.Fetch target label offset count) idle = absurd cc
 idle-quiet b idle = refl
 
 -- a shared object stays shared
@@ -164,6 +166,16 @@ module _ {R : Steps} (c : Collects R) where
       (λ _.
       ringed-walks p (whitened (without_token p.ring)) _ (body.Token (forwarded p.ring)) refl)
 
+-- ---- a letter is taken: only registers and letters change
+
+pub taken-roots : (n : ℕ) (h : Heap) (register : ℕ)
+    → letters_taken n h register ≡ record h {
+      registers = (letters_taken n h register).registers;
+      letters = (letters_taken n h register).letters;
+    }
+taken-roots zero h register = refl
+taken-roots (suc n) h register = taken-roots n (letter_taken h register) (suc register)
+
 -- ---- every event of the node's own, and every message before it counts
 
 module _ {P : LocalState → Type 0} {R : Steps} (s : Walks P R) where
@@ -175,6 +187,8 @@ module _ {P : LocalState → Type 0} {R : Steps} (s : Walks P R) where
       let rs : List Ref = option_to_list (place_of (object_at p.heap target) place) in
       s.collects.both p (see_to true rs p) (post from _) (s.collects.sees true rs p)
       (s.gives from _ (see_to true rs p).local refl)
+  body-walks from stamp (body.Post label references bytes) p = s.roots p _ _
+  body-walks from stamp (body.Fetch target label offset count) p = s.gives from _ p refl
   body-walks from stamp b p = quiet-walks s.collects from stamp b p refl
 
   pub taken-walks : (p : LocalState) (from stamp : ℕ) (b : Body)
@@ -202,7 +216,10 @@ module _ {P : LocalState → Type 0} {R : Steps} (s : Walks P R) where
   written-walks : (p : LocalState) (w : Write) → IsWritten w → P p
       → R p (at_rest (record p { heap = written p w }))
   written-walks p (Sets register v) taken ready = s.roots p _ p.heap.letters
-  written-walks p (Accepts register) taken ready = s.roots p _ _
+  written-walks p (Accepts register) taken ready =
+      subst (λ (h : Heap). R p (at_rest (record p { heap = h })))
+      (sym (taken-roots (suc (oldest_letter p.heap).more) p.heap register))
+      (s.roots p _ _)
   written-walks p (Rewrites r f) taken ready = s.rewrites p r f taken
   written-walks p (Places r place v) taken ready = s.places p r place v
   written-walks p (Makes register places) taken ready = s.makes p register places ready
@@ -239,6 +256,10 @@ module _ {P : LocalState → Type 0} {R : Steps} (s : Walks P R) where
       (record { places = λ o. refl; shared = λ o. refl; age = λ o. refl }) ready
   own-walks p counts (event.Give to label register) own ready =
       deed-walks p counts (rule p (event.Give to label register)).deed refl ready
+  own-walks p counts (event.Post to label first count bytes) own ready =
+      deed-walks p counts (rule p (event.Post to label first count bytes)).deed refl ready
+  own-walks p counts (event.Fetch object label offset count) own ready =
+      deed-walks p counts (rule p (event.Fetch object label offset count)).deed refl ready
   own-walks p counts (event.Put object place register) own ready =
       deed-walks p counts (rule p (event.Put object place register)).deed refl ready
   own-walks p counts (event.Get object place label) own ready =

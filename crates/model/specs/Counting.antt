@@ -14,6 +14,8 @@ abbrev pub is_reference : Body → Bool
 is_reference (body.Give label reference) = true
 is_reference (body.Put target place reference) = true
 is_reference (body.Get target place label) = true
+is_reference (body.Post label references bytes) = true
+is_reference (body.Fetch target label offset count) = true
 is_reference b = false
 
 -- a body that carries no reference, and asks for no mark
@@ -36,6 +38,9 @@ balance_of cycle stamp (body.Mark target) = Some Earlier
 balance_of cycle stamp (body.Give label reference) = Some (reference_balance cycle stamp)
 balance_of cycle stamp (body.Put target place reference) = Some (reference_balance cycle stamp)
 balance_of cycle stamp (body.Get target place label) = Some (reference_balance cycle stamp)
+balance_of cycle stamp (body.Post label references bytes) = Some (reference_balance cycle stamp)
+balance_of cycle stamp (body.Fetch target label offset count) =
+    Some (reference_balance cycle stamp)
 balance_of cycle stamp b = None
 
 -- one more message was sent

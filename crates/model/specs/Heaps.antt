@@ -1,12 +1,16 @@
 -- What the events do to a node's heap, and the tests that come before each of them.
-use Rattle.std.specs.Prelude.{ℕ, ◌+◌, Bool, true, false, cond, ◌||◌, ◌&&◌, ◌==◌, not, nat_lt, nat_le, List, [], ◌∷◌, ◌++◌, length, take, drop, replicate, Option, Some, None, is_some, Result, slice_index_or, slice_set}
+use Rattle.std.specs.Prelude.{ℕ, zero, suc, ◌+◌, Bool, true, false, cond, ◌||◌, ◌&&◌, ◌==◌, not, nat_lt, nat_le, List, [], ◌∷◌, ◌++◌, length, take, drop, replicate, Option, Some, None, is_some, Result, slice_index_or, slice_set}
 use Rattle.std.specs.Option.{unwrap_or}
+use Rattle.std.specs.Int.{w64, to_be_bytes}
 use Rattle.ids.specs.Limits.{Shaped}
+use Rattle.ids.specs.declared.limits.TheConstants.{GREATEST_LETTER}
 use Rattle.ids.specs.declared.names.Ref.{Ref}
+use Rattle.msg.specs.Limits.{fetch_fits}
 use Rattle.ids.specs.declared.refusal.Refusal.{Refusal}
 use Rattle.ids.specs.declared.refusal.Refusal.TheVariants.{ArenaFull, NoRegister, EmptyRegister, Remote, Local, NoLetter, NoField, TooManyFields, TooManyBytes, NoBytes}
 use Rattle.model.specs.declared.age.Age.{Age}
 use Rattle.model.specs.declared.age.Age.TheVariants.{Young, Remembered, Old}
+use Rattle.model.specs.declared.event.Accepted.{Accepted}
 use Rattle.model.specs.declared.event.Letter.{Letter}
 use Rattle.model.specs.Checks.{guarded}
 use Rattle.model.specs.State.{Object, Slot, Free, Occupied, Retired, Heap, register_at, slot_at}
@@ -285,24 +289,101 @@ get_tests most own h object place =
     ∷ (nat_lt place most, NoField)
     ∷ []
 
+-- ---- letters: a letter with several references waits as several, one for each
+
 abbrev pub no_letter : Letter
-no_letter = record { from = 0; label = 0; reference = None }
+no_letter = record { from = 0; label = 0; reference = None; more = 0; bytes = [] }
+
+-- a letter with at most one reference, and no bytes
+abbrev pub simple_letter : ℕ → ℕ → Option Ref → Letter
+simple_letter from label reference =
+    record { from = from; label = label; reference = reference; more = 0; bytes = [] }
+
+-- the references of a letter after its first one
+abbrev pub more_letters : ℕ → ℕ → List (Option Ref) → List Letter
+more_letters from label [] = []
+more_letters from label (r ∷ rs) =
+    record { from = from; label = label; reference = r; more = length rs; bytes = [] }
+    ∷ more_letters from label rs
+
+-- a letter with these references and bytes
+abbrev pub letters_of : ℕ → ℕ → List (Option Ref) → List ℕ → List Letter
+letters_of from label [] bytes = record (simple_letter from label None) { bytes = bytes } ∷ []
+letters_of from label (r ∷ rs) bytes =
+    record { from = from; label = label; reference = r; more = length rs; bytes = bytes }
+    ∷ more_letters from label rs
 
 abbrev pub oldest_letter : Heap → Letter
 oldest_letter h = slice_index_or h.letters 0 no_letter
 
+-- the letter goes into the register and those that follow it
 abbrev pub accept_tests : Heap → ℕ → List (Bool × Refusal)
 accept_tests h register =
-    (is_register h register, NoRegister) ∷ (nat_lt 0 (length h.letters), NoLetter) ∷ []
+    (is_register h register, NoRegister)
+    ∷ (nat_lt (oldest_letter h).more (length h.letters), NoLetter)
+    ∷ (is_register h (register + (oldest_letter h).more), NoRegister)
+    ∷ []
 
--- the oldest letter leaves, and the register gets its reference, or becomes empty if it has none
+-- what waits longest leaves, and the register gets its reference, or becomes empty if it has none
 abbrev pub letter_taken : Heap → ℕ → Heap
 letter_taken h register =
     with_register (record h { letters = drop 1 h.letters }) register (oldest_letter h).reference
 
--- the letter is appended as the last one
+-- the same this many times, each time for the next register
+abbrev pub letters_taken : ℕ → Heap → ℕ → Heap
+letters_taken zero h register = h
+letters_taken (suc n) h register = letters_taken n (letter_taken h register) (suc register)
+
+-- the oldest letter leaves whole
+abbrev pub accepting : Heap → ℕ → Heap
+accepting h register = letters_taken (suc (oldest_letter h).more) h register
+
+-- what the program is told of a letter
+abbrev pub told_of : Letter → Accepted
+told_of l = record {
+  from = l.from;
+  label = l.label;
+  reference = l.reference;
+  count = suc l.more;
+  length = length l.bytes;
+}
+
+-- these are appended as the last ones
+abbrev pub with_letters : Heap → List Letter → Heap
+with_letters h ls = record h { letters = h.letters ++ ls }
+
 abbrev pub with_letter : Heap → Letter → Heap
-with_letter h l = record h { letters = h.letters ++ l ∷ [] }
+with_letter h l = with_letters h (l ∷ [])
+
+-- ---- letters with several references and bytes
+
+-- the contents of this many registers, from the first one on
+abbrev pub contents : Heap → ℕ → ℕ → List (Option Ref)
+contents h first count = take count (drop first h.registers)
+
+-- sending them with this many bytes
+abbrev pub post_tests : Shaped → Heap → ℕ → ℕ → ℕ → List (Bool × Refusal)
+post_tests shape h first count size =
+    (nat_le (first + count) (length h.registers), NoRegister)
+    ∷ (shape.wide && nat_le count shape.places, TooManyFields)
+    ∷ (nat_le size shape.bytes && nat_le size GREATEST_LETTER, TooManyBytes)
+    ∷ []
+
+-- asking the owner of another node's object for its word and this many bytes
+abbrev pub fetch_tests : Shaped → ℕ → Heap → ℕ → ℕ → List (Bool × Refusal)
+fetch_tests shape own h object count =
+    (is_register h object, NoRegister)
+    ∷ (is_filled h object, EmptyRegister)
+    ∷ (not (is_local own h object), Local)
+    ∷ (shape.wide && fetch_fits count, TooManyBytes)
+    ∷ []
+
+-- The object's word, and a range of its bytes if it has that. Nothing if there is no object.
+abbrev pub fetched : Option Object → ℕ → ℕ → List ℕ
+fetched None offset count = []
+fetched (Some o) offset count =
+    to_be_bytes w64 o.word
+    ++ cond (has_range o.bytes offset count) (take count (drop offset o.bytes)) []
 
 -- the events of a heap as a whole: the heap and the answer, or the first refusal that applies
 -- in a space of this shape; in a plain space all objects are shared
@@ -314,9 +395,25 @@ heap_alloc shape own cycle h register places =
 unfoldable pub heap_drop : Heap → ℕ → Result Heap Refusal
 heap_drop h register = guarded (drop_tests h register) (with_register h register None)
 
-unfoldable pub heap_accept : Heap → ℕ → Result (Heap × Letter) Refusal
+unfoldable pub heap_accept : Heap → ℕ → Result (Heap × Accepted) Refusal
 heap_accept h register =
-    guarded (accept_tests h register) (letter_taken h register, oldest_letter h)
+    guarded (accept_tests h register) (accepting h register, told_of (oldest_letter h))
+
+-- what the program is told of the oldest letter before it accepts it; the letter's bytes, and the
+-- first ones of them
+abbrev pub letter_tests : Heap → List (Bool × Refusal)
+letter_tests h = (nat_lt 0 (length h.letters), NoLetter) ∷ []
+
+unfoldable pub heap_letter : Heap → Result Accepted Refusal
+heap_letter h = guarded (letter_tests h) (told_of (oldest_letter h))
+
+unfoldable pub heap_letter_bytes : Heap → Result (List ℕ) Refusal
+heap_letter_bytes h = guarded (letter_tests h) (oldest_letter h).bytes
+
+unfoldable pub heap_letter_part : Heap → ℕ → Result (List ℕ) Refusal
+heap_letter_part h count =
+    guarded (letter_tests h ++ (nat_le count (length (oldest_letter h).bytes), NoBytes) ∷ [])
+    (take count (oldest_letter h).bytes)
 
 unfoldable pub heap_register : Heap → ℕ → Result (Option Ref) Refusal
 heap_register h register = guarded (register_tests h register) (register_at h register)

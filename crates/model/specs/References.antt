@@ -1,10 +1,10 @@
 -- The places in which a node holds references, and what it means that all of these references have
 -- some property ("Well-formed nodes" in docs/RULES.md).
-use Rattle.std.specs.Prelude.{◌≡◌, ℕ, ◌<◌, ◌≤◌, Option, Some, None, slice_index_or}
+use Rattle.std.specs.Prelude.{◌≡◌, ℕ, ◌+◌, ◌<◌, ◌≤◌, true, length, Option, Some, None, slice_index_or}
 use Rattle.std.specs.List.{AllByRecursion}
 use Rattle.ids.specs.Limits.{Shaped}
 use Rattle.ids.specs.declared.names.Ref.{Ref}
-use Rattle.ids.specs.declared.limits.TheConstants.{GREATEST_CYCLE}
+use Rattle.ids.specs.declared.limits.TheConstants.{GREATEST_CYCLE, GREATEST_LETTER, WORD_BYTES}
 use Rattle.msg.specs.declared.body.Body.{Body}
 use Rattle.msg.specs.declared.body.Body.TheVariants as body
 use Rattle.msg.specs.declared.body.Message.{Message}
@@ -34,14 +34,19 @@ pub record IsWithin (shape : Shaped) (r : Ref) : Type 0 where
 abbrev pub no_message : Message
 no_message = record { stamp = 0; body = body.Give 0 None }
 
--- if the message names a place, an object of the space can have such a place
+-- If the message names a place, an object of the space can have such a place. If it is a letter, or
+-- asks for one, the space has letters of that size.
 abbrev pub IsPlaced : Shaped → Body → Type 0
 IsPlaced shape (body.Put target place reference) = place < shape.places
 IsPlaced shape (body.Get target place label) = place < shape.places
+IsPlaced shape (body.Post label references bytes) =
+    (shape.wide ≡ true) × (length references ≤ shape.places) × (length bytes ≤ GREATEST_LETTER)
+IsPlaced shape (body.Fetch target label offset count) =
+    (shape.wide ≡ true) × (WORD_BYTES + count ≤ GREATEST_LETTER)
 IsPlaced shape b = Unit {0}
 
 -- a message whose stamp is a valid cycle, whose references the shape has room for, and whose place
--- an object can have
+-- an object can have, or whose references and bytes a letter can have
 pub record IsSendable (shape : Shaped) (x : Message) : Type 0 where
   pub stamp : x.stamp ≤ GREATEST_CYCLE
   pub references : AllByRecursion (IsWithin shape) (mentioned x.body)

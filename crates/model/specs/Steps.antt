@@ -4,9 +4,10 @@ use Rattle.std.specs.Prelude.{ℕ, ◌+◌, Bool, true, false, ◌&&◌, ◌||�
 use Rattle.std.specs.Borrow.{Bor}
 use Rattle.ids.specs.Limits.{Shaped}
 use Rattle.ids.specs.declared.names.Ref.{Ref}
-use Rattle.ids.specs.declared.limits.TheConstants.{GREATEST_NUMBER, WINDOW}
+use Rattle.ids.specs.declared.limits.TheConstants.{GREATEST_LETTER, GREATEST_NUMBER, WINDOW}
 use Rattle.ids.specs.declared.refusal.Refusal.{Refusal}
 use Rattle.ids.specs.declared.refusal.Refusal.TheVariants.{NoNode, SelfSend, LinkSpent, OutOfOrder, NothingToDo, WrongNode}
+use Rattle.msg.specs.Limits.{fetch_fits, is_post}
 use Rattle.msg.specs.declared.body.Body.{Body}
 use Rattle.msg.specs.declared.body.Body.TheVariants as body
 use Rattle.msg.specs.declared.body.Message.{Message}
@@ -18,11 +19,11 @@ use Rattle.model.specs.declared.event.Answer.{Answer}
 use Rattle.model.specs.declared.event.Answer.TheVariants as answer
 use Rattle.model.specs.Checks.{guarded}
 use Rattle.model.specs.State.{LocalState, NodeState, register_at, got_from, Object, Heap}
-use Rattle.model.specs.Heaps.{with_register, with_place, new_reference, named, object_at, word_of, oldest_letter, with_letter, alloc_heap, place_of, place_loaded, letter_taken, alloc_tests, copy_tests, drop_tests, load_tests, store_tests, clear_tests, word_tests, put_tests, get_tests, accept_tests, register_tests, set_bytes_tests, patch_tests, wording, filling, patching, with_rewritten, share_all}
+use Rattle.model.specs.Heaps.{with_register, with_place, new_reference, named, object_at, word_of, oldest_letter, with_letter, with_letters, simple_letter, letters_of, told_of, contents, fetched, post_tests, fetch_tests, alloc_heap, place_of, place_loaded, accepting, alloc_tests, copy_tests, drop_tests, load_tests, store_tests, clear_tests, word_tests, put_tests, get_tests, accept_tests, register_tests, set_bytes_tests, patch_tests, wording, filling, patching, with_rewritten, share_all}
 use Rattle.model.specs.Reclaiming.{reclaim_tests, reclaiming, reclaimed}
 use Rattle.model.specs.Effects.{Work, at_rest, then, Effect, answers, becomes, unchanged}
 use Rattle.model.specs.Counting.{balance_of, counted_down, append}
-use Rattle.model.specs.Shading.{is_open, is_calm, see_to, joined}
+use Rattle.model.specs.Shading.{filled, is_open, is_calm, see_to, joined}
 use Rattle.model.specs.Collecting.{token_sender, begin_tests, begun, scan_tests, scanned, pass_tests, passed, sweep_tests, swept_slots, reports_sweep}
 
 -- ---- receiving ("Receiving" in docs/RULES.md)
@@ -49,6 +50,8 @@ mentioned (body.Mark target) = target ∷ []
 mentioned (body.Give label reference) = option_to_list reference
 mentioned (body.Put target place reference) = target ∷ option_to_list reference
 mentioned (body.Get target place label) = target ∷ []
+mentioned (body.Post label references bytes) = filled references
+mentioned (body.Fetch target label offset count) = target ∷ []
 mentioned body.Ended = []
 mentioned body.Swept = []
 
@@ -61,6 +64,8 @@ carried (body.Mark target) = []
 carried (body.Give label reference) = option_to_list reference
 carried (body.Put target place reference) = target ∷ option_to_list reference
 carried (body.Get target place label) = target ∷ []
+carried (body.Post label references bytes) = filled references
+carried (body.Fetch target label offset count) = target ∷ []
 carried body.Ended = []
 carried body.Swept = []
 
@@ -69,6 +74,7 @@ abbrev pub target_of : Body → Option Ref
 target_of (body.Mark target) = Some target
 target_of (body.Put target place reference) = Some target
 target_of (body.Get target place label) = Some target
+target_of (body.Fetch target label offset count) = Some target
 target_of b = None
 
 abbrev pub is_within : Shaped → Ref → Bool
@@ -87,7 +93,8 @@ may_reach p stamp =
     && (nat_le stamp (p.phases.cycle + 1) && nat_le p.phases.cycle p.phases.swept))
 
 -- A body that the node may follow if it comes from this sender. The object that it is about is the
--- node's own, and the place one that an object of the space may have. Only node 0 says that a cycle
+-- node's own, and the place one that an object of the space may have. A letter is no larger than
+-- the space allows, and isn't asked for more. Only node 0 says that a cycle
 -- begins and that marking has ended, and only node 0 is told that a node has swept.
 abbrev pub may_follow : LocalState → ℕ → Body → Bool
 may_follow p from body.Begin = from == 0
@@ -98,6 +105,11 @@ may_follow p from (body.Put target place reference) =
     (target.node == p.own) && nat_lt place p.shape.places
 may_follow p from (body.Get target place label) =
     (target.node == p.own) && nat_lt place p.shape.places
+may_follow p from (body.Post label references bytes) =
+    p.shape.wide
+    && (nat_le (length references) p.shape.places && nat_le (length bytes) GREATEST_LETTER)
+may_follow p from (body.Fetch target label offset count) =
+    (target.node == p.own) && (p.shape.wide && fetch_fits count)
 may_follow p from body.Ended = from == 0
 may_follow p from body.Swept = p.own == 0
 
@@ -139,22 +151,28 @@ abbrev pub answer_get : ℕ → ℕ → Option Ref → LocalState → Work
 answer_get from label v p =
     then (see_to true (option_to_list v) p) (post from (body.Give label v))
 
--- The body is followed. Token: it is held. Mark: the object is shaded. Give: a letter is added.
--- Put: a place is written. Get: the content of a place is sent back. Ended: marking has ended.
--- Swept: the sender has swept.
+-- an object's word and bytes are read for another node, and sent back
+abbrev pub answer_fetch : ℕ → ℕ → List ℕ → LocalState → Work
+answer_fetch from label bytes p = post from (body.Post label [] bytes) p
+
+-- The body is followed. Token: it is held. Mark: the object is shaded. Give and Post: a letter is
+-- added. Put: a place is written. Get: the content of a place is sent back. Fetch: a word and bytes
+-- are sent back. Ended: marking has ended. Swept: the sender has swept.
 unfoldable pub take_body : ℕ → ℕ → Body → LocalState → Work
 take_body from stamp body.Begin p = at_rest p
 take_body from stamp (body.Token token) p =
     at_rest (record p { ring = record p.ring { token = Some token } })
 take_body from stamp (body.Mark target) p = see_to true (target ∷ []) p
 take_body from stamp (body.Give label reference) p =
-    at_rest (record p {
-      heap = with_letter p.heap (record { from = from; label = label; reference = reference });
-    })
+    at_rest (record p { heap = with_letter p.heap (simple_letter from label reference) })
 take_body from stamp (body.Put target place reference) p =
     at_rest (record p { heap = with_place p.own p.heap target place reference })
 take_body from stamp (body.Get target place label) p =
     answer_get from label (place_of (object_at p.heap target) place) p
+take_body from stamp (body.Post label references bytes) p =
+    at_rest (record p { heap = with_letters p.heap (letters_of from label references bytes) })
+take_body from stamp (body.Fetch target label offset count) p =
+    answer_fetch from label (fetched (object_at p.heap target) offset count) p
 take_body from stamp body.Ended p =
     at_rest (record p { phases = record p.phases { ended = p.phases.cycle } })
 take_body from stamp body.Swept p =
@@ -198,7 +216,7 @@ receipt p from number stamp b =
 
 -- ---- events
 
--- What an event writes to the heap: a register; a register, which gets the reference of the oldest
+-- What an event writes to the heap: a register; registers, which get the references of the oldest
 -- letter; an object, while it is live, or a place of it; a new object, which a register then names.
 -- Or all slots, as private garbage goes.
 pub data Write : Type 0 where
@@ -273,9 +291,15 @@ rule p (event.Give to label register) = record {
       ∷ register_tests p.heap register;
   deed = Sends to (body.Give label (register_at p.heap register));
 }
+rule p (event.Post to label first count bytes) = record {
+  tests =
+      (nat_lt to p.shape.nodes, NoNode) ∷ (not (to == p.own), SelfSend)
+      ∷ post_tests p.shape p.heap first count (length bytes.now);
+  deed = Sends to (body.Post label (contents p.heap first count) bytes.now);
+}
 rule p (event.Accept register) = record {
   tests = accept_tests p.heap register;
-  deed = Writes (Accepts register) (answer.Letter (oldest_letter p.heap));
+  deed = Writes (Accepts register) (answer.Letter (told_of (oldest_letter p.heap)));
 }
 rule p (event.Put object place register) = record {
   tests = put_tests p.shape.places p.own p.heap object place register;
@@ -285,6 +309,10 @@ rule p (event.Put object place register) = record {
 rule p (event.Get object place label) = record {
   tests = get_tests p.shape.places p.own p.heap object place;
   deed = Sends (named p.heap object).node (body.Get (named p.heap object) place label);
+}
+rule p (event.Fetch object label offset count) = record {
+  tests = fetch_tests p.shape p.own p.heap object count;
+  deed = Sends (named p.heap object).node (body.Fetch (named p.heap object) label offset count);
 }
 rule p (event.Reclaim scope) = record {
   tests = reclaim_tests scope p.heap;
@@ -309,7 +337,7 @@ rule p (event.Ack a) = record {
 
 abbrev pub written : LocalState → Write → Heap
 written p (Sets register v) = with_register p.heap register v
-written p (Accepts register) = letter_taken p.heap register
+written p (Accepts register) = accepting p.heap register
 written p (Rewrites r f) = with_rewritten p.heap r f
 written p (Places r place v) = with_place p.own p.heap r place v
 written p (Makes register places) =
@@ -405,8 +433,9 @@ is_shading event.Scan = true
 is_shading (event.Data d) = true
 is_shading e = false
 
--- An event that never fails for lack of memory. A message may allocate only in its turn, and a
--- sweep only to report that it is done.
+-- An event that never fails for lack of memory. A message may allocate only in its turn, or if it
+-- is a letter with references and bytes that comes early; and a sweep only to report that it is
+-- done.
 abbrev pub is_memory_free : LocalState → Event → Bool
 is_memory_free p (event.Copy register source) = true
 is_memory_free p (event.Drop register) = true
@@ -418,6 +447,7 @@ is_memory_free p (event.Patch object offset bytes) = true
 is_memory_free p (event.Accept register) = true
 is_memory_free p (event.Sweep count) = not (reports_sweep p count)
 is_memory_free p (event.Next from) = true
-is_memory_free p (event.Data d) = not (is_next p d.from d.number)
+is_memory_free p (event.Data d) =
+    not (is_next p d.from d.number) && not (is_post d.body && is_early p d.from d.number)
 is_memory_free p (event.Ack a) = true
 is_memory_free p e = false

@@ -1,7 +1,7 @@
 -- What is true of the parts of every node: of its heap, of what it asked for, of its token, of its
 -- reports, and of its link to itself ("Well-formed nodes" in docs/RULES.md). The references that it
 -- holds are treated in `References`.
-use Rattle.std.specs.Prelude.{◌≡◌, ◌≢◌, ℕ, true, false, eqb, ◌<◌, ◌≤◌, List, [], length, Option, Some, None, slice_index_or}
+use Rattle.std.specs.Prelude.{◌≡◌, ◌≢◌, ℕ, true, false, eqb, ◌<◌, ◌≤◌, List, [], ◌∷◌, length, Option, Some, None, slice_index_or}
 use Rattle.std.specs.List.{AllByRecursion, IsDistinct}
 use Rattle.ids.specs.Limits.{Shaped}
 use Rattle.ids.specs.declared.names.Ref.{Ref}
@@ -39,11 +39,22 @@ HasMarked cycle (Free g) = ⊥
 HasMarked cycle (Occupied g o) = o.mark ≡ cycle
 HasMarked cycle Retired = ⊥
 
+-- a letter behind which this many letters wait; in a plain space it has at most one reference, and
+-- no bytes
+abbrev pub IsFollowed : Shaped → ℕ → Letter → Type 0
+IsFollowed shape n l = (l.more ≤ n) × (shape.wide ≡ false → (l.more ≡ 0) × (l.bytes ≡ []))
+
+-- the letters that wait: each is another node's, and as many follow as it says
+abbrev pub AreLetters : Shaped → ℕ → List Letter → Type 0
+AreLetters shape own [] = Unit {0}
+AreLetters shape own (l ∷ ls) =
+    IsOther shape own l.from × IsFollowed shape (length ls) l × AreLetters shape own ls
+
 -- The heap of a node: its registers, its letters, its slots, and its grey objects. Once marking has
 -- ended there are no grey objects.
 pub record IsStocked (shape : Shaped) (own cycle ended : ℕ) (h : Heap) : Type 0 where
   pub registers : length h.registers ≡ shape.registers
-  pub letters : AllByRecursion (λ (l : Letter). IsOther shape own l.from) h.letters
+  pub letters : AreLetters shape own h.letters
   pub slots : (k : ℕ) → IsSlotOf shape cycle (slot_at h k)
   pub grey : AllByRecursion (λ (k : ℕ). HasMarked cycle (slot_at h k)) h.grey
   pub once : IsDistinct eqb h.grey

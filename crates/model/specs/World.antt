@@ -1,11 +1,12 @@
 -- A space of nodes: the current state of each node, and the one last saved ("A space" in
 -- docs/RULES.md).
-use Rattle.std.specs.Prelude.{◌++◌, ◌≡◌, ◌≢◌, ℕ, ◌-◌, ◌<◌, ◌≤◌, Bool, true, false, cond, nat_lt, nat_le, ◌==◌, ◌&&◌, ◌||◌, not, is_some, List, [], ◌∷◌, length, map, Option, Some, None, Result, Ok, Err, IsOk, slice_get, slice_set}
+use Rattle.std.specs.Prelude.{◌++◌, ◌≡◌, ◌≢◌, ℕ, ◌-◌, ◌<◌, ◌≤◌, Bool, true, false, cond, nat_lt, nat_le, ◌==◌, ◌&&◌, ◌||◌, not, List, [], ◌∷◌, length, map, Option, Some, None, Result, Ok, Err, IsOk, slice_get, slice_set}
 use Rattle.std.specs.List.{range_with_len}
 use Rattle.ids.specs.Limits.{Shaped}
 use Rattle.ids.specs.declared.refusal.Refusal.{Refusal}
 use Rattle.ids.specs.declared.refusal.Refusal.TheVariants.{NoNode, AckBeyond, WrongNode, ImageTooLarge}
 use Rattle.msg.specs.Frames.{Plain, data_frame, ack_frame}
+use Rattle.msg.specs.Limits.{is_post}
 use Rattle.msg.specs.declared.body.Message.{Message}
 use Rattle.model.specs.declared.event.Answer.{Answer}
 use Rattle.model.specs.declared.step.Step.{Step}
@@ -14,8 +15,8 @@ use Rattle.model.specs.declared.step.Outcome.{Outcome}
 use Rattle.model.specs.declared.step.Outcome.TheVariants as outcome
 use Rattle.model.specs.Checks.{guarded, IsFirstRefusal}
 use Rattle.model.specs.Effects.{is_change}
-use Rattle.model.specs.State.{NodeState, new_node, node_at, got_from, sent_to}
-use Rattle.model.specs.Steps.{act, receive, is_own, is_addressed, is_next, is_memory_free, is_shading}
+use Rattle.model.specs.State.{LocalState, NodeState, new_node, node_at, got_from, sent_to}
+use Rattle.model.specs.Steps.{act, receive, is_own, is_addressed, is_early, is_next, is_memory_free, is_shading}
 
 pub record World : Type 0 where
   pub current : List NodeState
@@ -133,6 +134,13 @@ is_shading_step (step.Restart i) = false
 is_shading_step (step.Deliver from to number) = true
 is_shading_step (step.Hand from to) = false
 
+-- No message, or one that needs no memory: it isn't received, nor is it a letter with references
+-- and bytes that comes early.
+abbrev pub is_free_message : LocalState → ℕ → ℕ → Option Message → Bool
+is_free_message p from number None = true
+is_free_message p from number (Some x) =
+    not (is_next p from number) && not (is_post x.body && is_early p from number)
+
 -- a step that never fails for lack of memory
 abbrev pub is_step_memory_free : World → Step → Bool
 is_step_memory_free w (step.Act i e) =
@@ -141,8 +149,7 @@ is_step_memory_free w (step.Save i) = not (is_node w i)
 is_step_memory_free w (step.Restart i) = not (is_node w i)
 is_step_memory_free w (step.Deliver from to number) =
     not (is_node w from && is_node w to)
-    || (not (is_some (released w from to number))
-    || not (is_next (node_at w.current to).local from number))
+    || is_free_message (node_at w.current to).local from number (released w from to number)
 is_step_memory_free w (step.Hand from to) = true
 
 -- Why a step was refused: for the first reason that applies. The definitions can't say that a

@@ -4,15 +4,30 @@ ghost use Rattle.model.specs.Effects.{is_change};
 
 use crate::age::Scope;
 use ids::Ref;
-use msg::{Ack, Data, Token};
+use msg::{Ack, Data, Frozen, Token};
 
-/// A received letter that waits until the program accepts it: its sender, its label, and the
-/// reference that was sent, if any.
-#[derive(Clone, Copy, Debug)]
+/// A received letter that waits until the program accepts it, or the next reference of one: its
+/// sender, its label, the reference, if there is one, how many more of the letter's references
+/// follow, and the letter's bytes. Only the first of a letter has bytes.
+#[derive(Drop)]
 pub struct Letter {
     pub from: u8,
+    pub more: u8,
     pub label: u32,
     pub reference: Option<Ref>,
+    pub bytes: Frozen<u8>,
+}
+
+/// What a program is told of the letter that it accepts: the letter's sender and label, its first
+/// reference, if there is one, into how many registers its references went, and how many bytes it
+/// had.
+#[derive(Clone, Copy, Debug)]
+pub struct Accepted {
+    pub from: u8,
+    pub count: u16,
+    pub label: u32,
+    pub reference: Option<Ref>,
+    pub length: usize,
 }
 
 /// An event of one node. A program names objects only by its registers: `object` is the register
@@ -78,8 +93,17 @@ pub enum Event<'a> {
         label: u32,
         register: u16,
     },
-    /// Removes the oldest letter and puts its reference into the register. If the letter has none,
-    /// the register becomes empty.
+    /// Sends a letter to another node, with the references of this many registers, from the first
+    /// one on, and with these bytes. Only in wide spaces.
+    Post {
+        to: u8,
+        label: u32,
+        first: u16,
+        count: u8,
+        bytes: &'a [u8],
+    },
+    /// Removes the oldest letter and puts its references into the register and those that follow
+    /// it. If the letter has none, the register becomes empty.
     Accept {
         register: u16,
     },
@@ -96,6 +120,16 @@ pub enum Event<'a> {
         object: u16,
         place: u8,
         label: u32,
+    },
+    /// Asks the owner of an object of another node for its word and this many of its bytes, from
+    /// this offset on. The owner sends them back in a letter with this label: the word as 8 bytes,
+    /// big-endian, and then the bytes. If the object doesn't have as many, the letter has the word
+    /// alone, and no bytes if the object is gone. Only in wide spaces.
+    Fetch {
+        object: u16,
+        label: u32,
+        offset: u32,
+        count: u32,
     },
     /// Frees each private object within the scope that neither a root of this node nor an object
     /// which other nodes may know leads to. It needs no other node.
@@ -138,7 +172,7 @@ pub enum Answer {
     /// The number of the message that was appended.
     Sent(u64),
     /// The letter that was accepted.
-    Letter(Letter),
+    Letter(Accepted),
     /// How many private objects were freed.
     Reclaimed(u32),
     /// The cycle that begins.

@@ -18,6 +18,6 @@ mod summary;
 
 pub use age::{Age, Scope};
 pub use balance::Balance;
-pub use event::{Answer, Event, Letter};
+pub use event::{Accepted, Answer, Event, Letter};
 pub use step::{Outcome, Step};
 pub use summary::Summary;

@@ -1,16 +1,18 @@
 //! Frames, the units that links carry: a message with its addresses and number, or an
 //! acknowledgement. Every frame is within the limits by construction, so it has a spelling.
-ghost use Rattle.std.specs.Prelude.{◌≡◌, ◌&&◌, IsTrue, IsSome, IfSome, ◌↔◌};
+ghost use Rattle.std.specs.Prelude.{◌≡◌, ◌&&◌, true, false, IsTrue, IsSome, IfSome, IsOk, IfOk, ◌↔◌};
+ghost use Rattle.std.specs.List.{list_all};
 ghost use Rattle.ids.specs.Limits.{reference_fits};
 ghost use Rattle.msg.specs.Limits.{nodes_fit, optional_fits, place_fits, body_fits};
-ghost use Rattle.msg.specs.Limits.{data_fits, ack_fits};
+ghost use Rattle.msg.specs.Limits.{data_fits, ack_fits, fetch_fits, is_post, letter_fits};
 ghost use Rattle.msg.specs.Limits.{is_plain_reference, is_plain_optional, is_plain_place, is_plain_body};
 
 use crate::body::Body;
 use ids::{
-    GREATEST_CYCLE, GREATEST_NODES, GREATEST_NUMBER, GREATEST_PLACES, PLAIN_PLACES, PLAIN_SLOTS,
-    Ref,
+    GREATEST_CYCLE, GREATEST_LETTER, GREATEST_NODES, GREATEST_NUMBER, GREATEST_PLACES,
+    PLAIN_PLACES, PLAIN_SLOTS, Ref, WORD_BYTES,
 };
+use std::alloc::AllocError;
 
 /// A message with its addresses, as a link carries it: its number on the link, the sender's cycle
 /// when it was appended, and what it says. The two nodes differ, the number is 1 to
@@ -99,7 +101,45 @@ pub fn body_fits(body: &Body) -> bool
             reference,
         } => place_fits(target, place) && optional_fits(reference),
         Body::Get { target, place, .. } => place_fits(target, place),
+        Body::Post { .. } => post_fits(body),
+        Body::Fetch { target, count, .. } => target.fits() && fetch_fits(count),
     }
+}
+
+// Whether a letter with references and bytes is within the limits. (Of other bodies it says
+// nothing.)
+#[inline(never)]
+fn post_fits(body: &Body) -> bool
+    ensures { is_post body.now ≡ true → result ≡ body_fits body.now }
+{
+    match body {
+        Body::Post {
+            references,
+            bytes,
+            ..
+        } => letter_fits(references.as_slice(), bytes.len()),
+        _ => true,
+    }
+}
+
+fn all_fit(references: &[Option<Ref>]) -> bool
+    ensures { result ≡ list_all optional_fits references.now }
+{
+    references.iter().all(|reference| optional_fits(*reference))
+}
+
+fn letter_fits(references: &[Option<Ref>], bytes: usize) -> bool
+    ensures { result ≡ letter_fits references.now bytes }
+{
+    references.len() <= usize::from(GREATEST_PLACES)
+        && (bytes <= GREATEST_LETTER as usize && all_fit(references))
+}
+
+/// Whether a letter may carry an object's word and this many of its bytes.
+pub fn fetch_fits(count: u32) -> bool
+    ensures { result ≡ fetch_fits count }
+{
+    count <= GREATEST_LETTER - WORD_BYTES
 }
 
 fn is_plain_reference(reference: Ref) -> bool
@@ -136,6 +176,7 @@ pub fn is_plain_body(body: &Body) -> bool
             reference,
         } => is_plain_place(target, place) && is_plain_optional(reference),
         Body::Get { target, place, .. } => is_plain_place(target, place),
+        Body::Post { .. } | Body::Fetch { .. } => false,
     }
 }
 
@@ -174,6 +215,7 @@ fn fits_plain_body(body: &Body) -> bool
             reference,
         } => fits_plain_place(target, place) && fits_plain_optional(reference),
         Body::Get { target, place, .. } => fits_plain_place(target, place),
+        Body::Post { .. } | Body::Fetch { .. } => false,
     }
 }
 
@@ -217,17 +259,19 @@ impl Data {
         }
     }
 
-    /// The same message once more.
-    pub fn copy(&self) -> Data
-        ensures { result ≡ self.now }
+    /// The same message once more; see [`Body::copy`].
+    pub fn copy(&self) -> Result<Data, AllocError>
+        ensures same { IfOk result (λ d. d ≡ self.now) }
+        ensures spared { is_post self.now.body ≡ false → IsOk result }
     {
-        Data {
+        let body = self.body.copy()?;
+        Ok(Data {
             from: self.from,
             to: self.to,
             number: self.number,
             stamp: self.stamp,
-            body: self.body.copy(),
-        }
+            body,
+        })
     }
 }
 

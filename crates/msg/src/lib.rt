@@ -13,6 +13,8 @@
 //! | Give | a label, and an optional reference |
 //! | Put | a reference, a place, and an optional reference |
 //! | Get | a reference, a place, and a label |
+//! | Post | a label, optional references, and bytes |
+//! | Fetch | a reference, a label, an offset, and a number of bytes |
 //! | Ended | |
 //! | Swept | |
 //!
@@ -21,9 +23,11 @@
 
 mod body;
 mod frame;
+mod frozen;
 
 pub use body::{Body, Colour, Message, Token};
 pub use frame::{
-    Ack, Data, DataRef, Frame, FrameRef, body_fits, data_fits, is_plain_body, optional_fits,
-    plain_data_fits,
+    Ack, Data, DataRef, Frame, FrameRef, body_fits, data_fits, fetch_fits, is_plain_body,
+    optional_fits, plain_data_fits,
 };
+pub use frozen::Frozen;

@@ -8,7 +8,9 @@ use Rattle.msg.specs.declared.body.Body.TheVariants as body
 use Rattle.msg.specs.declared.body.Message.{Message}
 use Rattle.model.specs.Collecting.{new_token, whitened}
 use Rattle.model.specs.Counting.{counted_marks}
+use Rattle.model.specs.declared.event.Letter.{Letter}
 use Rattle.model.specs.Effects.{Work, then}
+use Rattle.model.specs.Heaps.{simple_letter, letters_of}
 use Rattle.model.specs.References.{IsWithin}
 use Rattle.model.specs.Shading.{enter, entered, filled, join, make_all_grey, marks_for, roots, see_to, seen, unasked, without_last_grey}
 use Rattle.model.specs.State.{Heap, Ring}
@@ -17,8 +19,8 @@ use Rattle.model.specs.View.{Link, NodeView, append_to, used}
 use Rattle.model.proofs.Appending.{append_to-append, length-append_to}
 use Rattle.model.proofs.Joining.{join-open}
 use Rattle.model.proofs.Shading.{seen-none}
-use Rattle.model.proofs.References.{any-list, holds-with_letter, holds-without_last_grey}
-use Rattle.model.proofs.Stocks.{stocked-letter, stocked-scanned}
+use Rattle.model.proofs.References.{any-list, holds-with_letter, holds-with_letters, new-references, holds-without_last_grey}
+use Rattle.model.proofs.Stocks.{stocked-letters, new-letter, new-letters, stocked-scanned}
 use Rattle.cycles.specs.Phases.{IsPhases, in_cycle}
 use Rattle.cycles.specs.Balances.{IsBounded}
 use Rattle.cycles.proofs.Bounds.{bounded_more}
@@ -55,8 +57,10 @@ module _ (n : NodeView) (old : IsNode n) where
       (stocked-scanned old.stocked)
       (le_refl (length n.local.heap.slots))
   node-listed extra.Nothing = old
-  node-listed (extra.Letter l) = old
+  node-listed (extra.Letter from label reference) = old
+  node-listed (extra.Letters from label references bytes) = old
   node-listed (extra.Answer to label reference) = old
+  node-listed (extra.Report to label bytes) = old
   node-listed extra.Begins = old
 
   begins-may : n.local.own ≡ 0 → MaySend n.local.shape n.local.own n.local.phases.cycle
@@ -82,10 +86,21 @@ module _ (n : NodeView) (old : IsNode n) where
   pub node-extra : (x : Extra) → IsFit n.local.shape n.local.own x
       → IsLinks (all_appended (links_of n) (extra_work x n.local).sends)
       → IsNode (after_step n (extra_work x n.local).local (extra_work x n.local).sends)
-  node-extra (extra.Letter l) fit links =
+  node-extra (extra.Letter from label reference) fit links =
+      let l : Letter = simple_letter from label reference in
       node-heap n _ old
       (holds-with_letter (IsWithin n.local.shape) n.local.heap l old.references fit.1)
-      (stocked-letter old.stocked l fit.0)
+      (stocked-letters old.stocked (l ∷ [])
+      (new-letter n.local.shape n.local.own from label reference fit.0))
+      (le_refl (length n.local.heap.slots))
+  node-extra (extra.Letters from label references bytes) fit links =
+      let s = n.local.shape in
+      let ls : List Letter = letters_of from label references.now bytes.now in
+      node-heap n _ old
+      (holds-with_letters (IsWithin s) n.local.heap ls old.references
+      (new-references (IsWithin s) from label references.now bytes.now fit.1.1.0))
+      (stocked-letters old.stocked ls
+      (new-letters s n.local.own from label references.now bytes.now fit.1.1.1 fit.0))
       (le_refl (length n.local.heap.slots))
   node-extra (extra.Answer to label reference) fit links =
       node-sent n to (body.Give label reference) old fit.0.0 fit.0.1
@@ -93,6 +108,14 @@ module _ (n : NodeView) (old : IsNode n) where
         stamp = old.phases.phases.within;
         references = any-list (IsWithin n.local.shape) reference fit.1;
         place = tt;
+      })
+      links
+  node-extra (extra.Report to label bytes) fit links =
+      node-sent n to (body.Post label [] bytes.now) old fit.0.0 fit.0.1
+      (record {
+        stamp = old.phases.phases.within;
+        references = tt;
+        place = (fit.1.0, omega arith, fit.1.1);
       })
       links
   node-extra extra.Begins first links =

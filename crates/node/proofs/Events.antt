@@ -20,7 +20,7 @@ use Rattle.node.specs.Invariant.{links_of}
 -- ---- lists of tests
 
 -- more tests behind the first one that fails don't change the outcome
-guarded-err : {A B : Type 0} (cs ds : List (Bool × Refusal)) (x : A) (y : B) (e : Refusal)
+pub guarded-err : {A B : Type 0} (cs ds : List (Bool × Refusal)) (x : A) (y : B) (e : Refusal)
     → guarded cs x ≡ Err e → guarded (cs ++ ds) y ≡ Err e
 guarded-err [] ds x y e h = absurd cc
 guarded-err ((true, r) ∷ cs) ds x y e h = guarded-err cs ds x y e h

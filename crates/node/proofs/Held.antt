@@ -1,5 +1,5 @@
 -- The early messages that a node keeps are in their places, and no event changes that.
-use Rattle.std.proofs.Common.{◌≡◌, ◌≢◌, ℕ, suc, ◌+◌, ◌-◌, ◌==◌, Bool, true, not, eq-eqb, List, length, get_or, set, Option, Some, None, Result, Ok, Err, refl, ap, sym, ◌∙◌, subst, arith, eqb-true}
+use Rattle.std.proofs.Common.{◌≡◌, ◌≢◌, ℕ, suc, ◌+◌, ◌-◌, ◌==◌, ◌&&◌, Bool, true, not, eq-eqb, lt-ltb, List, length, get_or, set, Option, Some, None, Result, Ok, Err, refl, ap, sym, ◌∙◌, subst, arith, eqb-true}
 use Rattle.std.specs.Prelude.{IfOk, IfErr, IsTrue}
 use Rattle.std.proofs.lemmas.Bool.{and_parts}
 use Rattle.std.proofs.lemmas.List.{length-set, length-replicate}
@@ -11,13 +11,17 @@ use Rattle.model.specs.declared.event.Event.TheVariants as event
 use Rattle.model.specs.declared.event.Answer.{Answer}
 use Rattle.model.specs.declared.event.Answer.TheVariants as answer
 use Rattle.model.specs.State.{got_from}
-use Rattle.model.specs.Steps.{is_addressed, is_memory_free, is_shading}
+use Rattle.model.specs.Checks.{IsOkOrSpent, by_memory}
+use Rattle.model.specs.Steps.{is_addressed, is_early, is_memory_free, is_next, is_shading}
 use Rattle.model.specs.View.{NodeView, Performed, view_act}
 use Rattle.model.proofs.Shown.{act-shown}
 use Rattle.model.proofs.Leaving.{Turned, again, ahead, due, got_after, act-got, act-leaves, data-turned}
 use Rattle.model.proofs.Lookups.{at_set_if, both_set_if, get_or-replicate_any}
 use Rattle.link.specs.Early.{no_early, shifted, emptied}
+use Rattle.msg.specs.Limits.{is_post}
 use Rattle.node.specs.Invariant.{IsNode}
+use Rattle.node.proofs.Events.{okay}
+use Rattle.node.proofs.Receipts.{early-unchanged}
 use Rattle.node.proofs.Rings.{empty-fills, emptied-fills, placed-fills, shifted-fills}
 use Rattle.node.specs.Keeping.{Rings, WholeNode, alone, ring_of, waiting, next_event, met, shifted_at, after_data, after_next, early_after, Handled, IsInPlace, RingStands, AreKept, AreKeptIn}
 
@@ -234,6 +238,62 @@ next-handled {n} {m} {es} {fs} {from} {o} {r} h waits p free kept =
     (event.Next from) r)
     waits
     (λ q g k. record { before = h; performed = q; memory_free = g; early = k }) p free kept
+
+-- a message
+pub data-handled : {n m : NodeView} {es fs : Rings} {d : Data} {r : Result Answer Refusal}
+    → AreKeptIn (record { core = n; early = es })
+    → Performed true r n m (view_act n (event.Data d))
+    → (IsTrue (is_memory_free n.local (event.Data d)) → IfErr r (λ f. f ≢ Memory))
+    → fs ≡ after_data (got_from n.local d.from) es d r
+    → Handled (record { core = n; early = es }) (record { core = m; early = fs })
+    (event.Data d) r
+data-handled {n} {m} {es} {fs} {d} {r} h p free kept = record {
+  before = h;
+  performed = p;
+  memory_free = free;
+  early = kept;
+}
+
+-- an early message that couldn't be copied: the core is as it was
+abbrev core_in : NodeView → Result (NodeView × Answer) Refusal → NodeView
+core_in n (Ok x) = x.0
+core_in n (Err e) = n
+
+same-core : (n m : NodeView) (a b : Answer) → okay m a ≡ okay n b → m ≡ n
+same-core n m a b both = ap (core_in n) both
+
+module _ (n m : NodeView) (d : Data) (a : Answer)
+    (p : Performed true (Ok a) n m (view_act n (event.Data d))) (early : a ≡ answer.Early) where
+  ahead-both : (is_early n.local d.from d.number ≡ true) × (m ≡ n)
+  ahead-both = by (data-turned n m d a p.performs).0 (data-turned n m d a p.performs).1
+    where
+      by : is_addressed n.local d.from d.to ≡ true → Turned n.local d a
+          → (is_early n.local d.from d.number ≡ true) × (m ≡ n)
+      by addressed (again old says) = absurd cc
+      by addressed (due turn says) = absurd cc
+      by addressed (ahead later within says) =
+          let is = early-unchanged n d addressed later within in (
+            lt-ltb (got_from n.local d.from + 1) d.number later,
+            same-core n m a answer.Early (sym p.performs ∙ is),
+          )
+
+  pub copy-failed : {es fs : Rings} {e : Refusal} → AreKeptIn (record { core = n; early = es }) → e ≡ Memory
+      → is_post d.body ≡ true → fs ≡ es
+      → Handled (record { core = n; early = es }) (record { core = m; early = fs })
+      (event.Data d) (Err e)
+  copy-failed {es} {fs} {e} h memory post kept = record {
+    before = h;
+    performed = record {
+      performs = by_memory memory (subst IsOkOrSpent (sym p.performs) tt);
+      unchanged = ahead-both.1;
+    };
+    memory_free = λ safe _.
+        let never : not (is_post d.body && is_early n.local d.from d.number) ≡ true =
+        (and_parts (not (is_next n.local d.from d.number)) _ safe).1 in
+        let yes : not true ≡ true = rw (post, ahead-both.0) at never in
+        absurd cc;
+    early = kept;
+  }
 
 -- a refused frame leaves its place, if the core is as it was
 pub emptied-kept : (n m : NodeView) (es fs : Rings) (from : ℕ)

@@ -10,12 +10,14 @@ mod Seeing
 mod Errands
 mod Runs
 mod Places
+mod Posting
 mod Receiving
 mod Shading
 mod Messages
 mod Passing
 mod Sweeping
 mod Receipts
+mod Lacking
 mod Lists
 mod Listed
 pub mod Restorable

@@ -3,7 +3,9 @@ use Rattle.std.proofs.Math.ListN.{get_or-map}
 use Rattle.std.proofs.lemmas.List.{length-map}
 use Rattle.std.proofs.lemmas.List.Folds.{list_all_at, list_all_more, list_all-map}
 use Rattle.std.proofs.Common.{◌≡◌, ◌≢◌, ℕ, zero, suc, ◌<◌, Bool, true, false, eqb, List, [], ◌∷◌}
-use Rattle.std.proofs.Common.{length, take, get_or, refl, ◌∙◌, arith}
+use Rattle.std.proofs.Common.{◌&&◌, Option, Some, None, length, take, get_or, refl, ap, ◌∙◌, arith}
+use Rattle.ids.specs.declared.names.Ref.{Ref}
+use Rattle.model.specs.Shading.{filled}
 use Rattle.std.specs.Prelude.{◌↔◌}
 use Rattle.std.specs.List.{AllByRecursion, IsDistinct, list_all, list_any}
 use Rattle.std.proofs.lemmas.Bool.{and_parts, and_from, eqb-false, ne_eqb, or_from, or_parts}
@@ -55,6 +57,17 @@ module _ {A : Type 0} where
   all-both P Q [] first second = tt
   all-both P Q (x ∷ xs) first second =
       ((first.0, second.0), all-both P Q xs first.1 second.1)
+
+-- ---- optional elements, tested each on its own or all that are there
+
+module _ (p : Ref → Bool) (q : Option Ref → Bool) (none : q None ≡ true)
+    (some : (r : Ref) → q (Some r) ≡ p r) where
+  pub all_filled : (vs : List (Option Ref)) → list_all q vs ≡ list_all p (filled vs)
+  all_filled [] = refl
+  all_filled (None ∷ vs) = ap (λ (b : Bool). b && list_all q vs) none ∙ all_filled vs
+  all_filled (Some r ∷ vs) =
+      ap (λ (b : Bool). b && list_all q vs) (some r)
+      ∙ ap (λ (b : Bool). p r && b) (all_filled vs)
 
 -- ---- numbers, each once
 

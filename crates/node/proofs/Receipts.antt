@@ -1,11 +1,11 @@
 -- What the tests of a message and the limits of its frame imply.
-use Rattle.std.proofs.Common.{◌≡◌, ◌≢◌, ℕ, ◌+◌, ◌<◌, Bool, true, false, ◌==◌, ◌&&◌, not, Option, Some, None, Err, option_to_list, eq-eqb, refl, ap, sym, ◌∙◌, subst, arith}
+use Rattle.std.proofs.Common.{◌≡◌, ◌≢◌, ℕ, ◌+◌, ◌<◌, ◌≤◌, Bool, true, false, ◌==◌, ◌&&◌, not, List, [], ◌∷◌, length, Option, Some, None, Ok, Err, option_to_list, eq-eqb, refl, ap, sym, ◌∙◌, subst, arith}
 use Rattle.std.specs.Prelude.{is_none, is_some, nat_lt, nat_le, IsTrue}
-use Rattle.std.specs.List.{AllByRecursion}
+use Rattle.std.specs.List.{AllByRecursion, list_all}
 use Rattle.std.proofs.lemmas.Bool.{and_parts, cond-true, cond_both, le-leb, le-ltb, lt-leb, lt-ltb, ltb-false, ltb-true, ne_eqb}
 use Rattle.std.proofs.lemmas.Bool.Decides.{nat_tests}
 use Rattle.ids.specs.Limits.{Shaped, reference_fits}
-use Rattle.ids.specs.declared.limits.TheConstants.{WINDOW}
+use Rattle.ids.specs.declared.limits.TheConstants.{GREATEST_LETTER, GREATEST_PLACES, WINDOW}
 use Rattle.ids.specs.declared.names.Ref.{Ref}
 use Rattle.ids.specs.declared.refusal.Refusal.{Refusal}
 use Rattle.ids.specs.declared.refusal.Refusal.TheVariants.{Memory, OutOfOrder, WrongNode}
@@ -18,8 +18,9 @@ use Rattle.model.specs.State.{LocalState, Phases, got_from}
 use Rattle.model.specs.Checks.{by_test}
 use Rattle.model.specs.Effects.{Work, at_rest}
 use Rattle.model.specs.Shading.{filled, is_calm, join, joined, roots, stays_calm}
+use Rattle.model.specs.declared.event.Answer.TheVariants as answer
 use Rattle.model.specs.declared.event.Event.TheVariants as event
-use Rattle.model.specs.Steps.{is_addressed, is_marking, is_memory_free, is_within, are_within, mentioned, may_reach, may_take}
+use Rattle.model.specs.Steps.{is_addressed, is_marking, is_memory_free, is_within, are_within, mentioned, may_reach, may_take, is_next}
 use Rattle.model.specs.View.{NodeView, Performed, view_act}
 use Rattle.model.specs.References.{IsWithin}
 use Rattle.model.proofs.Joining.{join-calm, join-phases, join-token}
@@ -37,6 +38,30 @@ any-within shape None within fit = tt
 any-within shape (Some r) within fit =
     (reference-within shape r (grind (arith, nat_tests, within)) fit, tt)
 
+-- the same of several
+within-each : (shape : Shaped) (vs : List (Option Ref)) → are_within shape (filled vs) ≡ true
+    → list_all optional_fits vs ≡ true → AllByRecursion (IsWithin shape) (filled vs)
+within-each shape [] within fit = tt
+within-each shape (None ∷ vs) within fit = within-each shape vs within fit
+within-each shape (Some r ∷ vs) within fit =
+    let inside = and_parts (is_within shape r) (are_within shape (filled vs)) within in
+    let fits = and_parts (reference_fits r) (list_all optional_fits vs) fit in
+    (reference-within shape r inside.0 fits.0, within-each shape vs inside.1 fits.1)
+
+-- each one is tested on its own
+pub each-within : (shape : Shaped) (vs : List (Option Ref))
+    → list_all (λ (v : Option Ref). are_within shape (option_to_list v)) vs
+    ≡ are_within shape (filled vs)
+each-within shape [] = refl
+each-within shape (None ∷ vs) = each-within shape vs
+each-within shape (Some r ∷ vs) =
+    one (is_within shape r) _
+    ∙ ap (λ (b : Bool). is_within shape r && b) (each-within shape vs)
+  where
+    one : (a b : Bool) → (a && true) && b ≡ a && b
+    one true b = refl
+    one false b = refl
+
 -- everything that a frame's body mentions is within the shape
 within-mentioned : (shape : Shaped) (b : Body) → are_within shape (mentioned b) ≡ true
     → body_fits b ≡ true → AllByRecursion (IsWithin shape) (mentioned b)
@@ -49,6 +74,14 @@ within-mentioned shape (body.Put target place reference) within fit = (
   any-within shape reference (grind (arith, nat_tests, within)) (grind (arith, nat_tests, fit)),
 )
 within-mentioned shape (body.Get target place label) within fit = (
+  reference-within shape target (grind (arith, nat_tests, within))
+      (grind (arith, nat_tests, fit)),
+  tt,
+)
+within-mentioned shape (body.Post label references bytes) within fit =
+    let inner = and_parts (nat_le (length references) GREATEST_PLACES) _ fit in
+    within-each shape references within (and_parts (nat_le (length bytes) GREATEST_LETTER) _ inner.1).1
+within-mentioned shape (body.Fetch target label offset count) within fit = (
   reference-within shape target (grind (arith, nat_tests, within))
       (grind (arith, nat_tests, fit)),
   tt,
@@ -66,6 +99,7 @@ takable p d addressed turn may = record {
     room = grind (arith, nat_tests, turn, d.fits);
   };
   cycle = grind (arith, nat_tests, d.fits);
+  fits = grind (arith, nat_tests, d.fits);
   within = within-mentioned p.shape d.body
       (and_parts (are_within p.shape (mentioned d.body)) _
       (and_parts (may_reach p d.stamp) _ may).1).0
@@ -157,6 +191,16 @@ module _ (n : NodeView) (d : Data) where
         λ _ memory. absurd cc,
       )
 
+  -- it comes early, and changes nothing
+  pub early-unchanged : is_addressed n.local d.from d.to ≡ true → got + 1 < d.number
+      → d.number ≤ got + WINDOW → view_act n (event.Data d) ≡ Ok (n, answer.Early)
+  unfolding view_act
+  early-unchanged addressed later within =
+      let inside : nat_le d.number (got + WINDOW) ≡ true = le-leb _ _ within in
+      let new : nat_le d.number got ≡ false = lt-leb d.number got (omega (arith, later)) in
+      let ahead : nat_lt (got + 1) d.number ≡ true = lt-ltb (got + 1) d.number later in
+      rw (addressed, inside, new, ahead) refl
+
   -- its turn has come
   module _ (addressed : is_addressed n.local d.from d.to ≡ true)
       (turn : d.number ≡ got_from n.local d.from + 1) where
@@ -177,7 +221,8 @@ module _ (n : NodeView) (d : Data) where
     pub busy : IsTrue (is_memory_free n.local (event.Data d)) → ⊥
     busy free =
         let never : not true ≡ true =
-        subst (λ (b : Bool). not b ≡ true) (eq-eqb d.number (got + 1) turn) free in
+        subst (λ (b : Bool). not b ≡ true) (eq-eqb d.number (got + 1) turn)
+        (and_parts (not (is_next n.local d.from d.number)) _ free).0 in
         absurd cc
 
 pub ruleset joining = (joined-token, joined-swept, marks-later, calm-later)

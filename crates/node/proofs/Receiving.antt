@@ -1,9 +1,15 @@
 -- A message that is received: each body by an errand and a step that can't fail.
-use Rattle.std.proofs.Common.{◌≡◌, ◌≢◌, ℕ, ◌+◌, ◌<◌, Bool, true, false, ◌==◌, ◌&&◌, List, [], ◌∷◌, ◌++◌, Option, Some, None, option_to_list, Ok, Err, append-nil, append_assoc, ap, refl, sym, ◌∙◌, subst, arith, le_refl, le-ltb}
-use Rattle.std.specs.Prelude.{nat_lt, is_none, slice_index_or}
-use Rattle.std.proofs.lemmas.Bool.{and_parts, cond_both, eqb-true, ltb-true}
+use Rattle.std.proofs.Common.{◌≡◌, ◌≢◌, ℕ, ◌+◌, ◌<◌, Bool, true, false, ◌≤◌, ◌==◌, ◌&&◌, cond, List, [], ◌∷◌, ◌++◌, length, length-append, take, drop, Option, Some, None, option_to_list, Ok, Err, append-nil, append_assoc, ap, refl, sym, ◌∙◌, subst, arith, le_refl, le-ltb}
+use Rattle.std.specs.Prelude.{nat_le, nat_lt, is_none, slice_index_or}
+use Rattle.std.specs.Int.{w64, to_be_bytes}
+use Rattle.std.proofs.Math.Nat.{min-le_left}
+use Rattle.std.proofs.lemmas.List.{length-take}
+use Rattle.std.specs.Borrow.{Bor}
+use Rattle.std.proofs.lemmas.Bool.{and_parts, cond_both, eqb-true, leb-true, ltb-true}
 use Rattle.std.proofs.lemmas.Bool.Decides.{nat_tests}
+use Rattle.ids.specs.declared.limits.TheConstants.{GREATEST_LETTER, GREATEST_PLACES, WORD_BYTES}
 use Rattle.ids.specs.declared.names.Ref.{Ref}
+use Rattle.msg.specs.Limits.{fetch_fits}
 use Rattle.ids.specs.declared.refusal.Refusal.{Refusal}
 use Rattle.msg.specs.declared.body.Body.{Body}
 use Rattle.msg.specs.declared.body.Body.TheVariants as body
@@ -13,23 +19,23 @@ use Rattle.model.specs.declared.event.Answer.TheVariants as answer
 use Rattle.cycles.specs.Phases.{with_ended, with_report}
 use Rattle.model.specs.Counting.{append}
 use Rattle.model.specs.Effects.{Effect, Work, answers, at_rest, then}
-use Rattle.model.specs.Heaps.{object_at, place_of, share_all, with_place}
+use Rattle.model.specs.Heaps.{fetched, has_range, object_at, place_of, share_all, with_place}
 use Rattle.model.specs.Shading.{filled, is_calm, is_open, join, joined, see_to}
-use Rattle.model.specs.State.{LocalState, Phases, got_from}
-use Rattle.model.specs.Steps.{answer_get, post, count_in, is_marking, may_follow, may_settle, settled, take_body, take_carried, taken_in}
+use Rattle.model.specs.State.{Object, LocalState, Phases, got_from}
+use Rattle.model.specs.Steps.{answer_fetch, answer_get, post, count_in, is_marking, may_follow, may_settle, settled, take_body, take_carried, taken_in}
 use Rattle.model.specs.View.{NodeView, Performed, view_taken}
 use Rattle.model.proofs.Joining.{calm-none, join-phases}
 use Rattle.model.proofs.Leaving.{Stands, stands-walks}
 use Rattle.model.proofs.Shading.{see_to-none, see_to-then}
 use Rattle.model.proofs.Stocks.{open-apart}
 use Rattle.model.proofs.Walk.{joined-walks, taken-walks}
-use Rattle.node.specs.Errands.{IsRun, Runs, errand, errand_here}
+use Rattle.node.specs.Errands.{IsRun, Runs, errand, errand_here, extra_work}
 use Rattle.node.specs.Taking.{IsSender, IsTakable, followed}
 use Rattle.node.specs.declared.node_core.errands.Extra.{Extra}
 use Rattle.node.specs.declared.node_core.errands.Extra.TheVariants as extra
 use Rattle.node.proofs.Events.{shaded, shaded-refused}
 use Rattle.node.proofs.Runs.{run-then, runs-refused, stepped}
-use Rattle.node.proofs.Places.{joined-places, seen-places}
+use Rattle.node.proofs.Places.{joined-fetched, joined-places, seen-fetched, seen-places}
 
 -- ---- the message counts
 
@@ -122,6 +128,49 @@ module _ (p : LocalState) (stamp : ℕ) where
   pub swept-now : {from : ℕ} → IsTakable p from stamp body.Swept → stamp ≡ now.phases.cycle
   swept-now t = eqb-true stamp now.phases.cycle (settles t)
 
+-- ---- the sizes of letters
+
+-- what a letter carries isn't more than a letter may carry
+pub post-few : {p : LocalState} {from stamp label : ℕ} {vs : List (Option Ref)} {bs : List ℕ}
+    → IsTakable p from stamp (body.Post label vs bs) → length vs ≤ GREATEST_PLACES
+post-few {vs = vs} t =
+    leb-true (length vs) GREATEST_PLACES
+    (and_parts (nat_le (length vs) GREATEST_PLACES) _ t.fits).0
+
+-- and only a wide space has such a letter
+pub post-wide : {p : LocalState} {from stamp label : ℕ} {vs : List (Option Ref)} {bs : List ℕ}
+    → IsTakable p from stamp (body.Post label vs bs) → p.shape.wide ≡ true
+post-wide {p} {vs = vs} {bs = bs} t =
+    (and_parts p.shape.wide
+    (nat_le (length vs) p.shape.places && nat_le (length bs) GREATEST_LETTER) (follows t)).0
+
+fetched-short : (o : Option Object) (offset count : ℕ)
+    → length (fetched o offset count) ≤ WORD_BYTES + count
+fetched-short None offset count = omega arith
+fetched-short (Some o) offset count =
+    let xs : List ℕ = take count (drop offset o.bytes) in
+    let taken : length xs ≤ count =
+    rw (length-take count (drop offset o.bytes)) (min-le_left count (length (drop offset o.bytes)))
+    in
+    let part : length (cond (has_range o.bytes offset count) xs []) ≤ count =
+    cond_both (has_range o.bytes offset count) xs [] (λ (ys : List ℕ). length ys ≤ count)
+    (λ _. taken) (λ _. omega arith) in
+    let word : length (to_be_bytes w64 o.word) ≡ WORD_BYTES = refl in
+    let both = length-append (to_be_bytes w64 o.word) (cond (has_range o.bytes offset count) xs [])
+    in
+    omega (arith, part, word, both)
+
+-- nor is what is sent back for a Fetch
+pub fetch-small : {p : LocalState} {from stamp label offset count : ℕ} {target : Ref}
+    {bs : List ℕ} (o : Option Object)
+    → IsTakable p from stamp (body.Fetch target label offset count)
+    → bs ≡ fetched o offset count → (p.shape.wide ≡ true) × (length bs ≤ GREATEST_LETTER)
+fetch-small {p} {offset = offset} {count = count} {target = target} o t read =
+    let both = and_parts p.shape.wide (fetch_fits count)
+    (and_parts (target.node == p.own) (p.shape.wide && fetch_fits count) (follows t)).1 in
+    let fits = leb-true (WORD_BYTES + count) GREATEST_LETTER both.1 in
+    (both.0, omega (arith, fits, fetched-short o offset count, ap length read))
+
 -- ---- its body
 
 joined-cycle : (p : LocalState) (stamp : ℕ)
@@ -211,18 +260,51 @@ module _ (from stamp : ℕ) (p : LocalState) where
   pub give-followed : (due : Bool) (label : ℕ) (v : Option Ref) → due ≡ late
       → followed from stamp (body.Give label v) p
       ≡ errand stamp due (filled (v ∷ []))
-      (extra.Letter (record { from = from; label = label; reference = v })) p
+      (extra.Letter from label v) p
   unfolding take_body errand errand_here
   give-followed due label v is =
       by-errand (body.Give label v) same
     where
       l : Extra
-      l = extra.Letter (record { from = from; label = label; reference = v })
+      l = extra.Letter from label v
 
       same : then (take_carried stamp (body.Give label v) q)
           (take_body from stamp (body.Give label v))
           ≡ errand_here due (filled (v ∷ [])) l q
       same = rw (is, joined-cycle p stamp, filled-one v) refl
+
+  pub post-followed : (due : Bool) (label : ℕ) (references : Bor (List (Option Ref)))
+      (bytes : Bor (List ℕ)) {vs : List (Option Ref)} → due ≡ late → references.now ≡ vs
+      → followed from stamp (body.Post label vs bytes.now) p
+      ≡ errand stamp due (filled references.now) (extra.Letters from label references bytes) p
+  unfolding take_body errand errand_here
+  post-followed due label references bytes {vs = vs} is same =
+      by-errand (body.Post label vs bytes.now)
+      {v = errand_here due (filled references.now) (extra.Letters from label references bytes) q}
+      (rw (is, joined-cycle p stamp, same) refl)
+
+  -- What is fetched is read before the node joins. Marking doesn't change it.
+  pub fetch-followed : (due : Bool) (target : Ref) (label offset count : ℕ) (bytes : Bor (List ℕ))
+      → due ≡ late → bytes.now ≡ fetched (object_at p.heap target) offset count
+      → followed from stamp (body.Fetch target label offset count) p
+      ≡ errand stamp due (filled (Some target ∷ [])) (extra.Report from label bytes) p
+  unfolding take_body errand errand_here append
+  fetch-followed due target label offset count bytes is read =
+      by-errand (body.Fetch target label offset count)
+      {v = errand_here due (target ∷ []) (extra.Report from label bytes) q} same
+    where
+      same : then (take_carried stamp (body.Fetch target label offset count) q)
+          (take_body from stamp (body.Fetch target label offset count))
+          ≡ errand_here due (target ∷ []) (extra.Report from label bytes) q
+      same =
+          let late-now : Bool = nat_lt stamp q.phases.cycle in
+          let w : Work = see_to late-now (target ∷ []) q in
+          let there : fetched (object_at w.local.heap target) offset count ≡ bytes.now =
+          seen-fetched target offset count late-now (target ∷ []) q
+          ∙ joined-fetched target offset count p stamp ∙ sym read in
+          ap (λ (z : List ℕ). then w (answer_fetch from label z)) there
+          ∙ ap (λ (b : Bool). then (see_to b (target ∷ []) q)
+          (extra_work (extra.Report from label bytes))) (joined-cycle p stamp ∙ sym is)
 
   pub put-followed : (due : Bool) (target : Ref) (place : ℕ) (v : Option Ref) → due ≡ late
       → followed from stamp (body.Put target place v) p
@@ -273,6 +355,8 @@ pub ruleset following = (
   token-followed,
   mark-followed,
   give-followed,
+  post-followed,
+  fetch-followed,
   put-followed,
   get-followed,
   ended-followed,

@@ -1,8 +1,8 @@
 -- What is tested of the parts of a saved node is what holds of every node.
-use Rattle.std.proofs.Common.{◌≡◌, ◌≢◌, ℕ, ◌<◌, ◌≤◌, ◌==◌, Bool, true, false, ◌&&◌, List, length, get_or, Option, Some, None, refl, ap, subst, ⊎_elim, arith}
-use Rattle.std.specs.Prelude.{◌||◌, ◌↔◌, is_some}
+use Rattle.std.proofs.Common.{◌≡◌, ◌≢◌, ℕ, zero, suc, drop, ◌+◌, ◌-◌, ◌<◌, ◌≤◌, ◌==◌, Bool, true, false, ◌&&◌, List, [], ◌∷◌, length, get_or, Option, Some, None, refl, ap, sym, ◌∙◌, subst, ⊎_elim, arith}
+use Rattle.std.specs.Prelude.{◌||◌, ◌↔◌, is_some, nat_le}
 use Rattle.std.specs.List.{AllByRecursion, list_all}
-use Rattle.std.proofs.lemmas.Bool.{cases_eq, cases_lt, eq-eqb, eqb-true}
+use Rattle.std.proofs.lemmas.Bool.{and_from, and_parts, cases_eq, cases_lt, eq-eqb, eqb-true, le-leb, leb-true}
 use Rattle.std.proofs.lemmas.Bool.Decides.{nat_tests}
 use Rattle.std.proofs.lemmas.List.{get_or_past, nil_from_length}
 use Rattle.ids.specs.Limits.{Shaped}
@@ -21,7 +21,7 @@ use Rattle.model.specs.References.{IfAny, IsWithin, IsPlaced, IsSendable, no_mes
 use Rattle.model.specs.Shading.{is_same}
 use Rattle.model.specs.Steps.{mentioned}
 use Rattle.model.specs.View.{Link, NodeView, no_link, used}
-use Rattle.model.specs.WellFormed.{IsOther, IsSlotOf, HasMarked, IsHeld, AreReports}
+use Rattle.model.specs.WellFormed.{AreLetters, IsOther, IsSlotOf, HasMarked, IsHeld, AreReports}
 use Rattle.model.proofs.Asking.{same-flip}
 use Rattle.model.proofs.Lookups.{all-map}
 use Rattle.model.proofs.Stocks.{calm-empty}
@@ -29,8 +29,32 @@ use Rattle.heap.specs.Heap.{IsBorn, IsHeapFor}
 use Rattle.link.specs.Links.{IsLinks, link_at}
 use Rattle.link_ends.specs.Senders.{IsLink}
 use Rattle.node.specs.Invariant.{IsBalanced, IsNode, links_of}
-use Rattle.node.specs.Parts.{is_named, is_any_named, is_foreign, is_letter, is_slot, is_placed, is_message, is_marked, is_report, are_messages, AreHeard, AreParts}
+use Rattle.node.specs.Parts.{is_named, is_any_named, is_foreign, is_letter, is_modest, are_whole, is_slot, is_placed, is_message, is_marked, is_report, are_messages, AreHeard, AreParts}
 use Rattle.node.proofs.Listed.{listed-is, each-is, all-at, all-each, all-both, distinct-apart, apart-distinct, distinct-before, before-distinct}
+
+-- the next of several letters
+whole-step : (ls : List Letter) (k : ℕ) → k < length ls
+    → are_whole (drop k ls)
+    ≡ (nat_le (get_or ls k no_letter).more (length ls - suc k) && are_whole (drop (suc k) ls))
+whole-step [] k inside = absurd (omega (arith, inside))
+whole-step (l ∷ ls) zero inside =
+    let left : length (l ∷ ls) - suc zero ≡ length ls = omega arith in
+    ap (λ (n : ℕ). nat_le l.more n && are_whole ls) (sym left)
+whole-step (l ∷ ls) (suc k) inside =
+    let left : length (l ∷ ls) - suc (suc k) ≡ length ls - suc k = omega arith in
+    whole-step ls k (omega (arith, inside))
+    ∙ ap (λ (n : ℕ). nat_le (get_or ls k no_letter).more n && are_whole (drop (suc k) ls))
+    (sym left)
+
+pub whole-next : (ls : List Letter) (k : ℕ) → k < length ls
+    → are_whole (drop k ls)
+    ≡ (nat_le (get_or ls k no_letter).more (length ls - (k + 1)) && are_whole (drop (k + 1) ls))
+whole-next ls k inside =
+    let next : suc k ≡ k + 1 = omega arith in
+    subst
+    (λ (n : ℕ). are_whole (drop k ls)
+    ≡ (nat_le (get_or ls k no_letter).more (length ls - n) && are_whole (drop n ls)))
+    next (whole-step ls k inside)
 
 module _ (shape : Shaped) where
   -- ---- references
@@ -119,15 +143,53 @@ module _ (shape : Shaped) where
 
   -- ---- letters, and what was asked for
 
+  abbrev IsModest : Letter → Type 0
+  IsModest l = shape.wide ≡ false → (l.more ≡ 0) × (l.bytes ≡ [])
+
+  modest-is : (l : Letter) → is_modest shape l ≡ true ↔ IsModest l
+  modest-is l = (to shape.wide l.more l.bytes, from shape.wide l.more l.bytes)
+    where
+      to : (a : Bool) (n : ℕ) (bs : List ℕ) → a || (n == 0 && length bs == 0) ≡ true → a ≡ false
+          → (n ≡ 0) × (bs ≡ [])
+      to true n bs is plain = absurd cc
+      to false n bs is plain =
+          let both = and_parts (n == 0) (length bs == 0) is in
+          (eqb-true n 0 both.0, nil_from_length bs (eqb-true (length bs) 0 both.1))
+
+      from : (a : Bool) (n : ℕ) (bs : List ℕ) → (a ≡ false → (n ≡ 0) × (bs ≡ []))
+          → a || (n == 0 && length bs == 0) ≡ true
+      from true n bs is = refl
+      from false n bs is = rw ((is refl).0, (is refl).1) refl
+
   module _ (own : ℕ) where
     abbrev IsFrom : Letter → Type 0
-    IsFrom l = IsOther shape own l.from × IfAny (IsWithin shape) l.reference
+    IsFrom l = IsOther shape own l.from × (IsModest l × IfAny (IsWithin shape) l.reference)
 
-    letters-are : (ls : List Letter)
-        → list_all (is_letter shape own) ls ≡ true ↔ AllByRecursion IsFrom ls
-    letters-are =
-        listed-is IsFrom (is_letter shape own)
-        (λ (l : Letter). grind (arith, nat_tests, any-is l.reference))
+    letter-is : (l : Letter) → is_letter shape own l ≡ true ↔ IsFrom l
+    letter-is l = grind (arith, nat_tests, modest-is l, any-is l.reference)
+
+    -- as many follow each of them as it says
+    letters-whole : (ls : List Letter)
+        → ((list_all (is_letter shape own) ls ≡ true) × (are_whole ls ≡ true))
+        ↔ (AreLetters shape own ls × AllByRecursion (λ (l : Letter). IfAny (IsWithin shape) l.reference) ls)
+    letters-whole [] = (λ _. (tt, tt), λ _. (refl, refl))
+    letters-whole (l ∷ ls) =
+        let rest = letters-whole ls in
+        let any = any-is l.reference in (
+          λ both.
+              let first = and_parts (is_letter shape own l) (list_all (is_letter shape own) ls) both.0 in
+              let last = and_parts (nat_le l.more (length ls)) (are_whole ls) both.1 in
+              let after = rest.0 (first.1, last.1) in
+              let one = (letter-is l).0 first.0 in
+              ((one.0, (leb-true l.more (length ls) last.0, one.1.0), after.0), (one.1.1, after.1)),
+          λ both.
+              let after = rest.1 (both.0.2, both.1.1) in (
+                and_from (is_letter shape own l) (list_all (is_letter shape own) ls)
+                    ((letter-is l).1 (both.0.0, (both.0.1.1, both.1.0))) after.0,
+                and_from (nat_le l.more (length ls)) (are_whole ls)
+                    (le-leb l.more (length ls) both.0.1.0) after.1,
+              ),
+        )
 
     abbrev IsForeign : Ref → Type 0
     IsForeign r = IsWithin shape r × (r.node ≢ own)
@@ -143,6 +205,8 @@ module _ (shape : Shaped) where
   placed-is : (b : Body) → is_placed shape b ≡ true ↔ IsPlaced shape b
   placed-is (body.Put target place reference) = grind (arith, nat_tests)
   placed-is (body.Get target place label) = grind (arith, nat_tests)
+  placed-is (body.Post label references bytes) = grind (arith, nat_tests)
+  placed-is (body.Fetch target label offset count) = grind (arith, nat_tests)
   placed-is b = (λ _. tt, λ _. refl)
 
   module _ (cycle : ℕ) (within : cycle ≤ GREATEST_CYCLE) where
@@ -242,62 +306,63 @@ module _ (n : NodeView) where
   phases = n.local.phases
 
   pub parts-from : IsNode n → AreParts n
-  parts-from is = record {
-    shape = is.shape;
-    phases = is.phases.phases;
-    home = record {
-      own = is.own;
-      holds = record {
-        slots = (slots-are shape phases.cycle heap.slots).1
-            (λ k. slot-given shape phases.cycle (slot_at heap k) (is.stocked.slots k)
-            (λ g o e j. is.references.places k g o j e));
-        registers = (any-each shape heap.registers).1 is.references.registers;
-        letters = (letters-are shape local.own heap.letters).1
-            (all-each (IsFrom shape local.own) heap.letters no_letter
-            (λ k inside. (
-              all-at (λ (l : Letter). IsOther shape local.own l.from) heap.letters no_letter k
-                  inside is.stocked.letters,
-              is.references.letters k,
-            )));
-      };
-      cursor = is.phases.cursor;
-      reports = record {
-        count = is.phases.reports;
-        each = λ i _. heard-is local.own phases.reports is.phases.heard i;
-      };
-      calm = λ over.
-          let done : phases.ended ≡ phases.cycle = omega (arith, over, is.phases.phases.ended) in
-          ap (λ (ks : List ℕ). length ks == 0) (is.stocked.calm done);
-      token = (token-is phases.cycle phases.ended local.ring.token).1 is.token;
-    };
-    grey = record {
-      marked = λ i inside.
-          (marked-is phases.cycle (slot_at heap (get_or heap.grey i 0))).1
-          (all-at (λ (k : ℕ). HasMarked phases.cycle (slot_at heap k)) heap.grey 0 i inside
-          is.stocked.grey);
-      once = distinct-apart heap.grey is.stocked.once;
-    };
-    asked = record {
-      foreign = (asked-are shape local.own local.asked).1
-          (all-both (IsWithin shape) (λ (r : Ref). r.node ≢ local.own) local.asked is.asked.within
-          is.asked.others);
-      once = distinct-before is_same same-flip local.asked is.asked.once;
-    };
-    ends = record {
-      width = is.links.width;
-      messages = (links-are shape phases.cycle is.phases.phases.within n.links).1
-          (λ i k. (is.links.messages i k, is.links.timely.stamps i k));
-      unsent = ap used is.links.timely.unused;
-      untaken = is.links.timely.unheard;
-    };
-  }
+  parts-from is =
+      let letters = (letters-whole shape local.own heap.letters).1 (
+        is.stocked.letters,
+        all-each (λ (l : Letter). IfAny (IsWithin shape) l.reference) heap.letters no_letter
+            (λ k _. is.references.letters k),
+      ) in
+      record {
+        shape = is.shape;
+        phases = is.phases.phases;
+        home = record {
+          own = is.own;
+          holds = record {
+            slots = (slots-are shape phases.cycle heap.slots).1
+                (λ k. slot-given shape phases.cycle (slot_at heap k) (is.stocked.slots k)
+                (λ g o e j. is.references.places k g o j e));
+            registers = (any-each shape heap.registers).1 is.references.registers;
+            letters = letters.0;
+            whole = letters.1;
+          };
+          cursor = is.phases.cursor;
+          reports = record {
+            count = is.phases.reports;
+            each = λ i _. heard-is local.own phases.reports is.phases.heard i;
+          };
+          calm = λ over.
+              let done : phases.ended ≡ phases.cycle = omega (arith, over, is.phases.phases.ended) in
+              ap (λ (ks : List ℕ). length ks == 0) (is.stocked.calm done);
+          token = (token-is phases.cycle phases.ended local.ring.token).1 is.token;
+        };
+        grey = record {
+          marked = λ i inside.
+              (marked-is phases.cycle (slot_at heap (get_or heap.grey i 0))).1
+              (all-at (λ (k : ℕ). HasMarked phases.cycle (slot_at heap k)) heap.grey 0 i inside
+              is.stocked.grey);
+          once = distinct-apart heap.grey is.stocked.once;
+        };
+        asked = record {
+          foreign = (asked-are shape local.own local.asked).1
+              (all-both (IsWithin shape) (λ (r : Ref). r.node ≢ local.own) local.asked is.asked.within
+              is.asked.others);
+          once = distinct-before is_same same-flip local.asked is.asked.once;
+        };
+        ends = record {
+          width = is.links.width;
+          messages = (links-are shape phases.cycle is.phases.phases.within n.links).1
+              (λ i k. (is.links.messages i k, is.links.timely.stamps i k));
+          unsent = ap used is.links.timely.unused;
+          untaken = is.links.timely.unheard;
+        };
+      }
 
   pub standing : AreParts n → IsHeapFor n.local.shape n.local.heap → IsLinks (links_of n)
       → IsBalanced n.local.ring n.links n.local.got → IsNode n
   standing is made links balance =
       let all = is.home.holds in
       let given = (slots-are shape phases.cycle heap.slots).0 all.slots in
-      let letters = (letters-are shape local.own heap.letters).0 all.letters in
+      let letters = (letters-whole shape local.own heap.letters).0 (all.letters, all.whole) in
       let asked = (asked-are shape local.own local.asked).0 is.asked.foreign in
       let timed = (links-are shape phases.cycle is.phases.within n.links).0 is.ends.messages in
       record {
@@ -308,7 +373,8 @@ module _ (n : NodeView) where
           letters = λ k.
               ⊎_elim {C = IfAny (IsWithin shape) (get_or heap.letters k no_letter).reference}
               (λ inside.
-              (all-at (IsFrom shape local.own) heap.letters no_letter k inside letters).1)
+              all-at (λ (l : Letter). IfAny (IsWithin shape) l.reference) heap.letters no_letter k
+              inside letters.1)
               (λ past. rw (get_or_past heap.letters k no_letter past) tt)
               (cases_lt k (length heap.letters));
           places = λ k g o j e.
@@ -316,9 +382,7 @@ module _ (n : NodeView) where
         };
         stocked = record {
           registers = made.registers;
-          letters = all-map (IsFrom shape local.own)
-              (λ (l : Letter). IsOther shape local.own l.from) (λ l one. one.0) heap.letters
-              letters;
+          letters = letters.0;
           slots = λ k.
               given-slot shape phases.cycle (slot_at heap k) (given k) (made.born k);
           grey = all-each (λ (k : ℕ). HasMarked phases.cycle (slot_at heap k)) heap.grey 0

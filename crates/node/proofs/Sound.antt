@@ -1,13 +1,13 @@
 -- Each event on the heap alone preserves what holds of every node.
-use Rattle.std.proofs.Common.{◌≡◌, ℕ, ◌<◌, ◌≤◌, Bool, not, List, [], ◌∷◌, drop, length, get_or, Option, Some, None, Ok, nat_le, refl, ap, sym, ◌∙◌, subst, arith, rules, length-append, le_refl}
+use Rattle.std.proofs.Common.{◌≡◌, ℕ, suc, ◌<◌, ◌≤◌, Bool, not, List, [], ◌∷◌, length, get_or, Option, Some, None, Ok, nat_le, refl, ap, sym, ◌∙◌, subst, arith, rules, length-append, le_refl}
 use Rattle.std.proofs.lemmas.Bool.{leb-true, and_parts}
 use Rattle.std.proofs.lemmas.List.{length-set}
 use Rattle.ids.specs.declared.names.Ref.{Ref}
 use Rattle.ids.specs.declared.refusal.Refusal.{Refusal}
-use Rattle.model.specs.declared.event.Letter.{Letter}
+use Rattle.model.specs.declared.event.Accepted.{Accepted}
 use Rattle.model.specs.Checks.{AllPass, guarded}
 use Rattle.model.specs.State.{Object, Slot, Occupied, Retired, Heap, register_at}
-use Rattle.model.specs.Heaps.{with_register, next_generation, slots_with, heap_alloc, alloc_tests, alloc_heap, with_object, new_object, new_reference, named, heap_copy, copy_tests, heap_drop, drop_tests, heap_accept, accept_tests, letter_taken, oldest_letter, heap_store, store_tests, with_place, heap_clear, clear_tests, heap_set_word, word_tests, with_word, with_rewritten, filling, patching, heap_set_bytes, set_bytes_tests, heap_patch, patch_tests}
+use Rattle.model.specs.Heaps.{with_register, next_generation, slots_with, heap_alloc, alloc_tests, alloc_heap, with_object, new_object, new_reference, named, heap_copy, copy_tests, heap_drop, drop_tests, heap_accept, accept_tests, accepting, told_of, oldest_letter, heap_store, store_tests, with_place, heap_clear, clear_tests, heap_set_word, word_tests, with_word, with_rewritten, filling, patching, heap_set_bytes, set_bytes_tests, heap_patch, patch_tests}
 use Rattle.model.specs.References.{IfAny, IsWithin}
 use Rattle.model.specs.declared.event.Answer.TheVariants as answer
 use Rattle.model.specs.declared.event.Event.TheVariants as event
@@ -15,8 +15,9 @@ use Rattle.model.specs.View.{NodeView, view_act}
 use Rattle.model.specs.WellFormed.{IsStocked}
 use Rattle.model.proofs.Checks.{guarded-ok, guarded-passes}
 use Rattle.model.proofs.Ages.{noted_for, noted-keeps}
-use Rattle.model.proofs.References.{holds-letter_gone, holds-with_register, holds-with_object, holds-with_place, holds-with_word, holds-with_rewritten}
-use Rattle.model.proofs.Stocks.{stocked-letter_gone, stocked-object, stocked-place, stocked-register, stocked-word, stocked-bytes, stocked-patch}
+use Rattle.model.proofs.References.{holds-letters_taken, holds-with_register, holds-with_object, holds-with_place, holds-with_word, holds-with_rewritten}
+use Rattle.model.proofs.Walk.{taken-roots}
+use Rattle.model.proofs.Stocks.{stocked-letters_taken, stocked-object, stocked-place, stocked-register, stocked-word, stocked-bytes, stocked-patch}
 use Rattle.heap.specs.Heap.{HeapView}
 use Rattle.link.specs.Links.{LinksView}
 use Rattle.node.specs.Inside.{view_of, IsSound}
@@ -114,22 +115,20 @@ module _ (n : NodeView) (old : IsNode n) where
   node-dropped register g e =
       tested (drop_tests n.local.heap register) _ g e (node-registered register None tt)
 
-  pub node-accepted : (register : ℕ) (g : Heap) (l : Letter)
+  pub node-accepted : (register : ℕ) (g : Heap) (l : Accepted)
       → heap_accept n.local.heap register ≡ Ok (g, l) → IsNode (with_heap n g)
   unfolding heap_accept
   node-accepted register g l e =
       let p = n.local in
-      let h : Heap = record p.heap { letters = drop 1 p.heap.letters } in
-      let both : ◌≡◌ {A = Heap × Letter}
-      (letter_taken p.heap register, oldest_letter p.heap) (g, l) =
+      let count : ℕ = suc (oldest_letter p.heap).more in
+      let both : ◌≡◌ {A = Heap × Accepted}
+      (accepting p.heap register, told_of (oldest_letter p.heap)) (g, l) =
       guarded-ok (accept_tests p.heap register) _ _ e in
-      subst (λ (z : Heap × Letter). IsNode (with_heap n z.0)) both
-      (node-heap n (letter_taken p.heap register) old
-      (holds-with_register (IsWithin p.shape) h register (oldest_letter p.heap).reference
-      (holds-letter_gone (IsWithin p.shape) p.heap old.references) (old.references.letters 0))
-      (stocked-register (stocked-letter_gone old.stocked) register
-      (oldest_letter p.heap).reference)
-      (le_refl (length p.heap.slots)))
+      subst (λ (z : Heap × Accepted). IsNode (with_heap n z.0)) both
+      (node-heap n (accepting p.heap register) old
+      (holds-letters_taken (IsWithin p.shape) count p.heap register old.references)
+      (stocked-letters_taken count old.stocked register)
+      (omega (arith, ap (λ (z : Heap). length z.slots) (taken-roots count p.heap register))))
 
   pub node-placed : (r : Ref) (place : ℕ) (v : Option Ref) → IfAny (IsWithin n.local.shape) v
       → IsNode (with_heap n (with_place n.local.own n.local.heap r place v))

@@ -1,19 +1,21 @@
 -- An errand: what an event does before anything else, all of it or nothing. The node joins a cycle,
 -- unless it is in it or past it; it sees to references; and it does one thing more.
-use Rattle.std.specs.Prelude.{◌≡◌, ℕ, ◌+◌, ◌≤◌, Bool, true, false, List, [], ◌∷◌, map, Result, OnOk, OnErr, IfErr}
+use Rattle.std.specs.Prelude.{◌≡◌, ℕ, ◌+◌, ◌≤◌, Bool, true, false, List, [], ◌∷◌, length, map, Result, OnOk, OnErr, IfErr}
+use Rattle.std.specs.List.{AllByRecursion}
 use Rattle.ids.specs.Limits.{Shaped}
-use Rattle.ids.specs.declared.limits.TheConstants.{GREATEST_CYCLE}
+use Rattle.ids.specs.declared.limits.TheConstants.{GREATEST_CYCLE, GREATEST_LETTER, GREATEST_PLACES}
 use Rattle.ids.specs.declared.names.Ref.{Ref}
 use Rattle.ids.specs.declared.refusal.Refusal.{Refusal}
 use Rattle.msg.specs.declared.body.Body.TheVariants as body
 use Rattle.msg.specs.declared.body.Message.{Message}
 use Rattle.model.specs.State.{Heap, Ring, Phases, LocalState}
-use Rattle.model.specs.Heaps.{with_letter}
+use Rattle.heap.specs.Heap.{entries}
+use Rattle.model.specs.Heaps.{with_letter, with_letters, simple_letter, letters_of}
 use Rattle.model.specs.Effects.{Work, then}
 use Rattle.model.specs.Collecting.{new_token, whitened}
 use Rattle.model.specs.Counting.{balance_of, counted_up}
 use Rattle.model.specs.References.{IfAny, IsWithin}
-use Rattle.model.specs.Shading.{joined, see_to, without_last_grey}
+use Rattle.model.specs.Shading.{filled, joined, see_to, without_last_grey}
 use Rattle.model.specs.Steps.{fits}
 use Rattle.model.specs.View.{NodeView, append_to, used}
 use Rattle.model.specs.WellFormed.{IsOther}
@@ -32,18 +34,25 @@ listed x h = h
 
 -- after that
 abbrev pub with_extra : Extra → Heap → Heap
-with_extra (extra.Letter l) h = with_letter h l
+with_extra (extra.Letter from label reference) h =
+    with_letter h (simple_letter from label reference)
+with_extra (extra.Letters from label references bytes) h =
+    with_letters h (letters_of from label references.now bytes.now)
 with_extra x h = h
 
 abbrev pub extra_ring : ℕ → Extra → Ring → Ring
 extra_ring cycle (extra.Answer to label reference) r =
     counted_up (balance_of cycle cycle (body.Give label reference)) r
+extra_ring cycle (extra.Report to label bytes) r =
+    counted_up (balance_of cycle cycle (body.Post label [] bytes.now)) r
 extra_ring cycle extra.Begins r = whitened r
 extra_ring cycle x r = r
 
 abbrev pub extra_sends : ℕ → ℕ → ℕ → Extra → List (ℕ × Message)
 extra_sends own nodes cycle (extra.Answer to label reference) =
     (to, record { stamp = cycle; body = body.Give label reference }) ∷ []
+extra_sends own nodes cycle (extra.Report to label bytes) =
+    (to, record { stamp = cycle; body = body.Post label [] bytes.now }) ∷ []
 extra_sends own nodes cycle extra.Begins = begins own nodes cycle new_token
 extra_sends own nodes cycle x = []
 
@@ -51,14 +60,26 @@ abbrev pub is_nothing : Extra → Bool
 is_nothing extra.Nothing = true
 is_nothing x = false
 
--- how many letters it adds
+-- how many letters it adds; one with several references counts once for each
 abbrev pub letters_in : Extra → ℕ
-letters_in (extra.Letter l) = 1
+letters_in (extra.Letter from label reference) = 1
+letters_in (extra.Letters from label references bytes) = entries references.now
 letters_in x = 0
+
+-- the bytes of the letter that it adds
+abbrev pub bytes_in : Extra → List ℕ
+bytes_in (extra.Letters from label references bytes) = bytes.now
+bytes_in x = []
+
+-- the letter that it adds has no more references than an object may have places
+abbrev pub HasFew : Extra → Type 0
+HasFew (extra.Letters from label references bytes) = length references.now ≤ GREATEST_PLACES
+HasFew x = Unit {0}
 
 -- a link that it needs is there
 abbrev pub HasEnds : ℕ → Extra → Type 0
 HasEnds width (extra.Answer to label reference) = to + 1 ≤ width
+HasEnds width (extra.Report to label bytes) = to + 1 ≤ width
 HasEnds width extra.Begins = 1 ≤ width
 HasEnds width x = Unit {0}
 
@@ -89,9 +110,16 @@ errand cycle due rs x p = then (joined p cycle) (errand_here due rs x)
 -- What it adds or sends is to or from another node, and names what is within the shape. Only node 0
 -- begins a cycle.
 abbrev pub IsFit : Shaped → ℕ → Extra → Type 0
-IsFit shape own (extra.Letter l) = IsOther shape own l.from × IfAny (IsWithin shape) l.reference
+IsFit shape own (extra.Letter from label reference) =
+    IsOther shape own from × IfAny (IsWithin shape) reference
+IsFit shape own (extra.Letters from label references bytes) =
+    IsOther shape own from
+    × ((length references.now ≤ GREATEST_PLACES)
+    × (AllByRecursion (IsWithin shape) (filled references.now) × (shape.wide ≡ true)))
 IsFit shape own (extra.Answer to label reference) =
     IsOther shape own to × IfAny (IsWithin shape) reference
+IsFit shape own (extra.Report to label bytes) =
+    IsOther shape own to × ((shape.wide ≡ true) × (length bytes.now ≤ GREATEST_LETTER))
 IsFit shape own extra.Begins = own ≡ 0
 IsFit shape own x = Unit {0}
 

@@ -8,4 +8,5 @@ pub mod Taking
 pub mod Errands
 pub mod Parts
 pub mod Keeping
+pub mod Lacking
 pub mod Whole

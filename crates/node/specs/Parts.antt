@@ -1,13 +1,15 @@
 -- The parts of a saved node, and what must hold of them so that a node can be made of them ("Saved
 -- nodes" in docs/RULES.md).
 use Rattle.std.specs.Prelude.{◌≡◌, ◌≢◌, ℕ, ◌<◌, ◌≤◌, Bool, true, false, ◌&&◌, ◌||◌, ◌==◌, not}
-use Rattle.std.specs.Prelude.{nat_lt, nat_le, List, length, take, Option, Some, None, is_some}
+use Rattle.std.specs.Prelude.{nat_lt, nat_le, List, [], ◌∷◌, length, take, Option, Some, None, is_some}
 use Rattle.std.specs.Prelude.{slice_index_or}
 use Rattle.std.specs.List.{list_all}
 use Rattle.ids.specs.Limits.{Shaped, IsShape}
 use Rattle.ids.specs.declared.names.Ref.{Ref}
+use Rattle.ids.specs.declared.limits.TheConstants.{GREATEST_LETTER}
+use Rattle.msg.specs.Limits.{fetch_fits}
 use Rattle.msg.specs.declared.body.Body.{Body}
-use Rattle.msg.specs.declared.body.Body.TheVariants.{Begin, Token, Mark, Give, Put, Get, Ended, Swept}
+use Rattle.msg.specs.declared.body.Body.TheVariants.{Begin, Token, Mark, Give, Put, Get, Post, Fetch, Ended, Swept}
 use Rattle.msg.specs.declared.body.Message.{Message}
 use Rattle.model.specs.declared.event.Letter.{Letter}
 use Rattle.model.specs.State.{Object, Slot, Free, Occupied, Retired, LocalState}
@@ -60,9 +62,19 @@ is_neighbour shape own i = nat_lt i shape.nodes && not (i == own)
 abbrev pub is_foreign : Shaped → ℕ → Ref → Bool
 is_foreign shape own r = is_named shape r && not (r.node == own)
 
+-- in a plain space a letter has at most one reference, and no bytes
+abbrev pub is_modest : Shaped → Letter → Bool
+is_modest shape l = shape.wide || (l.more == 0 && length l.bytes == 0)
+
 -- a letter that came from another node
 abbrev pub is_letter : Shaped → ℕ → Letter → Bool
-is_letter shape own l = is_neighbour shape own l.from && is_any_named shape l.reference
+is_letter shape own l =
+    is_neighbour shape own l.from && (is_modest shape l && is_any_named shape l.reference)
+
+-- after each letter as many follow as it says
+abbrev pub are_whole : List Letter → Bool
+are_whole [] = true
+are_whole (l ∷ ls) = nat_le l.more (length ls) && are_whole ls
 
 -- an object of a node in this cycle; in a plain space it has no bytes, and is shared and old
 abbrev pub is_object : Shaped → ℕ → Object → Bool
@@ -79,7 +91,8 @@ is_slot shape cycle (Free g) = nat_le 2 g
 is_slot shape cycle (Occupied g o) = is_object shape cycle o
 is_slot shape cycle Retired = true
 
--- an object of the space may have the place that the body names, if it names one
+-- An object of the space may have the place that the body names, if it names one. If it is a letter
+-- or asks for one, the space has letters of that size.
 abbrev pub is_placed : Shaped → Body → Bool
 is_placed shape Begin = true
 is_placed shape (Token token) = true
@@ -87,6 +100,9 @@ is_placed shape (Mark target) = true
 is_placed shape (Give label reference) = true
 is_placed shape (Put target place reference) = nat_lt place shape.places
 is_placed shape (Get target place label) = nat_lt place shape.places
+is_placed shape (Post label references bytes) =
+    shape.wide && (nat_le (length references) shape.places && nat_le (length bytes) GREATEST_LETTER)
+is_placed shape (Fetch target label offset count) = shape.wide && fetch_fits count
 is_placed shape Ended = true
 is_placed shape Swept = true
 
@@ -130,6 +146,7 @@ pub record HoldsNamed (p : LocalState) : Type 0 where
   pub slots : list_all (is_slot p.shape p.phases.cycle) p.heap.slots ≡ true
   pub registers : list_all (is_any_named p.shape) p.heap.registers ≡ true
   pub letters : list_all (is_letter p.shape p.own) p.heap.letters ≡ true
+  pub whole : are_whole p.heap.letters ≡ true
 
 -- the part of a node that can be tested without memory
 pub record IsAtHome (p : LocalState) : Type 0 where

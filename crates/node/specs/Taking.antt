@@ -2,6 +2,7 @@
 use Rattle.std.specs.Prelude.{◌≡◌, ◌≢◌, ℕ, ◌<◌, ◌≤◌, true}
 use Rattle.std.specs.List.{AllByRecursion}
 use Rattle.ids.specs.declared.limits.TheConstants.{GREATEST_CYCLE, GREATEST_NUMBER}
+use Rattle.msg.specs.Limits.{body_fits}
 use Rattle.msg.specs.declared.body.Body.{Body}
 use Rattle.model.specs.Effects.{Work, then}
 use Rattle.model.specs.References.{IsWithin}
@@ -19,6 +20,7 @@ pub record IsSender (p : LocalState) (from : ℕ) : Type 0 where
 pub record IsTakable (p : LocalState) (from stamp : ℕ) (b : Body) : Type 0 where
   pub sender : IsSender p from
   pub cycle : stamp ≤ GREATEST_CYCLE
+  pub fits : body_fits b ≡ true
   pub within : AllByRecursion (IsWithin p.shape) (mentioned b)
   pub may : may_take p from stamp b ≡ true
 

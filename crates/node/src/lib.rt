@@ -111,10 +111,11 @@
 //! the same word and places. A program that asks about an object has a reference to it, so the
 //! object is reachable and hence live: both spaces make the same tests and give the same answer.
 
+mod letters;
 mod node;
 mod node_core;
 mod roots;
 
 pub use model::{Answer, Event, Letter, Summary};
 pub use node::Node;
-pub use node_core::{Core, NodeParts};
+pub use node_core::{Core, LetterRef, NodeParts};

@@ -1,9 +1,10 @@
 //! A node together with its early messages. These are kept apart from what is saved, and are in no
 //! state. So each clause about the core is about the event that reaches the core.
-ghost use Rattle.std.specs.Prelude.{◌≡◌, ◌≢◌, ℕ, ◌<◌, ◌≤◌, IsTrue, Ok, Err, Some, option_copied, IfOk, IfErr, OnErr};
+ghost use Rattle.std.specs.Prelude.{◌≡◌, ◌≢◌, ℕ, ◌<◌, ◌≤◌, IsTrue, Ok, Err, Some, true, option_copied, IfOk, IfErr, OnOk, OnErr};
 ghost use Rattle.std.specs.Option.{option_map};
 ghost use Rattle.ids.specs.declared.refusal.Refusal.TheVariants.{Memory, NoNode};
 ghost use Rattle.msg.specs.Frames.{plain_ref};
+ghost use Rattle.msg.specs.Limits.{is_post};
 ghost use Rattle.msg.specs.declared.frame.Data.{Data};
 ghost use Rattle.model.specs.Heaps.{heap_bytes, heap_bytes_len};
 ghost use Rattle.model.specs.State.{NodeState};
@@ -97,9 +98,10 @@ impl Node {
     /// the core as it was.
     ///
     /// These never fail with `Memory`: `Copy`, `Drop`, `Store`, `Clear`, `Word`, `SetWord`,
-    /// `Patch`, `Accept`, `Ack`, a `Sweep` that leaves slots or is node 0's, a `Next` for which no
-    /// message waits, and a message that isn't the next one. `Word`, a repeated message and an
-    /// early one also leave the core as it was.
+    /// `Patch`, `Accept`, `Ack`, a `Sweep` that leaves slots or is node 0's, and a `Next` for which
+    /// no message waits. Nor does a message that isn't the next one, unless it is early and a
+    /// letter with references and bytes. `Word`, a repeated message and an early one also leave the
+    /// core as it was.
     ///
     /// An early message is kept, unless its place is taken already. `Next` receives the message
     /// that waits, as if it arrived now, and fails with `NothingToDo` if none does. If that message
@@ -153,7 +155,7 @@ impl Node {
     {
         let taken = self.core.taken_from(frame.from);
         let answer = self.core.take_in(frame)?;
-        keep(&mut self.early, taken, frame, answer);
+        keep(&mut self.early, taken, frame, answer)?;
         Ok(answer)
     }
 
@@ -254,6 +256,7 @@ fn front(early: &[EarlyFrames], from: u8) -> Option<&Data>
     early.get(usize::from(from))?.at(0)
 }
 
+#[inline(always)]
 fn shift(early: &mut Vec<EarlyFrames>, from: u8)
     ensures { early.new.items ≡ shifted_at early.old.items from }
 {
@@ -279,16 +282,36 @@ fn put(early: &mut Vec<EarlyFrames>, from: u8, place: usize, frame: Data)
 }
 
 /// Updates the early messages after this message got this answer. Before it, `taken` messages of
-/// its sender had been received.
-fn keep(early: &mut Vec<EarlyFrames>, taken: u64, frame: &Data, answer: Answer)
-    ensures { early.new.items ≡ after_data taken early.old.items frame.now (Ok answer) }
+/// its sender had been received. It fails with `Memory` if the message is early and can't be
+/// copied, which only happens to a letter with references and bytes.
+#[inline(always)]
+fn keep(early: &mut Vec<EarlyFrames>, taken: u64, frame: &Data, told: Answer) -> Result<(), Refusal>
+    ensures done { OnOk result
+        (early.new.items ≡ after_data taken early.old.items frame.now (Ok told)) }
+    ensures refused { IfErr result (λ e. (e ≡ Memory) × (told ≡ answer.Early)) }
+    ensures letter { OnErr result (is_post frame.now.body ≡ true) }
+    ensures unchanged { OnErr result (early.new.items ≡ early.old.items) }
 {
-    match answer {
-        Answer::Received => shift(early, frame.from),
-        Answer::Early => {
-            let place = frame.number.saturating_sub(taken).saturating_sub(1);
-            put(early, frame.from, place as usize, frame.copy());
+    match told {
+        Answer::Received => {
+            shift(early, frame.from);
+            Ok(())
         }
-        _ => {}
+        Answer::Early => keep_early(early, taken, frame),
+        _ => Ok(()),
     }
+}
+
+/// Keeps a copy of an early message.
+#[inline(never)]
+fn keep_early(early: &mut Vec<EarlyFrames>, taken: u64, frame: &Data) -> Result<(), Refusal>
+    ensures done { OnOk result
+        (early.new.items ≡ after_data taken early.old.items frame.now (Ok answer.Early)) }
+    ensures refused { IfErr result (λ e. e ≡ Memory) }
+    ensures letter { OnErr result (is_post frame.now.body ≡ true) }
+    ensures unchanged { OnErr result (early.new.items ≡ early.old.items) }
+{
+    let place = frame.number.saturating_sub(taken).saturating_sub(1);
+    put(early, frame.from, place as usize, frame.copy()?);
+    Ok(())
 }

@@ -10,6 +10,8 @@ mod collecting;
 mod errands;
 mod frames;
 mod joining;
+mod lacking;
+mod letters;
 mod objects;
 mod parts;
 mod reading;
@@ -21,6 +23,7 @@ mod taking;
 use cycles::{Phases, Ring};
 use heap::Heap;
 use ids::{NodeId, Ref, Refusal, Shape};
+pub use lacking::LetterRef;
 use link::Links;
 use model::{Answer, Event, Summary};
 pub use parts::NodeParts;
@@ -133,6 +136,13 @@ impl Core {
                 label,
                 register,
             } => self.give(to, label, register),
+            Event::Post {
+                to,
+                label,
+                first,
+                count,
+                bytes,
+            } => self.post(to, label, first, count, bytes),
             Event::Accept { register } => self.accept(register),
             Event::Put {
                 object,
@@ -144,6 +154,12 @@ impl Core {
                 place,
                 label,
             } => self.get(object, place, label),
+            Event::Fetch {
+                object,
+                label,
+                offset,
+                count,
+            } => self.fetch(object, label, offset, count),
             Event::Reclaim { scope } => self.reclaim(scope),
             Event::Begin => self.begin(),
             Event::Scan => self.scan(),

@@ -5,13 +5,15 @@ ghost use Rattle.std.specs.Option.{option_map};
 ghost use Rattle.std.specs.Prelude.{is_some};
 ghost use Rattle.ids.specs.declared.refusal.Refusal.TheVariants.{Memory};
 ghost use Rattle.event_bytes.specs.Entries.{entry};
-ghost use Rattle.event_bytes.specs.Events.{entry_of};
+ghost use Rattle.event_bytes.specs.Events.{entry_of, received_of};
+ghost use Rattle.model.specs.declared.event.Event.{Event};
 ghost use Rattle.node_log.specs.Noted.{Noted};
 
 use codec::Piece;
-use event_bytes::{add_event, tail};
+use event_bytes::{add_event, encode_letter, letter_of, tail};
 use ids::Refusal;
 use model::Event;
+use msg::Data;
 use std::alloc::Global;
 use std::marker::Model;
 
@@ -84,7 +86,7 @@ impl Log {
     }
 
     /// Adds an event. The log is lost if it would become longer than [`GREATEST_LOG`]. An event
-    /// that writes more than 1 MiB into an object always has that effect, so that the next save
+    /// that brings more than 1 MiB always has that effect, so that the next save
     /// writes the image. Fails with `Memory` if an allocation fails; the log is lost then, and
     /// nothing else happens.
     // (It isn't inlined, so that without a log the event need not be in memory.)
@@ -96,6 +98,9 @@ impl Log {
             → self.new ≡ Some (before ++ entry.spell (entry_of event.now))) }
         ensures refused { IfErr result (λ e. e ≡ Memory) }
     {
+        if let Some(message) = letter_of(event) {
+            return self.note_letter(message);
+        }
         let Some(bytes) = &mut self.bytes else {
             return Ok(());
         };
@@ -108,6 +113,35 @@ impl Log {
             return Ok(());
         }
         if extend(bytes, start, tail).is_err() {
+            self.bytes = None;
+            return Err(Refusal::Memory);
+        }
+        Ok(())
+    }
+
+    // Adds a letter with references and bytes that was received; see `note`.
+    #[inline(never)]
+    fn note_letter(&mut self, message: &Data) -> Result<(), Refusal>
+        ensures noted { (e : Event) → entry_of e ≡ received_of message.now
+            → Noted self.old self.new e }
+        ensures added { OnOk result ((before : List ℕ) → self.old ≡ Some before
+            → length before + length (entry.spell (received_of message.now)) ≤ GREATEST_LOG
+            → self.new ≡ Some (before ++ entry.spell (received_of message.now))) }
+        ensures refused { IfErr result (λ e. e ≡ Memory) }
+    {
+        let alloc = self.alloc;
+        let Some(bytes) = &mut self.bytes else {
+            return Ok(());
+        };
+        let Ok(spelled) = encode_letter(alloc, message) else {
+            self.bytes = None;
+            return Err(Refusal::Memory);
+        };
+        if spelled.len() > GREATEST_LOG - bytes.len().min(GREATEST_LOG) {
+            self.bytes = None;
+            return Ok(());
+        }
+        if extend(bytes, &spelled, &[]).is_err() {
             self.bytes = None;
             return Err(Refusal::Memory);
         }

@@ -13,7 +13,8 @@ use Rattle.model.specs.Effects.{unchanged}
 use Rattle.model.specs.Steps.{checked, is_addressed, lent, receipt, receipt_tests}
 use Rattle.model.specs.View.{NodeView, link_to, no_link, trimmed, used, view_act, view_after, kept_view}
 use Rattle.event_bytes.specs.Entries.{Entry, alloc, copy, dropped, load, store, clear, word, set_word}
-use Rattle.event_bytes.specs.Entries.{set_bytes, patch, give, accept, put, get, reclaim, begin, scan, pass}
+use Rattle.event_bytes.specs.Entries.{set_bytes, patch, give, post, accept, put, get, fetch, reclaim}
+use Rattle.event_bytes.specs.Entries.{begin, scan, pass}
 use Rattle.event_bytes.specs.Entries.{sweep, next, received, acknowledged, entry}
 use Rattle.event_bytes.specs.Events.{entry_of}
 use Rattle.event_bytes.proofs.Sound.{entry_sound}
@@ -40,9 +41,12 @@ acts n (set_word object value) = view_act n (event.SetWord object value)
 acts n (set_bytes object bytes) = view_act n (event.SetBytes object (lent bytes))
 acts n (patch object offset bytes) = view_act n (event.Patch object offset (lent bytes))
 acts n (give to label register) = view_act n (event.Give to label register)
+acts n (post to label first count bytes) =
+    view_act n (event.Post to label first count (lent bytes))
 acts n (accept register) = view_act n (event.Accept register)
 acts n (put object place register) = view_act n (event.Put object place register)
 acts n (get object place label) = view_act n (event.Get object place label)
+acts n (fetch object label offset count) = view_act n (event.Fetch object label offset count)
 acts n (reclaim scope) = view_act n (event.Reclaim scope)
 acts n begin = view_act n event.Begin
 acts n scan = view_act n event.Scan

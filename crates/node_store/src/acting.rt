@@ -1,5 +1,5 @@
 //! Gives a node an event and notes it in the node's log.
-ghost use Rattle.std.specs.Prelude.{◌≡◌, nat_le, false, true, unwrap_or, IfOk};
+ghost use Rattle.std.specs.Prelude.{◌≡◌, nat_le, false, true, unwrap_or, IfOk, OnErr};
 ghost use Rattle.model.specs.Effects.{is_change};
 ghost use Rattle.model.specs.View.{link_to};
 ghost use Rattle.node.specs.Keeping.{AreKeptIn, met};
@@ -10,6 +10,7 @@ use ids::Refusal;
 use model::{Answer, Event};
 use node::Node;
 use node_log::Log;
+use std::alloc::AllocError;
 
 /// Whether an event is `Next`. To the node's core each other event is itself.
 #[inline(always)]
@@ -20,15 +21,21 @@ pub fn is_turn(event: &Event) -> bool
 }
 
 /// What an event is to the node's core, if that is another event: `Next` of a message that waits is
-/// that message.
-pub fn turned<'a>(node: &Node, event: &Event<'a>) -> Option<Event<'a>>
-    ensures { unwrap_or result event.now ≡ met node.now.early event.now }
+/// that message. It fails if the message is a letter with references and bytes that can't be
+/// copied.
+pub fn turned<'a>(node: &Node, event: &Event<'a>) -> Result<Option<Event<'a>>, AllocError>
+    ensures met { IfOk result (λ t. unwrap_or t event.now ≡ met node.now.early event.now) }
+    ensures message { OnErr result
+        (is_old_ack node.now.core (met node.now.early event.now) ≡ false) }
 {
     let Event::Next { from } = *event else {
-        return None;
+        return Ok(None);
     };
-    let frame = node.waiting(from)?;
-    Some(Event::Data(frame.copy()))
+    let Some(frame) = node.waiting(from) else {
+        return Ok(None);
+    };
+    let copy = frame.copy()?;
+    Ok(Some(Event::Data(copy)))
 }
 
 /// What an event is to the node's core, by what [`turned`] said of it.
@@ -94,8 +101,27 @@ fn act_noting(node: &mut Node, log: &mut Log, event: &Event) -> Result<Answer, R
         → log.new ≡ log.old }
     ensures quiet { IfOk result (λ a. is_change a ≡ false → log.new ≡ log.old) }
 {
-    let turned = turned(node, event);
-    let meant = meant(&turned, event);
+    match turned(node, event) {
+        Ok(turned) => act_meaning(node, log, event, meant(&turned, event)),
+        Err(AllocError) => act_losing(node, log, event),
+    }
+}
+
+// The same, with what the event is to the node's core.
+fn act_meaning(
+    node: &mut Node,
+    log: &mut Log,
+    event: &Event,
+    meant: &Event,
+) -> Result<Answer, Refusal>
+    requires { meant.now ≡ met node.old.early event.now }
+    ensures acts { Acts node.old node.new event.now result }
+    ensures kept { AreKeptIn node.new }
+    ensures notes { Notes node.old node.new log.old log.new result }
+    ensures old { is_old_ack node.old.core (met node.old.early event.now) ≡ true
+        → log.new ≡ log.old }
+    ensures quiet { IfOk result (λ a. is_change a ≡ false → log.new ≡ log.old) }
+{
     let is_old = is_old_ack(node, meant);
     let answer = node.act(event)?;
     if is_old {
@@ -103,6 +129,24 @@ fn act_noting(node: &mut Node, log: &mut Log, event: &Event) -> Result<Answer, R
     }
     if answer.is_change() {
         let _lost = log.note(meant);
+    }
+    Ok(answer)
+}
+
+// The same if the event can't be noted. The log is lost if the event changes what is saved.
+#[inline(never)]
+fn act_losing(node: &mut Node, log: &mut Log, event: &Event) -> Result<Answer, Refusal>
+    requires { is_old_ack node.old.core (met node.old.early event.now) ≡ false }
+    ensures acts { Acts node.old node.new event.now result }
+    ensures kept { AreKeptIn node.new }
+    ensures notes { Notes node.old node.new log.old log.new result }
+    ensures old { is_old_ack node.old.core (met node.old.early event.now) ≡ true
+        → log.new ≡ log.old }
+    ensures quiet { IfOk result (λ a. is_change a ≡ false → log.new ≡ log.old) }
+{
+    let answer = node.act(event)?;
+    if answer.is_change() {
+        log.lose();
     }
     Ok(answer)
 }

@@ -101,13 +101,16 @@ fn redo(node: &mut Node, batch: &[u8]) -> Result<(), Refusal>
 {
     let mut reader = Reader::new(batch);
     while !reader.finish() {
-        let Some(event) = read_event(&mut reader) else {
+        let read = read_event(node.core().allocator(), &mut reader)?;
+        let Some(event) = read else {
             return Err(Refusal::BadImage);
         };
         if !reader.is_open() {
             return Err(Refusal::BadImage);
         }
-        perform(node, &event)?;
+        let done = perform(node, &event);
+        drop(event);
+        done?;
     }
     node.mark_saved();
     Ok(())

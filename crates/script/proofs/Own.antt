@@ -11,7 +11,7 @@ use Rattle.model.specs.World.{is_own_step}
 use Rattle.script.specs.declared.line.Line.{Line}
 use Rattle.script.specs.declared.line.Line.TheVariants as line
 use Rattle.script.specs.Operands.{read}
-use Rattle.script.specs.Grammar.{Number, acted, alone, by_operands, command_of, delivery_of, hand_of, is_own_line, line_of, node_line_of, plain, numbered_of, only_wide, reclaim_of, set_bytes_of, patch_of, bytes_of, either_of, of_three, of_two, report_of, space_of, stepped, u16_of, u32_of, u64_of, u8_of, wide_of, with_none, with_one, with_three, with_two}
+use Rattle.script.specs.Grammar.{Number, acted, alone, by_operands, command_of, delivery_of, hand_of, is_own_line, line_of, node_line_of, plain, numbered_of, only_wide, reclaim_of, set_bytes_of, patch_of, bytes_of, post_of, fetch_of, letter_of, either_of, of_three, of_two, report_of, space_of, stepped, u16_of, u32_of, u64_of, u8_of, wide_of, with_none, with_one, with_three, with_two}
 
 -- the value, if there is one, passes the test
 record Passes {X : Type 0} (test : X → Bool) (o : Option X) : Type 0 where
@@ -131,6 +131,44 @@ own-bytes node (a ∷ b ∷ c ∷ []) =
     three u16_of u32_of u32_of (λ x y z. line.Bytes node x y z) (λ x y z. refl) a b c
 own-bytes node (a ∷ b ∷ c ∷ d ∷ words) = none
 
+own-post : (node : ℕ) (words : List (List ℕ)) → Passes is_own_line (post_of node words)
+unfolding post_of
+own-post node [] = none
+own-post node (a ∷ []) = none
+own-post node (a ∷ b ∷ []) = none
+own-post node (a ∷ b ∷ c ∷ []) = none
+own-post node (a ∷ b ∷ c ∷ d ∷ []) = none
+own-post node (a ∷ b ∷ c ∷ d ∷ e ∷ []) =
+    elim (u8_of a)
+    as (λ o. Passes is_own_line (option_and_then (λ to. of_three u32_of u16_of u8_of
+    (λ x y z. line.Post node to x y z (lent e)) b c d) o)) [
+      | None ↦ none
+      | Some to ↦ three u32_of u16_of u8_of
+          (λ x y z. line.Post node to x y z (lent e)) (λ x y z. refl) b c d
+    ]
+own-post node (a ∷ b ∷ c ∷ d ∷ e ∷ f ∷ words) = none
+
+own-fetch : (node : ℕ) (words : List (List ℕ)) → Passes is_own_line (fetch_of node words)
+unfolding fetch_of
+own-fetch node [] = none
+own-fetch node (a ∷ []) = none
+own-fetch node (a ∷ b ∷ []) = none
+own-fetch node (a ∷ b ∷ c ∷ []) = none
+own-fetch node (a ∷ b ∷ c ∷ d ∷ []) =
+    elim (u16_of a)
+    as (λ o. Passes is_own_line (option_and_then (λ object. of_three u32_of u32_of u32_of
+    (λ x y z. line.Fetch node object x y z) b c d) o)) [
+      | None ↦ none
+      | Some object ↦ three u32_of u32_of u32_of
+          (λ x y z. line.Fetch node object x y z) (λ x y z. refl) b c d
+    ]
+own-fetch node (a ∷ b ∷ c ∷ d ∷ e ∷ words) = none
+
+own-letter : (node : ℕ) (words : List (List ℕ)) → Passes is_own_line (letter_of node words)
+unfolding letter_of
+own-letter node [] = some refl
+own-letter node (a ∷ words) = none
+
 own-reclaim : (node : ℕ) (words : List (List ℕ)) → Passes is_own_line (reclaim_of node words)
 unfolding reclaim_of
 own-reclaim node [] = some refl
@@ -143,7 +181,10 @@ own-only_wide node [] = none
 own-only_wide node (verb ∷ words) =
     either _ (own-set_bytes node words)
     (either _ (own-patch node words)
-    (either _ (own-bytes node words) (either _ (own-reclaim node words) none)))
+    (either _ (own-bytes node words)
+    (either _ (own-post node words)
+    (either _ (own-fetch node words)
+    (either _ (own-letter node words) (either _ (own-reclaim node words) none))))))
 
 own-either : (o p : Option Line) → Passes is_own_line o → Passes is_own_line p
     → Passes is_own_line (either_of o p)
@@ -247,6 +288,9 @@ own-plain (line.Wide nodes registers slots places bytes) = refl
 own-plain (line.SetBytes node object hex) = refl
 own-plain (line.Patch node object offset hex) = refl
 own-plain (line.Bytes node object offset count) = refl
+own-plain (line.Post node to label first count hex) = refl
+own-plain (line.Fetch node object label offset count) = refl
+own-plain (line.Letter node) = refl
 own-plain (line.Reclaim node scope) = refl
 own-plain (line.State node) = refl
 own-plain line.Report = refl

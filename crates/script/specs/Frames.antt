@@ -1,5 +1,5 @@
 -- The texts of messages and frames, as the program prints them.
-use Rattle.std.specs.Prelude.{ℕ, List, ◌++◌, codes, decimal}
+use Rattle.std.specs.Prelude.{ℕ, List, ◌++◌, codes, decimal, length}
 use Rattle.std.specs.Fmt.{signed_decimal}
 use Rattle.ids.specs.Texts.{optional_text, reference_text}
 use Rattle.msg.specs.Frames.{Plain, data_frame, ack_frame}
@@ -30,6 +30,12 @@ body_text (body.Put target place reference) =
 body_text (body.Get target place label) =
     codes "get " ++ (reference_text target ++ (codes " " ++ (decimal place
     ++ (codes " " ++ decimal label))))
+body_text (body.Post label references bytes) =
+    codes "post " ++ (decimal label ++ (codes " " ++ (decimal (length references)
+    ++ (codes " references " ++ (decimal (length bytes) ++ codes " bytes")))))
+body_text (body.Fetch target label offset count) =
+    codes "fetch " ++ (reference_text target ++ (codes " " ++ (decimal label
+    ++ (codes " " ++ (decimal offset ++ (codes " " ++ decimal count))))))
 body_text body.Ended = codes "ended"
 body_text body.Swept = codes "swept"
 

@@ -145,6 +145,25 @@ bytes_of node (a ∷ b ∷ c ∷ []) =
     of_three u16_of u32_of u32_of (λ object offset count. line.Bytes node object offset count) a b c
 bytes_of node words = None
 
+-- The words after `post`. The last one spells bytes; it may be any here.
+unfoldable pub post_of : ℕ → List (List ℕ) → Option Line
+post_of node (a ∷ b ∷ c ∷ d ∷ hex ∷ []) =
+    option_and_then (λ to. of_three u32_of u16_of u8_of
+    (λ label first count. line.Post node to label first count (lent hex)) b c d) (u8_of a)
+post_of node words = None
+
+-- the words after `fetch`
+unfoldable pub fetch_of : ℕ → List (List ℕ) → Option Line
+fetch_of node (a ∷ b ∷ c ∷ d ∷ []) =
+    option_and_then (λ object. of_three u32_of u32_of u32_of
+    (λ label offset count. line.Fetch node object label offset count) b c d) (u16_of a)
+fetch_of node words = None
+
+-- nothing after `letter`
+unfoldable pub letter_of : ℕ → List (List ℕ) → Option Line
+letter_of node [] = Some (line.Letter node)
+letter_of node words = None
+
 -- nothing after `reclaim`, or `young`
 unfoldable pub reclaim_of : ℕ → List (List ℕ) → Option Line
 reclaim_of node [] = Some (line.Reclaim node scope.All)
@@ -152,15 +171,18 @@ reclaim_of node (a ∷ []) =
     cond (bytes_eq a (codes "young")) (Some (line.Reclaim node scope.Young)) None
 reclaim_of node words = None
 
--- The words after a node's number, if they are about what only wide spaces have: bytes of objects,
--- and private objects.
+-- The words after a node's number, if they are about what only wide spaces have: bytes of objects
+-- and of letters, letters with several references, and private objects.
 unfoldable pub only_wide : ℕ → List (List ℕ) → Option Line
 only_wide node [] = None
 only_wide node (verb ∷ words) =
     cond (bytes_eq verb (codes "setbytes")) (set_bytes_of node words)
     (cond (bytes_eq verb (codes "patch")) (patch_of node words)
     (cond (bytes_eq verb (codes "bytes")) (bytes_of node words)
-    (cond (bytes_eq verb (codes "reclaim")) (reclaim_of node words) None)))
+    (cond (bytes_eq verb (codes "post")) (post_of node words)
+    (cond (bytes_eq verb (codes "fetch")) (fetch_of node words)
+    (cond (bytes_eq verb (codes "letter")) (letter_of node words)
+    (cond (bytes_eq verb (codes "reclaim")) (reclaim_of node words) None))))))
 
 abbrev pub either_of : Option Line → Option Line → Option Line
 either_of (Some l) other = Some l
@@ -229,6 +251,7 @@ line_of (first ∷ words) =
 abbrev pub plain : Line → Line
 plain (line.SetBytes node object hex) = line.SetBytes node object (lent hex.now)
 plain (line.Patch node object offset hex) = line.Patch node object offset (lent hex.now)
+plain (line.Post node to label first count hex) = line.Post node to label first count (lent hex.now)
 plain l = l
 
 -- a line whose event, if it has one, is the node's own, so it comes from no other node
@@ -240,6 +263,9 @@ is_own_line (line.Wide nodes registers slots places bytes) = true
 is_own_line (line.SetBytes node object hex) = true
 is_own_line (line.Patch node object offset hex) = true
 is_own_line (line.Bytes node object offset count) = true
+is_own_line (line.Post node to label first count hex) = true
+is_own_line (line.Fetch node object label offset count) = true
+is_own_line (line.Letter node) = true
 is_own_line (line.Reclaim node scope) = true
 is_own_line (line.State node) = true
 is_own_line line.Report = true

@@ -27,19 +27,28 @@ step_said (step.Restart node) = Some (said.Restart node)
 step_said (step.Act node e) = cond (is_for_workers e) None (Some (said.Act node e))
 step_said s = None
 
+-- what a line means here that asks for an event which only wide spaces have
+abbrev pub wide_event_said : Line → Option RunLine
+wide_event_said (line.Fetch node object label offset count) =
+    Some (said.Act node (event.Fetch object label offset count))
+wide_event_said (line.Reclaim node scope) = Some (said.Act node (event.Reclaim scope))
+wide_event_said l = None
+
+-- what a line that only wide spaces have means here
+abbrev pub wide_said : Line → Option RunLine
+wide_said (line.SetBytes node object hex) = Some (said.SetBytes node object hex)
+wide_said (line.Patch node object offset hex) = Some (said.Patch node object offset hex)
+wide_said (line.Bytes node object offset count) = Some (said.Bytes node object offset count)
+wide_said (line.Post node to label first count hex) =
+    Some (said.Post node to label first count hex)
+wide_said (line.Letter node) = Some (said.Letter node)
+wide_said l = wide_event_said l
+
 -- what a line of other scripts means here, in a space that is wide or not
 abbrev pub shared_of : Bool → Line → Option RunLine
 shared_of wide line.Blank = Some said.Blank
 shared_of wide (line.Step s) = step_said s
-shared_of wide (line.SetBytes node object hex) =
-    cond wide (Some (said.SetBytes node object hex)) None
-shared_of wide (line.Patch node object offset hex) =
-    cond wide (Some (said.Patch node object offset hex)) None
-shared_of wide (line.Bytes node object offset count) =
-    cond wide (Some (said.Bytes node object offset count)) None
-shared_of wide (line.Reclaim node scope) =
-    cond wide (Some (said.Act node (event.Reclaim scope))) None
-shared_of wide l = None
+shared_of wide l = cond wide (wide_said l) None
 
 -- the meaning of one, two and three words that aren't a line of other scripts
 unfoldable pub with_word : List ℕ → Option RunLine
@@ -75,6 +84,8 @@ run_line_of wide words = said_of wide (line_of words) words
 abbrev pub plain_said : RunLine → RunLine
 plain_said (said.SetBytes node object hex) = said.SetBytes node object (lent hex.now)
 plain_said (said.Patch node object offset hex) = said.Patch node object offset (lent hex.now)
+plain_said (said.Post node to label first count hex) =
+    said.Post node to label first count (lent hex.now)
 plain_said l = l
 
 -- a line whose event, if it has one, is the node's own, so it comes from no other node

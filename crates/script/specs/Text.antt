@@ -1,22 +1,34 @@
 -- What the program prints.
-use Rattle.std.specs.Prelude.{ℕ, ◌+◌, Bool, true, false, List, [], ◌∷◌, ◌++◌, codes, decimal}
+use Rattle.std.specs.Prelude.{ℕ, ◌+◌, Bool, true, false, cond, ◌&&◌, ◌==◌, List, [], ◌∷◌, ◌++◌, codes, decimal}
 use Rattle.std.specs.Fmt.{signed_decimal}
 use Rattle.ids.specs.declared.refusal.Refusal.{Refusal}
 use Rattle.ids.specs.Refusals.{refusal_text}
 use Rattle.ids.specs.Texts.{optional_text, reference_text}
 use Rattle.script.specs.Frames.{colour_text}
 use Rattle.msg.specs.declared.body.Token.{Token}
-use Rattle.model.specs.declared.event.Letter.{Letter}
+use Rattle.model.specs.declared.event.Accepted.{Accepted}
 use Rattle.model.specs.declared.event.Answer.{Answer}
 use Rattle.model.specs.declared.event.Answer.TheVariants as answer
 use Rattle.model.specs.declared.step.Outcome.{Outcome}
 use Rattle.model.specs.declared.step.Outcome.TheVariants as outcome
 use Rattle.model.specs.declared.summary.Summary.{Summary}
 
-abbrev pub letter_text : Letter → List ℕ
-letter_text l =
+-- the letter went into one register, and has no bytes
+abbrev pub is_simple : Accepted → Bool
+is_simple l = (l.count == 1) && (l.length == 0)
+
+-- into how many registers it went, and how many bytes it has
+abbrev pub sizes_text : Accepted → List ℕ
+sizes_text l = codes " count " ++ (decimal l.count ++ (codes " bytes " ++ decimal l.length))
+
+-- its sender, its label and its first reference
+abbrev pub simple_text : Accepted → List ℕ
+simple_text l =
     codes "from " ++ (decimal l.from ++ (codes " label "
     ++ (decimal l.label ++ (codes " " ++ optional_text l.reference))))
+
+abbrev pub letter_text : Accepted → List ℕ
+letter_text l = cond (is_simple l) (simple_text l) (simple_text l ++ sizes_text l)
 
 -- the token as it was passed on
 abbrev pub passed_text : Token → List ℕ

@@ -9,6 +9,7 @@ ghost use Rattle.script.specs.Operands.{read};
 use crate::line::Line;
 use crate::operands::{to_u8, to_u16, to_u32};
 use model::{Event, Step};
+use std::mem;
 
 /// The meaning of a verb alone after a node's number.
 #[tactic(auto, unfolding(crate::specs::Grammar::alone))]
@@ -23,12 +24,13 @@ pub(crate) fn alone(line: &mut Line, node: u8, verb: &str) -> Option<()>
     }
 }
 
-/// Sets the line to this.
+/// Sets the line to this. (No line owns anything, since its event is a program's own. So the old
+/// line isn't dropped, which would look at each.)
 #[inline(always)]
 pub(crate) fn say<'a>(line: &mut Line<'a>, said: Line<'a>) -> Option<()>
     ensures { read result line.new ≡ Some (plain said.entry) }
 {
-    *line = said;
+    mem::forget(mem::replace(line, said));
     Some(())
 }
 
@@ -37,8 +39,7 @@ pub(crate) fn say<'a>(line: &mut Line<'a>, said: Line<'a>) -> Option<()>
 fn act(line: &mut Line, node: u8, event: Event<'static>) -> Option<()>
     ensures { read result line.new ≡ acted node (Some event.entry) }
 {
-    *line = Line::Step(Step::Act(node, event));
-    Some(())
+    say(line, Line::Step(Step::Act(node, event)))
 }
 
 /// The meaning of a verb with no operand.

@@ -9,7 +9,7 @@ use ids::Ref;
 use itoa::write_digits;
 
 /// The size of the buffer in bytes: the longest answer fits, with some to spare.
-pub(crate) const ROOM: usize = 128;
+pub(crate) const ROOM: usize = 192;
 
 /// The end of a text, which grows at its front. So the digits of a number are written straight into
 /// place, and the text so far is always one slice.

@@ -47,6 +47,22 @@ impl fmt::Display for BodyText<'_> {
                 place,
                 label,
             } => write!(f, "get {target} {place} {label}"),
+            Body::Post {
+                label,
+                ref references,
+                ref bytes,
+            } => write!(
+                f,
+                "post {label} {} references {} bytes",
+                references.len(),
+                bytes.len()
+            ),
+            Body::Fetch {
+                target,
+                label,
+                offset,
+                count,
+            } => write!(f, "fetch {target} {label} {offset} {count}"),
             Body::Ended => write!(f, "ended"),
             Body::Swept => write!(f, "swept"),
         }

@@ -1,8 +1,9 @@
 //! One line of a script. Its words are read one after another; anything outside the grammar is
 //! rejected.
-ghost use Rattle.std.specs.Prelude.{◌≡◌, false, IfSome, IsTrue, option_and_then, option_map};
-ghost use Rattle.script.specs.Grammar.{command_of, delivery_of, hand_of, is_own_line, line_of, node_line_of, numbered_of, only_wide, reclaim_of, set_bytes_of, patch_of, bytes_of, plain, report_of, space_of, stepped, u8_of, u16_of, u32_of, wide_of, words_of};
+ghost use Rattle.std.specs.Prelude.{◌≡◌, false, Some, IfSome, IsTrue, option_and_then, option_map};
+ghost use Rattle.script.specs.Grammar.{command_of, delivery_of, hand_of, is_own_line, line_of, node_line_of, numbered_of, only_wide, reclaim_of, set_bytes_of, patch_of, bytes_of, post_of, fetch_of, letter_of, plain, report_of, space_of, stepped, u8_of, u16_of, u32_of, wide_of, words_of};
 ghost use Rattle.script.specs.Operands.{read, spelled};
+ghost use Rattle.script.specs.declared.line.Line.TheVariants as said;
 ghost use Rattle.script.specs.Words.{IsTrimmed, behind, starts_number, word_of};
 
 use crate::asking::{alone, say, with_one, with_three, with_two};
@@ -57,6 +58,27 @@ pub enum Line<'a> {
         offset: u32,
         count: u32,
     },
+    /// Sends a letter to another node: with the references of this many registers, from the first
+    /// one on, and with the bytes that a word spells, if it spells any.
+    Post {
+        node: u8,
+        to: u8,
+        label: u32,
+        first: u16,
+        count: u8,
+        hex: &'a str,
+    },
+    /// Asks the owner of another node's object for its word and this many of its bytes, from this
+    /// offset on.
+    Fetch {
+        node: u8,
+        object: u16,
+        label: u32,
+        offset: u32,
+        count: u32,
+    },
+    /// Asks for the bytes of the oldest letter that waits.
+    Letter(u8),
     /// Asks the node to free private objects within the scope that nothing needs.
     Reclaim {
         node: u8,
@@ -98,15 +120,23 @@ fn line_in<'a>(line: &mut Line<'a>, text: &'a str) -> Option<()>
     ensures { read result line.new ≡ line_of (words_of text.now) }
 {
     let Some(first) = text.as_bytes().first() else {
-        return say(line, Line::Blank);
+        return blank(line);
     };
     if *first == b'#' {
-        return say(line, Line::Blank);
+        return blank(line);
     }
     if first.is_ascii_digit() {
         return node_line(line, text);
     }
     command(line, text)
+}
+
+/// The meaning of a line without words, and of a comment.
+#[inline(never)]
+fn blank(line: &mut Line) -> Option<()>
+    ensures { read result line.new ≡ Some said.Blank }
+{
+    say(line, Line::Blank)
 }
 
 /// The meaning of a line that begins with a node's number.
@@ -173,6 +203,9 @@ fn only_wide<'a>(line: &mut Line<'a>, node: u8, text: &'a str) -> Option<()>
         "setbytes" => set_bytes(line, node, text),
         "patch" => patch(line, node, text),
         "bytes" => bytes(line, node, text),
+        "post" => post(line, node, text),
+        "fetch" => fetch(line, node, text),
+        "letter" => letter(line, node, text),
         "reclaim" => reclaim(line, node, text),
         _ => None,
     }
@@ -253,6 +286,71 @@ fn bytes(line: &mut Line, node: u8, text: &str) -> Option<()>
             count,
         },
     )
+}
+
+#[tactic(auto, unfolding(crate::specs::Grammar::post_of))]
+fn post<'a>(line: &mut Line<'a>, node: u8, text: &'a str) -> Option<()>
+    requires { IsTrimmed text.now }
+    ensures { read result line.new ≡ post_of node (words_of text.now) }
+{
+    let (to, text) = next_word(text)?;
+    let (label, text) = next_word(text)?;
+    let (first, text) = next_word(text)?;
+    let (count, text) = next_word(text)?;
+    let (hex, text) = next_word(text)?;
+    if next_word(text).is_some() {
+        return None;
+    }
+    let (to, label) = (read_u8(to)?, read_u32(label)?);
+    let (first, count) = (read_u16(first)?, read_u8(count)?);
+    say(
+        line,
+        Line::Post {
+            node,
+            to,
+            label,
+            first,
+            count,
+            hex,
+        },
+    )
+}
+
+#[tactic(auto, unfolding(crate::specs::Grammar::fetch_of))]
+fn fetch(line: &mut Line, node: u8, text: &str) -> Option<()>
+    requires { IsTrimmed text.now }
+    ensures { read result line.new ≡ fetch_of node (words_of text.now) }
+{
+    let (object, text) = next_word(text)?;
+    let (label, text) = next_word(text)?;
+    let (offset, text) = next_word(text)?;
+    let (count, text) = next_word(text)?;
+    if next_word(text).is_some() {
+        return None;
+    }
+    let (object, label) = (read_u16(object)?, read_u32(label)?);
+    let (offset, count) = (read_u32(offset)?, read_u32(count)?);
+    say(
+        line,
+        Line::Fetch {
+            node,
+            object,
+            label,
+            offset,
+            count,
+        },
+    )
+}
+
+#[tactic(auto, unfolding(crate::specs::Grammar::letter_of))]
+fn letter(line: &mut Line, node: u8, text: &str) -> Option<()>
+    requires { IsTrimmed text.now }
+    ensures { read result line.new ≡ letter_of node (words_of text.now) }
+{
+    if next_word(text).is_some() {
+        return None;
+    }
+    say(line, Line::Letter(node))
 }
 
 /// The meaning of a line whose first word isn't a number. (The most frequent words are looked for

@@ -1,8 +1,8 @@
 //! One line of a script that runs on node threads. The grammar is that of scripts on one thread,
 //! without what the workers do by themselves, and with three more lines.
-ghost use Rattle.std.specs.Prelude.{◌≡◌, None, Some, cond, IfSome, IsTrue, option_map};
+ghost use Rattle.std.specs.Prelude.{◌≡◌, IfSome, IsTrue, option_map};
 ghost use Rattle.script.specs.Grammar.{is_own_line, line_of, words_of};
-ghost use Rattle.script.specs.RunLines.{is_for_workers, is_own_said, of_runs, plain_said, run_line_of, shared_of};
+ghost use Rattle.script.specs.RunLines.{is_for_workers, is_own_said, of_runs, plain_said, run_line_of, shared_of, wide_event_said, wide_said};
 ghost use Rattle.script.specs.RunLines.{with_all, with_word, with_words};
 ghost use Rattle.script.specs.Words.{IsTrimmed};
 
@@ -39,6 +39,18 @@ pub enum RunLine<'a> {
         offset: u32,
         count: u32,
     },
+    /// A letter to another node, with the references of registers and with the bytes that a word
+    /// spells.
+    Post {
+        node: u8,
+        to: u8,
+        label: u32,
+        first: u16,
+        count: u8,
+        hex: &'a str,
+    },
+    /// Prints the bytes of the oldest letter that waits.
+    Letter(u8),
     /// A collection cycle, until its end.
     Cycle,
     /// Waits for a letter and accepts it into this register of the node.
@@ -54,7 +66,7 @@ impl<'a> RunLine<'a> {
     /// What the line says in a space that is wide or not, or `None` if it is outside the grammar
     /// there. The grammar has `cycle`, `await` with a node and a register, a node and `trace`, and
     /// the lines of other scripts that ask for an event of a program or for a restart. In wide
-    /// spaces it also has their lines about bytes, and `reclaim`.
+    /// spaces it also has the lines that other scripts have only there.
     #[tactic(auto, using(crate::proofs::Words::after_spaces))]
     pub fn parse(wide: bool, text: &'a str) -> Option<RunLine<'a>>
         ensures reads { option_map plain_said result ≡ run_line_of wide (words_of text.now) }
@@ -81,51 +93,82 @@ fn shared<'a>(wide: bool, line: Line<'a>) -> Option<RunLine<'a>>
                 Some(RunLine::Act(node, event))
             }
         }
-        Line::SetBytes { node, object, hex } => only_if(
-            wide,
-            RunLine::SetBytes { node, object, hex },
-        ),
+        Line::Step(_) => None,
+        line => { if wide { wide_said(&line) } else { None } }
+    }
+}
+
+// What a line that only wide spaces have means here.
+fn wide_said<'a>(line: &Line<'a>) -> Option<RunLine<'a>>
+    ensures { result ≡ wide_said line.now }
+{
+    Some(match *line {
+        Line::SetBytes { node, object, hex } => RunLine::SetBytes { node, object, hex },
         Line::Patch {
             node,
             object,
             offset,
             hex,
-        } => only_if(
-            wide,
-            RunLine::Patch {
-                node,
-                object,
-                offset,
-                hex,
-            },
-        ),
+        } => RunLine::Patch {
+            node,
+            object,
+            offset,
+            hex,
+        },
         Line::Bytes {
             node,
             object,
             offset,
             count,
-        } => only_if(
-            wide,
-            RunLine::Bytes {
-                node,
-                object,
-                offset,
-                count,
-            },
-        ),
-        Line::Reclaim { node, scope } => only_if(
-            wide,
-            RunLine::Act(node, Event::Reclaim { scope }),
-        ),
-        Line::Step(_) | Line::Space { .. } | Line::Wide { .. } | Line::State(_) | Line::Report =>
-            None,
-    }
+        } => RunLine::Bytes {
+            node,
+            object,
+            offset,
+            count,
+        },
+        Line::Post {
+            node,
+            to,
+            label,
+            first,
+            count,
+            hex,
+        } => RunLine::Post {
+            node,
+            to,
+            label,
+            first,
+            count,
+            hex,
+        },
+        Line::Letter(node) => RunLine::Letter(node),
+        _ => return wide_event(line),
+    })
 }
 
-fn only_if(wide: bool, said: RunLine<'_>) -> Option<RunLine<'_>>
-    ensures { result ≡ cond wide (Some said.entry) None }
+// The same for a line that asks for an event.
+fn wide_event(line: &Line) -> Option<RunLine<'static>>
+    ensures { result ≡ wide_event_said line.now }
 {
-    if wide { Some(said) } else { None }
+    match *line {
+        Line::Fetch {
+            node,
+            object,
+            label,
+            offset,
+            count,
+        } => {
+            let event = Event::Fetch {
+                object,
+                label,
+                offset,
+                count,
+            };
+            Some(RunLine::Act(node, event))
+        }
+        Line::Reclaim { node, scope } => Some(RunLine::Act(node, Event::Reclaim { scope })),
+        _ => None,
+    }
 }
 
 // Whether the workers take care of an event: those of the collector, and messages that wait.

@@ -6,18 +6,18 @@ ghost use Rattle.ids.specs.declared.refusal.Refusal.TheVariants.{Memory};
 ghost use Rattle.script.specs.Endings.{Grows};
 ghost use Rattle.script.specs.declared.ending.TheConstants.{ROOM};
 ghost use Rattle.script.specs.declared.text.TheConstants.{LONGEST};
-ghost use Rattle.script.specs.Text.{answer_text as said, counts_text, cycles_text, done_or_more, freed_text, letter_text, outcome_text, passed_text, ring_text, summary_text, yes_or_no};
+ghost use Rattle.script.specs.Text.{answer_text as said, counts_text, cycles_text, done_or_more, freed_text, letter_text, outcome_text, passed_text, ring_text, simple_text, sizes_text, summary_text, yes_or_no};
 
 use crate::ending::Ending;
 use crate::frames::ColourText;
 use ids::{Ref, Refusal};
-use model::{Answer, Letter, Outcome, Summary};
+use model::{Accepted, Answer, Outcome, Summary};
 use msg::{Colour, Token};
 use std::alloc::Global;
 use std::{fmt, str};
 
 /// The most bytes that the outcome of a step takes.
-const LONGEST: usize = 120;
+const LONGEST: usize = 176;
 
 /// The text of a step's outcome, one of these:
 ///
@@ -26,7 +26,9 @@ const LONGEST: usize = 120;
 /// - an object's word
 /// - `ok`
 /// - `sent` and the message's number
-/// - `from`, the sender, `label`, the label, and the reference or `-`
+/// - `from`, the sender, `label`, the label, and the first reference or `-`; unless the letter went
+///   into one register and has no bytes, also `count`, the number of registers, `bytes`, and the
+///   number of bytes
 /// - `cycle` and the cycle that begins
 /// - `scanned` and the reference
 /// - `passed`, the token's sum and its colour
@@ -135,9 +137,40 @@ fn put_named(text: &mut Ending, name: &[u8], number: u64)
 /// Puts a letter that a program accepted before a text.
 #[inline(always)]
 #[tactic(auto, using(crate::proofs::Endings::both))]
-fn put_letter(text: &mut Ending, letter: &Letter)
+fn put_letter(text: &mut Ending, letter: &Accepted)
     requires { (LONGEST ≤ text.old.start) × (text.old.start ≤ ROOM) }
     ensures grows { Grows (letter_text letter.now) text.old text.new }
+    ensures room { text.new.start ≤ text.old.start }
+{
+    if letter.count == 1 && letter.length == 0 {
+        put_simple(text, letter);
+    } else {
+        put_sized(text, *letter);
+    }
+}
+
+/// The same for a letter with several references, or with bytes. (Given by value, so that other
+/// letters need no memory.)
+#[inline(never)]
+#[tactic(auto, using(crate::proofs::Endings::both))]
+fn put_sized(text: &mut Ending, letter: Accepted)
+    requires { (LONGEST ≤ text.old.start) × (text.old.start ≤ ROOM) }
+    ensures grows { Grows (simple_text letter ++ sizes_text letter) text.old text.new }
+    ensures room { text.new.start ≤ text.old.start }
+{
+    text.put_number(letter.length as u64);
+    text.put(b" bytes ");
+    text.put_number(u64::from(letter.count));
+    text.put(b" count ");
+    put_simple(text, &letter);
+}
+
+/// Puts a letter's sender, its label and its first reference before a text.
+#[inline(always)]
+#[tactic(auto, using(crate::proofs::Endings::both))]
+fn put_simple(text: &mut Ending, letter: &Accepted)
+    requires { (115 ≤ text.old.start) × (text.old.start ≤ ROOM) }
+    ensures grows { Grows (simple_text letter.now) text.old text.new }
     ensures room { text.new.start ≤ text.old.start }
 {
     text.put_optional(letter.reference);

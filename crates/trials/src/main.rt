@@ -1,6 +1,7 @@
 //! A program for test cases, which makes the calls that neither `markring` nor the C library makes;
 //! it decides nothing. It runs a case. The first line that is read names a subject, and each
-//! further line is a command to it, whose answer is printed. `tests/README.md` lists the commands.
+//! further line is a command to it, whose answer is printed. `tests/trials/README.md` lists the
+//! commands.
 #![tactic(auto)]
 
 mod case;

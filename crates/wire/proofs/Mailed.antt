@@ -1,11 +1,13 @@
 -- What a frame that goes through a mailbox changes of what a seat knows.
-use Rattle.std.proofs.Common.{◌++◌, ◌∷◌, ◌≡◌, ℕ, ◌+◌, ◌*◌, Bool, true, false, List, [], MatchOption, Option, Some, None, refl, sym, ap, ◌∙◌}
-use Rattle.std.specs.Prelude.{cond}
+use Rattle.std.proofs.Common.{◌++◌, ◌∷◌, ◌≡◌, ℕ, ◌+◌, ◌*◌, Bool, true, false, List, [], MatchOption, Option, Some, None, Result, Ok, Err, refl, sym, ap, ◌∙◌}
+use Rattle.std.specs.Prelude.{cond, IfErr, IfOk}
+use Rattle.ids.specs.declared.refusal.Refusal.{Refusal}
+use Rattle.ids.specs.declared.refusal.Refusal.TheVariants.{Memory}
 use Rattle.std.specs.Option.{option_map}
 use Rattle.std.proofs.lemmas.List.{append-nil}
 use Rattle.frames.proofs.Frames.{no_spelling_begins_another}
 use Rattle.msg.specs.Frames.{Plain, plain}
-use Rattle.frames.specs.Grammar.{spelling}
+use Rattle.frames.specs.Grammar.{is_letter, spelling}
 use Rattle.msg.specs.declared.body.Message.{Message}
 use Rattle.msg.specs.declared.frame.Frame.{Frame}
 use Rattle.model.specs.View.{NodeView, is_other, link_to, released_at}
@@ -14,7 +16,7 @@ use Rattle.wire.specs.Lists.{found}
 use Rattle.wire.specs.Plays.{Arrives}
 use Rattle.wire.specs.Readers.{inbox, known, IsSame}
 use Rattle.wire.specs.Rule.{receiver, sender, Spells}
-use Rattle.wire.specs.Sending.{emptied, frame_due, frame_or_ack, IsSent}
+use Rattle.wire.specs.Sending.{emptied, frame_due, frame_or_ack, IsSent, TookOut}
 use Rattle.wire.specs.Views.{FindsOther, Known, takes_in}
 use Rattle.wire.specs.declared.seats.NodeSeat.{NodeSeat}
 use Rattle.wire.proofs.Lists.{found-here}
@@ -64,22 +66,29 @@ due-to n to place =
 -- ---- Frames that came in
 
 -- what the seat took from the mailbox, if anything
-abbrev IsReceived : ℕ → ℕ → Option Frame → Known → Known → Type 0
-IsReceived box from r v w =
-    MatchOption r (FindsOther box 1 v w)
-    (λ f. (sender (plain f) ≡ from) × (receiver (plain f) ≡ v.me) × Arrives v (plain f)
-    × ((taken : ℕ) × (cleared : ℕ) × (w ≡ emptied box taken cleared (plain f) v)))
+abbrev IsReceived : ℕ → ℕ → Result (Option Frame) Refusal → Known → Known → Type 0
+IsReceived box from r v w = IfOk r (λ o. MatchOption o (FindsOther box 1 v w)
+    (λ f. TookOut box from (plain f) v w))
+
+-- what it took and lost
+abbrev IsLost : ℕ → ℕ → Result (Option Frame) Refusal → Known → Known → Type 0
+IsLost box from r v w = IfErr r (λ e. (e ≡ Memory)
+    × ((f : Plain) × (is_letter f ≡ true) × TookOut box from f v w))
 
 -- receiving a frame changes nothing that the seat knows of the node's states either
-pub received-pair : (box from : ℕ) (r : Option Frame) (v w : Known) → IsReceived box from r v w
-    → w.pair ≡ v.pair
-received-pair box from None v w h = ap (λ (u : Known). u.pair) h.3
-received-pair box from (Some f) v w h = ap (λ (u : Known). u.pair) h.3.2
+pub received-pair : (box from : ℕ) (r : Result (Option Frame) Refusal) (v w : Known)
+    → IsReceived box from r v w → IsLost box from r v w → w.pair ≡ v.pair
+received-pair box from (Ok None) v w h lost = ap (λ (u : Known). u.pair) h.3
+received-pair box from (Ok (Some f)) v w h lost = ap (λ (u : Known). u.pair) h.3.2
+received-pair box from (Err e) v w h lost = ap (λ (u : Known). u.pair) lost.1.2.3.2
 
 -- the frames that the seat took since
-pub received-taken : (box from : ℕ) (r : Option Frame) (v w : Known) → IsReceived box from r v w
+pub received-taken : (box from : ℕ) (r : Result (Option Frame) Refusal) (v w : Known)
+    → IsReceived box from r v w → IsLost box from r v w
     → (more : List Plain) × (w.taken ≡ v.taken ++ more)
-received-taken box from None v w h =
+received-taken box from (Ok None) v w h lost =
     ([], ap (λ (u : Known). u.taken) h.3 ∙ sym (append-nil v.taken))
-received-taken box from (Some f) v w h =
+received-taken box from (Ok (Some f)) v w h lost =
     (plain f ∷ [], ap (λ (u : Known). u.taken) h.3.2)
+received-taken box from (Err e) v w h lost =
+    (lost.1.0 ∷ [], ap (λ (u : Known). u.taken) lost.1.2.3.2)

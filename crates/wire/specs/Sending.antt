@@ -1,5 +1,7 @@
 -- The frame that a node sends next to another one, and what becomes of one that it takes.
 use Rattle.std.specs.Prelude.{◌≡◌, ℕ, ◌+◌, Bool, true, false, List, Option, Some, None, slice_index_or, slice_set}
+use Rattle.wire.specs.Plays.{Arrives}
+use Rattle.wire.specs.Rule.{receiver, sender}
 use Rattle.wire.specs.Views.{Known, FindsOther, claims, clears, posts, takes_in}
 use Rattle.msg.specs.Frames.{Plain, ack_frame}
 use Rattle.model.specs.View.{NodeView}
@@ -38,3 +40,10 @@ places_after false n to places = places
 -- at these places
 abbrev pub emptied : ℕ → ℕ → ℕ → Plain → Known → Known
 emptied box taken cleared f v = clears box cleared (takes_in box taken f v)
+
+-- The seat has taken this frame from a mailbox of that node and emptied the mailbox. Some list of
+-- events that leads to the seat's pair has released the frame.
+abbrev pub TookOut : ℕ → ℕ → Plain → Known → Known → Type 0
+TookOut box from f v w =
+    (sender f ≡ from) × (receiver f ≡ v.me) × Arrives v f
+    × ((taken : ℕ) × (cleared : ℕ) × (w ≡ emptied box taken cleared f v))

@@ -1,18 +1,22 @@
 //! Frames between a node and its mailboxes. The window and the saved state determine what is due,
 //! so nothing leaves that a restart could take back.
-ghost use Rattle.std.specs.Prelude.{◌≡◌, ◌≢◌, ◌<◌, ℕ, IsTrue, MatchOption};
-ghost use Rattle.msg.specs.Frames.{plain, plain_ref};
+ghost use Rattle.std.specs.Prelude.{◌≡◌, ◌≢◌, ◌<◌, true, IfErr, IfOk, IsTrue, MatchOption};
+ghost use Rattle.ids.specs.declared.refusal.Refusal.TheVariants.{Memory};
+ghost use Rattle.frames.specs.Grammar.{is_letter};
+ghost use Rattle.msg.specs.Frames.{Plain, plain, plain_ref};
 ghost use Rattle.model.specs.View.{is_other};
-ghost use Rattle.wire.specs.Plays.{Arrives, Releases};
+ghost use Rattle.wire.specs.Plays.{Releases};
 ghost use Rattle.wire.specs.Readers.{inbox, known, outbox, seat_node, width, IsSame, IsSeatOf};
-ghost use Rattle.wire.specs.Rule.{receiver, sender, Spells};
-ghost use Rattle.wire.specs.Sending.{emptied, frame_due, next_place, IsSent};
+ghost use Rattle.wire.specs.Rule.{receiver, Spells};
+ghost use Rattle.wire.specs.Sending.{frame_due, next_place, IsSent, TookOut};
 ghost use Rattle.wire.specs.Views.{FindsOther};
 
 use crate::seats::{NodeSeat, Wire};
 use frames::decode;
+use ids::Refusal;
 use msg::{Frame, FrameRef};
 use node::Node;
+use std::alloc::Global;
 
 /// The frame that a node sends next to another one, and the place in the window that comes after
 /// it. It is the released message in the given place, or else the acknowledgement of what a saved
@@ -62,22 +66,33 @@ impl Wire {
 
     /// Takes the frame in the seat's mailbox from another node, and empties the mailbox; see
     /// [`take`](Wire::take) and [`clear`](Wire::clear). `None` if the mailbox wasn't full.
-    pub fn receive(&self, seat: &mut NodeSeat, from: u8) -> Option<Frame>
+    ///
+    /// It fails only with `Memory`: if the frame is a letter with references and bytes, and an
+    /// allocation for them fails. The frame is then lost, and arrives again only if it is sent
+    /// again.
+    pub fn receive(
+        &self,
+        alloc: Global,
+        seat: &mut NodeSeat,
+        from: u8,
+    ) -> Result<Option<Frame>, Refusal>
         requires wire { IsSeatOf self.now seat.old }
         requires from { (from < width self.now) × (from ≢ seat_node seat.old) }
         ensures same { IsSame seat.old seat.new }
-        ensures taken { MatchOption result
+        ensures taken { IfOk result (λ o. MatchOption o
             (FindsOther (inbox seat.old from) 1 (known seat.old) (known seat.new))
-            (λ f. (sender (plain f) ≡ from) × (receiver (plain f) ≡ (known seat.old).me)
-            × Arrives (known seat.old) (plain f)
-            × ((taken : ℕ) × (cleared : ℕ) × (known seat.new
-            ≡ emptied (inbox seat.old from) taken cleared (plain f) (known seat.old)))) }
+            (λ f. TookOut (inbox seat.old from) from (plain f) (known seat.old)
+            (known seat.new))) }
+        ensures lost { IfErr result (λ e. (e ≡ Memory) × ((f : Plain) × (is_letter f ≡ true)
+            × TookOut (inbox seat.old from) from f (known seat.old) (known seat.new))) }
     {
-        let taken = self.take(seat, from)?;
+        let Some(taken) = self.take(seat, from) else {
+            return Ok(None);
+        };
         let bytes = self.clear(seat, taken);
-        match decode(&bytes) {
-            Ok(frame) => Some(frame),
-            Err(_) => unreachable!(),
+        match decode(alloc, &bytes) {
+            Ok(frame) => Ok(Some(frame)),
+            Err(refusal) => Err(refusal),
         }
     }
 }

@@ -1,6 +1,5 @@
 -- A delivery of the code's space is that of the definitions.
 use Rattle.std.proofs.Common.{◌≡◌, ◌≢◌, ℕ, zero, suc, ◌+◌, ◌-◌, ◌<◌, Bool, true, false, ◌||◌, not, cond, List, length, Option, Some, None, Result, Ok, Err, ltb, refl, ap, sym, ◌∙◌, subst, arith, eq-eqb}
-use Rattle.std.specs.Prelude.{is_some}
 use Rattle.std.proofs.lemmas.Bool.{ne_eqb, cond-true, cond-false}
 use Rattle.ids.specs.declared.refusal.Refusal.{Refusal}
 use Rattle.ids.specs.declared.refusal.Refusal.TheVariants.{BadFrame, ImageTooLarge}
@@ -13,9 +12,9 @@ use Rattle.model.specs.declared.event.Event.TheVariants as event
 use Rattle.model.specs.declared.event.Answer.{Answer}
 use Rattle.model.specs.declared.step.Step.TheVariants as step
 use Rattle.model.specs.declared.step.Outcome.TheVariants as outcome
-use Rattle.model.specs.State.{NodeState, node_at}
+use Rattle.model.specs.State.{LocalState, NodeState, node_at}
 use Rattle.model.specs.Steps.{act, receive}
-use Rattle.model.specs.World.{World, take_step, moved, released, delivery}
+use Rattle.model.specs.World.{World, take_step, moved, released, delivery, is_free_message}
 use Rattle.world.specs.Outboxes.{IsFrameOf}
 use Rattle.world.specs.Sites.{SiteView}
 use Rattle.world.specs.Shows.{ShowsWorld, Stepped, Given, frame_at}
@@ -96,10 +95,11 @@ act-receives : (s : NodeState) (d : Data) (from to number : ℕ) (x : Message)
 unfolding act receive
 act-receives s d from to number x h = cc
 
--- if the delivery of a released message never fails for lack of memory, it isn't the next one
-next-free : (nodes free : Bool) (sent : Option Message) (x : Message) → nodes ≡ true → sent ≡ Some x
-    → (not nodes || (not (is_some sent) || free)) ≡ true → free ≡ true
-next-free nodes free sent x are is h = rw (are, is) at h
+-- if the delivery of a released message never fails for lack of memory, the message needs none
+next-free : (nodes : Bool) (p : LocalState) (from number : ℕ) (sent : Option Message) (x : Message)
+    → nodes ≡ true → sent ≡ Some x → (not nodes || is_free_message p from number sent) ≡ true
+    → is_free_message p from number (Some x) ≡ true
+next-free nodes p from number sent x are is h = rw (are, is) at h
 
 -- if the node is given the frame of a released message, that is the message's delivery
 pub delivery-gives : {n : List SiteView} {w : World} {from to number : ℕ} {d : Data} (x : Message)
@@ -113,9 +113,11 @@ delivery-gives {w = w} {from = from} {to = to} {number = number} {d = d} x shown
     let received = act-receives (node_at w.current to) d from to number x same in
     let sender : d.from ≡ from = cc in
     let place : d.number ≡ number = cc in
+    let body : d.body ≡ x.body = cc in
     moves shown refl refl
     (cond-true _ _ _ are ∙ ap (delivery w from to number) there ∙ ap (moved w to) (sym received))
-    (λ free. rw (sender, place) (next-free _ _ _ x are there free))
+    (λ free. rw (sender, place, body)
+    (next-free _ (node_at w.current to).local from number _ x are there free))
 
 pub delivery-lets-go : (from to number : ℕ) (d : Data)
     → LetsGo to (event.Data d) (step.Deliver from to number) outcome.Answer

@@ -153,6 +153,14 @@ pub site-read-in : {n : SpaceView} {i place : ℕ} {q : KeepingSite} (seen : Lis
 site-read-in {q = q} seen view named less read =
     (space-changes {p = q} seen view named less read).sites.old
 
+-- the same, with what its current node keeps
+pub keeping-read-in : {n : SpaceView} {i place : ℕ} {q : KeepingSite} (seen : List KeepingSite)
+    → space_of seen ≡ n → place ≡ i → i < length n.sites → q ≡ get_or seen place q
+    → q ≡ keeping_at n i
+keeping-read-in {q = q} seen view named less read =
+    let c = space-changes {p = q} seen view named less read in
+    ap₂ (λ (a : SiteView) (b : Rings). record { site = a; early = b }) c.sites.old c.was
+
 -- what a save does to its site
 pub record SavesSite (r : Result Unit Refusal) (q p : KeepingSite) : Type 0 where
   pub done : OnOk r (Saves q.site p.site)
@@ -302,8 +310,7 @@ pub given-space : {n : SpaceView} {i place : ℕ} {q p : KeepingSite} {e : Event
     → GivenSpace r n (space_of (set seen place p)) i e
 given-space {n = n} {i = i} {q = q} {p = p} {e = e} {r = r} seen view named less read acted =
     let c = space-changes {p = p} seen view named less read in
-    let same : q ≡ keeping_at n i =
-    ap₂ (λ (a : SiteView) (b : Rings). record { site = a; early = b }) c.sites.old c.was in
+    let same : q ≡ keeping_at n i = keeping-read-in seen view named less read in
     record {
       within = c.sites.within;
       site = p;

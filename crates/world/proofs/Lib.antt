@@ -6,6 +6,7 @@ pub mod Refusals
 pub mod Shows
 pub mod Steps
 pub mod Deliveries
+pub mod Lacking
 pub mod Acks
 pub mod Runs
 pub mod Held

@@ -46,8 +46,8 @@ stored_length : (wide : Bool) (s : Stored) → length ((stored_format wide Secon
     + (length (flat_map (slot_format wide Second).spell s.slots) + length (flat_map number4.spell s.free)
     + length (flat_map number4.spell s.grey))
     + (length (flat_map (reference Second).spell s.asked)
-    + length (flat_map (letter_format Second).spell s.letters)
-    + length (flat_map (link_format Second).spell s.links))
+    + length (flat_map (letter_format wide Second).spell s.letters)
+    + length (flat_map (link_format wide Second).spell s.links))
 unfolding stored_format lists_format told_format slots_format others_format
 stored_length wide s =
     simp length-append (omega (
@@ -87,25 +87,25 @@ empty-registers (suc n) = ap (λ k. suc k) (empty-registers n)
 abbrev new_links : ℕ → List StoredLink
 new_links n = stored_links (replicate n no_link) (replicate n 0)
 
-empty-links : (n : ℕ) → length (flat_map (link_format Second).spell (new_links n)) ≡ 20 * n
+empty-links : (wide : Bool) (n : ℕ) → length (flat_map (link_format wide Second).spell (new_links n)) ≡ 20 * n
 unfolding link_format number4 number8
-empty-links zero = refl
-empty-links (suc n) =
-    let this = length-append ((link_format Second).spell (stored_link (no_link, 0)))
-    (flat_map (link_format Second).spell (new_links n))
-    in omega (arith, this, empty-links n)
+empty-links wide zero = refl
+empty-links wide (suc n) =
+    let this = length-append ((link_format wide Second).spell (stored_link (no_link, 0)))
+    (flat_map (link_format wide Second).spell (new_links n))
+    in omega (arith, this, empty-links wide n)
 
 -- the links to other nodes
-other-links : (own n : ℕ)
-    → length (flat_map (link_format Second).spell (remove (new_links n) own)) ≤ 20 * n
+other-links : (wide : Bool) (own n : ℕ)
+    → length (flat_map (link_format wide Second).spell (remove (new_links n) own)) ≤ 20 * n
 unfolding link_format number4 number8
-other-links zero zero = omega arith
-other-links (suc own) zero = omega arith
-other-links zero (suc n) = omega (arith, empty-links n)
-other-links (suc own) (suc n) =
-    let this = length-append ((link_format Second).spell (stored_link (no_link, 0)))
-    (flat_map (link_format Second).spell (remove (new_links n) own)) in
-    omega (arith, this, other-links own n)
+other-links wide zero zero = omega arith
+other-links wide (suc own) zero = omega arith
+other-links wide zero (suc n) = omega (arith, empty-links wide n)
+other-links wide (suc own) (suc n) =
+    let this = length-append ((link_format wide Second).spell (stored_link (no_link, 0)))
+    (flat_map (link_format wide Second).spell (remove (new_links n) own)) in
+    omega (arith, this, other-links wide own n)
 
 new-reports : (b : Bool) (n : ℕ)
     → length (flat_map number8.spell (if b then drop 1 (replicate n 0) else [])) ≤ 8 * n
@@ -134,7 +134,7 @@ new-within shape own h =
       new-front shape own,
       new-reports (own == 0) shape.nodes,
       empty-registers shape.registers,
-      other-links own shape.nodes,
+      other-links shape.wide own shape.nodes,
     )
 
 -- so saving it fails only for lack of memory

@@ -26,9 +26,8 @@ use Rattle.model.proofs.Shown.{act-shown}
 use Rattle.model.proofs.Refusals.{event-never, memory-or}
 use Rattle.node.specs.Invariant.{IsNode}
 use Rattle.node.specs.Summaries.{summary_of}
-use Rattle.model.specs.Heaps.{heap_bytes}
 use Rattle.world.specs.Sites.{SiteView, Saves, bases, bases_acked}
-use Rattle.world.specs.Shows.{SiteBases, ShowsWorld, SavesTooLarge, Stepped, Given, IsSim, no_site, site_at, site_bases, bases_of, bases_at, bases_after, summary_at, bytes_read}
+use Rattle.world.specs.Shows.{SiteBases, ShowsWorld, SavesTooLarge, Stepped, Given, IsSim, no_site, site_at, site_bases, bases_of, bases_at, bases_after, summary_at}
 use Rattle.world.specs.Spaces.{outcome_by}
 use Rattle.world.proofs.Refusals.{first-by, step-refused}
 use Rattle.world.proofs.SiteLemmas.{IsAckWithin}
@@ -417,27 +416,23 @@ pub state_shown : {n : List SiteView} {w : World} (i : ℕ) → ShowsWorld n w
     → option_map (λ q. summary_of q.current.local) (slice_get n i) ≡ summary_at w i
 state_shown i h = local_shown summary_of i h
 
--- bytes that are read
+-- what is read of a node
 
-abbrev pub reads_bytes : ℕ → ℕ → ℕ → LocalState → Result (List ℕ) Refusal
-reads_bytes object offset count p = heap_bytes p.own p.heap object offset count
-
-abbrev pub or_no_node : Option (Result (List ℕ) Refusal) → Result (List ℕ) Refusal
+abbrev pub or_no_node : {A : Type 0} → Option (Result A Refusal) → Result A Refusal
 or_no_node (Some r) = r
 or_no_node None = Err NoNode
 
-pub bytes_shown : {n : List SiteView} {w : World} (i object offset count : ℕ) → ShowsWorld n w
+pub read_shown : {A : Type 0} {n : List SiteView} {w : World} (f : LocalState → Result A Refusal)
+    (i : ℕ) → ShowsWorld n w
     → {r : Option NodeView} → r ≡ option_map (λ q. q.current) (slice_get n i)
-    → or_no_node (option_map (λ v. reads_bytes object offset count v.local) r)
-    ≡ bytes_read w i object offset count
-bytes_shown {n = n} {w = w} i object offset count h is =
-    ap or_no_node (local_here (reads_bytes object offset count) (slice_get n i) is
-    ∙ local_shown (reads_bytes object offset count) i h)
+    → or_no_node (option_map (λ v. f v.local) r)
+    ≡ cond (is_node w i) (f (node_at w.current i).local) (Err NoNode)
+read_shown {n = n} {w = w} f i h is =
+    ap or_no_node (local_here f (slice_get n i) is ∙ local_shown f i h)
     ∙ by (is_node w i)
   where
     by : (b : Bool)
-        → or_no_node (cond b (Some (reads_bytes object offset count (node_at w.current i).local))
-        None)
-        ≡ cond b (reads_bytes object offset count (node_at w.current i).local) (Err NoNode)
+        → or_no_node (cond b (Some (f (node_at w.current i).local)) None)
+        ≡ cond b (f (node_at w.current i).local) (Err NoNode)
     by true = refl
     by false = refl

@@ -6,13 +6,14 @@ use Rattle.ids.specs.declared.refusal.Refusal.TheVariants.{Memory, NoNode, Image
 use Rattle.ids.specs.declared.limits.TheConstants.{GREATEST_NODES}
 use Rattle.msg.specs.declared.frame.Ack.{Ack}
 use Rattle.model.specs.declared.event.Event.{Event}
+use Rattle.model.specs.declared.event.Accepted.{Accepted}
 use Rattle.model.specs.declared.event.Answer.{Answer}
 use Rattle.model.specs.declared.step.Step.{Step}
 use Rattle.model.specs.declared.step.Step.TheVariants as step
 use Rattle.model.specs.declared.step.Outcome.{Outcome}
 use Rattle.model.specs.declared.step.Outcome.TheVariants as outcome
 use Rattle.model.specs.State.{NodeState, node_at, sent_to}
-use Rattle.model.specs.Heaps.{heap_bytes}
+use Rattle.model.specs.Heaps.{heap_bytes, heap_letter, heap_letter_bytes}
 use Rattle.model.specs.Steps.{is_addressed}
 use Rattle.model.specs.View.{NodeView, Shows, link_to}
 use Rattle.model.specs.World.{World, KeepsSent, FollowsStep, acknowledged, is_node, is_step_memory_free}
@@ -143,6 +144,14 @@ abbrev pub bytes_read : World → ℕ → ℕ → ℕ → ℕ → Result (List �
 bytes_read w i object offset count =
     let p = (node_at w.current i).local in
     cond (is_node w i) (heap_bytes p.own p.heap object offset count) (Err NoNode)
+
+-- what is told of the oldest letter of the current node of this number, and the letter's bytes
+abbrev pub letter_read : World → ℕ → Result Accepted Refusal
+letter_read w i = cond (is_node w i) (heap_letter (node_at w.current i).local.heap) (Err NoNode)
+
+abbrev pub letter_bytes_read : World → ℕ → Result (List ℕ) Refusal
+letter_bytes_read w i =
+    cond (is_node w i) (heap_letter_bytes (node_at w.current i).local.heap) (Err NoNode)
 
 -- the current node of this number, in numbers
 abbrev pub summary_at : World → ℕ → Option Summary

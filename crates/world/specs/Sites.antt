@@ -1,9 +1,13 @@
 -- One node of a space: the current node, the one saved last, and the frames of its messages.
-use Rattle.std.specs.Prelude.{◌≡◌, ◌≢◌, ℕ, ◌≤◌, List, length, map, max, replicate, Option, Some, None, Result, IfOk, IfErr, OnErr, IsTrue, slice_set, slice_index_or, []}
+use Rattle.std.specs.Prelude.{◌≡◌, ◌≢◌, ℕ, ◌≤◌, true, List, length, map, max, replicate, Option, Some, None, Result, IfOk, IfErr, OnErr, IsTrue, slice_set, slice_index_or, []}
 use Rattle.ids.specs.Limits.{Shaped}
 use Rattle.ids.specs.declared.refusal.Refusal.{Refusal}
 use Rattle.ids.specs.declared.refusal.Refusal.TheVariants.{Memory}
+use Rattle.msg.specs.Frames.{Plain, data_frame, ack_frame, plain_data}
+use Rattle.msg.specs.Limits.{is_post}
 use Rattle.msg.specs.declared.frame.Ack.{Ack}
+use Rattle.msg.specs.declared.frame.Data.{Data}
+use Rattle.frames.specs.Grammar.{Fits, spelling}
 use Rattle.model.specs.declared.event.Event.{Event}
 use Rattle.model.specs.declared.event.Answer.{Answer}
 use Rattle.model.specs.declared.event.Answer.TheVariants as answer
@@ -77,6 +81,24 @@ pub record Saves (old new : SiteView) : Type 0 where
   pub frames : Releases old.current old.released new.released
 
 -- ---- the early messages that the current node keeps
+
+-- the bytes spell this message, which is a letter with references and bytes
+pub record IsLetterOf (bytes : List ℕ) (d : Data) : Type 0 where
+  pub letter : is_post d.body ≡ true
+  pub fits : Fits (plain_data d)
+  pub spelled : bytes ≡ spelling (plain_data d)
+
+-- the bytes spell no frame other than this message
+abbrev pub IsOnly : List ℕ → Data → Type 0
+IsOnly bytes d = (x : Plain) → Fits x → bytes ≡ spelling x → plain_data d ≡ x
+
+abbrev pub IsNoMessage : Plain → Type 0
+IsNoMessage (data_frame from to number stamp body) = ⊥
+IsNoMessage (ack_frame by of number) = Unit
+
+-- the bytes spell no message
+abbrev pub SpellNoMessage : List ℕ → Type 0
+SpellNoMessage bytes = (x : Plain) → Fits x → bytes ≡ spelling x → IsNoMessage x
 
 -- A site, and the early messages that its current node keeps. No saved node has these.
 pub record KeepingSite : Type 0 where

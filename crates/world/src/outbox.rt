@@ -11,7 +11,8 @@ ghost use Rattle.world.specs.Outboxes.{no_outbox, released_frames, all_released,
 
 use crate::packed::Frames;
 use codec::Piece;
-use frames::writing::add_frame;
+use frames::encode;
+use frames::writing::{add_frame, is_short};
 use ids::Refusal;
 use msg::FrameRef;
 use node::Core;
@@ -115,14 +116,29 @@ fn stage_frames(frames: &mut Frames, node: &Core, to: u8) -> Result<(), Refusal>
 /// Appends the bytes of a frame.
 #[inline(always)]
 fn push_frame(frames: &mut Frames, frame: &FrameRef) -> Result<(), Refusal>
-    ensures spelled { Fits (plain_ref frame.now) }
+    ensures spelled { OnOk result (Fits (plain_ref frame.now)) }
     ensures done { OnOk result (frames.new ≡ frames.old ++ spelling (plain_ref frame.now) ∷ []) }
     ensures unchanged { OnErr result (frames.new ≡ frames.old) }
     ensures refused { IfErr result (λ e. e ≡ Memory) }
 {
+    if !is_short(frame) {
+        return push_long(frames, frame);
+    }
     let mut piece = Piece::new();
     add_frame(&mut piece, frame);
     frames.push(piece.as_slice())
+}
+
+/// The same for a frame of any length.
+#[inline(never)]
+fn push_long(frames: &mut Frames, frame: &FrameRef) -> Result<(), Refusal>
+    ensures spelled { OnOk result (Fits (plain_ref frame.now)) }
+    ensures done { OnOk result (frames.new ≡ frames.old ++ spelling (plain_ref frame.now) ∷ []) }
+    ensures unchanged { OnErr result (frames.new ≡ frames.old) }
+    ensures refused { IfErr result (λ e. e ≡ Memory) }
+{
+    let bytes = encode(frames.allocator(), frame)?;
+    frames.push(&bytes)
 }
 
 /// Makes an outbox to each of `count` nodes. Fails with `Memory` if allocation fails.

@@ -38,6 +38,11 @@ impl Frames {
         }
     }
 
+    /// What allocates memory for them.
+    pub fn allocator(&self) -> Global {
+        *self.bytes.allocator()
+    }
+
     /// The number of frames.
     #[tactic(auto, using(crate::proofs::Cuts::cut_length))]
     pub fn len(&self) -> usize

@@ -2,7 +2,8 @@
 //! to its `Site`.
 ghost use Rattle.std.specs.Prelude.{◌≡◌, ◌<◌, length, slice_get, IsTrue, IfOk, IfErr, Ok, Err, ◌≢◌, replicate, true};
 ghost use Rattle.std.specs.Option.{option_copied, option_map};
-ghost use Rattle.ids.specs.declared.refusal.Refusal.TheVariants.{Memory, ImageTooLarge};
+ghost use Rattle.ids.specs.declared.refusal.Refusal.TheVariants.{BadFrame, Memory, ImageTooLarge};
+ghost use Rattle.frames.specs.Decoding.{SpellLetter};
 ghost use Rattle.model.specs.Steps.{is_own};
 ghost use Rattle.node.specs.Keeping.{no_rings};
 ghost use Rattle.node.specs.Summaries.{summary_of};
@@ -13,15 +14,19 @@ ghost use Rattle.world.specs.Shows.{
   ShowsWorld,
   IsAckOf,
   bytes_read,
+  letter_bytes_read,
+  letter_read,
   frame_at,
   site_at,
   summary_at,
 };
+ghost use Rattle.world.specs.Sites.{IsOnly, SpellNoMessage};
 ghost use Rattle.world.specs.Spaces.{
   ShowsSpace,
   SteppedSpace,
   delivered,
   handed,
+  keeping_at,
   outcome_by,
 };
 
@@ -29,8 +34,8 @@ use crate::site::Site;
 use cycles::Phases;
 use frames::decode;
 use ids::{NodeId, Refusal, Shape};
-use model::{Answer, Event, Outcome, Step};
-use msg::{Ack, Frame};
+use model::{Accepted, Answer, Event, Outcome, Step};
+use msg::{Ack, Data, Frame};
 use node::{Node, Summary};
 use std::alloc::Global;
 use std::marker::Model;
@@ -89,7 +94,8 @@ impl Sim {
     ///
     /// Some steps never fail with `Memory`: an event for which a node never does, the delivery of
     /// nothing or of a message that isn't the next one, an acknowledgement, and a save whose image
-    /// is too large. Only an acknowledgement drops messages: those up to its number.
+    /// is too large. (An early letter with references and bytes may, since it is kept.) Only an
+    /// acknowledgement drops messages: those up to its number.
     ///
     /// Steps one after another are a run of the definitions, without those that fail with `Memory`
     /// or `ImageTooLarge`. In that run, a `Next` of a message that waits is its delivery.
@@ -154,12 +160,20 @@ impl Sim {
         if from == to {
             return Ok(None);
         }
-        let Some(bytes) = self.released(from, to, number) else {
+        let alloc = self.alloc;
+        let space = &*self;
+        let Some(bytes) = space.released(from, to, number) else {
             return Ok(None);
         };
-        // Only messages are released, so the bytes here are never those of another frame.
-        let Frame::Data(message) = decode(bytes)? else {
-            return Err(Refusal::BadFrame);
+        let message = match read_message(alloc, bytes) {
+            Ok(message) => message,
+            Err(refusal) => match refusal {
+                Refusal::Memory => {
+                    let told = space.site(to).lack(bytes)?;
+                    return Ok(Some(told));
+                }
+                _ => return Err(refusal),
+            },
         };
         let site = &mut self.sites[usize::from(to)];
         let answer = site.act(&Event::Data(message))?;
@@ -223,6 +237,30 @@ impl Sim {
         }
     }
 
+    /// What a program is told of the oldest letter of the node before it accepts it. It fails with
+    /// `NoNode` if the space has no such node, and with `NoLetter` if no letter waits.
+    pub fn letter(&self, number: u8) -> Result<Accepted, Refusal>
+        ensures { (w : World) → ShowsSpace self.now w → result ≡ letter_read w number }
+    {
+        match self.node(number) {
+            Some(node) => node.letter(),
+            None => Err(Refusal::NoNode),
+        }
+    }
+
+    /// The bytes of the oldest letter of the node. It fails as [`Sim::letter`] does.
+    pub fn letter_bytes(&self, number: u8) -> Result<&[u8], Refusal>
+        ensures value { IfOk result (λ b. (w : World) → ShowsSpace self.now w
+            → letter_bytes_read w number ≡ Ok b.now) }
+        ensures refused { IfErr result (λ e. (w : World) → ShowsSpace self.now w
+            → letter_bytes_read w number ≡ Err e) }
+    {
+        match self.node(number) {
+            Some(node) => node.letter_bytes(),
+            None => Err(Refusal::NoNode),
+        }
+    }
+
     /// The phases of node 0.
     pub(crate) fn phases(&self) -> &Phases
         ensures some { 0 < length self.now.sites }
@@ -234,7 +272,7 @@ impl Sim {
     /// The site of the node of this number.
     pub(crate) fn site(&self, number: u8) -> &Site
         requires { number < length self.now.sites }
-        ensures { result.now.site ≡ site_at self.now.sites number }
+        ensures { result.now ≡ keeping_at self.now number }
     {
         &self.sites[usize::from(number)]
     }
@@ -318,5 +356,21 @@ impl Sim {
         ensures { IsAckOf self.now.sites from to result }
     {
         self.sites[usize::from(to)].acknowledgement(from)
+    }
+}
+
+/// The message that the bytes spell. It fails with `Memory` if memory runs out for a letter with
+/// references and bytes, and otherwise with `BadFrame` if they spell no message.
+#[inline(always)]
+fn read_message(alloc: Global, bytes: &[u8]) -> Result<Data, Refusal>
+    ensures found { IfOk result (IsOnly bytes.now) }
+    ensures letter { IfErr result (λ e. e ≡ Memory → SpellLetter bytes.now) }
+    ensures never { IfErr result (λ e. e ≢ Memory → (e ≡ BadFrame) × SpellNoMessage bytes.now) }
+{
+    match decode(alloc, bytes) {
+        Ok(Frame::Data(message)) => Ok(message),
+        // Only messages are released, so these bytes are never those of another frame.
+        Ok(Frame::Ack(_)) => Err(Refusal::BadFrame),
+        Err(refusal) => Err(refusal),
     }
 }

@@ -7,9 +7,12 @@ ghost use Rattle.ids.specs.declared.refusal.Refusal.TheVariants.{Memory, ImageTo
 ghost use Rattle.image.specs.Images.{IsTooLarge};
 ghost use Rattle.model.specs.View.{is_other};
 ghost use Rattle.node.specs.Invariant.{IsNode};
+ghost use Rattle.msg.specs.declared.frame.Data.{Data};
+ghost use Rattle.model.specs.declared.event.Event.TheVariants as event;
 ghost use Rattle.world.specs.Outboxes.{numbered_bytes};
 ghost use Rattle.world.specs.Sites.{
   ActedKeeping,
+  IsLetterOf,
   Saves,
   frames_to,
   new_keeping,
@@ -19,13 +22,17 @@ ghost use Rattle.world.specs.Sites.{
 
 use crate::outbox::{Outbox, new_outboxes, release_all};
 use crate::saved::SavedNode;
-use ids::{NodeId, Refusal, Shape};
+use frames::reading::read_letter_head;
+use ids::{GREATEST_PLACES, NodeId, Refusal, Shape};
 use image::{to_bytes, to_bytes_over};
 use model::{Answer, Event};
 use msg::{Ack, FrameRef};
-use node::{Core, Node};
+use node::{Core, LetterRef, Node};
 use std::alloc::Global;
 use std::marker::Model;
+
+// How many references a letter may have.
+const MOST: usize = GREATEST_PLACES as usize;
 
 /// One node of a space: the current node, the image of the one saved last, and for each node the
 /// frames of all messages to it that were ever released.
@@ -98,6 +105,26 @@ impl Site {
         ensures { ActedKeeping result self.old self.new event.now }
     {
         self.current.act(event)
+    }
+
+    /// The current node's answer to a letter for whose references and bytes memory ran out; see
+    /// [`Core::lack`]. The bytes spell the letter. Nothing changes.
+    #[inline(never)]
+    pub fn lack(&self, bytes: &[u8]) -> Result<Answer, Refusal>
+        ensures { (d : Data) → IsLetterOf bytes.now d
+            → ActedKeeping result self.now self.now (event.Data d) }
+    {
+        let mut row = [None; MOST];
+        let head = read_letter_head(bytes, &mut row);
+        let letter = LetterRef {
+            from: head.from,
+            to: head.to,
+            number: head.number,
+            stamp: head.stamp,
+            references: &row[..head.references],
+            bytes: head.bytes,
+        };
+        self.current.core().lack(&letter)
     }
 
     /// Saves the current node as its image, and releases the frames of all its messages. Fails with

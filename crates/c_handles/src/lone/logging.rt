@@ -1,5 +1,7 @@
 //! The log of a node's events since its last image or batch.
 ghost use Rattle.std.specs.Prelude.{◌≡◌, false};
+ghost use Rattle.model.specs.declared.event.Event.TheVariants as events;
+ghost use Rattle.node.specs.Keeping.{met};
 ghost use Rattle.node_log.specs.Noted.{Noted};
 ghost use Rattle.c_handles.specs.Logs.{logging};
 ghost use Rattle.c_handles.specs.Lone.{Acknowledged, Given};
@@ -9,6 +11,7 @@ use c_values::Fault;
 use model::{Answer, Event};
 use msg::Ack;
 use node_store::{is_old_ack, meant, turned};
+use std::alloc::AllocError;
 
 impl LoneNode {
     /// Keeps the events from the next image on, or no more. If they are kept already, nothing
@@ -39,26 +42,52 @@ impl LoneNode {
     pub(super) fn perform_noting(&mut self, event: Event) -> Result<Answer, Fault>
         ensures { Given false self.old self.new event.entry result }
     {
-        let turned = turned(&self.node, &event);
-        let answer = self.node.act(&event)?;
+        match turned(&self.node, &event) {
+            Ok(turned) => self.perform_meaning(&event, meant(&turned, &event)),
+            Err(AllocError) => self.perform_losing(&event),
+        }
+    }
+
+    // The same, with what the event means.
+    fn perform_meaning(&mut self, event: &Event, meant: &Event) -> Result<Answer, Fault>
+        requires { meant.now ≡ met self.old.node.early event.now }
+        ensures { Given false self.old self.new event.now result }
+    {
+        let answer = self.node.act(event)?;
         if answer.is_change() {
-            let _lost = self.log.note(meant(&turned, &event));
+            let _lost = self.log.note(meant);
             self.is_changed = true;
             self.is_unsaved = true;
         }
         Ok(answer)
     }
 
-    // Gives the node an acknowledgement, and notes it in the log, unless it drops no message.
+    // The same if there is no memory for what the event means. The log is lost if the event changes
+    // the node.
     #[inline(never)]
-    pub(super) fn acknowledge_noting(&mut self, ack: Ack) -> Result<Answer, Fault>
+    fn perform_losing(&mut self, event: &Event) -> Result<Answer, Fault>
+        ensures { Given false self.old self.new event.now result }
+    {
+        let answer = self.node.act(event)?;
+        if answer.is_change() {
+            self.log.lose();
+            self.is_changed = true;
+            self.is_unsaved = true;
+        }
+        Ok(answer)
+    }
+
+    // Gives the node an acknowledgement, with the event, and notes it in the log, unless it drops
+    // no message.
+    #[inline(never)]
+    pub(super) fn acknowledge_noting(&mut self, ack: Ack, event: &Event) -> Result<Answer, Fault>
+        requires { event.now ≡ events.Ack ack }
         ensures { Acknowledged self.old self.new ack result }
     {
-        let event = Event::Ack(ack);
-        let is_old = is_old_ack(&self.node, &event);
-        let answer = self.node.act(&event)?;
+        let is_old = is_old_ack(&self.node, event);
+        let answer = self.node.act(event)?;
         if !is_old {
-            let _lost = self.log.note(&event);
+            let _lost = self.log.note(event);
         }
         Ok(answer)
     }

@@ -1,28 +1,39 @@
-//! The frames that a node's caller sends to other nodes. They take no memory.
+//! The frames that a node's caller sends to other nodes. Only letters with references and bytes
+//! take memory.
 ghost use Rattle.c_values.specs.Bytes.{WroteIf};
-ghost use Rattle.std.specs.Prelude.{length};
-ghost use Rattle.c_handles.specs.Frames.{Holds, Packs, ack_bytes, frame_bytes, window};
+ghost use Rattle.c_values.specs.declared.fault.Fault.TheVariants as fault;
+ghost use Rattle.std.specs.Prelude.{◌≡◌, ◌⊎◌, ℕ, length, Ok, Err, IfErr, IfOk};
+ghost use Rattle.ids.specs.declared.refusal.Refusal.TheVariants.{Memory};
+ghost use Rattle.msg.specs.Frames.{plain_ref};
+ghost use Rattle.frames.specs.Grammar.{spelling};
+ghost use Rattle.node.specs.Frames.{released_frame};
+ghost use Rattle.c_handles.specs.Frames.{Holds, IsLetter, Packs, WroteFrame, ack_bytes, window};
 
 use super::LoneNode;
 use super::reading::other_node;
 use crate::packing::{Packing, spelled};
 use c_values::{Fault, put};
-use ids::WINDOW;
+use frames::encode;
+use frames::writing::is_short;
+use ids::{Refusal, WINDOW};
+use msg::FrameRef;
 use node::Node;
+use std::alloc::Global;
 
 impl LoneNode {
     /// Writes the frame in this place of the window to another node. Fails with `BadArgument` if
     /// the window has no such place, then with `NoNode`, with `Nothing` if no released message is
-    /// there, and with `ShortBuffer`.
+    /// there, with `Memory`, and with `ShortBuffer`.
     pub fn frame_at(
         &self,
+        alloc: Global,
         to: u8,
         place: u8,
         buffer: &mut [u8],
         needed: &mut usize,
     ) -> Result<(), Fault>
-        ensures { WroteIf (frame_bytes self.now.node.core to place) result buffer.old buffer.new
-            needed.old needed.new }
+        ensures { WroteFrame self.now.node.core to place result buffer.old buffer.new needed.old
+            needed.new }
     {
         if place >= WINDOW {
             return Err(Fault::BadArgument);
@@ -31,6 +42,9 @@ impl LoneNode {
         let Some(frame) = self.node.frame_at(to, place) else {
             return Err(Fault::Nothing);
         };
+        if !is_short(&frame) {
+            return put_long(alloc, &frame, buffer, needed);
+        }
         put(spelled(&frame).as_slice(), buffer, needed)
     }
 
@@ -47,10 +61,11 @@ impl LoneNode {
     }
 
     /// Writes the frames in the window to another node with numbers above this one, each after its
-    /// length and its number, and returns how many fit. Fails with `NoNode`, with `Nothing` if
-    /// there is no such frame, and with `ShortBuffer` if not even the first fits.
+    /// length and its number, and returns how many fit. Fails with `NoNode`, with `Memory`, with
+    /// `Nothing` if there is no such frame, and with `ShortBuffer` if not even the first fits.
     pub fn frames(
         &self,
+        alloc: Global,
         to: u8,
         after: u64,
         buffer: &mut [u8],
@@ -60,7 +75,7 @@ impl LoneNode {
             needed.new }
     {
         other_node(self.node.core(), to)?;
-        let packing = pack_window(&self.node, to, after, buffer);
+        let packing = pack_window(alloc, &self.node, to, after, buffer)?;
         if packing.needed == 0 {
             return Err(Fault::Nothing);
         }
@@ -72,17 +87,42 @@ impl LoneNode {
     }
 }
 
-// Puts the frames of a window into the buffer, as many as fit.
-fn pack_window(node: &Node, to: u8, after: u64, buffer: &mut [u8]) -> Packing
-    ensures { Holds buffer.old (window (length buffer.old) node.now.core to after) result
-        buffer.new }
+// Writes a frame of any length. It fails with `Memory`, and with `ShortBuffer`.
+#[inline(never)]
+fn put_long(
+    alloc: Global,
+    frame: &FrameRef,
+    buffer: &mut [u8],
+    needed: &mut usize,
+) -> Result<(), Fault>
+    ensures { WroteIf (Ok (spelling (plain_ref frame.now))) result buffer.old buffer.new needed.old
+        needed.new
+        ⊎ ((result ≡ Err (fault.Refused Memory)) × (buffer.new ≡ buffer.old)
+        × (needed.new ≡ needed.old)) }
+{
+    let bytes = encode(alloc, frame)?;
+    put(&bytes, buffer, needed)
+}
+
+// Puts the frames of a window into the buffer, as many as fit. It fails with `Memory`.
+fn pack_window(
+    alloc: Global,
+    node: &Node,
+    to: u8,
+    after: u64,
+    buffer: &mut [u8],
+) -> Result<Packing, Refusal>
+    ensures packed { IfOk result (λ packing.
+        Holds buffer.old (window (length buffer.old) node.now.core to after) packing buffer.new) }
+    ensures refused { IfErr result
+        (λ e. (e ≡ Memory) × ((place : ℕ) × IsLetter (released_frame node.now.core to place))) }
 {
     let mut packing = Packing {
         count: 0,
         needed: 0,
     };
     for place in 0..WINDOW {
-        packing.add_above(after, node.frame_at(to, place), buffer);
+        packing.add_above(alloc, after, node.frame_at(to, place), buffer)?;
     }
-    packing
+    Ok(packing)
 }

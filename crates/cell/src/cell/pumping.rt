@@ -21,7 +21,7 @@ ghost use Rattle.wire.specs.Readers.{known, outbox, IsSame, IsSeatOf};
 ghost use Rattle.cell.specs.Cells.{GoesOn};
 ghost use Rattle.cell.specs.Events.{event_of};
 ghost use Rattle.cell.specs.Lines.{call_of};
-ghost use Rattle.cell.specs.Pumping.{is_out, FoundEmpty, PumpedIn, TookFrom};
+ghost use Rattle.cell.specs.Pumping.{is_out, FoundEmpty, PumpedIn, TookOrLost};
 ghost use Rattle.wire.specs.Sending.{frame_due, places_after, IsSent};
 
 use super::Cell;
@@ -65,8 +65,9 @@ impl<D: Disk> Cell<D> {
     /// message that is refused with `Memory` stays.
     ///
     /// Fails with `Closed` exactly if the cell is closed; then with `NoNode` if `from` isn't
-    /// another node of the space; else as the node refuses the message or frame. A line is added to
-    /// the trace if there was a message or frame.
+    /// another node of the space. It fails with `Memory` if an allocation fails for a letter with
+    /// references and bytes that was in the mailbox. Otherwise it fails as the node refuses the
+    /// message or frame. A line is added to the trace if the node was given one.
     pub fn pump_in(&mut self, wire: &Wire, from: u8) -> Result<Inbound, Refusal>
         requires wire { IsSeatOf wire.now self.old.seat }
         ensures pumped { IsTrue self.old.is_open
@@ -119,16 +120,23 @@ impl<D: Disk> Cell<D> {
         Ok(Inbound::Event(answer))
     }
 
-    // Takes the frame in the mailbox, and gives it to the node. None if the mailbox wasn't full.
+    // Takes the frame in the mailbox, and gives it to the node. None if the mailbox wasn't full. If
+    // there is no memory for the frame, it is lost.
     fn take_in(&mut self, wire: &Wire, from: u8) -> Option<Result<Answer, Refusal>>
         requires wire { IsSeatOf wire.now self.old.seat }
         requires ready { IsTrue self.old.is_open }
         requires other { IsTrue (is_other self.old.node.core.local from) }
         ensures took { MatchOption result (FoundEmpty from self.old self.new)
-            (λ r. TookFrom from r self.old self.new) }
+            (λ r. TookOrLost from r self.old self.new) }
         ensures goes_on { GoesOn self.old self.new }
     {
-        let frame = self.desk.take(wire, from)?;
+        let taken = match self.desk.take(wire, self.alloc, from) {
+            Ok(taken) => taken,
+            Err(refusal) => return Some(Err(refusal)),
+        };
+        let Some(frame) = taken else {
+            return None;
+        };
         let call = call_for(&frame);
         let answered = self.desk.handle(wire, frame);
         self.trace.push(call, outcome(&answered));

@@ -1,13 +1,14 @@
 //! Objects, found by a register or a reference. If the generation of a reference isn't that of the
 //! object in its slot, nothing is found.
 ghost use Rattle.std.specs.Prelude.{◌≡◌, ℕ, ◌<◌, ◌≤◌, length, count_by, is_some, IsTrue, option_copied};
-ghost use Rattle.std.specs.Prelude.{true, false, Ok, Err, OnOk, OnErr, IfOk, IfErr};
+ghost use Rattle.std.specs.Prelude.{true, false, cond, [], take, drop};
+ghost use Rattle.std.specs.Prelude.{Ok, Err, OnOk, OnErr, IfOk, IfErr};
 ghost use Rattle.ids.specs.Limits.{reference_fits};
 ghost use Rattle.ids.specs.declared.limits.TheConstants.{GREATEST_BYTES, GREATEST_NODES};
 ghost use Rattle.ids.specs.declared.refusal.Refusal.TheVariants.{Memory};
 ghost use Rattle.model.specs.Checks.{guarded, IsFirstRefusal};
 ghost use Rattle.model.specs.Heaps.{object_at, place_of, with_place, with_word, heap_alloc};
-ghost use Rattle.model.specs.Heaps.{load_tests, place_loaded};
+ghost use Rattle.model.specs.Heaps.{load_tests, place_loaded, fetched, has_range};
 ghost use Rattle.model.specs.Heaps.{heap_store, heap_clear, heap_word, heap_set_word};
 ghost use Rattle.model.specs.Heaps.{heap_bytes, heap_bytes_len, heap_set_bytes, heap_patch};
 ghost use Rattle.model.specs.Heaps.{filling, named, patching, placing, with_rewritten};
@@ -21,6 +22,7 @@ use super::Heap;
 use crate::object::Object;
 use arena::Key;
 use ids::{Ref, Refusal, Shape};
+use msg::Frozen;
 
 impl Heap {
     /// Makes an object with this many empty places, marked by `cycle`. Its reference goes into the
@@ -330,6 +332,27 @@ impl Heap {
         self.read_place(object, place).unwrap_or(None)
     }
 
+    /// The word of an object of this heap, as 8 bytes, big-endian, and then `count` of its bytes
+    /// from `offset` on, if it has all of these. Nothing if there is no such object. The
+    /// reference's node isn't checked.
+    ///
+    /// It fails with [`Refusal::Memory`] if an allocation fails.
+    #[inline(never)]
+    pub fn fetched(&self, object: Ref, offset: u32, count: u32) -> Result<Frozen<u8>, Refusal>
+        ensures done { IfOk result
+            (λ b. b ≡ fetched (object_at self.now.heap object) offset count) }
+        ensures refused { IfErr result (λ e. e ≡ Memory) }
+    {
+        let Some(object) = self.object(object) else {
+            return Ok(Frozen::empty());
+        };
+        let alloc = *self.registers.allocator();
+        let mut bytes = Vec::new(alloc);
+        bytes.extend_from_slice(&object.word().to_be_bytes())?;
+        bytes.extend_from_slice(range(object.bytes(), offset, count))?;
+        Ok(Frozen::new(alloc, &bytes)?)
+    }
+
     /// Sets a place of an object of this heap. If there is no such place or object, nothing is
     /// written. If the object is old, the node's own object that the value names is remembered,
     /// even if there is no such place. The reference's node isn't checked. `own` is the node's
@@ -465,6 +488,19 @@ impl Heap {
             Some(object) => object.patch(offset, bytes),
             None => {}
         }
+    }
+}
+
+// This many bytes from this offset on, if they are all there, and otherwise none.
+fn range(bytes: &[u8], offset: u32, count: u32) -> &[u8]
+    ensures { result.now ≡ cond (has_range bytes.now offset count)
+        (take count (drop offset bytes.now)) [] }
+{
+    let (start, end) = (offset as usize, offset as usize + count as usize);
+    if end <= bytes.len() {
+        &bytes[start..end]
+    } else {
+        &[]
     }
 }
 

@@ -1,6 +1,7 @@
 //! Makes a heap from its parts, and reads it part by part. Parts are refused only if no heap has
 //! them, so each saved heap can be made again.
-ghost use Rattle.std.specs.Prelude.{◌≡◌, length, map, slice_index_or, slice_get, OnOk, IfOk, IfErr};
+ghost use Rattle.std.specs.Prelude.{◌≡◌, length, map, option_copied, slice_index_or, slice_get};
+ghost use Rattle.std.specs.Prelude.{OnOk, IfOk, IfErr};
 ghost use Rattle.ids.specs.declared.refusal.Refusal.TheVariants.{BadImage};
 ghost use Rattle.arena_slot.specs.Slot.{slot_read};
 ghost use Rattle.model.specs.State.{Retired, slot_at};
@@ -103,10 +104,10 @@ impl Heap {
 
     /// The letter with this number among those that wait, 0 being the oldest. `None` if there is no
     /// such letter.
-    pub fn letter(&self, number: usize) -> Option<Letter>
-        ensures { result ≡ slice_get self.now.heap.letters number }
+    pub fn letter(&self, number: usize) -> Option<&Letter>
+        ensures { option_copied result ≡ slice_get self.now.heap.letters number }
     {
-        self.letters.get(number).copied()
+        self.letters.get(number)
     }
 
     /// The slots of the grey objects, in the order in which they turned grey; the last is scanned

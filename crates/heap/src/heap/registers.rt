@@ -1,8 +1,9 @@
 //! Registers: a program names objects only by them. Together with the letters they are the roots,
 //! from which marking starts.
-ghost use Rattle.std.specs.Prelude.{◌≡◌, ◌<◌, length, Ok, Err, OnOk, OnErr, IfErr};
+ghost use Rattle.std.specs.Prelude.{◌≡◌, ◌+◌, ◌<◌, ◌≤◌, length, Ok, Err, OnOk, OnErr, IfErr};
 ghost use Rattle.model.specs.Checks.{guarded};
-ghost use Rattle.model.specs.Heaps.{named, with_register, heap_copy, heap_drop, heap_register};
+ghost use Rattle.model.specs.Heaps.{contents, named, with_register};
+ghost use Rattle.model.specs.Heaps.{heap_copy, heap_drop, heap_register};
 ghost use Rattle.model.specs.State.{register_at};
 ghost use Rattle.heap.specs.Heap.{KeepsRoom};
 ghost use Rattle.heap.specs.Tests.{named_tests};
@@ -66,6 +67,15 @@ impl Heap {
         }
         self.registers[register as usize] = None;
         Ok(())
+    }
+
+    /// What this many registers hold, from the register `first` on.
+    pub fn contents(&self, first: u16, count: u8) -> &[Option<Ref>]
+        requires { first + count ≤ length self.now.heap.registers }
+        ensures { result.now ≡ contents self.now.heap first count }
+    {
+        let start = usize::from(first);
+        &self.registers[start..start + usize::from(count)]
     }
 
     /// Sets the register.

@@ -5,6 +5,7 @@ ghost use Rattle.std.specs.List.{list_any};
 ghost use Rattle.model.specs.State.{slot_at};
 ghost use Rattle.model.specs.Heaps.{share_all, sharing, with_rewritten};
 ghost use Rattle.model.specs.Reclaiming.{is_private, is_shared};
+ghost use Rattle.model.specs.Shading.{filled};
 
 use super::Heap;
 use super::objects::key;
@@ -23,6 +24,18 @@ impl Heap {
             if reference.node == own {
                 self.share_one(reference);
             }
+        }
+    }
+
+    /// The same for each of these references.
+    #[inline(never)]
+    pub fn share_each(&mut self, own: u8, references: &[Option<Ref>])
+        ensures { self.new ≡ record self.old {
+          heap = share_all own self.old.heap (filled references.now);
+        } }
+    {
+        for reference in references {
+            self.share(own, *reference);
         }
     }
 

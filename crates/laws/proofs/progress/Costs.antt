@@ -10,7 +10,7 @@ use Rattle.msg.specs.declared.body.Token.{Token}
 use Rattle.msg.specs.declared.body.Message.{Message}
 use Rattle.model.specs.declared.event.Letter.{Letter}
 use Rattle.model.specs.State.{Phases, LocalState, Slot, Free, Retired, Heap, slot_at}
-use Rattle.model.specs.Heaps.{object_at, place_of}
+use Rattle.model.specs.Heaps.{object_at, place_of, simple_letter, letters_of, more_letters, with_letters, fetched}
 use Rattle.model.specs.Effects.{Work, at_rest, then}
 use Rattle.model.specs.Counting.{append, stamped, to_others}
 use Rattle.model.specs.Shading.{is_in, is_open, make_all_grey, seen, see_to, filled, reference_of, roots, unasked, marks_for, enter, join, is_calm, last_grey, without_last_grey}
@@ -189,10 +189,13 @@ join-pays cycle p apart =
 abbrev body_cost : Body → ℕ
 body_cost (body.Give label reference) = 2
 body_cost (body.Get target place label) = 10
+body_cost (body.Post label references bytes) = 2 * length (letters_of 0 label references bytes)
+body_cost (body.Fetch target label offset count) = 8
 body_cost b = 0
 
 abbrev body_kept : Body → ℕ
 body_kept (body.Give label reference) = 2
+body_kept (body.Post label references bytes) = 2 * length (letters_of 0 label references bytes)
 body_kept b = 0
 
 abbrev pub is_token : Body → Bool
@@ -207,6 +210,47 @@ option-few : (v : Option Ref) → length (option_to_list v) ≤ 1
 option-few None = omega arith
 option-few (Some r) = omega arith
 
+-- how many letters wait for one message, whoever sent it
+more-count : (from label : ℕ) (rs : List (Option Ref))
+    → length (more_letters from label rs) ≡ length rs
+more-count from label [] = refl
+more-count from label (r ∷ rs) = ap suc (more-count from label rs)
+
+letters-count : (from label : ℕ) (rs : List (Option Ref)) (bytes : List ℕ)
+    → length (letters_of from label rs bytes) ≡ length (letters_of 0 label rs bytes)
+letters-count from label [] bytes = refl
+letters-count from label (r ∷ rs) bytes =
+    ap suc (more-count from label rs ∙ sym (more-count 0 label rs))
+
+letters-many : (label : ℕ) (rs : List (Option Ref)) (bytes : List ℕ)
+    → length rs ≤ length (letters_of 0 label rs bytes)
+letters-many label [] bytes = omega arith
+letters-many label (r ∷ rs) bytes = omega (arith, more-count 0 label rs)
+
+-- letters that come are roots
+letters-pays : (cycle : ℕ) (p : LocalState) (ls : List Letter)
+    → Pays cycle (2 * length ls) (2 * length ls) p
+    (at_rest (record p { heap = with_letters p.heap ls }))
+letters-pays cycle p ls =
+    let longer : length (p.heap.letters ++ ls) ≡ length p.heap.letters + length ls =
+    length-append p.heap.letters ls in
+    record {
+      work =
+          cond_both (p.phases.cycle == cycle) 0 (1 + root_work p.heap)
+          (λ z. cond (p.phases.cycle == cycle) 0
+          (1 + 2 * (length p.heap.registers + length (p.heap.letters ++ ls)))
+          + heap_work cycle p.heap + 0 ≤ z + heap_work cycle p.heap + 2 * length ls)
+          (λ now.
+          let e = cond-true (p.phases.cycle == cycle) 0
+          (1 + 2 * (length p.heap.registers + length (p.heap.letters ++ ls))) now in
+          omega (arith, e))
+          (λ before.
+          let e = cond-false (p.phases.cycle == cycle) 0
+          (1 + 2 * (length p.heap.registers + length (p.heap.letters ++ ls))) before in
+          omega (arith, e, longer));
+      kept = omega (arith, longer);
+    }
+
 body-pays : (cycle from stamp : ℕ) (b : Body) (p : LocalState)
     → IfAny (λ (r : Ref). r.node ≡ p.own) (target_of b) → IsTimed cycle p
     → Pays cycle (body_cost b) (body_kept b) p (take_body from stamp b p)
@@ -219,25 +263,15 @@ body-pays cycle from stamp (body.Mark target) p own timed =
     let few : length (unasked p.own p.asked (target ∷ [])) ≡ 0 = ap length none in
     pays-most 0 0 (omega (arith, few)) (omega arith) (sees-pays cycle true (target ∷ []) p timed)
 body-pays cycle from stamp (body.Give label reference) p own timed =
-    let l : Letter = record { from = from; label = label; reference = reference } in
-    let longer : length (p.heap.letters ++ l ∷ []) ≡ length p.heap.letters + 1 =
-    length-append p.heap.letters (l ∷ []) in
-    record {
-      work =
-          cond_both (p.phases.cycle == cycle) 0 (1 + root_work p.heap)
-          (λ z. cond (p.phases.cycle == cycle) 0
-          (1 + 2 * (length p.heap.registers + length (p.heap.letters ++ l ∷ [])))
-          + heap_work cycle p.heap + 0 ≤ z + heap_work cycle p.heap + 2)
-          (λ now.
-          let e = cond-true (p.phases.cycle == cycle) 0
-          (1 + 2 * (length p.heap.registers + length (p.heap.letters ++ l ∷ []))) now in
-          omega (arith, e))
-          (λ before.
-          let e = cond-false (p.phases.cycle == cycle) 0
-          (1 + 2 * (length p.heap.registers + length (p.heap.letters ++ l ∷ []))) before in
-          omega (arith, e, longer));
-      kept = omega (arith, longer);
-    }
+    letters-pays cycle p (simple_letter from label reference ∷ [])
+body-pays cycle from stamp (body.Post label references bytes) p own timed =
+    let ls : List Letter = letters_of from label references bytes in
+    let count = letters-count from label references bytes in
+    let most : ℕ = 2 * length (letters_of 0 label references bytes) in
+    pays-most most most (omega (arith, count)) (omega (arith, count)) (letters-pays cycle p ls)
+body-pays cycle from stamp (body.Fetch target label offset count) p own timed =
+    let says : Body = body.Post label [] (fetched (object_at p.heap target) offset count) in
+    pays-same cycle 8 p (post from says p) refl (shared-same cycle p.own [] p.heap) (omega arith)
 body-pays cycle from stamp (body.Put target place reference) p own timed =
     pays-same cycle 0 p (take_body from stamp (body.Put target place reference) p) refl
     (placed-same cycle p.own p.heap target place reference) (omega arith)
@@ -271,6 +305,8 @@ settled-pays cycle from number stamp b p own timed =
 paid : (b : Body) → settled_cost b + body_kept b + cond (is_token b) 0 1 ≤ cost_of b
 paid (body.Give label reference) = omega (arith, option-few reference)
 paid (body.Put target place reference) = omega (arith, option-few reference)
+paid (body.Post label references bytes) =
+    omega (arith, filled-few references, letters-many label references bytes)
 paid b = omega arith
 
 -- The receipt of a message costs less than the message weighed, if it isn't the token; or if the

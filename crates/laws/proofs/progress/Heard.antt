@@ -69,6 +69,7 @@ body-others from stamp (body.Get target place label) p other =
     others-both p.own (see_to true rs p)
     (post from (body.Give label (place_of (object_at p.heap target) place))) refl
     (sees-others true rs p) (other, tt)
+body-others from stamp (body.Fetch target label offset count) p other = (other, tt)
 body-others from stamp b p other = tt
 
 pub taken-others : (p : LocalState) (from number stamp : ℕ) (b : Body) → from ≢ p.own
@@ -140,6 +141,10 @@ own-others p counts (event.Data d) own several passed = absurd cc
 own-others p counts (event.Ack a) own several passed = absurd cc
 own-others p counts (event.Give to label register) own several passed =
     (eqb-false to p.own (not-true _ passed.1.0), tt)
+own-others p counts (event.Post to label first count bytes) own several passed =
+    (eqb-false to p.own (not-true _ passed.1.0), tt)
+own-others p counts (event.Fetch object label offset count) own several passed =
+    (eqb-false (named p.heap object).node p.own (not-true _ passed.1.1.0), tt)
 own-others p counts (event.Put object place register) own several passed =
     (eqb-false (named p.heap object).node p.own (not-true _ passed.1.1.1.0), tt)
 own-others p counts (event.Get object place label) own several passed =

@@ -8,7 +8,7 @@ use Rattle.msg.specs.declared.body.Message.{Message}
 use Rattle.model.specs.declared.balance.Balance.{Balance}
 use Rattle.model.specs.declared.balance.Balance.TheVariants.{Earlier, Recent}
 use Rattle.model.specs.State.{Heap, Ring, LocalState, Object, Occupied, slot_at}
-use Rattle.model.specs.Heaps.{object_at, place_of}
+use Rattle.model.specs.Heaps.{object_at, place_of, fetched}
 use Rattle.model.specs.Effects.{Work, at_rest, then}
 use Rattle.model.specs.Counting.{is_reference, reference_balance, balance_of, counted_up, counted_down, counted_marks, append}
 use Rattle.model.specs.Shading.{is_in, is_open, is_unmarked, wakes, make_grey, make_all_grey, unasked, marks_for, see_to, join, joined}
@@ -128,6 +128,8 @@ balance-now : (cycle : ℕ) (b : Body) → is_reference b ≡ true
 balance-now cycle (body.Give label reference) is = ap Some (reference-now cycle)
 balance-now cycle (body.Put target place reference) is = ap Some (reference-now cycle)
 balance-now cycle (body.Get target place label) is = ap Some (reference-now cycle)
+balance-now cycle (body.Post label references bytes) is = ap Some (reference-now cycle)
+balance-now cycle (body.Fetch target label offset count) is = ap Some (reference-now cycle)
 balance-now cycle b is = absurd cc
 
 -- what a message finds at a node that marks
@@ -200,6 +202,20 @@ body-quiet from (body.Put target place reference) p is h reads =
     (noted-keeps (λ (z : Heap). z.grey ≡ p.heap.grey) p.own p.heap target reference (λ _. refl)
     refl)
     refl refl (omega arith)
+body-quiet from (body.Fetch target label offset count) p is h reads =
+    let says : Body =
+    body.Post label [] (fetched (object_at p.heap target) offset count) in
+    let balance : balance_of p.phases.cycle p.phases.cycle says ≡ Some Recent =
+    balance-now p.phases.cycle says refl in
+    record {
+      grey = refl;
+      cycle = refl;
+      colour = ap (λ (z : Option Balance). (counted_up z p.ring).colour) balance;
+      owes = ap (λ (z : Option Balance). (counted_up z p.ring).earlier) balance;
+      token = ap (λ (z : Option Balance). (counted_up z p.ring).token) balance;
+      sends = omega arith;
+      uncounted = (le-ltb p.phases.cycle p.phases.cycle (omega arith), tt);
+    }
 body-quiet from body.Begin p is h reads = absurd cc
 body-quiet from (body.Token t) p is h reads = absurd cc
 body-quiet from (body.Mark target) p is h reads = absurd cc
@@ -419,6 +435,10 @@ module _ {shape : Shaped} {w : World} (s : Settled shape w) where
       quiet-reference from number m refl f (λ r p l e. absurd cc)
   quiet-body from number (body.Put target place r) m f plain =
       quiet-reference from number m refl f.1 (λ _ p l e. absurd cc)
+  quiet-body from number (body.Post label references bytes) m f plain =
+      quiet-reference from number m refl f (λ r p l e. absurd cc)
+  quiet-body from number (body.Fetch target label offset count) m f plain =
+      quiet-reference from number m refl f.1 (λ r p l e. absurd cc)
   quiet-body from number (body.Get target place label) m f plain =
       quiet-reference from number m refl f.1
       (λ r p l e.

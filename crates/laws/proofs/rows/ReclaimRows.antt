@@ -26,6 +26,7 @@ use Rattle.model.specs.World.{take_step}
 use Rattle.laws.proofs.rows.Rows.{object, space, alloc, drop_register, give, accept, made, sent, letter, received, done, refused}
 use Rattle.laws.proofs.rows.ObjectRows.{store, clear, put, get}
 use Rattle.laws.proofs.rows.Words.{begin_cycle, scan_grey, save, deliver, ok, began, scanned_grey, state, handed_over, Row, ◌gives◌, ◌shows◌, Prints}
+use Rattle.model.specs.Heaps.{simple_letter}
 
 -- a wide space of two nodes
 abbrev wide : Shaped
@@ -284,7 +285,7 @@ heap slots free letters =
 
 -- a letter's reference is a root
 abbrev mail : Letter
-mail = record { from = 1; label = 7; reference = Some (object 0 1 1) }
+mail = simple_letter 1 7 (Some (object 0 1 1))
 
 pub letter-keeps : reclaimed scope.All 0
     (heap (held 1 false None ∷ held 1 false None ∷ []) [] (mail ∷ []))

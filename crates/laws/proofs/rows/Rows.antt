@@ -23,6 +23,7 @@ use Rattle.model.specs.Shading.{see_to}
 use Rattle.model.specs.Effects.{Effect}
 use Rattle.model.specs.Steps.{settled, effect, act, receive, taken_in, count_in, take_body}
 use Rattle.model.specs.World.{outcomes, new_world, take_step}
+use Rattle.model.specs.declared.event.Accepted.{Accepted}
 
 abbrev pub object : ℕ → ℕ → ℕ → Ref
 object node slot generation = record { node = node; slot = slot; generation = generation }
@@ -64,13 +65,18 @@ repeat = Ok (outcome.Answer answer.Repeat)
 abbrev pub early : Result Outcome Refusal
 early = Ok (outcome.Answer answer.Early)
 
+-- a letter without bytes that went into one register
+abbrev pub accepted : ℕ → ℕ → Option Ref → Accepted
+accepted from label reference =
+    record { from = from; label = label; reference = reference; count = 1; length = 0 }
+
 abbrev pub letter : ℕ → ℕ → Ref → Result Outcome Refusal
 letter from label r =
-    Ok (outcome.Answer (answer.Letter (record { from = from; label = label; reference = Some r })))
+    Ok (outcome.Answer (answer.Letter (accepted from label (Some r))))
 
 abbrev pub empty_letter : ℕ → ℕ → Result Outcome Refusal
 empty_letter from label =
-    Ok (outcome.Answer (answer.Letter (record { from = from; label = label; reference = None })))
+    Ok (outcome.Answer (answer.Letter (accepted from label None)))
 
 abbrev pub done : Result Outcome Refusal
 done = Ok outcome.Done

@@ -15,7 +15,7 @@ use Rattle.model.specs.Steps.{act, receive, count_in, take_body, settled, taken_
 use Rattle.model.specs.World.{take_step, new_world}
 use Rattle.laws.specs.Objects.{new_space, Sight, told, came, IsRun}
 use Rattle.laws.specs.Sights.{observed_in_cut}
-use Rattle.laws.proofs.rows.Rows.{object, space, alloc, drop_register, give, accept, made, sent, letter, received, done, refused}
+use Rattle.laws.proofs.rows.Rows.{object, space, alloc, drop_register, give, accept, made, sent, letter, received, done, refused, accepted}
 use Rattle.laws.proofs.rows.Words.{begin_cycle, sweep_slots, save, restart, deliver, ok, began, freed_done, Row, ◌gives◌, ◌shows◌, Prints, handed_over}
 use Rattle.laws.proofs.rows.CycleRows.{two_probes}
 
@@ -88,7 +88,7 @@ abbrev before_saves : List Sight
 before_saves =
     given
     ++ told 1 (event.Accept 1)
-    (Ok (answer.Letter (record { from = 0; label = 7; reference = Some (object 0 0 1) })))
+    (Ok (answer.Letter (accepted 0 7 (Some (object 0 0 1)))))
     ∷ told 1 (event.Give 0 8 0) (Ok (answer.Sent 1))
     ∷ told 1 (event.Drop 1) (Ok answer.Done)
     ∷ came 1 0
@@ -98,7 +98,7 @@ before_saves =
 pub not-twice : IsRun (space 2 4 16) (new_space (space 2 4 16)) (
     given
     ++ told 1 (event.Accept 0)
-    (Ok (answer.Letter (record { from = 0; label = 7; reference = Some (object 0 0 1) })))
+    (Ok (answer.Letter (accepted 0 7 (Some (object 0 0 1)))))
     ∷ came 0 1
     ∷ []) → ⊥
 not-twice run = run.1.1.1.1.1.0.2 refl

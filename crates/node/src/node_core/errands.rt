@@ -25,9 +25,11 @@ ghost use Rattle.remote_marks.specs.Asked.{AreSent, IsRefused, all_appended};
 ghost use Rattle.node.specs.Cycles.{begins};
 ghost use Rattle.node.specs.Errands.{
   HasEnds,
+  HasFew,
   IsFit,
   MayJoin,
   Runs,
+  bytes_in,
   errand,
   extra_ring,
   extra_sends,
@@ -36,7 +38,7 @@ ghost use Rattle.node.specs.Errands.{
   listed,
   with_extra,
 };
-ghost use Rattle.node.specs.Sending.{told, with_sent};
+ghost use Rattle.node.specs.Sending.{report, told, with_sent};
 
 use super::Core;
 use cycles::{NEW_TOKEN, Ring, balance_of};
@@ -44,22 +46,40 @@ use heap::Heap;
 use ids::{Ref, Refusal};
 use link::Links;
 use model::Letter;
-use msg::{Body, Message};
+use msg::{Body, Frozen, Message};
 use remote_marks::{RefSet, see, unsee};
+use std::alloc::AllocError;
 
 /// What an errand does besides seeing to references.
 #[derive(Clone, Copy)]
-pub(super) enum Extra {
+pub(super) enum Extra<'a> {
     Nothing,
     /// The object that turned grey last leaves the list, before the references are seen to.
     Scanned,
-    /// A letter is added.
-    Letter(Letter),
+    /// A letter with at most one reference, and without bytes, is added.
+    Letter {
+        from: u8,
+        label: u32,
+        reference: Option<Ref>,
+    },
+    /// A letter with these references and bytes is added.
+    Letters {
+        from: u8,
+        label: u32,
+        references: &'a [Option<Ref>],
+        bytes: &'a Frozen<u8>,
+    },
     /// A Give is sent to a node, in answer to its Get.
     Answer {
         to: u8,
         label: u32,
         reference: Option<Ref>,
+    },
+    /// A Post without references is sent to a node, in answer to its Fetch.
+    Report {
+        to: u8,
+        label: u32,
+        bytes: &'a Frozen<u8>,
     },
     /// Node 0 sends the token of a new probe, and Begin to all others.
     Begins,
@@ -85,7 +105,7 @@ impl Core {
         requires within { AllByRecursion (IsWithin self.old.local.shape) (filled references.now) }
         requires few { length references.now ≤ GREATEST_PLACES }
         requires extra { IsFit self.old.local.shape self.old.local.own extra }
-        ensures { let w = errand cycle due (filled references.now) extra self.old.local in
+        ensures { let w = errand cycle due (filled references.now) extra.entry self.old.local in
             Runs result w self.old self.new }
     {
         let own = self.own;
@@ -97,6 +117,7 @@ impl Core {
         if met.is_empty() && is_nothing(extra) {
             return Ok(());
         }
+        let bytes = bytes_in(extra)?;
         self.heap.make_room(met.len(), letters_in(extra))?;
         let marks = send_out(
             &mut self.asked,
@@ -108,7 +129,7 @@ impl Core {
             extra,
         )?;
         // From here on nothing can fail.
-        mark(&mut self.heap, own, current, met, extra);
+        mark(&mut self.heap, own, current, met, extra, bytes);
         count(&mut self.ring, current, marks, extra);
         Ok(())
     }
@@ -176,18 +197,40 @@ fn while_marking(cycle: u64, ended: u64, references: &[Option<Ref>]) -> &[Option
 /// Whether an errand only sees to references.
 #[inline(always)]
 fn is_nothing(extra: Extra) -> bool
-    ensures { result ≡ is_nothing extra }
+    ensures { result ≡ is_nothing extra.entry }
 {
     matches!(extra, Extra::Nothing)
 }
 
-/// How many letters the errand adds.
+/// How many letters the errand adds. One with several references counts once for each.
+#[inline(always)]
 pub(super) fn letters_in(extra: Extra) -> usize
-    ensures { result ≡ letters_in extra }
+    ensures { result ≡ letters_in extra.entry }
 {
     match extra {
-        Extra::Letter(_) => 1,
-        Extra::Nothing | Extra::Scanned | Extra::Answer { .. } | Extra::Begins => 0,
+        Extra::Letter { .. } => 1,
+        Extra::Letters { references, .. } => references.len().max(1),
+        Extra::Nothing
+        | Extra::Scanned
+        | Extra::Answer { .. }
+        | Extra::Report { .. }
+        | Extra::Begins => 0,
+    }
+}
+
+/// The bytes of the letter that the errand adds. It can fail as [`Frozen::share`] can.
+#[inline(always)]
+pub(super) fn bytes_in(extra: Extra) -> Result<Frozen<u8>, AllocError>
+    ensures { IfOk result (λ b. b ≡ bytes_in extra.entry) }
+{
+    match extra {
+        Extra::Letters { bytes, .. } => bytes.share(),
+        Extra::Nothing
+        | Extra::Scanned
+        | Extra::Letter { .. }
+        | Extra::Answer { .. }
+        | Extra::Report { .. }
+        | Extra::Begins => Ok(Frozen::empty()),
     }
 }
 
@@ -215,13 +258,13 @@ pub(super) fn send_out(
     ensures few { IfOk result (λ n. n ≤ GREATEST_SENT) }
     ensures done { let new = unasked own asked.old.keys (filled references.now) in
         let marks = marks_for cycle (cond due new []) in
-        let sends = extra_sends own (length links.old.links) cycle extra in
+        let sends = extra_sends own (length links.old.links) cycle extra.entry in
         OnOk result (AreSent (marks ++ sends) links.old links.new) }
     ensures marked { let new = unasked own asked.old.keys (filled references.now) in
         OnOk result (IsLinks (all_appended links.old (marks_for cycle (cond due new [])))) }
     ensures refused { let new = unasked own asked.old.keys (filled references.now) in
         let marks = marks_for cycle (cond due new []) in
-        let sends = extra_sends own (length links.old.links) cycle extra in
+        let sends = extra_sends own (length links.old.links) cycle extra.entry in
         IfErr result (IsRefused links.old (marks ++ sends)) }
     ensures unchanged { OnErr result
         ((asked.new.keys ≡ asked.old.keys) × (links.new ≡ links.old)) }
@@ -242,9 +285,9 @@ pub(super) fn send_out(
 fn send_extra(links: &mut Links, own: u8, cycle: u64, extra: Extra) -> Result<(), Refusal>
     requires { HasEnds (length links.old.links) extra }
     ensures done { OnOk result
-        (AreSent (extra_sends own (length links.old.links) cycle extra) links.old links.new) }
+        (AreSent (extra_sends own (length links.old.links) cycle extra.entry) links.old links.new) }
     ensures refused { IfErr result
-        (IsRefused links.old (extra_sends own (length links.old.links) cycle extra)) }
+        (IsRefused links.old (extra_sends own (length links.old.links) cycle extra.entry)) }
     ensures unchanged { OnErr result (links.new ≡ links.old) }
     ensures sound { IsLinks links.new }
 {
@@ -257,8 +300,9 @@ fn send_extra(links: &mut Links, own: u8, cycle: u64, extra: Extra) -> Result<()
             let body = Body::Give { label, reference };
             send_message(links, to, Message { stamp: cycle, body })
         }
+        Extra::Report { to, label, bytes } => send_report(links, to, cycle, label, bytes),
         Extra::Begins => send_begins(links, own, cycle),
-        Extra::Nothing | Extra::Scanned | Extra::Letter(_) => {
+        Extra::Nothing | Extra::Scanned | Extra::Letter { .. } | Extra::Letters { .. } => {
             // (Called for its contract, which says that links are sound.)
             links.width();
             Ok(())
@@ -275,6 +319,33 @@ fn send_message(links: &mut Links, to: u8, message: Message) -> Result<(), Refus
 {
     links.append(to, message)?;
     Ok(())
+}
+
+/// Sends a Post without references, with these bytes.
+#[inline(never)]
+fn send_report(
+    links: &mut Links,
+    to: u8,
+    cycle: u64,
+    label: u32,
+    bytes: &Frozen<u8>,
+) -> Result<(), Refusal>
+    requires { to < length links.old.links }
+    ensures done { OnOk result
+        (AreSent ((to, report cycle label bytes.now) ∷ []) links.old links.new) }
+    ensures refused { IfErr result
+        (IsRefused links.old ((to, report cycle label bytes.now) ∷ [])) }
+    ensures unchanged { OnErr result (links.new ≡ links.old) }
+    ensures sound { IsLinks links.new }
+{
+    // (Called for its contract, which says that links are sound.)
+    links.width();
+    let body = Body::Post {
+        label,
+        references: Frozen::empty(),
+        bytes: bytes.share()?,
+    };
+    send_message(links, to, Message { stamp: cycle, body })
 }
 
 /// Sends the token of a new probe to the last node, and announces the cycle to all nodes except
@@ -308,32 +379,66 @@ fn send_begins(links: &mut Links, own: u8, cycle: u64) -> Result<(), Refusal>
 
 /// The part of an errand that is done on the heap, for which room was made.
 #[inline(always)]
-pub(super) fn mark(heap: &mut Heap, own: u8, cycle: u64, references: &[Option<Ref>], extra: Extra)
+pub(super) fn mark(
+    heap: &mut Heap,
+    own: u8,
+    cycle: u64,
+    references: &[Option<Ref>],
+    extra: Extra,
+    bytes: Frozen<u8>,
+)
     requires room { length references.now ≤ heap.old.room }
     requires letter_room { letters_in extra ≤ heap.old.letter_room }
-    ensures heap { heap.new.heap ≡ with_extra extra
-        (make_all_grey own cycle (listed extra heap.old.heap) (filled references.now)) }
+    requires few { HasFew extra }
+    requires bytes { bytes ≡ bytes_in extra }
+    ensures heap { heap.new.heap ≡ with_extra extra.entry
+        (make_all_grey own cycle (listed extra.entry heap.old.heap) (filled references.now)) }
     ensures limit { heap.new.limit ≡ heap.old.limit }
 {
     leave_list(heap, extra);
     heap.shade(own, cycle, references);
     match extra {
-        Extra::Letter(letter) => heap.add_letter(letter),
-        Extra::Nothing | Extra::Scanned | Extra::Answer { .. } | Extra::Begins => {}
+        Extra::Letter {
+            from,
+            label,
+            reference,
+        } => heap.add_letter(Letter {
+            from,
+            label,
+            reference,
+            more: 0,
+            bytes,
+        }),
+        Extra::Letters {
+            from,
+            label,
+            references,
+            ..
+        } => heap.add_letters(from, label, references, bytes),
+        Extra::Nothing
+        | Extra::Scanned
+        | Extra::Answer { .. }
+        | Extra::Report { .. }
+        | Extra::Begins => {}
     }
 }
 
 /// Takes the object that is scanned off the list of grey ones.
 #[inline(always)]
 fn leave_list(heap: &mut Heap, extra: Extra)
-    ensures heap { heap.new.heap ≡ listed extra heap.old.heap }
+    ensures heap { heap.new.heap ≡ listed extra.entry heap.old.heap }
     ensures limit { heap.new.limit ≡ heap.old.limit }
     ensures room { heap.old.room ≤ heap.new.room }
     ensures letter_room { heap.new.letter_room ≡ heap.old.letter_room }
 {
     match extra {
         Extra::Scanned => heap.pop_grey(),
-        Extra::Nothing | Extra::Letter(_) | Extra::Answer { .. } | Extra::Begins => {}
+        Extra::Nothing
+        | Extra::Letter { .. }
+        | Extra::Letters { .. }
+        | Extra::Answer { .. }
+        | Extra::Report { .. }
+        | Extra::Begins => {}
     }
 }
 
@@ -343,7 +448,7 @@ pub(super) fn count(ring: &mut Ring, cycle: u64, marks: usize, extra: Extra)
     requires small { IsBounded GREATEST_COUNTED ring.old }
     requires few { marks ≤ GREATEST_SENT }
     requires counted { IsBounded GREATEST_COUNTED (counted_marks marks ring.old) }
-    ensures { ring.new ≡ extra_ring cycle extra (counted_marks marks ring.old) }
+    ensures { ring.new ≡ extra_ring cycle extra.entry (counted_marks marks ring.old) }
 {
     ring.count_marks(marks as u64);
     match extra {
@@ -352,9 +457,13 @@ pub(super) fn count(ring: &mut Ring, cycle: u64, marks: usize, extra: Extra)
             reference,
             ..
         } => ring.count_sent(balance_of(cycle, cycle, &Body::Give { label, reference })),
+        Extra::Report { label, .. } => {
+            let reference = None;
+            ring.count_sent(balance_of(cycle, cycle, &Body::Give { label, reference }));
+        }
         Extra::Begins => {
             ring.probe();
         }
-        Extra::Nothing | Extra::Scanned | Extra::Letter(_) => {}
+        Extra::Nothing | Extra::Scanned | Extra::Letter { .. } | Extra::Letters { .. } => {}
     }
 }

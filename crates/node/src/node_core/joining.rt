@@ -25,7 +25,7 @@ ghost use Rattle.remote_marks.specs.Asked.{AreSent, IsAsked, IsRefused, all_appe
 ghost use Rattle.node.specs.Errands.{HasEnds, IsFit, MayJoin, Runs, errand_here, extra_sends};
 
 use super::Core;
-use super::errands::{Extra, count, letters_in, mark, send_out};
+use super::errands::{Extra, bytes_in, count, letters_in, mark, send_out};
 use crate::roots::ask_for_roots;
 use heap::Heap;
 use ids::{Ref, Refusal};
@@ -57,10 +57,11 @@ impl Core {
         requires within { AllByRecursion (IsWithin self.old.local.shape) (filled references.now) }
         requires few { length references.now ≤ GREATEST_PLACES }
         requires extra { IsFit self.old.local.shape self.old.local.own extra }
-        ensures { let here = errand_here due (filled references.now) extra in
+        ensures { let here = errand_here due (filled references.now) extra.entry in
             Runs result (then (join self.old.local cycle) here) self.old self.new }
     {
         let own = self.own;
+        let bytes = bytes_in(extra)?;
         let room = self.heap.root_count() + references.len();
         self.heap.make_room(room, letters_in(extra))?;
         let alloc = self.asked.allocator();
@@ -80,7 +81,7 @@ impl Core {
         )?;
         // From here on nothing can fail.
         shade_held(&mut self.heap, own, cycle);
-        mark(&mut self.heap, own, cycle, references, extra);
+        mark(&mut self.heap, own, cycle, references, extra, bytes);
         self.asked = asked;
         self.phases.join(cycle);
         self.ring.join();
@@ -123,7 +124,7 @@ fn send_joining(
         OnOk result (fits (map used links.old.links) (marks_for cycle first) ≡ true) }
     ensures done { let first = unasked own [] (filled (roots heap.now.heap)) in
         let new = unasked own first (filled references.now) in
-        let sends = extra_sends own (length links.old.links) cycle extra in
+        let sends = extra_sends own (length links.old.links) cycle extra.entry in
         OnOk result (AreSent (marks_for cycle (cond due new []) ++ sends)
         (all_appended links.old (marks_for cycle first)) links.new) }
     ensures joined { let first = unasked own [] (filled (roots heap.now.heap)) in
@@ -134,7 +135,7 @@ fn send_joining(
         OnOk result (IsLinks (all_appended joined (marks_for cycle (cond due new [])))) }
     ensures refused { let first = unasked own [] (filled (roots heap.now.heap)) in
         let new = unasked own first (filled references.now) in
-        let sends = extra_sends own (length links.old.links) cycle extra in
+        let sends = extra_sends own (length links.old.links) cycle extra.entry in
         IfErr result (IsRefused links.old
         (marks_for cycle first ++ (marks_for cycle (cond due new []) ++ sends))) }
     ensures unchanged { OnErr result (links.new ≡ links.old) }

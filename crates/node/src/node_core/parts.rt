@@ -15,6 +15,7 @@ use heap::{Heap, HeapParts};
 use home::is_at_home;
 use ids::{Ref, Refusal, Shape};
 use link::{LinkParts, Links};
+pub(super) use links::{is_letter_size, is_placed};
 use links::{are_at_ends, is_bounded, number_sum};
 use lists::{are_grey, asked_once};
 use remote_marks::RefSet;

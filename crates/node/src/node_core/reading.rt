@@ -15,6 +15,7 @@ use heap::Heap;
 use ids::{Ref, Refusal};
 use link::Links;
 use msg::Message;
+use std::alloc::Global;
 
 impl Core {
     /// The number of roots, which are what the program holds: its registers and the letters that
@@ -68,6 +69,11 @@ impl Core {
         ensures { let p = self.now.local in result ≡ heap_bytes_len p.own p.heap object }
     {
         self.heap.bytes_len(self.own, object)
+    }
+
+    /// What allocates memory for the node.
+    pub fn allocator(&self) -> Global {
+        self.asked.allocator()
     }
 
     /// The number of messages received from the node `from`; 0 if there is no such node.

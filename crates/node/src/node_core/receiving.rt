@@ -10,8 +10,7 @@ ghost use Rattle.node.specs.Taking.{IsTakable, followed};
 use super::Core;
 use super::errands::Extra;
 use ids::{Ref, Refusal};
-use model::Letter;
-use msg::{Body, Token};
+use msg::{Body, Frozen, Token};
 
 impl Core {
     /// Receives a message that the node may receive, in its turn: all of that before the message
@@ -36,6 +35,17 @@ impl Core {
                 place,
                 label,
             } => self.receive_get(from, stamp, target, place, label),
+            Body::Post {
+                label,
+                ref references,
+                ref bytes,
+            } => self.receive_post(from, stamp, label, references, bytes),
+            Body::Fetch {
+                target,
+                label,
+                offset,
+                count,
+            } => self.receive_fetch(from, stamp, target, label, offset, count),
             Body::Ended => self.receive_ended(from, stamp),
             Body::Swept => self.receive_swept(from, stamp),
         }
@@ -87,12 +97,12 @@ impl Core {
             self.old self.new }
     {
         let due = self.is_late(stamp);
-        let letter = Letter {
+        let letter = Extra::Letter {
             from,
             label,
             reference,
         };
-        self.run(stamp, due, &[reference], Extra::Letter(letter))
+        self.run(stamp, due, &[reference], letter)
     }
 
     /// A Put: its object and its reference are seen to, and the object's place gets the reference.
@@ -140,6 +150,61 @@ impl Core {
         self.run(stamp, true, &[Some(target), reference], answer)?;
         self.share(reference);
         Ok(())
+    }
+
+    /// A Post: its references are seen to, and a letter with them and its bytes is added.
+    #[inline(never)]
+    #[tactic(auto, using(crate::proofs::Receiving::following))]
+    fn receive_post(
+        &mut self,
+        from: u8,
+        stamp: u64,
+        label: u32,
+        references: &Frozen<Option<Ref>>,
+        bytes: &Frozen<u8>,
+    ) -> Result<(), Refusal>
+        requires { IsTakable self.old.local from stamp
+            (body.Post label references.now bytes.now) }
+        ensures { Runs result
+            (followed from stamp (body.Post label references.now bytes.now) self.old.local)
+            self.old self.new }
+    {
+        let due = self.is_late(stamp);
+        let references = references.as_slice();
+        let letter = Extra::Letters {
+            from,
+            label,
+            references,
+            bytes,
+        };
+        self.run(stamp, due, references, letter)
+    }
+
+    /// A Fetch: its object is seen to. The object's word and a range of its bytes are sent back.
+    #[inline(never)]
+    #[tactic(auto, using(crate::proofs::Receiving::following))]
+    fn receive_fetch(
+        &mut self,
+        from: u8,
+        stamp: u64,
+        target: Ref,
+        label: u32,
+        offset: u32,
+        count: u32,
+    ) -> Result<(), Refusal>
+        requires { IsTakable self.old.local from stamp (body.Fetch target label offset count) }
+        ensures { Runs result
+            (followed from stamp (body.Fetch target label offset count) self.old.local) self.old
+            self.new }
+    {
+        let due = self.is_late(stamp);
+        let bytes = self.fetched(target, offset, count)?;
+        let answer = Extra::Report {
+            to: from,
+            label,
+            bytes: &bytes,
+        };
+        self.run(stamp, due, &[Some(target)], answer)
     }
 
     /// Ended: the node knows that marking has ended.

@@ -1,7 +1,8 @@
 //! Shared and private objects. An object becomes shared when a message carries its reference.
 //! Private ones can be freed without other nodes. In a plain space all objects are shared and old.
-ghost use Rattle.std.specs.Prelude.{◌≡◌, false, option_to_list};
+ghost use Rattle.std.specs.Prelude.{◌≡◌, true, false, option_to_list};
 ghost use Rattle.model.specs.Heaps.{share_all};
+ghost use Rattle.model.specs.Shading.{filled};
 ghost use Rattle.model.specs.View.{Performed, view_act};
 ghost use Rattle.model.specs.declared.event.Event.TheVariants as event;
 
@@ -22,6 +23,17 @@ impl Core {
         }
         let own = self.own;
         self.heap.share(own, reference);
+    }
+
+    /// The same for each of these references, in a wide space.
+    pub(super) fn share_each(&mut self, references: &[Option<Ref>])
+        requires { self.old.local.shape.wide ≡ true }
+        ensures { let p = self.old.local in self.new ≡ record self.old {
+          local = record p { heap = share_all p.own p.heap (filled references.now) };
+        } }
+    {
+        let own = self.own;
+        self.heap.share_each(own, references);
     }
 
     /// Frees the private objects of this scope that nothing needs. It fails with `NothingToDo` if

@@ -1,10 +1,12 @@
 //! The steps of an event that can't fail. Each is one of the definitions, and keeps what holds of
 //! every node.
-ghost use Rattle.std.specs.Prelude.{◌≡◌, ◌≢◌, ◌==◌, ◌+◌, ◌-◌, ◌<◌, ◌≤◌, ◌^◌, false, [], Some, None, is_some, length, nat_lt, IsTrue, IfOk, OnOk};
+ghost use Rattle.std.specs.Prelude.{◌≡◌, ◌≢◌, ◌==◌, ◌+◌, ◌-◌, ◌<◌, ◌≤◌, ◌^◌, false, [], Some, None, is_some, length, nat_lt, IsTrue, IfOk, IfErr, OnOk};
 ghost use Rattle.ids.specs.declared.limits.TheConstants.{GREATEST_CYCLE};
+ghost use Rattle.ids.specs.declared.refusal.Refusal.TheVariants.{Memory};
 ghost use Rattle.model.specs.Checks.{guarded};
 ghost use Rattle.cycles.specs.Phases.{MayBegin, advanced, all_swept, with_ended, with_report};
 ghost use Rattle.model.specs.Collecting.{begin_tests, unswept};
+ghost use Rattle.model.specs.Heaps.{fetched};
 ghost use Rattle.model.specs.Heaps.{load_tests, object_at, place_loaded, place_of, with_place, with_register};
 ghost use Rattle.model.specs.References.{IfAny, IsWithin};
 ghost use Rattle.model.specs.Shading.{is_calm};
@@ -16,7 +18,7 @@ ghost use Rattle.node.specs.Taking.{IsSender};
 use super::Core;
 use cycles::{Ring, balance_of};
 use ids::{Ref, Refusal};
-use msg::{Body, Token};
+use msg::{Body, Frozen, Token};
 
 impl Core {
     /// The node's cycle.
@@ -101,6 +103,21 @@ impl Core {
         ensures within { IfAny (IsWithin self.now.local.shape) result }
     {
         self.heap.place(object, place)
+    }
+
+    /// The word of an object of this node, as 8 bytes, and then a range of its bytes, if it has
+    /// that. Nothing if there is no such object. It fails with `Memory` if an allocation fails.
+    pub(super) fn fetched(
+        &self,
+        object: Ref,
+        offset: u32,
+        count: u32,
+    ) -> Result<Frozen<u8>, Refusal>
+        ensures value { let o = object_at self.now.local.heap object in
+            IfOk result (λ b. b ≡ fetched o offset count) }
+        ensures refused { IfErr result (λ e. e ≡ Memory) }
+    {
+        self.heap.fetched(object, offset, count)
     }
 
     /// What the register gets by a Load of this place.

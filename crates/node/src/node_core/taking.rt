@@ -4,7 +4,8 @@
 //! message that a node has released fails these tests.
 ghost use Rattle.std.specs.Prelude.{◌≡◌, ◌≢◌, ◌<◌, ◌&&◌, true, false, option_to_list, IsTrue, IfErr, OnErr};
 ghost use Rattle.ids.specs.declared.refusal.Refusal.TheVariants.{Memory};
-ghost use Rattle.model.specs.Shading.{is_calm, joined};
+ghost use Rattle.std.specs.List.{list_all};
+ghost use Rattle.model.specs.Shading.{filled, is_calm, joined};
 ghost use Rattle.model.specs.Steps.{
   are_within,
   is_marking,
@@ -18,10 +19,12 @@ ghost use Rattle.model.specs.Steps.{
 };
 ghost use Rattle.model.specs.View.{Performed, Performs, view_act};
 ghost use Rattle.model.specs.declared.event.Event.TheVariants as event;
+ghost use Rattle.msg.specs.Limits.{is_post};
 ghost use Rattle.node.specs.Parts.{is_placed};
 
 use super::Core;
-use ids::{Ref, Refusal};
+use super::parts::is_placed;
+use ids::{Ref, Refusal, Shape};
 use link_ends::Offer;
 use model::Answer;
 use msg::{Ack, Body, Data};
@@ -69,7 +72,7 @@ impl Core {
     }
 
     /// Whether the node is in this cycle or past it, or may join it.
-    fn may_reach(&self, stamp: u64) -> bool
+    pub(super) fn may_reach(&self, stamp: u64) -> bool
         ensures { result ≡ may_reach self.now.local stamp }
     {
         let cycle = self.phases.cycle();
@@ -93,9 +96,10 @@ impl Core {
                     && (self.marks_once_joined(stamp) && !self.has_token())
             }
             Body::Mark { target } => self.is_within(target) && target.node == self.own,
-            Body::Get { target, .. } => {
+            Body::Get { target, .. } | Body::Fetch { target, .. } => {
                 self.is_within(target) && (target.node == self.own && self.is_placed(body))
             }
+            Body::Post { .. } => self.suits_post(body),
             Body::Give { reference, .. } => self.is_any_within(reference),
             Body::Put {
                 target,
@@ -114,16 +118,29 @@ impl Core {
         }
     }
 
-    /// Whether an object of the space may have the place that the body names. (Not inlined, so that
-    /// no other body is loaded for its sake.)
+    /// The tests of a letter with references and bytes. (Of other bodies it says nothing.)
+    #[inline(never)]
+    fn suits_post(&self, body: &Body) -> bool
+        ensures { is_post body.now ≡ true
+            → result ≡ (are_within self.now.local.shape (mentioned body.now)
+            && is_placed self.now.local.shape body.now) }
+    {
+        match body {
+            Body::Post { references, .. } => {
+                are_within(self.shape, references.as_slice()) && self.is_placed(body)
+            }
+            _ => true,
+        }
+    }
+
+    /// Whether an object of the space may have the place that the body names, and whether the space
+    /// has letters as large as the body is or asks for. (Not inlined, so that no other body is
+    /// loaded for its sake.)
     #[inline(never)]
     fn is_placed(&self, body: &Body) -> bool
         ensures { result ≡ is_placed self.now.local.shape body.now }
     {
-        match *body {
-            Body::Put { place, .. } | Body::Get { place, .. } => place < self.shape.places(),
-            _ => true,
-        }
+        is_placed(self.shape, body)
     }
 
     fn is_any_within(&self, reference: Option<Ref>) -> bool
@@ -177,5 +194,29 @@ impl Core {
         }
         self.links.trim(ack.by, ack.number)?;
         Ok(Answer::Done)
+    }
+}
+
+// Whether these references are within the shape.
+pub(super) fn are_within(shape: Shape, references: &[Option<Ref>]) -> bool
+    ensures { result ≡ are_within shape (filled references.now) }
+{
+    is_each_within(shape, references)
+}
+
+fn is_each_within(shape: Shape, references: &[Option<Ref>]) -> bool
+    ensures { result ≡ list_all (λ v. are_within shape (option_to_list v)) references.now }
+{
+    references
+        .iter()
+        .all(|reference| is_any_within(shape, *reference))
+}
+
+fn is_any_within(shape: Shape, reference: Option<Ref>) -> bool
+    ensures { result ≡ are_within shape (option_to_list reference) }
+{
+    match reference {
+        Some(reference) => reference.node < shape.nodes() && reference.slot < shape.slots(),
+        None => true,
     }
 }

@@ -3,7 +3,7 @@ use Rattle.script.specs.Grammar.{plain}
 use Rattle.commands.specs.Script.{Moves, TakesLine}
 use Rattle.commands.proofs.Replies.{printed_as}
 use Rattle.commands.proofs.simulation.run_other.Goals as goal
-use Rattle.commands.proofs.simulation.run_other.Goals.{in-Blank, in-Space, in-Wide, in-SetBytes, in-Patch, in-Bytes, in-Reclaim, in-State, in-Report}
+use Rattle.commands.proofs.simulation.run_other.Goals.{in-Blank, in-Space, in-Wide, in-SetBytes, in-State, in-Report}
 
 pub returns : goal.returns
 returns g c =
@@ -16,12 +16,7 @@ returns g c =
           rw (w.state-is, w.reply-is, w.in-Space.is) w.take_space-reply.ensures
       | in-Wide w ↦
           rw (w.state-is, w.reply-is, w.in-Wide.is) w.take_wide-reply.ensures
-      | in-SetBytes w ↦
-          rw (w.state-is, w.reply-is, w.in-SetBytes.is) w.write-reply.ensures
-      | in-Patch w ↦
-          rw (w.state-is, w.reply-is, w.in-Patch.is) w.write-reply-in-Patch.ensures
-      | in-Bytes w ↦ rw (w.state-is, w.reply-is, w.in-Bytes.is) w.read-reply.ensures
-      | in-Reclaim w ↦ rw (w.state-is, w.reply-is, w.in-Reclaim.is) w.reclaim-reply.ensures
+      | in-SetBytes w ↦ rw (w.state-is, w.reply-is) w.only_wide-reply.ensures
       | in-State w ↦
           rw (w.state-is, w.reply-is, w.in-State.is) w.show_state-reply.ensures
       | in-Report w ↦

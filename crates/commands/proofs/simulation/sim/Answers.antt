@@ -3,8 +3,8 @@ use Rattle.std.proofs.lemmas.Bool.{eqb-true}
 use Rattle.commands.proofs.Printing.{flushed_replies, printed_all, printed_last, printed_more, printed_nothing, small_replies}
 use Rattle.commands.proofs.simulation.sim.Goals as goal
 
-pub loop-said-init : goal.loop-said-init
-loop-said-init g c = (
+pub loop-rest-init : goal.loop-rest-init
+loop-rest-init g c = (
   search rules,
   omega arith,
   rw (c.in-Ok.is, c.as_str-text.ensures.value)
@@ -12,13 +12,13 @@ loop-said-init g c = (
 )
 
 -- a line that doesn't end the program
-pub loop-said-preserved : goal.loop-said-preserved
-loop-said-preserved g c = (
+pub loop-rest-preserved : goal.loop-rest-preserved
+loop-rest-preserved g c = (
   search rules,
-  omega (arith, c.loop-said.invariant.1, c.first_line.ensures.less),
+  omega (arith, c.loop-rest.invariant.1, c.first_line.ensures.less),
   rw c.in-Ok.is
       (printed_more _ (g.W.Write.contents c.args.out.now) _ _
-      (rw c.in-Ok.is at c.loop-said.invariant.2)
+      (rw c.in-Ok.is at c.loop-rest.invariant.2)
       (record {
         text = c.first_line.result.0.now;
         status = c.in_ok-reached.reached;
@@ -38,12 +38,12 @@ returns-then-reached-eq-UNREADABLE-clause-replies g c =
     (printed_last _ (g.W.Write.contents c.args.out.now) _
     (record {
       rest = c.first_line.result.1.now;
-      count = c.loop-said.number + 1;
+      count = c.loop-rest.number + 1;
       state = c.run_line.new.state;
       status = c.max-status.result;
       output = g.W.Write.contents c.run_line.new.out;
     })
-    (rw c.in-Ok.is at c.loop-said.invariant.2)
+    (rw c.in-Ok.is at c.loop-rest.invariant.2)
     (record {
       text = c.first_line.result.0.now;
       status = c.in_ok-reached.reached;
@@ -66,8 +66,8 @@ returns-clause-replies g c =
     rw c.in-Ok.is
     (flushed_replies _ _ _ _ _
     (printed_all _ (g.W.Write.contents c.args.out.now) _
-    (rw c.in-Ok.is at c.loop-said.invariant.2)
-    (eqb-true _ 0 (sym c.is_empty.ensures ∙ c.loop-said-test.false)))
+    (rw c.in-Ok.is at c.loop-rest.invariant.2)
+    (eqb-true _ 0 (sym c.is_empty.ensures ∙ c.loop-rest-test.false)))
     (search rules))
 
 pub returns-clause-small : goal.returns-clause-small

@@ -5,8 +5,8 @@ use Rattle.commands.proofs.Printing.{PrintedBefore}
 use Rattle.commands.proofs.simulation.sim.Given as goal
 
 -- what was printed, and that there are no more lines than bytes
-abbrev pub invariant-loop-said : goal.invariant-loop-said
-invariant-loop-said g l =
+abbrev pub invariant-loop-rest : goal.invariant-loop-rest
+invariant-loop-rest g l =
     let contents = g.W.Write.contents in
     shadow (Utf8 l.rest)
     × (l.number + length l.rest < 2 ^ 63)
@@ -18,5 +18,5 @@ invariant-loop-said g l =
       output = contents l.out;
     }))
 
-abbrev pub decreases-loop-said : goal.decreases-loop-said
-decreases-loop-said g l = length l.rest
+abbrev pub decreases-loop-rest : goal.decreases-loop-rest
+decreases-loop-rest g l = length l.rest

@@ -9,10 +9,11 @@ use Rattle.model.specs.declared.step.Step.TheVariants as step
 use Rattle.commands.proofs.Replies.{write_taken, write_refused}
 use Rattle.commands.proofs.simulation.write_in.Goals as goal
 
--- no event that writes is a sweep
+-- no event that writes or sends bytes is a sweep
 no_sweep : (node : ℕ) (w : Writing) (b : Bor (List ℕ)) → sweeper (step.Act node (writes w b)) ≡ None
 no_sweep node (writing.All object) b = refl
 no_sweep node (writing.Part object offset) b = refl
+no_sweep node (writing.Letter to label first count) b = refl
 
 pub returns-in-Ok-act : goal.returns-in-Ok-act
 returns-in-Ok-act c =

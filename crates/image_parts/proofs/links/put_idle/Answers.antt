@@ -1,4 +1,4 @@
-use Rattle.std.proofs.Common.{List, sym, subst, arith}
+use Rattle.std.proofs.Common.{true, List, sym, subst, arith}
 use Rattle.codec.specs.Formats.{number4, number8}
 use Rattle.codec.specs.Writing.{Puts}
 use Rattle.codec.proofs.Writing.{so}
@@ -13,7 +13,7 @@ unfolding link_format number4 number8
 returns c =
     let links = c.args.links.now in
     let to = c.args.to in
-    subst (λ (unacknowledged : List Message). Puts (link_format Second) c.args.out.now
+    subst (λ (unacknowledged : List Message). Puts (link_format true Second) c.args.out.now
     c.array.new.self (record {
       base = (link_at links to).base;
       unacknowledged = unacknowledged;

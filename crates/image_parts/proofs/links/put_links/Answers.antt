@@ -1,4 +1,4 @@
-use Rattle.std.proofs.Common.{◌≡◌, ◌<◌, ◌≤◌, ℕ, List, take, length, sym, subst}
+use Rattle.std.proofs.Common.{true, ◌≡◌, ◌<◌, ◌≤◌, ℕ, List, take, length, sym, subst}
 use Rattle.std.specs.List.{remove}
 use Rattle.codec.specs.Writing.{PutsAll}
 use Rattle.codec.proofs.Writing.{written_also}
@@ -18,8 +18,8 @@ loop-to-preserved c =
     subst (λ (n : ℕ). to < n) c.width-to-end.ensures.value c.loop-to-test.true in
     let more = others_more own to v.links v.got within c.width-to-end.ensures.sound.received in
     let before = remove (take to (stored_links v.links v.got)) own in
-    subst (PutsAll (link_format Second) c.args.out.now c.put_other.new.out) (sym more)
-    (written_also (link_format Second).spell (link_format Second).IsWide before _
+    subst (PutsAll (link_format true Second) c.args.out.now c.put_other.new.out) (sym more)
+    (written_also (link_format true Second).spell (link_format true Second).IsWide before _
     c.loop-to.invariant c.put_other.ensures)
 
 pub returns : goal.returns
@@ -29,5 +29,5 @@ returns c =
     all_stored v.links v.got c.loop-to.to c.width-to-end.ensures.sound.received
     (subst (λ (n : ℕ). n ≤ c.loop-to.to) c.width-to-end.ensures.value c.loop-to-test.false) in
     subst (λ (xs : List StoredLink).
-    PutsAll (link_format Second) c.args.out.now c.loop-to.out (remove xs c.args.own)) all
+    PutsAll (link_format true Second) c.args.out.now c.loop-to.out (remove xs c.args.own)) all
     c.loop-to.invariant

@@ -1,4 +1,4 @@
-use Rattle.std.proofs.Common.{take}
+use Rattle.std.proofs.Common.{true, take}
 use Rattle.std.specs.List.{remove}
 use Rattle.codec.specs.Writing.{PutsAll}
 use Rattle.frames.specs.declared.version.Version.TheVariants.{Second}
@@ -8,5 +8,5 @@ use Rattle.image_parts.proofs.links.put_links.Given as goal
 
 abbrev pub invariant-loop-to : goal.invariant-loop-to
 invariant-loop-to l =
-    PutsAll (link_format Second) l.fn.out l.out
+    PutsAll (link_format true Second) l.fn.out l.out
     (remove (take l.to (stored_links l.links.links l.links.got)) l.own)

@@ -1,3 +1,4 @@
+use Rattle.std.proofs.Common.{true}
 use Rattle.codec.proofs.Writing.{uncounted}
 use Rattle.frames.specs.declared.version.Version.TheVariants.{Second}
 use Rattle.image_parts.proofs.Formats.{message_long}
@@ -6,4 +7,4 @@ use Rattle.image_parts.proofs.links.put_messages.Goals as goal
 pub returns-else-count : goal.returns-else-count
 returns-else-count c =
     uncounted _ _ _ (c.count.ensures.over c.if-count.false) c.message_count-count.ensures.value
-    (message_long Second)
+    (message_long true Second)

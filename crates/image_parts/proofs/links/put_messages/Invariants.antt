@@ -1,4 +1,4 @@
-use Rattle.std.proofs.Common.{take}
+use Rattle.std.proofs.Common.{true, take}
 use Rattle.codec.specs.Writing.{PutsAll}
 use Rattle.link.specs.Links.{link_at}
 use Rattle.frames.specs.declared.version.Version.TheVariants.{Second}
@@ -7,5 +7,5 @@ use Rattle.image_parts.proofs.links.put_messages.Given as goal
 
 abbrev pub invariant-loop-place : goal.invariant-loop-place
 invariant-loop-place l =
-    PutsAll (message_format Second) l.initial.out l.out
+    PutsAll (message_format true Second) l.initial.out l.out
     (take l.place (link_at l.links l.to).unacknowledged)

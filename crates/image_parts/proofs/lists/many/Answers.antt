@@ -9,7 +9,7 @@ loop-part-preserved g c =
     let l = c.args.count - (c.loop-part._part + 1) in
     record {
       read = rw c.in_ok-push.ensures.items
-          (one_more (g.T.Readable.format c.args.version) k l c.loop-part.invariant.read
+          (one_more (g.T.Readable.format c.args.wide c.args.version) k l c.loop-part.invariant.read
           (omega arith)
           c.in_ok-read.ensures.value);
       count = grind (arith, common_steps);

@@ -6,4 +6,4 @@ use Rattle.image_parts.proofs.slots.put_letters.Goals as goal
 pub returns-else-count : goal.returns-else-count
 returns-else-count c =
     uncounted _ _ _ (c.count.ensures.over c.if-count.false) c.letters.ensures
-    (letter_long Second)
+    (letter_long c.args.wide Second)

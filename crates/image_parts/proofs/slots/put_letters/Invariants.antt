@@ -6,4 +6,4 @@ use Rattle.image_parts.proofs.slots.put_letters.Given as goal
 
 abbrev pub invariant-loop-number : goal.invariant-loop-number
 invariant-loop-number l =
-    PutsAll (letter_format Second) l.initial.out l.out (take l.number l.heap.heap.letters)
+    PutsAll (letter_format l.wide Second) l.initial.out l.out (take l.number l.heap.heap.letters)

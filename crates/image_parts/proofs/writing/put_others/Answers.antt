@@ -2,7 +2,8 @@ use Rattle.std.proofs.Common.{List, ℕ, ◌++◌, append_assoc, subst}
 use Rattle.codec.specs.declared.writer.Writer.{Writer}
 use Rattle.codec.specs.Writing.{Says, Writes}
 use Rattle.codec.proofs.Writing.{both}
-use Rattle.image_parts.specs.Grammar.{others_format}
+use Rattle.frames.specs.Formats.{body_format}
+use Rattle.image_parts.specs.Grammar.{others_format, link_format, message_format}
 use Rattle.image_parts.proofs.writing.put_others.Goals as goal
 
 -- a third text after two that were written at once
@@ -19,5 +20,5 @@ third {c = c} {z = z} x y two one =
     }
 
 pub returns : goal.returns
-unfolding others_format
+unfolding others_format link_format message_format body_format
 returns c = third _ _ c.put_waiting.ensures c.put_links.ensures

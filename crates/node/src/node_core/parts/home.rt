@@ -1,8 +1,10 @@
 //! Tests of a saved node's parts that need no memory: all parts except the grey list, what was
 //! asked for, and the links. Each test is one part of what holds of every node.
-ghost use Rattle.std.specs.Prelude.{◌≡◌, ◌↔◌, map, is_some, true, false, IsTrue};
+ghost use Rattle.std.specs.Prelude.{◌≡◌, ◌↔◌, ◌+◌, ◌-◌, ◌<◌, length, map, nat_le, slice_index_or};
+ghost use Rattle.std.specs.Prelude.{is_some, true, false, IsTrue};
 ghost use Rattle.std.specs.List.{list_all};
 ghost use Rattle.ids.specs.Limits.{IsShape};
+ghost use Rattle.model.specs.Heaps.{no_letter};
 ghost use Rattle.model.specs.Shading.{is_calm};
 ghost use Rattle.arena_slot.specs.Slot.{slot_read};
 ghost use Rattle.heap.specs.Heap.{slot_of};
@@ -11,6 +13,8 @@ ghost use Rattle.node.specs.Parts.{
   is_named,
   is_any_named,
   is_letter,
+  is_modest,
+  are_whole,
   is_object,
   is_slot,
   is_report,
@@ -57,6 +61,7 @@ fn holds_named(parts: &NodeParts) -> bool
     are_slots(shape, cycle, &parts.heap.slots)
         && are_any_named(shape, &parts.heap.registers)
         && are_letters(shape, own, &parts.heap.letters)
+        && are_whole(&parts.heap.letters)
 }
 
 /// Whether a reference is within the shape.
@@ -75,7 +80,7 @@ pub(super) fn is_any_named(shape: Shape, reference: Option<Ref>) -> bool
     }
 }
 
-fn are_any_named(shape: Shape, references: &[Option<Ref>]) -> bool
+pub(super) fn are_any_named(shape: Shape, references: &[Option<Ref>]) -> bool
     ensures { result ≡ list_all (is_any_named shape) references.now }
 {
     references
@@ -83,16 +88,49 @@ fn are_any_named(shape: Shape, references: &[Option<Ref>]) -> bool
         .all(|reference| is_any_named(shape, *reference))
 }
 
-fn is_letter(shape: Shape, own: u8, letter: Letter) -> bool
-    ensures { result ≡ is_letter shape own letter }
+// Whether the letter has at most one reference and no bytes, if the space is plain.
+fn is_modest(shape: Shape, letter: &Letter) -> bool
+    ensures { result ≡ is_modest shape letter.now }
 {
-    letter.from < shape.nodes() && letter.from != own && is_any_named(shape, letter.reference)
+    shape.is_wide() || (letter.more == 0 && letter.bytes.len() == 0)
+}
+
+fn is_letter(shape: Shape, own: u8, letter: &Letter) -> bool
+    ensures { result ≡ is_letter shape own letter.now }
+{
+    letter.from < shape.nodes()
+        && letter.from != own
+        && (is_modest(shape, letter) && is_any_named(shape, letter.reference))
 }
 
 fn are_letters(shape: Shape, own: u8, letters: &VecDeque<Letter>) -> bool
     ensures { result ≡ list_all (is_letter shape own) letters.now.items }
 {
-    letters.iter().all(|letter| is_letter(shape, own, *letter))
+    letters.iter().all(|letter| is_letter(shape, own, letter))
+}
+
+// Whether after each letter as many follow as it says.
+fn are_whole(letters: &VecDeque<Letter>) -> bool
+    ensures { result ≡ are_whole letters.now.items }
+{
+    for number in 0..letters.len() {
+        if !is_whole(letters, number) {
+            return false;
+        }
+    }
+    true
+}
+
+// Whether after this letter as many follow as it says.
+fn is_whole(letters: &VecDeque<Letter>, number: usize) -> bool
+    requires { number < length letters.now.items }
+    ensures { result ≡ nat_le (slice_index_or letters.now.items number no_letter).more
+        (length letters.now.items - (number + 1)) }
+{
+    match letters.get(number) {
+        Some(letter) => usize::from(letter.more) <= letters.len() - (number + 1),
+        None => true,
+    }
 }
 
 #[inline(always)]

@@ -1,8 +1,10 @@
 //! Tests of the links of a saved node's parts, and the number of messages that the links count. A
 //! balance is no larger than that number, whatever its sign.
-ghost use Rattle.std.specs.Prelude.{◌≡◌, ◌↔◌, map, IsTrue};
+ghost use Rattle.std.specs.Prelude.{◌≡◌, ◌↔◌, ◌&&◌, map, nat_le, IsTrue};
 ghost use Rattle.std.specs.List.{list_all};
 ghost use Rattle.cycles.specs.Balances.{IsBounded};
+ghost use Rattle.ids.specs.declared.limits.TheConstants.{GREATEST_LETTER};
+ghost use Rattle.model.specs.Shading.{filled};
 ghost use Rattle.model.specs.Steps.{mentioned};
 ghost use Rattle.node.specs.Invariant.{number_sum};
 ghost use Rattle.node.specs.Parts.{is_named, is_placed, is_message, are_messages, AreAtEnds};
@@ -10,11 +12,11 @@ ghost use Rattle.model.specs.View.{used};
 ghost use Rattle.link.specs.Links.{link_at, got_at};
 ghost use Rattle.link.specs.Parts.{link_given, links_given};
 
-use super::home::{is_any_named, is_named};
+use super::home::{are_any_named, is_any_named, is_named};
 use cycles::Ring;
-use ids::Shape;
+use ids::{GREATEST_LETTER, Ref, Shape};
 use link::{LinkParts, Links};
-use msg::{Body, Message};
+use msg::{Body, Message, fetch_fits};
 use std::collections::VecDeque;
 
 /// Whether these are the ends of the links to the nodes of the shape. Their messages have to be
@@ -79,24 +81,49 @@ fn are_named(shape: Shape, body: &Body) -> bool
 {
     match *body {
         Body::Begin | Body::Token(_) | Body::Ended | Body::Swept => true,
-        Body::Mark { target } | Body::Get { target, .. } => is_named(shape, target),
+        Body::Mark { target } | Body::Get { target, .. } | Body::Fetch { target, .. } => {
+            is_named(shape, target)
+        }
         Body::Give { reference, .. } => is_any_named(shape, reference),
         Body::Put {
             target,
             reference,
             ..
         } => is_named(shape, target) && is_any_named(shape, reference),
+        Body::Post { ref references, .. } => are_all_named(shape, references.as_slice()),
     }
 }
 
-// Whether an object of the space may have the place that the body names.
-fn is_placed(shape: Shape, body: &Body) -> bool
+// Whether these references are within the shape.
+fn are_all_named(shape: Shape, references: &[Option<Ref>]) -> bool
+    ensures { result ≡ list_all (is_named shape) (filled references.now) }
+{
+    are_any_named(shape, references)
+}
+
+/// Whether an object of the space may have the place that the body names, and whether the space has
+/// letters as large as the body is or asks for.
+pub(in super::super) fn is_placed(shape: Shape, body: &Body) -> bool
     ensures { result ≡ is_placed shape body.now }
 {
     match *body {
         Body::Put { place, .. } | Body::Get { place, .. } => place < shape.places(),
+        Body::Post {
+            ref references,
+            ref bytes,
+            ..
+        } => shape.is_wide() && is_letter_size(shape, references.len(), bytes.len()),
+        Body::Fetch { count, .. } => shape.is_wide() && fetch_fits(count),
         _ => true,
     }
+}
+
+/// Whether the space has letters with as many references and bytes.
+pub(in super::super) fn is_letter_size(shape: Shape, references: usize, bytes: usize) -> bool
+    ensures { result
+        ≡ (nat_le references shape.places && nat_le bytes GREATEST_LETTER) }
+{
+    references <= usize::from(shape.places()) && bytes <= GREATEST_LETTER as usize
 }
 
 /// The number of messages appended and of messages received, together, on all links.

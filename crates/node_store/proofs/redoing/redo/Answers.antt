@@ -19,7 +19,7 @@ read : (c : Else-not-is_open)
 read c =
     let after = left c.read_event.new.reader in
     took_event after c.loop-reader.invariant.1
-    (c.read_event.ensures.is
+    (c.in_ok-read.ensures.value.is
     ∙ ap (λ (o : Option Event). option_map entry_of o >>= λ x. with_rest x after) c.in-Some.is)
     (sym c.is_open.ensures ∙ c.if-not-is_open.false)
 
@@ -36,7 +36,7 @@ returns-in_default-clause-refused c = λ other.
     let now = c.loop-reader in
     let after = left c.read_event.new.reader in
     let none : (left now.reader >>= entry.read) ≡ None =
-    c.read_event.ensures.is
+    c.in_ok-read.ensures.value.is
     ∙ ap (λ (o : Option Event). option_map entry_of o >>= λ x. with_rest x after) c.in_default.is in (
       refl,
       λ last led. left_unread now.invariant.1 (sym c.finish.ensures ∙ c.loop-reader-test.true) none
@@ -50,7 +50,7 @@ returns-then-not-is_open-clause-refused c = λ other.
     let closed : is_open c.read_event.new.reader ≡ false =
     sym c.is_open.ensures ∙ c.if-not-is_open.true in
     let none : (left now.reader >>= entry.read) ≡ None =
-    c.read_event.ensures.is
+    c.in_ok-read.ensures.value.is
     ∙ ap (λ (o : Option Event). option_map entry_of o >>= λ x. with_rest x after) c.in-Some.is
     ∙ closed_none (entry_of c.in-Some.event) after closed in (
       refl,
@@ -58,24 +58,25 @@ returns-then-not-is_open-clause-refused c = λ other.
           led.0.before led.0.logged,
     )
 
-pub perform-requires : goal.perform-requires
-perform-requires c = c.loop-reader.invariant.0
+pub perform-done-requires : goal.perform-done-requires
+perform-done-requires c = c.loop-reader.invariant.0
 
 pub loop-reader-smaller : goal.loop-reader-smaller
 loop-reader-smaller c = left_less (read (goal.at.loop-reader-smaller c).Else-not-is_open)
 
 pub loop-reader-preserved : goal.loop-reader-preserved
 loop-reader-preserved c = (
-  c.in_ok-perform.ensures.alone,
-  left_next (read (goal.at.loop-reader-preserved c).Else-not-is_open) c.in_ok-perform.ensures.done,
+  c.in_ok-done.ensures.alone,
+  left_next (read (goal.at.loop-reader-preserved c).Else-not-is_open) c.in_ok-done.ensures.done,
 )
 
-pub returns-in_err-perform-clause-refused : goal.returns-in_err-perform-clause-refused
-returns-in_err-perform-clause-refused c =
-    let at = (goal.at.returns-in_err-perform-clause-refused c).Else-not-is_open in
-    let p = err_from_is_err_and c.from_residual.result c.from_residual.ensures.1 in
+pub returns-in_err-done-clause-refused : goal.returns-in_err-done-clause-refused
+returns-in_err-done-clause-refused c =
+    let at = (goal.at.returns-in_err-done-clause-refused c).Else-not-is_open in
+    let p = err_from_is_err_and c.from_residual-in_err-done.result
+    c.from_residual-in_err-done.ensures.1 in
     rw (p.1, p.2) (λ other.
-    let h = c.in_err-perform.ensures.refused other in
+    let h = c.in_err-done.ensures.refused other in
     (h.0, λ last led. left_bad (read at) h.1 led.0.before led.0.logged))
 
 pub returns-clause-led : goal.returns-clause-led

@@ -11,12 +11,12 @@ begin c = record {
 
 pub returns-in_default : goal.returns-in_default
 returns-in_default c =
-    c.say.ensures ∙ line_blank c.args.text.now
+    c.blank.ensures ∙ line_blank c.args.text.now
     (c.in_default.ensures.value ∙ ap (λ t. slice_get t 0) c.as_bytes.ensures.value)
 
 pub returns-then-first-eq35 : goal.returns-then-first-eq35
 returns-then-first-eq35 c =
-    c.say-then-first-eq35.ensures ∙ line_comment c.args.text.now c.in-Some.first.now
+    c.blank-then-first-eq35.ensures ∙ line_comment c.args.text.now c.in-Some.first.now
     (begin (goal.at.returns-then-first-eq35 c).In-Some) c.if-first-eq35.true
 
 pub command-requires-clause-other : goal.command-requires-clause-other

@@ -16,5 +16,5 @@ loop-place-preserved c = record {
   staged = rw c.in_ok-push_frame.ensures.done
       (staged_more (plain_ref c.in-Some.frame) _ c.requires.other
       (rw (sym c.loop-place.invariant.count) at c.in-Some.ensures)
-      (c.push_frame.ensures.spelled, refl) c.loop-place.invariant.staged);
+      (c.in_ok-push_frame.ensures.spelled, refl) c.loop-place.invariant.staged);
 }

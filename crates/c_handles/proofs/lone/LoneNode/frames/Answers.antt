@@ -5,7 +5,7 @@ use Rattle.c_handles.proofs.lone.LoneNode.frames.Goals as goal
 pub returns-then-packing-eq0-2 : goal.returns-then-packing-eq0-2
 returns-then-packing-eq0-2 c =
     let old = c.args.buffer.now in
-    let done = c.pack_window-packing.ensures in
+    let done = c.in_ok-packing.ensures.packed in
     let none = sym done.count ∙ c.if-packing-eq0-2.true in
     let bytes = window_none (length old) c.args.self.now.node.core c.args.to c.args.after none in (
       search rules,

@@ -24,10 +24,10 @@ returns-in_err-answer c =
     (gave_refusal (acts_by said.performs said.states said.unchanged said.leaves said.memory_free
     said.early said.turn))
 
-pub returns-else-is_change : goal.returns-else-is_change
-returns-else-is_change c =
-    gave_same (acts (goal.at.returns-else-is_change c).In_ok-answer)
-    (sym c.is_change.ensures ∙ c.if-is_change.false)
+pub returns-then-not-is_change : goal.returns-then-not-is_change
+returns-then-not-is_change c =
+    gave_same (acts (goal.at.returns-then-not-is_change c).In_ok-answer)
+    (sym c.is_change.ensures ∙ c.if-not-is_change.true)
 
 pub returns-then-self : goal.returns-then-self
 returns-then-self c =
@@ -37,9 +37,9 @@ returns-then-self c =
     in
     subst (λ n. Gave old n e (Ok c.in_ok-answer.answer)) (sym c.note.ensures.stays)
     (gave_noted (acts (goal.at.returns-then-self c).In_ok-answer)
-    (sym c.is_change.ensures ∙ c.if-is_change.true) (sym same) c.note.ensures.noted)
+    (sym c.is_change.ensures ∙ c.if-not-is_change.false) (sym same) c.note.ensures.noted)
 
 pub returns-else-self : goal.returns-else-self
 returns-else-self c =
     gave_unlogged (acts (goal.at.returns-else-self c).In_ok-answer)
-    (sym c.is_change.ensures ∙ c.if-is_change.true) c.if-self.false
+    (sym c.is_change.ensures ∙ c.if-not-is_change.false) c.if-self.false

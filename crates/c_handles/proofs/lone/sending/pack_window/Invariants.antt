@@ -7,6 +7,6 @@ invariant-loop-place l =
     record {
       holds : Holds l.fn.buffer
           (packing (length l.fn.buffer) l.node.core l.to l.after l.place) l.packing l.buffer;
-      needed : l.packing.needed ≤ 58 * l.place;
+      needed : l.packing.needed ≤ 70000 * l.place;
       count : l.packing.count ≤ l.place;
     }

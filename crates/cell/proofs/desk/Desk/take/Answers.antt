@@ -18,9 +18,10 @@ invariant_of-self-inside c =
     let seat = c.receive.new.seat in
     let box = inbox desk.seat c.args.from in
     let told = c.receive.ensures.taken in
+    let lost = c.receive.ensures.lost in
     let more = received-taken box c.args.from c.receive.result (known desk.seat) (known seat) told
-    in
+    lost in
     still-facts desk seat c.receive.ensures.same
-    (received-pair box c.args.from c.receive.result (known desk.seat) (known seat) told)
+    (received-pair box c.args.from c.receive.result (known desk.seat) (known seat) told lost)
     (subst (λ (ts : List Plain). AreTaken ts desk.node.early) (sym more.1)
     (taken-more (known desk.seat).taken more.0 desk.node.early desk.taken))

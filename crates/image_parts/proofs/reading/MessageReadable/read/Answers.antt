@@ -9,5 +9,5 @@ unfolding message_format
 returns-clause-value c =
     made _ _
     (both_read c.u64-stamp.ensures
-    (passed body_fits c.read_body-body.ensures (rw c.body_fits.ensures at c.check.ensures)))
+    (passed body_fits c.in_ok-body.ensures.value (rw c.body_fits.ensures at c.check.ensures)))
     refl

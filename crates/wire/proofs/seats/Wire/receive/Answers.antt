@@ -16,7 +16,7 @@ clear-bytes-requires-clause-wire c =
 
 pub clear-bytes-requires-clause-taken : goal.clear-bytes-requires-clause-taken
 clear-bytes-requires-clause-taken c =
-    let told = c.in_ok-taken.ensures.taken in
+    let told = c.in-Some.ensures.taken in
     let same = c.take.ensures.same in (
       (told.1.0 ∙ sym same.0, told.1.1 ∙ sym same.1),
       subst (λ (k : ℕ). k < c.args.self.now.nodes) (sym told.0) c.requires.from.0,
@@ -27,23 +27,16 @@ clear-bytes-requires-clause-taken c =
       ),
     )
 
-pub unreachable-requires : goal.unreachable-requires
-unreachable-requires c =
-    let told = c.in_ok-taken.ensures.taken in
-    let at = found-taken c.args.seat.now c.take.new.seat told.2.5.0 told.2.0 c.take.ensures.same
-    told.0 told.2.5.1 in
-    c.in-Err.ensures.only told.2.0 told.2.1
-    (c.deref.ensures.value ∙ c.clear-bytes.ensures.bytes told.2.0 at.1)
-
 pub returns-clause-same : goal.returns-clause-same
 returns-clause-same c =
     same-again c.args.seat.now c.take.new.seat c.clear-bytes.new.seat c.take.ensures.same
     c.clear-bytes.ensures.same
 
-pub returns-clause-taken : goal.returns-clause-taken
-returns-clause-taken c =
+-- what a frame that was taken says of the seat, and how its bytes are spelled
+pub returns-in-Ok-clause-taken : goal.returns-in-Ok-clause-taken
+returns-in-Ok-clause-taken c =
     let s = c.args.seat.now in
-    let told = c.in_ok-taken.ensures.taken in
+    let told = c.in-Some.ensures.taken in
     let f : Plain = told.2.0 in
     let at = found-taken s c.take.new.seat told.2.5.0 f c.take.ensures.same told.0 told.2.5.1 in
     let bytes : c.deref.result.now ≡ spelling f =
@@ -60,5 +53,32 @@ returns-clause-taken c =
             ∙ (λ i. clears (at.0 i) cleared.0 (told.2.5.1 i))
             ∙ ap (λ (g : Plain).
             emptied (inbox s c.args.from) told.2.5.0 cleared.0 g (known s)) (sym same),
+      ),
+    )
+
+pub returns-clause-lost : goal.returns-clause-lost
+returns-clause-lost c =
+    let s = c.args.seat.now in
+    let told = c.in-Some.ensures.taken in
+    let f : Plain = told.2.0 in
+    let at = found-taken s c.take.new.seat told.2.5.0 f c.take.ensures.same told.0 told.2.5.1 in
+    let bytes : c.deref.result.now ≡ spelling f =
+    c.deref.ensures.value ∙ c.clear-bytes.ensures.bytes f at.1 in
+    let cleared = c.clear-bytes.ensures.cleared in
+    let refused = c.in-Err.ensures.only f told.2.1 bytes in (
+      refused.0,
+      (
+        f,
+        refused.1,
+        (
+          told.2.2,
+          told.2.3 ∙ s.sits.me_is,
+          told.2.4,
+          (
+            told.2.5.0,
+            cleared.0,
+            cleared.1 ∙ (λ i. clears (at.0 i) cleared.0 (told.2.5.1 i)),
+          ),
+        ),
       ),
     )

@@ -2,8 +2,8 @@ use Rattle.std.proofs.Common.{◌≡◌, refl, subst, sym, arith}
 use Rattle.world.specs.Shows.{IsSim}
 use Rattle.world.specs.Spaces.{SpaceView}
 use Rattle.std.proofs.lemmas.Result.{err_from_is_err_and}
-use Rattle.msg.specs.Frames.{plain_ack}
 use Rattle.world.proofs.Deliveries.{deliver-to-itself, deliver-missing, deliver-never}
+use Rattle.world.proofs.Lacking.{given-at, message, message-only}
 use Rattle.world.proofs.Held.{delivered-space, given-sim, given-space, same-space}
 use Rattle.world.proofs.Steps.{no-node, past-either}
 use Rattle.world.proofs.sim.Sim.deliver.Goals as goal
@@ -25,21 +25,31 @@ returns-in_default c =
     (deliver-missing _ _ _ _ (omega (arith, c.count-count.ensures.value))
     (omega (arith, c.count-count.ensures.value)) c.if-from-to.false (sym c.in_default.ensures))
 
-pub returns-in_err-message : goal.returns-in_err-message
-returns-in_err-message c =
-    let p = err_from_is_err_and c.from_residual.result c.from_residual.ensures.1 in
-    rw (p.1, p.2)
-    (same-space refl (λ w shown. refl)
-    (deliver-never c.if-from-to.false (sym c.in-Some.ensures) _ c.in_err-message.ensures.refused
-    (λ x fits spelled stamp b is. c.in_err-message.ensures.only x fits spelled)))
+-- memory runs out for a letter
+pub returns-in-Memory : goal.returns-in-Memory
+returns-in-Memory c =
+    let m = message (c.in-Err.ensures.letter c.in-Memory.is) in
+    delivered-space _ _ _ c.if-from-to.false (sym c.in-Some.ensures) (message-only m.1)
+    (omega (arith, c.count-count.ensures.value))
+    (given-at (omega (arith, c.count-count.ensures.value)) c.site.ensures
+    (c.in_ok-told-in-Memory.ensures m.0 m.1))
 
-pub returns-in_default-2 : goal.returns-in_default-2
-returns-in_default-2 c =
+pub returns-in_err-told-in-Memory : goal.returns-in_err-told-in-Memory
+returns-in_err-told-in-Memory c =
+    let p = err_from_is_err_and c.from_residual.result c.from_residual.ensures.1 in
+    let m = message (c.in-Err.ensures.letter c.in-Memory.is) in
+    rw (p.1, p.2)
+    (delivered-space _ _ _ c.if-from-to.false (sym c.in-Some.ensures) (message-only m.1)
+    (omega (arith, c.count-count.ensures.value))
+    (given-at (omega (arith, c.count-count.ensures.value)) c.site.ensures
+    (c.in_err-told-in-Memory.ensures m.0 m.1)))
+
+pub returns-in_default-refusal : goal.returns-in_default-refusal
+returns-in_default-refusal c =
+    let n = c.in-Err.ensures.never c.in_default-refusal.not-Memory in
     same-space refl (λ w shown. refl)
-    (deliver-never c.if-from-to.false (sym c.in-Some.ensures) _ refl
-    (λ x fits spelled stamp b is.
-    let wrong : plain_ack c.in_default-2.field-0 ≡ x = rw c.in_default-2.is at
-    (c.in_ok-message.ensures.only x fits spelled) in absurd cc))
+    (deliver-never c.if-from-to.false (sym c.in-Some.ensures) _ n.0
+    (λ x fits spelled stamp b is. rw is at (n.1 x fits spelled)))
 
 pub returns-in_err-answer : goal.returns-in_err-answer
 returns-in_err-answer c =
@@ -47,7 +57,7 @@ returns-in_err-answer c =
     c.from_residual-in_err-answer.ensures.1 in
     rw (p.1, p.2)
     (delivered-space _ _ _ c.if-from-to.false (sym c.in-Some.ensures)
-    (λ x fits spelled. rw c.in-Data.is at (c.in_ok-message.ensures.only x fits spelled))
+    c.in-Ok.ensures.found
     (omega (arith, c.count-count.ensures.value))
     (given-space c.self.inside.sites.items c.self.view_is c.from.ensures
     (omega (arith, c.count-count.ensures.value)) c.index_mut-site.ensures.value
@@ -56,7 +66,7 @@ returns-in_err-answer c =
 pub returns : goal.returns
 returns c =
     delivered-space _ _ _ c.if-from-to.false (sym c.in-Some.ensures)
-    (λ x fits spelled. rw c.in-Data.is at (c.in_ok-message.ensures.only x fits spelled))
+    c.in-Ok.ensures.found
     (omega (arith, c.count-count.ensures.value))
     (given-space c.self.inside.sites.items c.self.view_is c.from.ensures
     (omega (arith, c.count-count.ensures.value)) c.index_mut-site.ensures.value

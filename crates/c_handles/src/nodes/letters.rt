@@ -1,0 +1,44 @@
+//! The oldest letter of a node, before the program accepts it.
+ghost use Rattle.std.specs.Prelude.{◌≡◌};
+ghost use Rattle.c_handles.specs.Reads.{letter_bytes, letter_of};
+ghost use Rattle.c_values.specs.Bytes.{WroteIf};
+ghost use Rattle.c_values.specs.Faults.{read};
+
+use super::NodeHandle;
+use c_values::Fault;
+use model::Accepted;
+use std::alloc::Global;
+
+impl NodeHandle {
+    /// What the program will be told of the oldest letter; see [`LoneNode::letter`].
+    pub fn letter(&mut self, alloc: Global) -> Result<Accepted, Fault>
+        ensures same { self.new.held ≡ self.old.held }
+        ensures value { result ≡ read (λ x. letter_of x.node.core.local) self.old.held }
+    {
+        let Some(node) = self.take(alloc) else {
+            return Err(Fault::NoHandle);
+        };
+        let letter = node.letter();
+        self.put(alloc, node);
+        letter
+    }
+
+    /// Writes the bytes of the oldest letter; see [`LoneNode::letter_bytes`].
+    pub fn letter_bytes(
+        &mut self,
+        alloc: Global,
+        buffer: &mut [u8],
+        needed: &mut usize,
+    ) -> Result<(), Fault>
+        ensures same { self.new.held ≡ self.old.held }
+        ensures wrote { WroteIf (read (λ x. letter_bytes x.node.core.local) self.old.held) result
+            buffer.old buffer.new needed.old needed.new }
+    {
+        let Some(node) = self.take(alloc) else {
+            return Err(Fault::NoHandle);
+        };
+        let wrote = node.letter_bytes(buffer, needed);
+        self.put(alloc, node);
+        wrote
+    }
+}

@@ -1,0 +1,347 @@
+// A node of an object space with all that runs it, except for how its packets travel:
+// libmarkring-host. It is what markring-node is made of, for programs that have their own loop and
+// their own transport. C11. docs/EMBEDDING.md ("Your loop, our host") says how to use it.
+//
+// There are two parts. A *store* keeps a node in a folder, safe against crashes. A *host* decides
+// what is sent when, answers programs, collects, and says what is to be saved. Programs speak to it
+// by requests of markring_remote.h, or are linked to it (markring_host_node).
+#ifndef MARKRING_HOST_H
+#define MARKRING_HOST_H
+
+#include <markring.h>
+
+#include <stdbool.h>
+
+#ifdef __cplusplus
+extern "C" {
+#endif
+
+// # Stores
+//
+// A folder in which one process keeps a value. It has two files, the slots `a` and `b`. A save
+// overwrites the slot that doesn't count with a whole value, or adds an entry behind the value that
+// counts, and behind its entries. The slot that counts is the whole one whose last save has the
+// higher number; whether a value or an entry is whole is shown by a checksum of 64 bits. What a
+// crash leaves of an entry that was being added isn't one, unless all of it is there.
+// docs/FORMATS.md ("Folders of processes") has the bytes.
+//
+// Nothing here waits for another process, starts a thread or reads a clock. All system calls go
+// through a table, so a test can put its own file system in their place.
+
+// Room that a save needs before the value or the entry, and behind it.
+enum { MARKRING_STORE_HEAD = 20, MARKRING_STORE_TAIL = 8 };
+
+typedef enum markring_store_status {
+    MARKRING_STORE_OK = 0,
+    // An allocation failed. Nothing has changed.
+    MARKRING_STORE_MEMORY,
+    // There is no such folder, or it has no slots.
+    MARKRING_STORE_ABSENT,
+    // The folder that would be created has a slot already.
+    MARKRING_STORE_EXISTS,
+    // Another process has the folder.
+    MARKRING_STORE_LOCKED,
+    // Neither slot is whole, or both have the same number. Or what was saved last was whole, and
+    // has changed since.
+    MARKRING_STORE_DAMAGED,
+    // Memory has what the disk hasn't, since a sync failed before, and somebody maps the files. The
+    // same may be tried again.
+    MARKRING_STORE_STALE,
+    // A call failed, and what counted still counts. The same may be tried again. `cause` says why.
+    MARKRING_STORE_FAILED,
+    // A sync failed: nobody knows whether the new value or the old one is on the disk. The process
+    // has to end, since another sync could succeed without having written. `cause` says why.
+    MARKRING_STORE_UNKNOWN
+} markring_store_status;
+
+// The system calls. Each returns what it opened, how many bytes it moved, or 0; or a negative
+// errno.
+typedef struct markring_store_calls {
+    void *context;
+    int (*make_folder)(void *context, const char *path);
+    int (*open_folder)(void *context, const char *path);
+    // Takes the lock of an open folder or file, without waiting. Its end is that of the process, or
+    // closing the descriptor.
+    int (*lock)(void *context, int descriptor);
+    // Writes the names in the folder, and those of the folder and of all above it, to the disk.
+    // Above it, a file system may have nothing to write.
+    int (*sync_names)(void *context, int folder);
+    // Opens a file in a folder, and makes it if `create` isn't 0.
+    int (*open_file)(void *context, int folder, const char *name, int create);
+    int64_t (*size)(void *context, int file);
+    int64_t (*read_at)(void *context, int file, uint8_t *bytes, size_t length, uint64_t offset);
+    int64_t (*write_at)(
+        void *context, int file, const uint8_t *bytes, size_t length, uint64_t offset);
+    int (*sync)(void *context, int file);
+    // Asks the system to drop from memory what it has of a file. It may keep what somebody maps.
+    int (*forget)(void *context, int file);
+    // Makes that a file is read from the disk, and not from memory; or, if `on` is 0, as usual. It
+    // can't be written meanwhile. -EINVAL if the file system can't do that.
+    int (*read_directly)(void *context, int file, int on);
+    void (*close)(void *context, int descriptor);
+} markring_store_calls;
+
+// Those of the operating system.
+extern const markring_store_calls MARKRING_STORE_SYSTEM;
+
+typedef struct markring_store {
+    markring_store_calls calls;
+    int folder;
+    int slots[2];
+    int counts;      // the slot that counts, 0 or 1
+    uint64_t number; // of the last save, also of one that failed
+    uint64_t end;    // the offset of the next entry, in the slot that counts
+    uint64_t seal;   // the checksum before that
+    uint64_t base;   // the checksum of the value in that slot
+    uint64_t length; // of that value
+    uint64_t size;   // of the file of that slot, at least
+    int cause;       // the errno of the last call that failed, also after the store was closed
+} markring_store;
+
+// A value with room around it: it begins at `buffer + MARKRING_STORE_HEAD`. `room` counts the value
+// and the room around it.
+//
+// `is_entry` says that it isn't a value, but is to be added behind the one that counts.
+//
+// If it was read, the entries behind it end at `buffer + end`; markring_store_next reads them.
+// `whole` is how many saves have to be whole values before an entry may be added: a slot of an
+// earlier version can't have entries, and shouldn't stay either, since earlier versions would open
+// it.
+typedef struct markring_store_value {
+    uint8_t *buffer;
+    size_t length, room;
+    bool is_entry;
+    size_t end;
+    int whole;
+} markring_store_value;
+
+// Makes the folder, unless it exists, and saves the first value in it. Only this user can read the
+// folder and its files. It is locked then, and the number of the save is 1. After any other status
+// the store is closed. MARKRING_STORE_EXISTS; MARKRING_STORE_LOCKED; MARKRING_STORE_FAILED;
+// MARKRING_STORE_UNKNOWN. After the last two the folder may have slots that aren't whole: remove
+// it, and create it again.
+markring_store_status markring_store_create(markring_store *it, const markring_store_calls *calls,
+    const char *path, markring_store_value *value);
+
+// Locks the folder and reads what counts; the caller frees `value->buffer`. Both slots and their
+// names are synced first, so that no failure can take back what was read. What memory has of the
+// slots is compared with the disk, if the file system can read past memory. After a sync that
+// failed, memory may have what the disk hasn't, and what is written over it may be lost too. After
+// any other status the store is closed and `value` is as it was. MARKRING_STORE_ABSENT;
+// MARKRING_STORE_LOCKED; MARKRING_STORE_DAMAGED; MARKRING_STORE_MEMORY; MARKRING_STORE_STALE;
+// MARKRING_STORE_FAILED; MARKRING_STORE_UNKNOWN.
+markring_store_status markring_store_open(markring_store *it, const markring_store_calls *calls,
+    const char *path, markring_store_value *value);
+
+// Saves a value, or adds an entry, with the next number. The bytes around it are overwritten.
+// MARKRING_STORE_FAILED, MARKRING_STORE_UNKNOWN. After MARKRING_STORE_FAILED its number isn't used
+// again: all of it may have been written, and it counts if the process ends before another save.
+markring_store_status markring_store_save(markring_store *it, markring_store_value *value);
+
+// The next entry behind a value that was read, or NULL. `*at` is 0 for the first entry, and is then
+// moved on.
+const uint8_t *markring_store_next(const markring_store_value *value, size_t *at, size_t *length);
+
+// Closes the folder, which another process may then lock.
+void markring_store_close(markring_store *it);
+
+// A status in words, for messages.
+const char *markring_store_text(markring_store_status status);
+
+// # Hosts
+//
+// One node of a space, run over any carrier of packets. The caller brings packets and requests, the
+// time, and a place to save; the host decides what is sent when, so that only what a stored image
+// holds leaves the node.
+//
+// The caller's loop is one turn after another:
+//
+//     markring_host_packet, markring_host_request, markring_host_control     for all that came
+//     markring_host_turn                                   collects, saves, answers, sends
+//     wait at most markring_host_wait milliseconds
+//
+// `save` of the calls begins a save, which may go on in another thread while the loop runs; when it
+// is over, the loop calls markring_host_saved. One thread at a time uses a host. Nothing here has a
+// socket, a thread or a clock: times are milliseconds of a clock of the caller that never goes
+// back.
+//
+// Once markring_host_end isn't MARKRING_HOST_RUNS, no call does anything any more.
+
+enum {
+    // The bytes of a space's id.
+    MARKRING_HOST_SPACE_ID = 8,
+    // A reply address is at most this long, with its final zero.
+    MARKRING_HOST_REPLY = 128,
+    MARKRING_HOST_NAME = 32, // of a space, at most; letters, digits, '-' and '_'
+    // Packets and requests that one turn should take.
+    MARKRING_HOST_TAKES = 512,
+    MARKRING_HOST_REASON = 640,
+    // An image of a node of a plain space has at most 67,108,864 bytes. Programs may let it grow up
+    // to MARKRING_HOST_IMAGE_MOST; messages and the collector, up to MARKRING_HOST_IMAGE_TIGHT.
+    // What is left is for messages that came before their turn, and for the ends of cycles. In wide
+    // spaces there is no limit.
+    MARKRING_HOST_LETTERS_MOST = 800000,
+    MARKRING_HOST_LETTER_BYTES_MOST = 268435456,
+    // The bytes of letters to one node that may be unacknowledged, unless another number is given.
+    MARKRING_HOST_BYTE_LIMIT = 67108864,
+    MARKRING_HOST_IMAGE_MOST = 41943040,
+    MARKRING_HOST_IMAGE_TIGHT = 62914560,
+    MARKRING_HOST_ENTRIES_LEAST = 1 << 20
+};
+
+typedef enum markring_host_end {
+    MARKRING_HOST_RUNS = 0,
+    // It was asked to leave, and all is saved.
+    MARKRING_HOST_LEFT,
+    // The folder is older than what other nodes have seen of this node, or is used twice.
+    MARKRING_HOST_OLDER,
+    // A sync failed: nobody knows what is on the disk.
+    MARKRING_HOST_UNSURE,
+    // The node's image is too large to be saved.
+    MARKRING_HOST_TOO_LARGE,
+    // The library answered what it never answers.
+    MARKRING_HOST_BROKEN
+} markring_host_end;
+
+// What a node is, from its creation on.
+typedef struct markring_host_shape {
+    char name[MARKRING_HOST_NAME + 1]; // of the space
+    uint8_t space[MARKRING_HOST_SPACE_ID];  // random; the same for all nodes of a space
+    uint8_t own, nodes;
+    uint16_t registers;
+    uint32_t slots;
+    // How many messages of programs to one node may be unacknowledged, and from how many bytes of
+    // letters on a program can post no more; 0 for any number.
+    uint64_t limit, byte_limit;
+    bool wide;
+    uint8_t places; // that an object has at most; at its creation a plain space may leave it out
+    uint32_t bytes; // that an object has at most; in a plain space 0
+} markring_host_shape;
+
+typedef struct markring_host_options {
+    // Node 0 begins a cycle this many milliseconds after the last one; 0 for never.
+    uint64_t cycle_every;
+    // Node 0 begins a cycle when there are twice as many objects as after the last one, and at
+    // least this many; 0 for never.
+    uint32_t cycle_objects;
+    // The node reclaims the young when this many objects were made since the last time; and all,
+    // when it has twice as many as after the last time that it did so, and at least this many. It
+    // does both when a program finds it full. 0 for never.
+    uint32_t reclaim_objects;
+    // While this many letters wait, or letters with this many bytes, the node takes no messages; 0
+    // for MARKRING_HOST_LETTERS_MOST and MARKRING_HOST_LETTER_BYTES_MOST.
+    uint64_t letters_most;
+    size_t letter_bytes_most;
+    // While the node's image has more bytes, events of programs that make it grow are refused; 0
+    // for MARKRING_HOST_IMAGE_MOST, or in a wide space for no limit.
+    size_t image_most;
+    // While it has more, or could have more by joining a cycle, the node takes no messages; 0 for
+    // MARKRING_HOST_IMAGE_TIGHT, or in a wide space for no limit.
+    size_t image_tight;
+    // The entries behind a whole value may have as many bytes as the value, or this many; 0 for
+    // MARKRING_HOST_ENTRIES_LEAST.
+    size_t entries_least;
+    // The folder is the newest one, whatever other nodes know; and what was heard of their
+    // processes is forgotten. For an operator who knows that a node has lied.
+    bool trusts_folder;
+    // Take the place of the folder's limits of unacknowledged messages, while this process runs.
+    bool has_limit, has_byte_limit;
+    uint64_t limit, byte_limit;
+} markring_host_options;
+
+typedef struct markring_host_calls {
+    void *context;
+    // Sends a packet to a node. It may be lost.
+    void (*send)(void *context, uint8_t to, const uint8_t *bytes, size_t length);
+    // Sends an answer to whoever asked. It may be lost.
+    void (*answer)(void *context, const char *reply, const uint8_t *bytes, size_t length);
+    // Begins to save the value. The caller may write to the room around it, but keeps the value
+    // until it calls markring_host_saved, also from within this call. No other save begins before
+    // that.
+    void (*save)(void *context, markring_store_value *value);
+} markring_host_calls;
+
+// What a host has counted since it was opened.
+typedef struct markring_host_counts {
+    uint64_t packets_in, packets_out, frames_in, frames_out, bytes_out, saves, failed_saves;
+    uint64_t requests, repeated_requests, refused_requests;
+    // Packets that aren't for this node or not of this space; frames that are malformed.
+    uint64_t foreign, malformed;
+    // Packets of earlier processes, and frames that came again or were sent again.
+    uint64_t outdated, repeats, resends;
+    // Frames that weren't taken because too many letters wait or the image is too large; what was
+    // dropped for lack of memory.
+    uint64_t full, dropped;
+    uint64_t freed, reclaimed; // objects, by cycles and without them
+} markring_host_counts;
+
+typedef struct markring_host markring_host;
+
+// Makes a new node of a space, as the value to be saved first. The caller frees `value->buffer`.
+// Returns MARKRING_OK, or the refusal of markring_node_make, or MARKRING_MEMORY.
+int markring_host_create(const markring_host_shape *shape, markring_store_value *value);
+
+// Opens the node of a value that was saved with this number. `nonce` is a random number, not 0.
+// Returns MARKRING_OK; MARKRING_MEMORY; or MARKRING_BAD_IMAGE if the value isn't that of a node.
+// The value isn't kept.
+int markring_host_open(markring_host **it, const markring_store_value *value, uint64_t number,
+    uint64_t nonce, const markring_host_options *options, const markring_host_calls *calls,
+    uint64_t now);
+
+// Makes a value of the node as it was opened, but of a space with another id. The host can't go on
+// after that. The caller frees `value->buffer`. Returns MARKRING_OK or what the library refuses.
+int markring_host_rename(markring_host *it, const uint8_t *space, markring_store_value *value);
+
+// Frees the host. What isn't saved is lost.
+void markring_host_free(markring_host *it);
+
+// A packet came, from the node that the carrier names as its sender.
+void markring_host_packet(
+    markring_host *it, uint64_t now, uint8_t from, const uint8_t *bytes, size_t length);
+
+// A request of a program came. The answer goes to `reply`, once all that it shows is stored.
+void markring_host_request(
+    markring_host *it, uint64_t now, const uint8_t *bytes, size_t length, const char *reply);
+
+// A word of the operator came: `status`, `begin` or `stop`. The answer is JSON. That to `stop`
+// comes once all is saved; the others come at once, and show what may not be saved yet.
+void markring_host_control(
+    markring_host *it, uint64_t now, const char *word, size_t length, const char *reply);
+
+// Collects, begins a save if one is due, answers programs and sends packets.
+void markring_host_turn(markring_host *it, uint64_t now);
+
+// The save that `save` began is over. `number` is that of the save, if it succeeded.
+void markring_host_saved(
+    markring_host *it, uint64_t now, markring_store_status status, uint64_t number);
+
+// How many milliseconds may pass before the next turn, if nothing comes.
+uint64_t markring_host_wait(markring_host *it, uint64_t now);
+
+// The carrier has a connection again after it had none: what isn't acknowledged is sent again.
+void markring_host_connected(markring_host *it, uint64_t now);
+
+// Asks the host to save all and to leave.
+void markring_host_leave(markring_host *it);
+
+markring_host_end markring_host_ended(const markring_host *it);
+
+// Why the host has ended, in words for an operator.
+const char *markring_host_reason(const markring_host *it);
+
+const markring_host_shape *markring_host_is(const markring_host *it);
+
+const markring_host_counts *markring_host_counted(const markring_host *it);
+
+// The node, for programs that are linked to the host, and for tests. Call markring_host_changed
+// after an event that was Ok, or markring_host_wrote after one that wrote this many bytes into an
+// object.
+markring_node *markring_host_node(markring_host *it);
+void markring_host_changed(markring_host *it);
+void markring_host_wrote(markring_host *it, size_t bytes);
+
+#ifdef __cplusplus
+}
+#endif
+
+#endif
