@@ -3,5 +3,6 @@ pub mod Formats
 pub mod Frames
 mod Heads
 pub mod Joins
+pub mod Placed
 pub mod Wholes
 pub mod Written

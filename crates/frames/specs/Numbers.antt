@@ -1,2 +1,2 @@
 -- The formats of numbers.
-pub use Rattle.codec.specs.Formats.{number4, number8}
+pub use Rattle.codec.specs.Formats.{number4, number8, signed8}

@@ -1,13 +1,13 @@
 //! Writes frames as bytes. Each frame has one spelling. A frame without bytes is put together in a
 //! piece, which allocates nothing. Frames with references and bytes go through a writer.
-ghost use Rattle.std.specs.Prelude.{◌≡◌, ◌<◌, ◌≤◌, ◌+◌, ◌^◌, ◌∷◌, ◌++◌, length, IfOk, IfErr};
+ghost use Rattle.std.specs.Prelude.{◌≡◌, ◌<◌, ◌≤◌, ◌+◌, ◌^◌, ◌∷◌, ◌++◌, [], length, IfOk, IfErr};
 ghost use Rattle.std.specs.Prelude.{Bool, true, false, not};
 ghost use Rattle.ids.specs.declared.refusal.Refusal.TheVariants.{Memory};
-ghost use Rattle.codec.specs.Formats.{number4, number8};
+ghost use Rattle.codec.specs.Formats.{byte, number4, number8};
 ghost use Rattle.codec.specs.Pieces.{Adds};
 ghost use Rattle.codec.specs.Writing.{Puts, PutsAll, Writes};
 ghost use Rattle.codec.specs.declared.piece.TheConstants.{GREATEST_PIECE};
-ghost use Rattle.frames.specs.Formats.{reference, optional, colour, token, body_format, head};
+ghost use Rattle.frames.specs.Formats.{reference, optional, colour, token, get, body_format, head};
 ghost use Rattle.frames.specs.Formats.{IsCounted};
 ghost use Rattle.frames.specs.declared.version.Version.TheVariants.{Second};
 ghost use Rattle.frames.specs.Grammar.{Fits, spelling, frame, first_byte, is_letter};
@@ -122,15 +122,101 @@ pub fn add_token(piece: &mut Piece, t: Token)
     piece.i64(t.q);
 }
 
-// Appends a token.
-#[tactic(auto, using(crate::proofs::Joins::piece_written))]
+// A token after its tag.
+#[tactic(auto, unfolding(crate::specs::Formats::token, crate::specs::Formats::colour, crate::specs::Numbers::signed8))]
+#[inline(always)]
+fn token_bytes(t: Token) -> [u8; 10]
+    ensures { result ≡ 2 ∷ token.spell t }
+{
+    let mut part = [0; 10];
+    part[0] = TOKEN;
+    part[1] = match t.colour {
+        Colour::White => WHITE,
+        Colour::Black => BLACK,
+    };
+    BigEndian::write_i64(&mut part[2..], t.q);
+    part
+}
+
+// Appends a token after its tag.
+#[tactic(auto, unfolding(crate::specs::Formats::token, crate::specs::Formats::colour, crate::specs::Numbers::signed8))]
 #[inline(always)]
 fn put_token(out: &mut Writer, t: Token)
-    ensures { Puts token out.old out.new t }
+    ensures { Writes out.old out.new (2 ∷ token.spell t) (token.IsWide t) }
 {
-    let mut piece = Piece::new();
-    add_token(&mut piece, t);
-    out.piece(piece);
+    out.array(token_bytes(t));
+}
+
+// A label after the tag of a letter.
+#[tactic(auto, unfolding(crate::specs::Numbers::number4))]
+#[inline(always)]
+fn label_bytes(label: u32) -> [u8; 5]
+    ensures { result ≡ 4 ∷ number4.spell label }
+{
+    let mut part = [0; 5];
+    part[0] = GIVE;
+    BigEndian::write_u32(&mut part[1..], label);
+    part
+}
+
+// Appends a label after the tag of a letter.
+#[tactic(auto, unfolding(crate::specs::Numbers::number4))]
+#[inline(always)]
+fn put_label(out: &mut Writer, label: u32)
+    ensures { Writes out.old out.new (4 ∷ number4.spell label) (number4.IsWide label) }
+{
+    out.array(label_bytes(label));
+}
+
+// An object and one of its places after the tag of a Put.
+#[tactic(auto, unfolding(crate::specs::Formats::reference, crate::specs::Numbers::number4, crate::specs::Numbers::number8))]
+#[inline(always)]
+fn put_bytes(target: Ref, place: u8) -> [u8; 15]
+    ensures { result ≡ 5 ∷ ((reference Second).spell target ++ place ∷ []) }
+{
+    let mut part = [0; 15];
+    part[0] = PUT;
+    part[1] = target.node;
+    BigEndian::write_u32(&mut part[2..], target.slot);
+    BigEndian::write_u64(&mut part[6..], target.generation);
+    part[14] = place;
+    part
+}
+
+// Appends an object and one of its places after the tag of a Put.
+#[tactic(auto, unfolding(crate::specs::Formats::reference, crate::specs::Numbers::number4, crate::specs::Numbers::number8))]
+#[inline(always)]
+fn put_place(out: &mut Writer, target: Ref, place: u8)
+    ensures { Writes out.old out.new (5 ∷ ((reference Second).spell target ++ place ∷ []))
+        ((reference Second).IsWide target × byte.IsWide place) }
+{
+    out.array(put_bytes(target, place));
+}
+
+// An object, one of its places and a label after the tag of a Get.
+#[tactic(auto, unfolding(crate::specs::Formats::reference, crate::specs::Numbers::number4, crate::specs::Numbers::number8))]
+#[inline(always)]
+fn get_bytes(target: Ref, place: u8, label: u32) -> [u8; 19]
+    ensures { result ≡ 6 ∷ (get Second).spell (target, (place, label)) }
+{
+    let mut part = [0; 19];
+    part[0] = GET;
+    part[1] = target.node;
+    BigEndian::write_u32(&mut part[2..], target.slot);
+    BigEndian::write_u64(&mut part[6..], target.generation);
+    part[14] = place;
+    BigEndian::write_u32(&mut part[15..], label);
+    part
+}
+
+// Appends an object, one of its places and a label after the tag of a Get.
+#[tactic(auto, unfolding(crate::specs::Formats::reference, crate::specs::Numbers::number4, crate::specs::Numbers::number8))]
+#[inline(always)]
+fn put_get(out: &mut Writer, target: Ref, place: u8, label: u32)
+    ensures { Writes out.old out.new (6 ∷ (get Second).spell (target, (place, label)))
+        ((get Second).IsWide (target, (place, label))) }
+{
+    out.array(get_bytes(target, place, label));
 }
 
 // Appends optional references one after another.
@@ -176,7 +262,7 @@ fn put_fetch(out: Writer, target: Ref, label: u32, offset: u32, count: u32) -> W
 }
 
 /// Appends a tag and what the message says.
-#[tactic(auto, unfolding(crate::specs::Formats::body_format), using(crate::proofs::Joins::behind, crate::proofs::Joins::both, crate::proofs::Joins::first))]
+#[tactic(auto, unfolding(crate::specs::Formats::body_format), using(crate::proofs::Joins::both, crate::proofs::Placed::placed))]
 #[inline(always)]
 pub fn put_body(out: &mut Writer, body: &Body)
     requires { IsCounted body.now }
@@ -184,14 +270,10 @@ pub fn put_body(out: &mut Writer, body: &Body)
 {
     match *body {
         Body::Begin => out.u8(BEGIN),
-        Body::Token(token) => {
-            out.u8(TOKEN);
-            put_token(out, token);
-        }
+        Body::Token(token) => put_token(out, token),
         Body::Mark { target } => put_tagged(out, MARK, target),
         Body::Give { label, reference } => {
-            out.u8(GIVE);
-            out.u32(label);
+            put_label(out, label);
             put_optional(out, reference);
         }
         Body::Put {
@@ -199,19 +281,14 @@ pub fn put_body(out: &mut Writer, body: &Body)
             place,
             reference,
         } => {
-            put_tagged(out, PUT, target);
-            out.u8(place);
+            put_place(out, target, place);
             put_optional(out, reference);
         }
         Body::Get {
             target,
             place,
             label,
-        } => {
-            put_tagged(out, GET, target);
-            out.u8(place);
-            out.u32(label);
-        }
+        } => put_get(out, target, place, label),
         Body::Post {
             label,
             ref references,
