@@ -1,5 +1,5 @@
 -- A tag, an object and one of its places in one piece, and what follows them.
-use Rattle.std.proofs.Common.{◌≡◌, ℕ, List, [], ◌∷◌, ◌++◌, subst, append_assoc}
+use Rattle.std.proofs.Common.{ℕ, List, [], ◌∷◌, ◌++◌, subst, append_assoc}
 use Rattle.codec.specs.declared.writer.Writer.{Writer}
 use Rattle.codec.specs.Writing.{Writes}
 use Rattle.codec.proofs.Writing.{both, so}

@@ -1,5 +1,5 @@
 -- What is read behind the first byte of a frame, to its end.
-use Rattle.std.proofs.Common.{◌≡◌, ℕ, Bool, true, false, List, [], ◌∷◌, Option, Some, None}
+use Rattle.std.proofs.Common.{◌≡◌, ℕ, Bool, true, false, not, List, [], ◌∷◌, Option, Some, None}
 use Rattle.std.proofs.Common.{Result, Ok, Err, refl, sym, ap, subst, ◌∙◌}
 use Rattle.std.specs.Prelude.{IfOk, IfErr}
 use Rattle.std.specs.Option.{option_map}
@@ -11,6 +11,7 @@ use Rattle.codec.specs.declared.reader.Reader.{Reader}
 use Rattle.codec.specs.Readers.{left, is_whole, whole_of, with_rest, Reads, Takes}
 use Rattle.codec.proofs.Readers.{all_read, not_all_read, let_through, made_of, tested}
 use Rattle.msg.specs.Frames.{Plain, plain}
+use Rattle.msg.specs.Frames as msg
 use Rattle.msg.specs.declared.frame.Frame.{Frame}
 use Rattle.ids.specs.declared.refusal.Refusal.{Refusal}
 use Rattle.ids.specs.declared.refusal.Refusal.TheVariants.{Memory, BadFrame}
@@ -18,7 +19,7 @@ use Rattle.frames.specs.declared.version.Version.TheVariants.{Second}
 use Rattle.frames.specs.Formats.{Head, Sent, head, framed, is_framed, post, post_at, bodies, body_tag}
 use Rattle.frames.specs.Formats.{body_format}
 use Rattle.frames.specs.Grammar.{data_at, frame, frames, is_letter}
-use Rattle.frames.specs.Decoding.{Decodes, wide_frame}
+use Rattle.frames.specs.Decoding.{Decodes, message_of}
 use Rattle.frames.proofs.Formats.{Posted, post_of}
 use Rattle.frames.proofs.Frames.{data_of}
 use Rattle.frames.proofs.Written.{parts}
@@ -46,33 +47,52 @@ module _ {A : Type 0} (read : codec.Reader A) (a b : Reader) (o : Option A) (too
 
 pub ruleset left_taken = (left_read, left_over)
 
--- ---- a message for which plain spaces have no room
+-- ---- a message for which plain spaces have room or not
 
-module _ {a b : Reader} {x : Sent} (took : Reads parts a b x) where
-  pub wide_taken : is_framed false x ≡ true → Takes (data_at false) a b (Some (data_of x))
+module _ (plain : Bool) {a b : Reader} {x : Sent}
+    (took : Reads (head & number8 & body_format (not plain) Second) a b x) where
+  message_taken : is_framed plain x ≡ true → Takes (data_at plain) a b (Some (data_of x))
   unfolding data_at framed
-  wide_taken is = made_of data_of (let_through (is_framed false) took is) refl
+  message_taken is = made_of data_of (let_through (is_framed plain) took is) refl
 
-  pub wide_left : is_framed false x ≡ false → Takes (data_at false) a b None
+  message_left : is_framed plain x ≡ false → Takes (data_at plain) a b None
   unfolding data_at framed
-  wide_left is =
-      tested (is_framed false) took data_of plain None
+  message_left is =
+      tested (is_framed plain) took data_of msg.plain None
       (λ h. absurd (false≢true h), λ t. sym is ∙ t) tt
 
-  pub wide_whole : is_whole b ≡ true → is_framed false x ≡ true → wide_frame a ≡ Some (data_of x)
-  wide_whole whole is = left_read (data_at false) a b (Some (data_of x)) (wide_taken is) whole
+  pub message_whole : is_whole b ≡ true → is_framed plain x ≡ true
+      → message_of plain a ≡ Some (data_of x)
+  message_whole whole is =
+      left_read (data_at plain) a b (Some (data_of x)) (message_taken is) whole
 
-  pub wide_unfit : is_framed false x ≡ false → wide_frame a ≡ None
-  wide_unfit is = by (is_whole b) refl where
-    by : (w : Bool) → is_whole b ≡ w → wide_frame a ≡ None
-    by true whole = left_read (data_at false) a b None (wide_left is) whole
-    by false whole = left_over (data_at false) a b None (wide_left is) whole
+  pub message_unfit : is_framed plain x ≡ false → message_of plain a ≡ None
+  message_unfit is = by (is_whole b) refl where
+    by : (w : Bool) → is_whole b ≡ w → message_of plain a ≡ None
+    by true whole = left_read (data_at plain) a b None (message_left is) whole
+    by false whole = left_over (data_at plain) a b None (message_left is) whole
 
-  pub wide_over : is_whole b ≡ false → wide_frame a ≡ None
-  wide_over whole = by (is_framed false x) refl where
-    by : (t : Bool) → is_framed false x ≡ t → wide_frame a ≡ None
-    by true is = left_over (data_at false) a b (Some (data_of x)) (wide_taken is) whole
-    by false is = left_over (data_at false) a b None (wide_left is) whole
+  pub message_over : is_whole b ≡ false → message_of plain a ≡ None
+  message_over whole = by (is_framed plain x) refl where
+    by : (t : Bool) → is_framed plain x ≡ t → message_of plain a ≡ None
+    by true is = left_over (data_at plain) a b (Some (data_of x)) (message_taken is) whole
+    by false is = left_over (data_at plain) a b None (message_left is) whole
+
+  -- what is returned
+  pub over_decodes : is_whole b ≡ false → Decodes (Err BadFrame) (message_of plain a)
+  over_decodes whole = subst (Decodes (Err BadFrame)) (sym (message_over whole)) refl
+
+  pub unfit_decodes : is_framed plain x ≡ false → Decodes (Err BadFrame) (message_of plain a)
+  unfit_decodes is = subst (Decodes (Err BadFrame)) (sym (message_unfit is)) refl
+
+  pub message_decodes : (r : Result Frame Refusal) → is_whole b ≡ true
+      → IfOk r (λ f. msg.plain f ≡ data_of x) → IfOk r (λ f. is_framed plain x ≡ true)
+      → IfErr r (λ e. (e ≡ BadFrame) × (is_framed plain x ≡ false))
+      → Decodes r (message_of plain a)
+  message_decodes (Ok f) whole made fits refused =
+      message_whole whole fits ∙ ap Some (sym made)
+  message_decodes (Err e) whole made fits refused =
+      subst (Decodes (Err e)) (sym (message_unfit refused.1)) refused.0
 
 -- ---- behind a tag
 
@@ -146,46 +166,35 @@ letter_parts one two =
 
 -- ---- what is returned
 
-pub over_decodes : {a b : Reader} {x : Sent} → Reads parts a b x → is_whole b ≡ false
-    → Decodes (Err BadFrame) (wide_frame a)
-over_decodes took whole = subst (Decodes (Err BadFrame)) (sym (wide_over took whole)) refl
-
-pub unfit_decodes : {a b : Reader} {x : Sent} → Reads parts a b x → is_framed false x ≡ false
-    → Decodes (Err BadFrame) (wide_frame a)
-unfit_decodes took is = subst (Decodes (Err BadFrame)) (sym (wide_unfit took is)) refl
-
-pub message_decodes : {a b : Reader} {x : Sent} (r : Result Frame Refusal) → Reads parts a b x
-    → is_whole b ≡ true → IfOk r (λ f. plain f ≡ data_of x) → IfOk r (λ f. is_framed false x ≡ true)
-    → IfErr r (λ e. (e ≡ BadFrame) × (is_framed false x ≡ false)) → Decodes r (wide_frame a)
-message_decodes (Ok f) took whole made fits refused =
-    wide_whole took whole fits ∙ ap Some (sym made)
-message_decodes (Err e) took whole made fits refused =
-    subst (Decodes (Err e)) (sym (wide_unfit took refused.1)) refused.0
-
 pub lacking_decodes : {a b : Reader} {x : Sent} {e : Refusal} → Reads parts a b x
     → is_whole b ≡ true → is_framed false x ≡ true → is_letter (data_of x) ≡ true → e ≡ Memory
-    → Decodes (Err e) (wide_frame a)
+    → Decodes (Err e) (message_of false a)
 lacking_decodes {e = e} took whole fits letter lacks =
-    subst (Decodes (Err e)) (sym (wide_whole took whole fits)) (lacks, letter)
+    subst (Decodes (Err e)) (sym (message_whole false took whole fits)) (lacks, letter)
 
 -- a first byte, and what is behind it
-pub first_whole : {a b : Reader} {t : ℕ} (bytes : List ℕ) → left a ≡ Some bytes → Reads byte a b t
-    → (left b >>= whole_at (behind frames t)) ≡ whole_at frame.read bytes
+pub first_whole : {a b : Reader} {t : ℕ} (read : codec.Reader Plain) (bytes : List ℕ)
+    → left a ≡ Some bytes → Reads byte a b t
+    → ((rest : List ℕ) → behind frames t rest ≡ read rest)
+    → (left b >>= whole_at read) ≡ whole_at frame.read bytes
 unfolding frame whole_at
-first_whole {b = b} {t = t} bytes all took = by (left b) (rw all at took.is) where
+first_whole {b = b} {t = t} read bytes all took same = by (left b) (rw all at took.is) where
   by : (q : Option (List ℕ)) → byte_at bytes ≡ with_rest t q
-      → (q >>= whole_at (behind frames t)) ≡ whole_at frame.read bytes
+      → (q >>= whole_at read) ≡ whole_at frame.read bytes
   by None e = rw e refl
-  by (Some rest) e = rw e refl
+  by (Some rest) e = rw (e, same rest) refl
 
-pub wide_first : {a b : Reader} {t : ℕ} (bytes : List ℕ) → left a ≡ Some bytes → Reads byte a b t
-    → t ≡ 0x46 → wide_frame b ≡ whole_at frame.read bytes
-unfolding frame whole_at
-wide_first {b = b} {t = t} bytes all took is = by (left b) (rw all at took.is) where
-  by : (q : Option (List ℕ)) → byte_at bytes ≡ with_rest t q
-      → (q >>= whole_at (data_at false)) ≡ whole_at frame.read bytes
-  by None e = rw e refl
-  by (Some rest) e = rw (e, is) refl
+-- a byte that begins no frame
+pub first_unknown : {a b : Reader} {t : ℕ} (bytes : List ℕ) → left a ≡ Some bytes
+    → Reads byte a b t → ((rest : List ℕ) → behind frames t rest ≡ None)
+    → whole_at frame.read bytes ≡ None
+unfolding whole_at
+first_unknown {b = b} bytes all took none =
+    sym (first_whole (λ rest. None) bytes all took none) ∙ by (left b)
+  where
+    by : (q : Option (List ℕ)) → (q >>= whole_at {A = Plain} (λ rest. None)) ≡ None
+    by None = refl
+    by (Some rest) = refl
 
 pub plain_decodes : (r : Result Frame Refusal) (o : Option Plain)
     → o ≡ option_map plain (result_ok r) → IfErr r (λ e. e ≡ BadFrame) → Decodes r o

@@ -1,14 +1,14 @@
 -- What the code decodes.
-use Rattle.std.specs.Prelude.{ℕ, ◌≡◌, true, false, List, Option, Some, None, Result, Ok, Err}
+use Rattle.std.specs.Prelude.{ℕ, ◌≡◌, Bool, true, false, List, Option, Some, None, Result, Ok, Err}
 use Rattle.ids.specs.declared.refusal.Refusal.{Refusal}
 use Rattle.ids.specs.declared.refusal.Refusal.TheVariants.{Memory, BadFrame}
-use Rattle.codec.specs.Formats.{◌&◌, behind, byte, number8, whole_at, ◌>>=◌}
+use Rattle.codec.specs.Formats.{◌&◌, byte, number8, whole_at, ◌>>=◌}
 use Rattle.codec.specs.declared.reader.Reader.{Reader}
 use Rattle.codec.specs.Readers.{left, Reads}
 use Rattle.msg.specs.declared.frame.Frame.{Frame}
 use Rattle.msg.specs.Frames.{Plain, plain}
 use Rattle.frames.specs.Formats.{Head, head}
-use Rattle.frames.specs.Grammar.{Fits, spelling, is_letter, data_at, frames}
+use Rattle.frames.specs.Grammar.{Fits, spelling, is_letter, data_at, ack_at}
 
 -- What a function returned is the frame that is to be read, or it refused bytes that spell no frame.
 -- Memory runs out only at a letter with references and bytes.
@@ -26,16 +26,17 @@ IsDecoded f (Err e) = (e ≡ Memory) × (is_letter f ≡ true)
 abbrev pub SpellLetter : List ℕ → Type 0
 SpellLetter bytes = (f : Plain) × Fits f × (is_letter f ≡ true) × (bytes ≡ spelling f)
 
--- the frame of all that was left behind this first byte
-abbrev pub frame_behind : ℕ → Reader → Option Plain
-frame_behind first r = left r >>= whole_at (behind frames first)
+-- the message of all that was left, for which plain spaces have room or not
+abbrev pub message_of : Bool → Reader → Option Plain
+message_of plain r = left r >>= whole_at (data_at plain)
 
--- the frame of all that was left, of a message for which plain spaces have no room
-abbrev pub wide_frame : Reader → Option Plain
-wide_frame r = left r >>= whole_at (data_at false)
+-- the acknowledgement of all that was left
+abbrev pub ack_of : Reader → Option Plain
+ack_of r = left r >>= whole_at ack_at
 
--- the same, if the parts before the body and the tag of the body were read already
+-- The message is read for which plain spaces have no room, if the parts before its body and the tag
+-- of its body were read already.
 abbrev pub DecodesBehind : Head → ℕ → ℕ → Reader → Result Frame Refusal → Type 0
 DecodesBehind front stamp tag now result =
     (start : Reader) → Reads (head & number8 & byte) start now (front, (stamp, tag))
-    → Decodes result (wide_frame start)
+    → Decodes result (message_of false start)

@@ -9,7 +9,7 @@ ghost use Rattle.frames.specs.Formats.{give_at, put_at, get_at, post, post_at, f
 ghost use Rattle.frames.specs.Formats.{plain_bodies, bodies, body_format, head, is_framed};
 ghost use Rattle.frames.specs.Grammar.{Fits, spelling, data_at, ack_at, frame, frames};
 ghost use Rattle.frames.specs.Decoding.{Decodes, DecodesBehind, IsDecoded, SpellLetter};
-ghost use Rattle.frames.specs.Decoding.{frame_behind, wide_frame};
+ghost use Rattle.frames.specs.Decoding.{ack_of, message_of};
 ghost use Rattle.frames.specs.Heads.{IsHead};
 ghost use Rattle.codec.specs.Formats.{behind, byte, counted, many, whole_at};
 ghost use Rattle.std.specs.Result.{result_ok};
@@ -324,25 +324,29 @@ fn read_head(reader: &mut Reader) -> (u8, (u8, u64))
     (from, (to, number))
 }
 
-// A message for which plain spaces have room.
-#[inline(always)]
-fn read_data(reader: &mut Reader) -> Option<Frame>
-    ensures { Takes (data_at true) reader.old reader.new (option_map plain result) }
+// The message that all of the bytes spell, behind its first byte, if plain spaces have room for it.
+// (It is put together once, where the caller wants it.)
+#[inline(never)]
+fn whole_data(start: Reader) -> Result<Frame, Refusal>
+    ensures { Decodes result (message_of true start.entry) }
 {
-    let (from, (to, number)) = read_head(reader);
-    let stamp = reader.u64();
-    let body = read_body(reader, Version::Second);
-    if plain_data_fits(from, to, number, stamp, &body) {
-        Some(Frame::Data(Data {
-            from,
-            to,
-            number,
-            stamp,
-            body,
-        }))
-    } else {
-        None
+    let mut rest = start;
+    let (from, (to, number)) = read_head(&mut rest);
+    let stamp = rest.u64();
+    let body = read_body(&mut rest, Version::Second);
+    if !rest.finish() {
+        return Err(Refusal::BadFrame);
     }
+    if !plain_data_fits(from, to, number, stamp, &body) {
+        return Err(Refusal::BadFrame);
+    }
+    Ok(Frame::Data(Data {
+        from,
+        to,
+        number,
+        stamp,
+        body,
+    }))
 }
 
 // ---- messages for which plain spaces have no room
@@ -441,7 +445,7 @@ fn whole_letter(
 // The message that all of the bytes spell, behind its first byte.
 #[inline(never)]
 fn whole_wide(alloc: Global, start: Reader) -> Result<Frame, Refusal>
-    ensures { Decodes result (wide_frame start.entry) }
+    ensures { Decodes result (message_of false start.entry) }
 {
     let mut rest = start;
     let (from, (to, number)) = read_head(&mut rest);
@@ -466,36 +470,19 @@ fn read_ack(reader: &mut Reader) -> Option<Ack>
     Ack::new(by, of, number)
 }
 
-// A frame behind its first byte, unless that is the one of messages for which plain spaces have no
-// room.
-#[tactic(auto, using(crate::proofs::Joins::tags))]
-#[inline(always)]
-fn read_frame(tag: u8, reader: &mut Reader) -> Option<Frame>
-    requires { tag ≢ 0x46 }
-    ensures { Takes (behind frames tag) reader.old reader.new (option_map plain result) }
-{
-    match tag {
-        DATA => read_data(reader),
-        ACK => read_ack(reader).map(Frame::Ack),
-        _ => None,
-    }
-}
-
-// The frame that all of the bytes spell, behind its first byte.
+// The acknowledgement that all of the bytes spell, behind its first byte.
 #[tactic(auto, using(crate::proofs::Wholes::left_taken))]
-#[inline(never)]
-fn whole_behind(tag: u8, start: Reader) -> Result<Frame, Refusal>
-    requires { tag ≢ 0x46 }
-    ensures value { frame_behind tag start.entry ≡ option_map plain (result_ok result) }
+fn whole_ack(start: Reader) -> Result<Frame, Refusal>
+    ensures value { ack_of start.entry ≡ option_map plain (result_ok result) }
     ensures refused { IfErr result (λ e. e ≡ BadFrame) }
 {
     let mut reader = start;
-    let frame = read_frame(tag, &mut reader);
+    let ack = read_ack(&mut reader);
     if !reader.finish() {
         return Err(Refusal::BadFrame);
     }
-    match frame {
-        Some(frame) => Ok(frame),
+    match ack {
+        Some(ack) => Ok(Frame::Ack(ack)),
         None => Err(Refusal::BadFrame),
     }
 }
@@ -506,11 +493,12 @@ fn whole(alloc: Global, bytes: &[u8]) -> Result<Frame, Refusal>
     ensures { Decodes result (whole_at frame.read bytes.now) }
 {
     let mut reader = Reader::new(bytes);
-    let tag = reader.u8();
-    if tag == WIDE_DATA {
-        return whole_wide(alloc, reader);
+    match reader.u8() {
+        DATA => whole_data(reader),
+        ACK => whole_ack(reader),
+        WIDE_DATA => whole_wide(alloc, reader),
+        _ => Err(Refusal::BadFrame),
     }
-    whole_behind(tag, reader)
 }
 
 /// What a letter with references and bytes says before them, and how many it has.

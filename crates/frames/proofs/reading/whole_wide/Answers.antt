@@ -1,4 +1,4 @@
-use Rattle.std.proofs.Common.{true, sym, ◌∙◌}
+use Rattle.std.proofs.Common.{false, true, sym, ◌∙◌}
 use Rattle.codec.proofs.Readers.{both_read, of_tag}
 use Rattle.frames.specs.declared.version.Version.TheVariants.{Second}
 use Rattle.frames.specs.Formats.{bodies, body_format, body_tag}
@@ -14,7 +14,7 @@ returns-then-tag-eq-POST c =
 pub returns-then-not-finish : goal.returns-then-not-finish
 unfolding body_format
 returns-then-not-finish c =
-    over_decodes
+    over_decodes false
     (both_read c.read_head-from.ensures (both_read c.u64-stamp.ensures
     (of_tag (body_tag true Second) (bodies true Second) c.u8-tag.ensures c.read_short-body.ensures)))
     (sym c.finish.ensures ∙ c.if-not-finish.true)
@@ -22,8 +22,9 @@ returns-then-not-finish c =
 pub returns : goal.returns
 unfolding body_format
 returns c =
-    message_decodes c.wide_message.result
+    message_decodes false
     (both_read c.read_head-from.ensures (both_read c.u64-stamp.ensures
     (of_tag (body_tag true Second) (bodies true Second) c.u8-tag.ensures c.read_short-body.ensures)))
-    (sym c.finish.ensures ∙ c.if-not-finish.false) c.wide_message.ensures.made
+    c.wide_message.result (sym c.finish.ensures ∙ c.if-not-finish.false)
+    c.wide_message.ensures.made
     c.wide_message.ensures.fits c.wide_message.ensures.refused
