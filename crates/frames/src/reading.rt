@@ -325,7 +325,7 @@ fn read_head(reader: &mut Reader) -> (u8, (u8, u64))
 }
 
 // The message that all of the bytes spell, behind its first byte, if plain spaces have room for it.
-// (It is put together once, where the caller wants it.)
+// (It is put together once, in its place.)
 #[inline(never)]
 fn whole_data(start: Reader) -> Result<Frame, Refusal>
     ensures { Decodes result (message_of true start.entry) }
