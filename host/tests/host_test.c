@@ -574,7 +574,7 @@ static void test_old_folder(void)
         HOLDS(markring_node_state(host_node(at.host), &state) == MARKRING_OK && state.live == 1);
         settle(&at, STORE_OK);
         HOLDS(at.end > STORE_HEAD + at.length + STORE_TAIL || i == 0);
-        HOLDS(at.stored[STORE_HEAD] == 0x82);
+        HOLDS(at.stored[STORE_HEAD] == 0x83);
         drop(&at);
         at.nonce++;
     }
