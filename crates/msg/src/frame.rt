@@ -221,7 +221,7 @@ fn fits_plain_body(body: &Body) -> bool
 
 /// Whether a message of these parts is within the limits, and a plain space has room for it; see
 /// [`is_plain_body`].
-#[inline(never)]
+#[inline(always)]
 pub fn plain_data_fits(from: u8, to: u8, number: u64, stamp: u64, body: &Body) -> bool
     ensures { result ≡ (data_fits from to number stamp body.now && is_plain_body body.now) }
 {

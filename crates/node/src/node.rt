@@ -128,7 +128,7 @@ impl Node {
         // events need not go through memory.)
         match *event {
             Event::Data(ref frame) => {
-                let taken = self.take(frame);
+                let taken = self.receive(frame);
                 taken
             }
             Event::Next { from } => {
@@ -149,8 +149,10 @@ impl Node {
         self.core.perform(other)
     }
 
+    /// Receives a message. This is the event [`Event::Data`], as [`Node::act`] performs it; none is
+    /// made, since that would copy the message.
     #[inline(always)]
-    fn take(&mut self, frame: &Data) -> Result<Answer, Refusal>
+    pub fn receive(&mut self, frame: &Data) -> Result<Answer, Refusal>
         ensures { Handled self.old self.new (event.Data frame.now) result }
     {
         let taken = self.core.taken_from(frame.from);

@@ -9,17 +9,18 @@ use Rattle.frames.specs.Formats.{framed}
 use Rattle.frames.specs.Grammar.{Fits, frame, spelling, is_letter}
 use Rattle.frames.specs.Decoding.{SpellLetter}
 use Rattle.frames.proofs.Frames.{no_spelling_begins_another}
-use Rattle.msg.specs.Frames.{Plain, plain_data, data_frame}
+use Rattle.msg.specs.Frames.{Plain, plain_ack, plain_data, data_frame}
 use Rattle.msg.specs.Limits.{is_post, data_fits}
 use Rattle.msg.specs.declared.body.Body.{Body}
 use Rattle.msg.specs.declared.body.Body.TheVariants as body
+use Rattle.msg.specs.declared.frame.Ack.{Ack}
 use Rattle.msg.specs.declared.frame.Data.{Data}
 use Rattle.model.specs.declared.event.Answer.{Answer}
 use Rattle.model.specs.declared.event.Answer.TheVariants as answer
 use Rattle.model.specs.declared.event.Event.TheVariants as event
 use Rattle.node.specs.Keeping.{AreKeptIn, Rings, after_data}
 use Rattle.node.specs.Lacking.{Lacks}
-use Rattle.world.specs.Sites.{KeepingSite, SiteView, ActedKeeping, IsLetterOf, bases, whole_at}
+use Rattle.world.specs.Sites.{KeepingSite, SiteView, ActedKeeping, IsLetterOf, IsNoMessage, SpellNoMessage, bases, whole_at}
 use Rattle.world.specs.Shows.{no_site}
 use Rattle.world.specs.Spaces.{SpaceView, GivenSpace, keeping_at}
 
@@ -98,6 +99,11 @@ pub message-only : {bytes : List ℕ} {d : Data} → IsLetterOf bytes d → (x :
 message-only {d = d} h x fits same =
     (no_spelling_begins_another (plain_data d) x [] h.fits fits
     (append-nil (spelling (plain_data d)) ∙ sym h.spelled ∙ same)).1
+
+-- what an acknowledgement spells is no message
+pub no-message : {bytes : List ℕ} (a : Ack)
+    → ((x : Plain) → Fits x → bytes ≡ spelling x → plain_ack a ≡ x) → SpellNoMessage bytes
+no-message a only x fits same = subst IsNoMessage (only x fits same) tt
 
 -- ---- the space
 

@@ -35,7 +35,7 @@ use cycles::Phases;
 use frames::decode;
 use ids::{NodeId, Refusal, Shape};
 use model::{Accepted, Answer, Event, Outcome, Step};
-use msg::{Ack, Data, Frame};
+use msg::{Ack, Frame};
 use node::{Node, Summary};
 use std::alloc::Global;
 use std::marker::Model;
@@ -165,19 +165,25 @@ impl Sim {
         let Some(bytes) = space.released(from, to, number) else {
             return Ok(None);
         };
-        let message = match read_message(alloc, bytes) {
-            Ok(message) => message,
-            Err(refusal) => match refusal {
+        // (Matched by reference, since a move would copy it.)
+        match &decode(alloc, bytes) {
+            Ok(frame) => match frame {
+                Frame::Data(message) => {
+                    let site = &mut self.sites[usize::from(to)];
+                    let answer = site.receive(message)?;
+                    Ok(Some(answer))
+                }
+                // Only messages are released, so these bytes are never those of another frame.
+                Frame::Ack(_) => Err(Refusal::BadFrame),
+            },
+            Err(refusal) => match *refusal {
                 Refusal::Memory => {
                     let told = space.site(to).lack(bytes)?;
-                    return Ok(Some(told));
+                    Ok(Some(told))
                 }
-                _ => return Err(refusal),
+                other => Err(other),
             },
-        };
-        let site = &mut self.sites[usize::from(to)];
-        let answer = site.act(&Event::Data(message))?;
-        Ok(Some(answer))
+        }
     }
 
     /// Gives the node `from` what the saved node `to` acknowledges to it. This is the step
@@ -356,21 +362,5 @@ impl Sim {
         ensures { IsAckOf self.now.sites from to result }
     {
         self.sites[usize::from(to)].acknowledgement(from)
-    }
-}
-
-/// The message that the bytes spell. It fails with `Memory` if memory runs out for a letter with
-/// references and bytes, and otherwise with `BadFrame` if they spell no message.
-#[inline(always)]
-fn read_message(alloc: Global, bytes: &[u8]) -> Result<Data, Refusal>
-    ensures found { IfOk result (IsOnly bytes.now) }
-    ensures letter { IfErr result (λ e. e ≡ Memory → SpellLetter bytes.now) }
-    ensures never { IfErr result (λ e. e ≢ Memory → (e ≡ BadFrame) × SpellNoMessage bytes.now) }
-{
-    match decode(alloc, bytes) {
-        Ok(Frame::Data(message)) => Ok(message),
-        // Only messages are released, so these bytes are never those of another frame.
-        Ok(Frame::Ack(_)) => Err(Refusal::BadFrame),
-        Err(refusal) => Err(refusal),
     }
 }

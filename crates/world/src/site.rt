@@ -26,7 +26,7 @@ use frames::reading::read_letter_head;
 use ids::{GREATEST_PLACES, NodeId, Refusal, Shape};
 use image::{to_bytes, to_bytes_over};
 use model::{Answer, Event};
-use msg::{Ack, FrameRef};
+use msg::{Ack, Data, FrameRef};
 use node::{Core, LetterRef, Node};
 use std::alloc::Global;
 use std::marker::Model;
@@ -105,6 +105,14 @@ impl Site {
         ensures { ActedKeeping result self.old self.new event.now }
     {
         self.current.act(event)
+    }
+
+    /// Gives the current node a message, as [`Site::act`] does with its event.
+    #[inline(always)]
+    pub fn receive(&mut self, message: &Data) -> Result<Answer, Refusal>
+        ensures { ActedKeeping result self.old self.new (event.Data message.now) }
+    {
+        self.current.receive(message)
     }
 
     /// The current node's answer to a letter for whose references and bytes memory ran out; see

@@ -4,7 +4,7 @@ use Rattle.model.specs.declared.event.Event.TheVariants as event
 use Rattle.node.specs.Keeping.{after_data}
 use Rattle.node.specs.Whole.{whole_of}
 use Rattle.node.proofs.Held.{copy-failed, data-handled, handled-kept}
-use Rattle.node.proofs.node.Node.take.Goals as goal
+use Rattle.node.proofs.node.Node.receive.Goals as goal
 
 pub invariant_of-self-2 : goal.invariant_of-self-2
 invariant_of-self-2 c =
