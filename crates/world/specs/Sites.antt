@@ -88,10 +88,6 @@ pub record IsLetterOf (bytes : List ℕ) (d : Data) : Type 0 where
   pub fits : Fits (plain_data d)
   pub spelled : bytes ≡ spelling (plain_data d)
 
--- the bytes spell no frame other than this message
-abbrev pub IsOnly : List ℕ → Data → Type 0
-IsOnly bytes d = (x : Plain) → Fits x → bytes ≡ spelling x → plain_data d ≡ x
-
 abbrev pub IsNoMessage : Plain → Type 0
 IsNoMessage (data_frame from to number stamp body) = ⊥
 IsNoMessage (ack_frame by of number) = Unit

@@ -2,8 +2,7 @@
 //! to its `Site`.
 ghost use Rattle.std.specs.Prelude.{◌≡◌, ◌<◌, length, slice_get, IsTrue, IfOk, IfErr, Ok, Err, ◌≢◌, replicate, true};
 ghost use Rattle.std.specs.Option.{option_copied, option_map};
-ghost use Rattle.ids.specs.declared.refusal.Refusal.TheVariants.{BadFrame, Memory, ImageTooLarge};
-ghost use Rattle.frames.specs.Decoding.{SpellLetter};
+ghost use Rattle.ids.specs.declared.refusal.Refusal.TheVariants.{Memory, ImageTooLarge};
 ghost use Rattle.model.specs.Steps.{is_own};
 ghost use Rattle.node.specs.Keeping.{no_rings};
 ghost use Rattle.node.specs.Summaries.{summary_of};
@@ -20,7 +19,6 @@ ghost use Rattle.world.specs.Shows.{
   site_at,
   summary_at,
 };
-ghost use Rattle.world.specs.Sites.{IsOnly, SpellNoMessage};
 ghost use Rattle.world.specs.Spaces.{
   ShowsSpace,
   SteppedSpace,
