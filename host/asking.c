@@ -41,8 +41,10 @@ task *make_task(size_t length)
 void ask_for(asker *it, task *of, int64_t end)
 {
     of->status = -1;
-    // (a task that is asked for again keeps its address)
-    of->number = of->number > 0 ? of->number : ++it->numbers;
+    // (one that is asked for again may be held: it keeps its address)
+    if (of->number == 0) {
+        of->number = ++it->numbers;
+    }
     of->end = end;
     of->due = INT64_MIN;
     of->pause = FIRST_PAUSE;
