@@ -10,7 +10,8 @@
 // All times are in milliseconds. No call takes longer than its time-out, whatever the server does:
 // a thread of the space speaks with it.
 //
-// One thread at a time uses a markring_remote_space and its programs.
+// One thread at a time uses a program, or connects and disconnects a space. Different programs of a
+// space may be used by different threads at the same time.
 #ifndef MARKRING_REMOTE_H
 #define MARKRING_REMOTE_H
 
@@ -210,10 +211,10 @@ int markring_remote_wait(markring_remote *program, uint64_t *letters, int64_t ti
 // A program's requests are performed in the order in which they were sent, each once, and answered
 // in that order. One is sent to the node once the one before was answered; those of different
 // programs are under way at the same time. If an event is refused, later requests are performed
-// nevertheless. None of these calls waits.
+// nevertheless. Of these calls, markring_remote_await alone waits.
 //
 // The calls above may be used in between. Only `perform` needs all requests to be answered; and
-// `finish` waits for the oldest one.
+// `finish` resumes and waits for the oldest one.
 
 // Sends events, as markring_remote_perform_bytes does. The time-out begins now.
 // MARKRING_REMOTE_TOO_MANY, MARKRING_REMOTE_SUPERSEDED, MARKRING_REMOTE_BAD_ARGUMENT,
@@ -246,6 +247,11 @@ typedef struct markring_remote_answer {
 // MARKRING_REMOTE_CONFUSED) stay under way: call markring_remote_resume, then their answer can be
 // taken. Those behind them wait.
 int markring_remote_poll(markring_remote *program, markring_remote_answer *answer);
+
+// The same, after waiting for the outcome: at most this long, and not if the oldest request has failed
+// and wasn't resumed.
+int markring_remote_await(
+    markring_remote *program, markring_remote_answer *answer, int64_t timeout);
 
 // Gives the program's requests under way this much time from now on, unless they have more. If the
 // oldest one has failed, it is asked for again, with the same number.

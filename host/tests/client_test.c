@@ -1006,19 +1006,32 @@ static void test_time_of_queue(void)
     HOLDS(markring_remote_finish(program, &result, LONG) == MARKRING_REMOTE_OK);
     HOLDS(result.answer.number == 46000);
     expect_nothing(MARKRING_REMOTE_BAD_ARGUMENT);
+    HOLDS(markring_remote_await(program, &it, LONG) == MARKRING_REMOTE_BAD_ARGUMENT);
+    HOLDS(send_many(1) == MARKRING_REMOTE_OK);
+    HOLDS(markring_remote_await(program, &it, LONG) == MARKRING_REMOTE_OK && it.count == 1);
+    HOLDS(it.count == 1 && it.results[0].answer.number == 47000);
+    // It waits as long as it may, and not at all if nothing will come.
+    node.silent = true;
+    HOLDS(send_one(0, LONG / 2) == MARKRING_REMOTE_OK);
+    HOLDS(markring_remote_await(program, &it, SHORT) == MARKRING_REMOTE_PENDING);
+    HOLDS(markring_remote_await(program, &it, LONG) == MARKRING_REMOTE_TIMEOUT && it.is_over == 0);
+    long long then = clock_ms;
+    HOLDS(markring_remote_await(program, &it, LONG) == MARKRING_REMOTE_PENDING && clock_ms == then);
+    node.silent = false;
+    HOLDS(markring_remote_finish(program, &result, LONG) == MARKRING_REMOTE_OK);
     // One that gives up sooner than the request leaves it as it is.
     node.silent = true;
     HOLDS(send_one(0, INT64_MAX) == MARKRING_REMOTE_OK);
     HOLDS(markring_remote_finish(program, &result, SHORT) == MARKRING_REMOTE_TIMEOUT);
     HOLDS(markring_remote_poll(program, &it) == MARKRING_REMOTE_PENDING);
     node.silent = false;
-    expect_number(47);
+    expect_number(49);
     // No time at all.
     before = asks;
     HOLDS(send_one(0, INT64_MIN) == MARKRING_REMOTE_OK);
     expect_outcome(MARKRING_REMOTE_TIMEOUT, false);
     HOLDS(asks == before && markring_remote_resume(program, INT64_MAX) == MARKRING_REMOTE_OK);
-    expect_number(48);
+    expect_number(50);
 }
 
 // What a verdict means for a request under way, and for the next one.
@@ -1257,6 +1270,50 @@ static void test_two_programs(void)
     HOLDS(!is_readable(0));
 }
 
+enum { THREADS = 4, TIMES = 40 };
+
+// Opens a program of its own, and performs requests, one after another and three at once.
+static void *use_program(void *context)
+{
+    uint8_t number = (uint8_t)*(int *)context;
+    markring_remote *mine = NULL;
+    markring_event event = {.kind = MARKRING_EVENT_WORD};
+    markring_remote_event other = {event, NULL, 0};
+    markring_result result;
+    markring_remote_answer it;
+    is_caller = true;
+    HOLDS(markring_remote_open(&mine, space, 3, number, INT64_MAX, NULL) == MARKRING_REMOTE_OK);
+    for (int i = 0; i < TIMES && mine != NULL; i++) {
+        HOLDS(markring_remote_perform(mine, &event, 1, &result, INT64_MAX) == MARKRING_REMOTE_OK);
+        HOLDS(result.answer.number == 1000 * (42 + 4 * (uint64_t)i));
+        for (int j = 0; j < 3; j++) {
+            HOLDS(markring_remote_send(mine, &other, 1, INT64_MAX) == MARKRING_REMOTE_OK);
+        }
+        for (uint64_t j = 0; j < 3; j++) {
+            HOLDS(markring_remote_await(mine, &it, INT64_MAX) == MARKRING_REMOTE_OK);
+            HOLDS(it.results[0].answer.number == 1000 * (43 + 4 * (uint64_t)i + j));
+        }
+    }
+    markring_remote_close(mine);
+    return NULL;
+}
+
+// Each thread has a program of the same space.
+static void test_threads(void)
+{
+    pthread_t threads[THREADS];
+    int numbers[THREADS];
+    begin_queue();
+    for (int i = 0; i < THREADS; i++) {
+        numbers[i] = 20 + i;
+        HOLDS(pthread_create(&threads[i], NULL, use_program, &numbers[i]) == 0);
+    }
+    for (int i = 0; i < THREADS; i++) {
+        pthread_join(threads[i], NULL);
+    }
+    HOLDS(!is_readable(0));
+}
+
 // Closed in the middle: requests under way, one that was answered, and a wait.
 static void test_closing(void)
 {
@@ -1473,6 +1530,7 @@ int main(void)
     test_readings_of_queue();
     test_wait_of_queue();
     test_two_programs();
+    test_threads();
     test_closing();
     test_waiting();
     test_waiting_queue();
