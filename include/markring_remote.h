@@ -248,10 +248,10 @@ typedef struct markring_remote_answer {
 // taken. Those behind them wait.
 int markring_remote_poll(markring_remote *program, markring_remote_answer *answer);
 
-// The same, after waiting for the outcome: at most this long, and not if the oldest request has failed
-// and wasn't resumed.
-int markring_remote_await(
-    markring_remote *program, markring_remote_answer *answer, int64_t timeout);
+// Waits at most this long until an outcome of the program can be taken, by `poll` or `poll_wait`.
+// MARKRING_REMOTE_PENDING: none can. MARKRING_REMOTE_BAD_ARGUMENT: nor will any, since nothing is
+// under way, or the oldest request has failed and wasn't resumed.
+int markring_remote_await(markring_remote *program, int64_t timeout);
 
 // Gives the program's requests under way this much time from now on, unless they have more. If the
 // oldest one has failed, it is asked for again, with the same number.

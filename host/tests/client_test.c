@@ -1006,17 +1006,20 @@ static void test_time_of_queue(void)
     HOLDS(markring_remote_finish(program, &result, LONG) == MARKRING_REMOTE_OK);
     HOLDS(result.answer.number == 46000);
     expect_nothing(MARKRING_REMOTE_BAD_ARGUMENT);
-    HOLDS(markring_remote_await(program, &it, LONG) == MARKRING_REMOTE_BAD_ARGUMENT);
+    HOLDS(markring_remote_await(program, LONG) == MARKRING_REMOTE_BAD_ARGUMENT);
     HOLDS(send_many(1) == MARKRING_REMOTE_OK);
-    HOLDS(markring_remote_await(program, &it, LONG) == MARKRING_REMOTE_OK && it.count == 1);
-    HOLDS(it.count == 1 && it.results[0].answer.number == 47000);
+    HOLDS(markring_remote_await(program, LONG) == MARKRING_REMOTE_OK);
+    HOLDS(markring_remote_await(program, 0) == MARKRING_REMOTE_OK);
+    expect_number(47);
     // It waits as long as it may, and not at all if nothing will come.
     node.silent = true;
     HOLDS(send_one(0, LONG / 2) == MARKRING_REMOTE_OK);
-    HOLDS(markring_remote_await(program, &it, SHORT) == MARKRING_REMOTE_PENDING);
-    HOLDS(markring_remote_await(program, &it, LONG) == MARKRING_REMOTE_TIMEOUT && it.is_over == 0);
+    HOLDS(markring_remote_await(program, SHORT) == MARKRING_REMOTE_PENDING);
+    HOLDS(markring_remote_await(program, LONG) == MARKRING_REMOTE_OK);
+    expect_outcome(MARKRING_REMOTE_TIMEOUT, false);
     long long then = clock_ms;
-    HOLDS(markring_remote_await(program, &it, LONG) == MARKRING_REMOTE_PENDING && clock_ms == then);
+    HOLDS(markring_remote_await(program, LONG) == MARKRING_REMOTE_BAD_ARGUMENT);
+    HOLDS(clock_ms == then);
     node.silent = false;
     HOLDS(markring_remote_finish(program, &result, LONG) == MARKRING_REMOTE_OK);
     // One that gives up sooner than the request leaves it as it is.
@@ -1205,7 +1208,8 @@ static void test_wait_of_queue(void)
     HOLDS(markring_remote_poll_wait(program, &letters) == MARKRING_REMOTE_PENDING);
     HOLDS(perform(LONG, false) == MARKRING_REMOTE_OK && !is_readable(0));
     stop_clock(false);
-    HOLDS(is_readable(LATEST) && letters == 77);
+    HOLDS(markring_remote_await(program, LONG) == MARKRING_REMOTE_OK);
+    HOLDS(is_readable(0) && letters == 77);
     HOLDS(markring_remote_poll_wait(program, &letters) == MARKRING_REMOTE_OK && letters == 1000);
     HOLDS(markring_remote_poll_wait(program, &letters) == MARKRING_REMOTE_BAD_ARGUMENT);
     HOLDS(!is_readable(0));
@@ -1290,7 +1294,8 @@ static void *use_program(void *context)
             HOLDS(markring_remote_send(mine, &other, 1, INT64_MAX) == MARKRING_REMOTE_OK);
         }
         for (uint64_t j = 0; j < 3; j++) {
-            HOLDS(markring_remote_await(mine, &it, INT64_MAX) == MARKRING_REMOTE_OK);
+            HOLDS(markring_remote_await(mine, INT64_MAX) == MARKRING_REMOTE_OK);
+            HOLDS(markring_remote_poll(mine, &it) == MARKRING_REMOTE_OK && it.count == 1);
             HOLDS(it.results[0].answer.number == 1000 * (43 + 4 * (uint64_t)i + j));
         }
     }
@@ -1403,6 +1408,9 @@ static void test_waiting_queue(void)
     }
     HOLDS(!is_over && it.is_over == 0);
     HOLDS(markring_remote_poll(program, &it) == MARKRING_REMOTE_PENDING);
+    HOLDS(markring_remote_resume(program, 0) == MARKRING_REMOTE_OK);
+    HOLDS(markring_remote_await(program, INT64_MAX) == MARKRING_REMOTE_OK && !is_over);
+    expect_outcome(MARKRING_REMOTE_TIMEOUT, false);
     HOLDS(markring_remote_resume(program, LONG) == MARKRING_REMOTE_OK);
     is_over = true;
     for (uint64_t i = 0; i < 3; i++) {
