@@ -625,7 +625,7 @@ impl Program<'_> {
         checked(unsafe {
             markring_remote_last(self.at.as_ptr(), results.as_mut_ptr(), EVENTS, &mut count)
         })?;
-        Ok(self.outcomes(&results[..count]))
+        Ok(outcomes(self.events(&results[..count])))
     }
 
     /// Performs events, in order, up to the first one that is refused.
@@ -663,7 +663,7 @@ impl Program<'_> {
         // SAFETY: the bytes of the events live until the call is over, which copies them.
         let status =
             unsafe { markring_remote_send(self.at.as_ptr(), raw.as_ptr(), raw.len(), wait) };
-        self.request(status, |came| Ok(came.outcomes))
+        self.request(status, |came| Ok(outcomes(came.results)))
     }
 
     /// Sends a reading of registers, as [`Program::registers`]: of what they hold after the
@@ -675,10 +675,11 @@ impl Program<'_> {
     pub fn send_registers(&self, registers: &[u16]) -> Result<Request<'_, Vec<Option<Ref>>>> {
         let (wait, count) = (milliseconds(self.timeout), registers.len());
         // SAFETY: the registers live until the call is over.
-        let status = unsafe {
-            markring_remote_send_read(self.at.as_ptr(), registers.as_ptr(), count, wait)
-        };
-        self.request(status, |came| references(&came.results))
+        let status =
+            unsafe { markring_remote_send_read(self.at.as_ptr(), registers.as_ptr(), count, wait) };
+        self.request(status, |came| {
+            references(came.results.iter().map(|it| &it.0))
+        })
     }
 
     /// Sends a reading of bytes, as [`Program::read_bytes`]. Its answer also has how many the object
@@ -697,7 +698,7 @@ impl Program<'_> {
         // SAFETY: the program is open.
         let status = unsafe { markring_remote_send_read_bytes(at, object, offset, count, wait) };
         self.request(status, |came| {
-            let found = came.results.first().ok_or(Failure::Confused)?;
+            let (found, _) = came.results.first().ok_or(Failure::Confused)?;
             crate::refusal::checked(found.status)?;
             Ok((found.answer.number, came.bytes))
         })
@@ -733,16 +734,14 @@ impl Program<'_> {
             return Err(Failure::BadArgument);
         }
         // SAFETY: the program is open.
-        checked(unsafe {
-            markring_remote_resume(self.at.as_ptr(), milliseconds(self.timeout))
-        })?;
+        checked(unsafe { markring_remote_resume(self.at.as_ptr(), milliseconds(self.timeout)) })?;
         let front = queue.front_mut().ok_or(Failure::BadArgument)?;
         *front = Slot::default();
         let slot = front.clone();
         Ok(Request {
             program: self,
             slot,
-            read: |came| Ok(came.outcomes),
+            read: |came| Ok(outcomes(came.results)),
         })
     }
 
@@ -816,8 +815,7 @@ impl Program<'_> {
             )
         };
         Came {
-            outcomes: self.outcomes(results),
-            results: results.to_vec(),
+            results: self.events(results),
             bytes: bytes.to_vec(),
             letters: 0,
         }
@@ -885,7 +883,7 @@ impl Program<'_> {
                 milliseconds(self.timeout),
             )
         })?;
-        references(&results[..registers.len()])
+        references(results[..registers.len()].iter())
     }
 
     /// Bytes of the object that the register refers to: `count` of them, from `offset` on.
@@ -952,33 +950,21 @@ impl Program<'_> {
         Ok(letters)
     }
 
-    fn outcomes(&self, results: &[RawResult]) -> Vec<Outcome> {
-        let outcome = |(index, it): (usize, &RawResult)| match it.status {
-            0 => self.done(index, Answer::from_raw(&it.answer)),
-            NOT_DONE => Outcome::NotDone,
-            status => match crate::refusal::checked(status) {
-                Ok(()) => Outcome::NotDone,
-                Err(refusal) => Outcome::Refused(refusal),
-            },
-        };
-        results.iter().enumerate().map(outcome).collect()
+    // The bytes of the letter that the event with this index has accepted, if it asked for them.
+    fn letter(&self, index: usize) -> Option<Vec<u8>> {
+        let (mut bytes, mut length) = (ptr::null(), 0);
+        // SAFETY: the bytes stay until the next answer is taken.
+        unsafe {
+            let status =
+                markring_remote_letter_bytes(self.at.as_ptr(), index, &mut bytes, &mut length);
+            (status == 0).then(|| slice_of(bytes, length).to_vec())
+        }
     }
 
-    // A letter whose bytes the event asked for has them in the client.
-    fn done(&self, index: usize, answer: Answer) -> Outcome {
-        let Answer::Letter(letter) = answer else {
-            return Outcome::Done(answer);
-        };
-        let (mut bytes, mut length) = (ptr::null(), 0);
-        // SAFETY: the bytes stay until the next request.
-        unsafe {
-            let at = self.at.as_ptr();
-            if markring_remote_letter_bytes(at, index, &mut bytes, &mut length) != 0 {
-                return Outcome::Done(answer);
-            }
-            let bytes = core::slice::from_raw_parts(bytes, length);
-            Outcome::Letter(letter, bytes.to_vec())
-        }
+    // Each result, with its letter's bytes.
+    fn events(&self, results: &[RawResult]) -> Vec<(RawResult, Option<Vec<u8>>)> {
+        let with_letter = |(index, it): (usize, &RawResult)| (*it, self.letter(index));
+        results.iter().enumerate().map(with_letter).collect()
     }
 }
 
@@ -989,9 +975,25 @@ impl Drop for Program<'_> {
     }
 }
 
+// What became of events.
+fn outcomes(results: Vec<(RawResult, Option<Vec<u8>>)>) -> Vec<Outcome> {
+    let outcome = |(it, bytes): (RawResult, Option<Vec<u8>>)| match it.status {
+        0 => match (Answer::from_raw(&it.answer), bytes) {
+            (Answer::Letter(letter), Some(bytes)) => Outcome::Letter(letter, bytes),
+            (answer, _) => Outcome::Done(answer),
+        },
+        NOT_DONE => Outcome::NotDone,
+        status => match crate::refusal::checked(status) {
+            Ok(()) => Outcome::NotDone,
+            Err(refusal) => Outcome::Refused(refusal),
+        },
+    };
+    results.into_iter().map(outcome).collect()
+}
+
 // What registers hold.
-fn references(results: &[RawResult]) -> Result<Vec<Option<Ref>>> {
-    let found = results.iter().map(|it| {
+fn references<'a>(results: impl Iterator<Item = &'a RawResult>) -> Result<Vec<Option<Ref>>> {
+    let found = results.map(|it| {
         let is_there = crate::refusal::found(it.status)?;
         Ok(Ref::from_raw(it.answer.reference).filter(|_| is_there))
     });
@@ -1018,8 +1020,7 @@ const NO_ANSWER: RawPolled = RawPolled {
 // An answer, as it came.
 #[derive(Default)]
 struct Came {
-    outcomes: Vec<Outcome>,
-    results: Vec<RawResult>,
+    results: Vec<(RawResult, Option<Vec<u8>>)>,
     bytes: Vec<u8>,
     letters: u64,
 }
@@ -1063,10 +1064,7 @@ impl Slot {
     }
 
     fn has_failed(&self) -> bool {
-        matches!(
-            &*self.0.borrow(),
-            Stage::Came(Err(_)) | Stage::Over(true)
-        )
+        matches!(&*self.0.borrow(), Stage::Came(Err(_)) | Stage::Over(true))
     }
 }
 
