@@ -18,11 +18,15 @@ class Requests(unittest.IsolatedAsyncioTestCase):
     async def asyncSetUp(self) -> None:
         model.model_performed.restype = ctypes.c_uint64
         self.assertEqual(model.model_begin(), 0)
+        self.complaints: list[dict] = []
+        asyncio.get_running_loop().set_exception_handler(lambda _, context: self.complaints.append(context))
         self.space = await aio.Space(URL, "model").connect()
         self.program = await self.space.program(0, 0, timeout=KEPT)
 
     async def asyncTearDown(self) -> None:
         await self.space.close()
+        gc.collect()
+        self.assertEqual(self.complaints, [])
 
     async def test_each_event_has_its_result(self) -> None:
         it = self.program

@@ -1,6 +1,7 @@
 """Hosts of nodes, whose packets are moved by hand."""
 from __future__ import annotations
 
+import gc
 import json
 import os
 import tempfile
@@ -45,7 +46,7 @@ class Station:
 
 def run(stations: list[Station], holds: Callable[[], bool]) -> None:
     """Moves all packets, and takes turns, until the condition holds."""
-    for _ in range(5000):
+    for _ in range(2000):
         if holds():
             return
         for own, it in enumerate(stations):
@@ -125,12 +126,6 @@ class Hosts(unittest.TestCase):
         for _ in range(2):
             it.host.node.give(2, 1, 4)
         self.assertRaises(errors.Congested, it.host.node.give, 2, 1, 4)
-
-    def test_bytes_count_for_the_image(self) -> None:
-        it = Station(self.folder / "0", 1)
-        it.host.node.alloc(0, 0)
-        it.host.node.set_bytes(0, b"1" * 1234)
-        self.leave(it)
 
     def test_node_0_begins_cycles_by_itself(self) -> None:
         for number, options in enumerate((Options(cycle_every=0.005), Options(cycle_objects=3))):
@@ -245,12 +240,8 @@ class Hosts(unittest.TestCase):
             self.assertRaises(errors.NoHandle, call)
         # A host that the interpreter drops is closed.
         other = Station(self.folder / "1", 1)
-        other.host._calls, other.host._send = None, None
         del other
-        for _ in range(3):
-            import gc
-
-            gc.collect()
+        gc.collect()
         Station(self.folder / "1")
 
     def test_threads_take_turns(self) -> None:

@@ -81,7 +81,7 @@ fn error(folder: &Folder, shape: &Shape) -> Error {
 
 // Moves all packets, and takes turns, until the condition holds.
 fn run(hosts: &mut [Host<Queues>], holds: impl Fn(&[Host<Queues>]) -> bool) {
-    for _ in 0..10_000 {
+    for _ in 0..2000 {
         if holds(hosts) {
             return;
         }
