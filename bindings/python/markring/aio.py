@@ -197,7 +197,7 @@ class Program:
         return (await self._read(object, 0, 0, timeout))[0]
 
     def wait(self, timeout: Optional[float] = None) -> Awaitable[int]:
-        """Waits until a letter waits at the node, and tells how many do. Other requests don't wait for it. Another one
+        """Waits until a letter waits at the node, and says how many do. Other requests don't wait for it. Another one
         at the same time raises `Unfinished`."""
         self._check_open()
         remote._check(_LIBRARY.markring_remote_send_wait(self._at, self._wait(timeout)))

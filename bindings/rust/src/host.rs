@@ -392,7 +392,7 @@ extern "C" fn save<T>(context: *mut c_void, value: *mut RawValue) {
     }
 }
 
-// SAFETY: the pointer is that of as many bytes, or there are none.
+// SAFETY: the pointer is that of as many bytes, if any.
 unsafe fn view<'a>(bytes: *const u8, length: usize) -> &'a [u8] {
     match length {
         0 => &[],
@@ -440,7 +440,7 @@ impl<T: Transport> Host<T> {
                 stored(status, it.cause)
             },
         );
-        // SAFETY: the library made the block, or there is none.
+        // SAFETY: the library made the block, if any.
         unsafe { free(value.buffer.cast()) };
         made
     }
@@ -736,7 +736,7 @@ impl Options {
     }
 }
 
-#[allow(unused_unsafe)] // earlier compilers want it
+#[allow(unused_unsafe)] // earlier compilers ask for it
 fn system() -> *const RawStoreCalls {
     // SAFETY: nobody writes to it, and nothing is read here.
     unsafe { ptr::addr_of!(MARKRING_STORE_SYSTEM) }

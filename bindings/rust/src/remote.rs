@@ -1000,7 +1000,7 @@ fn references<'a>(results: impl Iterator<Item = &'a RawResult>) -> Result<Vec<Op
     found.collect()
 }
 
-// SAFETY: the pointer is that of as many values, or there are none.
+// SAFETY: the pointer is that of as many values, if any.
 unsafe fn slice_of<'a, T>(at: *const T, count: usize) -> &'a [T] {
     if count == 0 {
         return &[];
