@@ -213,6 +213,8 @@ class Program:
         for future in [it.future for it in self._queue] + waiting:
             if not future.done():
                 future.set_exception(remote.Closed())
+                # (nobody need await it)
+                future.exception()
         self._queue.clear()
         self._waiting = None
 
