@@ -835,13 +835,17 @@ static bool is_readable(int time)
     return poll(&it, 1, time) == 1 && it.revents == POLLIN;
 }
 
-enum { LATEST = 20000 };
+// How long anything may take; less once a check has failed.
+static int latest(void)
+{
+    return failed == 0 ? 20000 : 20;
+}
 
 // Waits until the node was asked that often.
 static void await_asks(unsigned long count)
 {
     static const struct timespec pause = {0, 1000000};
-    for (int i = 0; i < LATEST && asks < count; i++) {
+    for (int i = 0; i < latest() && asks < count; i++) {
         nanosleep(&pause, NULL);
     }
     HOLDS(asks == count);
@@ -867,7 +871,7 @@ static int send_many(int count)
 static int next_outcome(markring_remote_answer *it)
 {
     memset(it, 255, sizeof *it);
-    HOLDS(is_readable(LATEST));
+    HOLDS(is_readable(latest()));
     int status = markring_remote_poll(program, it);
     HOLDS(status != MARKRING_REMOTE_PENDING && it->is_over <= 1);
     HOLDS((status == MARKRING_REMOTE_OK) == (it->results != NULL));
@@ -1079,7 +1083,7 @@ static void test_superseded_queue(void)
 {
     markring_result result;
     begin_queue();
-    HOLDS(send_many(1) == MARKRING_REMOTE_OK && is_readable(LATEST));
+    HOLDS(send_many(1) == MARKRING_REMOTE_OK && is_readable(latest()));
     stop_clock(true);
     node.unheard = 1;
     unsigned long before = asks;
@@ -1222,13 +1226,13 @@ static void test_wait_of_queue(void)
         node.verdict = (uint8_t)cases[i].verdict;
         node.status = cases[i].status;
         HOLDS(markring_remote_send_wait(program, LONG) == MARKRING_REMOTE_OK);
-        HOLDS(is_readable(LATEST) && letters == 77);
+        HOLDS(is_readable(latest()) && letters == 77);
         HOLDS(markring_remote_poll_wait(program, &letters) == cases[i].outcome && letters == 77);
     }
     behave();
     node.silent = true;
     HOLDS(markring_remote_send_wait(program, SHORT) == MARKRING_REMOTE_OK);
-    HOLDS(is_readable(LATEST));
+    HOLDS(is_readable(latest()));
     HOLDS(markring_remote_poll_wait(program, &letters) == MARKRING_REMOTE_TIMEOUT && letters == 77);
     HOLDS(!is_readable(0));
 }
@@ -1251,7 +1255,7 @@ static void test_two_programs(void)
     }
     await_asks(before + 3);
     for (uint64_t i = 0; i < 2; i++) {
-        HOLDS(is_readable(LATEST) && markring_remote_poll(mine, &it) == MARKRING_REMOTE_OK);
+        HOLDS(is_readable(latest()) && markring_remote_poll(mine, &it) == MARKRING_REMOTE_OK);
         HOLDS(it.count == 1 && it.results[0].answer.number == 1000 * (42 + i));
     }
     expect_nothing(MARKRING_REMOTE_PENDING);
@@ -1265,11 +1269,11 @@ static void test_two_programs(void)
     await_asks(before + 2);
     markring_result result;
     HOLDS(markring_remote_finish(program, &result, LONG) == MARKRING_REMOTE_OK);
-    HOLDS(is_readable(LATEST) && markring_remote_poll(mine, &it) == MARKRING_REMOTE_OK);
+    HOLDS(is_readable(latest()) && markring_remote_poll(mine, &it) == MARKRING_REMOTE_OK);
     HOLDS(!is_readable(0));
     // One is closed whose answer nobody has taken.
     HOLDS(markring_remote_send(mine, &event, 1, LONG) == MARKRING_REMOTE_OK);
-    HOLDS(is_readable(LATEST));
+    HOLDS(is_readable(latest()));
     markring_remote_close(mine);
     HOLDS(!is_readable(0));
 }
@@ -1325,7 +1329,7 @@ static void test_closing(void)
     for (int i = 0; i < 4; i++) {
         begin_queue();
         HOLDS(i % 2 == 0 || send_many(1) == MARKRING_REMOTE_OK);
-        HOLDS(i % 2 == 0 || is_readable(LATEST));
+        HOLDS(i % 2 == 0 || is_readable(latest()));
         stop_clock(true);
         node.silent = true;
         unsigned long before = asks;

@@ -193,7 +193,7 @@ fn a_node_is_as_it_was_saved() {
     run(std::slice::from_mut(&mut host), |it| {
         it[0].counts().saves > before
     });
-    // Reading and what is refused are no reason for a save.
+    // Reading and what is refused are no reason for a save; an event is one.
     let saved = host.counts().saves;
     for _ in 0..10 {
         assert_eq!(
@@ -203,6 +203,9 @@ fn a_node_is_as_it_was_saved() {
         host.turn();
     }
     assert_eq!(host.counts().saves, saved);
+    host.perform(|node| node.set_word(4, 1)).unwrap();
+    host.turn();
+    assert_eq!(host.counts().saves, saved + 1);
     let State {
         own,
         registers,
