@@ -1278,7 +1278,7 @@ static void test_two_programs(void)
     HOLDS(!is_readable(0));
 }
 
-enum { THREADS = 4, TIMES = 40 };
+enum { THREADS = 4, TIMES = 40, AGES = 1000 * LONG };
 
 // Opens a program of its own, and performs requests, one after another and three at once.
 static void *use_program(void *context)
@@ -1290,15 +1290,15 @@ static void *use_program(void *context)
     markring_result result;
     markring_remote_answer it;
     is_caller = true;
-    HOLDS(markring_remote_open(&mine, space, 3, number, INT64_MAX, NULL) == MARKRING_REMOTE_OK);
+    HOLDS(markring_remote_open(&mine, space, 3, number, AGES, NULL) == MARKRING_REMOTE_OK);
     for (int i = 0; i < TIMES && mine != NULL; i++) {
-        HOLDS(markring_remote_perform(mine, &event, 1, &result, INT64_MAX) == MARKRING_REMOTE_OK);
+        HOLDS(markring_remote_perform(mine, &event, 1, &result, AGES) == MARKRING_REMOTE_OK);
         HOLDS(result.answer.number == 1000 * (42 + 4 * (uint64_t)i));
         for (int j = 0; j < 3; j++) {
-            HOLDS(markring_remote_send(mine, &other, 1, INT64_MAX) == MARKRING_REMOTE_OK);
+            HOLDS(markring_remote_send(mine, &other, 1, AGES) == MARKRING_REMOTE_OK);
         }
         for (uint64_t j = 0; j < 3; j++) {
-            HOLDS(markring_remote_await(mine, INT64_MAX) == MARKRING_REMOTE_OK);
+            HOLDS(markring_remote_await(mine, AGES) == MARKRING_REMOTE_OK);
             HOLDS(markring_remote_poll(mine, &it) == MARKRING_REMOTE_OK && it.count == 1);
             HOLDS(it.results[0].answer.number == 1000 * (43 + 4 * (uint64_t)i + j));
         }
@@ -1413,7 +1413,7 @@ static void test_waiting_queue(void)
     HOLDS(!is_over && it.is_over == 0);
     HOLDS(markring_remote_poll(program, &it) == MARKRING_REMOTE_PENDING);
     HOLDS(markring_remote_resume(program, 0) == MARKRING_REMOTE_OK);
-    HOLDS(markring_remote_await(program, INT64_MAX) == MARKRING_REMOTE_OK && !is_over);
+    HOLDS(markring_remote_await(program, LONG) == MARKRING_REMOTE_OK && !is_over);
     expect_outcome(MARKRING_REMOTE_TIMEOUT, false);
     HOLDS(markring_remote_resume(program, LONG) == MARKRING_REMOTE_OK);
     is_over = true;
