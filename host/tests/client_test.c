@@ -82,8 +82,12 @@ static _Thread_local bool is_caller;
 // The clock doesn't go on while the asker waits.
 static atomic_bool is_stopped;
 
+// For how many milliseconds this thread has waited without the clock.
+static _Thread_local int stuck;
+enum { STUCK = 5000 };
+
 // A caller looks at the clock again every millisecond. The asker gives it one, and then moves the
-// clock to the end of its wait.
+// clock to the end of its wait. So does a caller, should nothing happen for a long time.
 int __wrap_pthread_cond_timedwait(
     pthread_cond_t *changed, pthread_mutex_t *lock, const struct timespec *end)
 {
@@ -94,7 +98,10 @@ int __wrap_pthread_cond_timedwait(
     soon.tv_sec += soon.tv_nsec / 1000000000;
     soon.tv_nsec %= 1000000000;
     int status = __real_pthread_cond_timedwait(changed, lock, &soon);
-    if (!is_caller && !is_stopped && status == ETIMEDOUT && now < at) {
+    stuck = is_caller && status == ETIMEDOUT && now == clock_ms ? stuck + 1 : 0;
+    bool moves = is_caller ? stuck > STUCK || (failed > 0 && stuck > 50) : !is_stopped;
+    if (moves && status == ETIMEDOUT && now < at) {
+        stuck = 0;
         atomic_compare_exchange_strong(&clock_ms, &now, at);
     }
     return clock_ms < at ? 0 : ETIMEDOUT;
@@ -1166,6 +1173,7 @@ static void test_readings_of_queue(void)
     for (size_t i = 0; i < sizeof kinds; i++) {
         HOLDS(seen_count == sizeof kinds && seen[i].kind == kinds[i]);
     }
+    HOLDS(seen[0].number == 42 && seen[2].number == 43);
     HOLDS(memcmp(request + REQUEST_HEAD, "\1\2\1\2\3\4\0\0\0\6", 10) == 0);
     // An object that has no such bytes; an earlier node; no answer.
     node.status = MARKRING_NO_BYTES;
