@@ -759,10 +759,11 @@ impl Program<'_> {
         self.take_letters();
     }
 
-    // Waits until an answer can be taken.
-    fn pause(&self) {
+    // Waits until an answer can be taken. Returns false if none will come.
+    fn pause(&self) -> bool {
         // SAFETY: the program is open.
-        let _ = unsafe { markring_remote_await(self.at.as_ptr(), i64::MAX) };
+        let status = unsafe { markring_remote_await(self.at.as_ptr(), i64::MAX) };
+        status == 0 || status == PENDING
     }
 
     // Gives an outcome to the oldest request. Returns whether there was one.
@@ -1103,10 +1104,9 @@ impl<T> Request<'_, T> {
             if let Some(came) = self.slot.take() {
                 return came.and_then(self.read);
             }
-            if self.is_held_up() {
+            if self.is_held_up() || !self.program.pause() {
                 return Err(Failure::Unfinished);
             }
-            self.program.pause();
         }
     }
 
