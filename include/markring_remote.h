@@ -10,7 +10,8 @@
 // All times are in milliseconds. No call takes longer than its time-out, whatever the server does:
 // a thread of the space speaks with it.
 //
-// One thread at a time uses a markring_remote_space and its programs.
+// One thread at a time uses a program, or connects and disconnects a space. Different programs of a
+// space may be used by different threads at the same time.
 #ifndef MARKRING_REMOTE_H
 #define MARKRING_REMOTE_H
 
@@ -27,6 +28,9 @@ extern "C" {
 // limit (max_payload) takes such messages.
 #define MARKRING_REMOTE_BYTES 1000000
 
+// Requests of a program under way, at most.
+#define MARKRING_REMOTE_UNDER_WAY 64
+
 enum markring_remote_status {
     MARKRING_REMOTE_OK = 0,
     // An allocation failed.
@@ -37,7 +41,7 @@ enum markring_remote_status {
     MARKRING_REMOTE_SUPERSEDED = 3,
     // An argument is out of range.
     MARKRING_REMOTE_BAD_ARGUMENT = 4,
-    // A request isn't answered yet: call markring_remote_finish first.
+    // A request isn't answered yet: call markring_remote_finish first, or take its answer.
     MARKRING_REMOTE_UNFINISHED = 5,
     // libnats failed: the address or a certificate is wrong, or the server refuses the password. Or
     // the server takes no message as long as the request or its answer (max_payload is too small).
@@ -53,7 +57,11 @@ enum markring_remote_status {
     MARKRING_REMOTE_TOO_LONG = 9,
     // The node is of an earlier version, and knows no bytes of objects, or of letters. Nothing was
     // performed.
-    MARKRING_REMOTE_EARLIER = 10
+    MARKRING_REMOTE_EARLIER = 10,
+    // No answer has come yet.
+    MARKRING_REMOTE_PENDING = 11,
+    // The program has MARKRING_REMOTE_UNDER_WAY requests under way: take answers first.
+    MARKRING_REMOTE_TOO_MANY = 12
 };
 
 typedef struct markring_remote_space markring_remote_space;
@@ -166,8 +174,8 @@ int markring_remote_finish(markring_remote *program, markring_result *results, i
 
 // The bytes of the letter that the event with this index, counted from 0, has accepted with
 // MARKRING_REMOTE_ACCEPT_INTO: in the last request that was answered, or before the first one, in
-// that of markring_remote_last. `*bytes` is valid until the next call of `perform` or `finish` for
-// this program, or its closing.
+// that of markring_remote_last. `*bytes` is valid until the next call of `perform`, `finish` or
+// `poll` for this program, or its closing.
 // MARKRING_REMOTE_BAD_ARGUMENT: it has accepted none so.
 int markring_remote_letter_bytes(
     markring_remote *program, size_t index, const uint8_t **bytes, size_t *length);
@@ -190,6 +198,77 @@ int markring_remote_read_bytes(markring_remote *program, uint16_t object, uint32
 // Waits until a letter waits at the node, and writes how many do. Another program of the node may
 // accept them first. After MARKRING_REMOTE_TIMEOUT nothing has changed.
 int markring_remote_wait(markring_remote *program, uint64_t *letters, int64_t timeout);
+
+// # Requests under way
+//
+// For programs that must not wait, such as event loops. They send requests, wait for a descriptor
+// besides their other ones, and take the answers:
+//
+//     markring_remote_send                                        some times, for some programs
+//     poll() until markring_remote_fd is readable
+//     markring_remote_poll, for each program, until it has no more
+//
+// A program's requests are performed in the order in which they were sent, each once, and answered
+// in that order. One is sent to the node once the one before was answered; those of different
+// programs are under way at the same time. If an event is refused, later requests are performed
+// nevertheless. Of these calls, markring_remote_await alone waits.
+//
+// The calls above may be used in between. Only `perform` needs all requests to be answered; and
+// `finish` resumes and waits for the oldest one.
+
+// Sends events, as markring_remote_perform_bytes does. The time-out begins now.
+// MARKRING_REMOTE_TOO_MANY, MARKRING_REMOTE_SUPERSEDED, MARKRING_REMOTE_BAD_ARGUMENT,
+// MARKRING_REMOTE_TOO_LONG, MARKRING_REMOTE_MEMORY: nothing was sent, nor will be.
+int markring_remote_send(markring_remote *program, const markring_remote_event *events,
+    size_t count, int64_t timeout);
+
+// Sends a reading, as markring_remote_read and markring_remote_read_bytes do: of what there is after
+// the requests before it. The same may be refused.
+int markring_remote_send_read(
+    markring_remote *program, const uint16_t *registers, size_t count, int64_t timeout);
+int markring_remote_send_read_bytes(markring_remote *program, uint16_t object, uint32_t offset,
+    uint32_t count, int64_t timeout);
+
+// The answer to a request: a result for each event or register, or one for bytes, which follow in
+// `bytes`. `is_over` is 0 if the request stays under way without an answer.
+typedef struct markring_remote_answer {
+    const markring_result *results;
+    size_t count;
+    const uint8_t *bytes;
+    size_t length;
+    uint8_t is_over;
+} markring_remote_answer;
+
+// Takes the answer to the oldest request under way. What `*answer` points to is valid until the next
+// call of `poll`, `perform` or `finish` for this program, or its closing.
+// MARKRING_REMOTE_PENDING: it has none yet, and `*answer` is as before. MARKRING_REMOTE_BAD_ARGUMENT:
+// nothing is under way. Otherwise the status is that of the request. Events of which nobody knows
+// whether they were performed (MARKRING_REMOTE_TIMEOUT, MARKRING_REMOTE_CARRIER,
+// MARKRING_REMOTE_CONFUSED) stay under way: call markring_remote_resume, then their answer can be
+// taken. Those behind them wait.
+int markring_remote_poll(markring_remote *program, markring_remote_answer *answer);
+
+// Waits at most this long until an outcome of the program can be taken, by `poll` or `poll_wait`.
+// MARKRING_REMOTE_PENDING: none can. MARKRING_REMOTE_BAD_ARGUMENT: nor will any, since nothing is
+// under way, or the oldest request has failed and wasn't resumed.
+int markring_remote_await(markring_remote *program, int64_t timeout);
+
+// Gives the program's requests under way this much time from now on, unless they have more. If the
+// oldest one has failed, it is asked for again, with the same number.
+// MARKRING_REMOTE_BAD_ARGUMENT: nothing is under way.
+int markring_remote_resume(markring_remote *program, int64_t timeout);
+
+// Waits for a letter beside these requests, as markring_remote_wait does, once at a time
+// (MARKRING_REMOTE_UNFINISHED). The other call takes the outcome, or says MARKRING_REMOTE_PENDING.
+int markring_remote_send_wait(markring_remote *program, int64_t timeout);
+int markring_remote_poll_wait(markring_remote *program, uint64_t *letters);
+
+// A descriptor that is readable while some program of the space has an outcome that can be taken:
+// an answer, or a time-out (which may come seconds late, if a server says little). It is the same
+// until the space is disconnected. Wait for it, but don't read it.
+int markring_remote_fd(const markring_remote_space *space);
+
+// # The operator
 
 // Says a word of the operator to a node: `status`, `begin` (at node 0), `stop`, or `forget NUMBER`,
 // which empties the registers that this program has for itself. The answer is

@@ -1,5 +1,6 @@
 //! Finds the libraries: in the folder `MARKRING_LIB_DIR`, or else by pkg-config. With the feature
-//! `remote` the client `libmarkring-remote` is one of them, in `MARKRING_REMOTE_LIB_DIR`.
+//! `remote` the client `libmarkring-remote` is one of them, in `MARKRING_REMOTE_LIB_DIR`; with the
+//! feature `host` it is `libmarkring-host`, in `MARKRING_HOST_LIB_DIR`.
 //!
 //! An archive is linked if the folder has one, and a shared library otherwise.
 
@@ -9,6 +10,8 @@ use std::process::{exit, Command};
 
 const ADVICE: &str = "Install the package libmarkring-dev, or set MARKRING_LIB_DIR to the folder \
 of libmarkring.a or libmarkring.so, or PKG_CONFIG_PATH to that of markring.pc.";
+const HOST_ADVICE: &str = "Install the package libmarkring-dev, or set MARKRING_HOST_LIB_DIR to \
+the folder of libmarkring-host.a or .so, or PKG_CONFIG_PATH to that of markring-host.pc.";
 const REMOTE_ADVICE: &str = "Install the package markring-node, or set MARKRING_REMOTE_LIB_DIR to \
 the folder of libmarkring-remote.so, or PKG_CONFIG_PATH to that of markring-remote.pc.";
 
@@ -27,6 +30,12 @@ const LIBRARY: Library = Library {
     has_archive: true,
     advice: ADVICE,
 };
+const HOST: Library = Library {
+    name: "markring-host",
+    variable: "MARKRING_HOST_LIB_DIR",
+    has_archive: true,
+    advice: HOST_ADVICE,
+};
 const REMOTE: Library = Library {
     name: "markring-remote",
     variable: "MARKRING_REMOTE_LIB_DIR",
@@ -37,6 +46,10 @@ const REMOTE: Library = Library {
 fn main() {
     for it in ["PKG_CONFIG", "PKG_CONFIG_PATH"] {
         println!("cargo:rerun-if-env-changed={it}");
+    }
+    // (before the library, which its archive needs)
+    if env::var_os("CARGO_FEATURE_HOST").is_some() {
+        HOST.link();
     }
     LIBRARY.link();
     if env::var_os("CARGO_FEATURE_REMOTE").is_some() {

@@ -136,7 +136,6 @@ static void accept_and_drop(member *it)
     }
     printf("node 1: an object of node %d, with label %u\n", answer.reference.node,
         (unsigned)answer.label);
-    fflush(stdout);
     MUST(markring_node_drop(node, 0, &answer));
     markring_host_changed(it->host);
 }
@@ -171,6 +170,8 @@ int main(int count, char **given)
         fputs("usage: pair FOLDER FOLDER\n", stderr);
         return 2;
     }
+    // Two processes print: each line goes out at once.
+    setvbuf(stdout, NULL, _IOLBF, 0);
     MUST(socketpair(AF_UNIX, SOCK_SEQPACKET, 0, sockets));
     pid_t child = fork();
     must(child < 0, "fork");

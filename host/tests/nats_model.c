@@ -19,7 +19,6 @@ struct __natsConnection {
 };
 
 struct __natsMsg {
-    struct __natsMsg *next;
     char *subject, *reply, *bytes;
     int length;
 };
@@ -27,8 +26,8 @@ struct __natsMsg {
 struct __natsSubscription {
     natsConnection *connection;
     natsMsgHandler handler;
-    void *closure;
-    natsMsg *first, **last;
+    natsOnCompleteCB complete;
+    void *closure, *complete_closure;
 };
 
 static natsSubscription *subscription;
@@ -335,14 +334,15 @@ natsStatus natsConnection_Subscribe(natsSubscription **it, natsConnection *conne
     subscription->connection = connection;
     subscription->handler = handler;
     subscription->closure = closure;
-    subscription->last = &subscription->first;
     return NATS_OK;
 }
 
-natsStatus natsConnection_SubscribeSync(
-    natsSubscription **it, natsConnection *connection, const char *subject)
+natsStatus natsSubscription_SetOnCompleteCB(
+    natsSubscription *it, natsOnCompleteCB complete, void *closure)
 {
-    return natsConnection_Subscribe(it, connection, subject, NULL, NULL);
+    it->complete = complete;
+    it->complete_closure = closure;
+    return NATS_OK;
 }
 
 natsStatus natsSubscription_SetPendingLimits(natsSubscription *it, int messages, int bytes)
@@ -352,37 +352,16 @@ natsStatus natsSubscription_SetPendingLimits(natsSubscription *it, int messages,
     return it != NULL ? NATS_OK : NATS_INVALID_ARG;
 }
 
-natsStatus natsSubscription_NextMsg(natsMsg **message, natsSubscription *it, int64_t time)
-{
-    if (it == NULL) {
-        return NATS_INVALID_ARG;
-    }
-    if (it->first == NULL && model.waited != NULL) {
-        model.waited(time);
-    }
-    *message = it->first;
-    if (it->first == NULL) {
-        return NATS_TIMEOUT;
-    }
-    it->first = it->first->next;
-    if (it->first == NULL) {
-        it->last = &it->first;
-    }
-    return NATS_OK;
-}
-
 void natsSubscription_Destroy(natsSubscription *it)
 {
     if (it == NULL) {
         return;
     }
-    while (it->first != NULL) {
-        natsMsg *next = it->first->next;
-        natsMsg_Destroy(it->first);
-        it->first = next;
-    }
     if (it == subscription) {
         subscription = NULL;
+    }
+    if (it->complete != NULL) {
+        it->complete(it->complete_closure);
     }
     destroyed(it);
 }
@@ -400,11 +379,8 @@ void model_deliver(const char *subject, const char *reply, const void *bytes, si
     it->length = (int)length;
     if (subscription == NULL) {
         natsMsg_Destroy(it);
-    } else if (subscription->handler != NULL) {
-        subscription->handler(subscription->connection, subscription, it, subscription->closure);
     } else {
-        *subscription->last = it;
-        subscription->last = &it->next;
+        subscription->handler(subscription->connection, subscription, it, subscription->closure);
     }
 }
 

@@ -19,10 +19,8 @@ typedef struct nats_model {
     bool is_away; // connections are lost, for now
     // Is called for each message that is published. `reply` may be NULL.
     void (*published)(const char *subject, const char *reply, const void *bytes, int length);
-    // Is called, unless it is NULL, by all that waits for a connection's lock; and by the wait for a
-    // message that isn't there yet, with its time.
+    // Is called, unless it is NULL, by all that waits for a connection's lock.
     void (*locked)(void);
-    void (*waited)(int64_t time);
     // The last error, as nats_GetLastError gives it.
     const char *text;
     // How many options, connections, subscriptions and messages were made and not destroyed.

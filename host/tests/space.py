@@ -14,7 +14,7 @@ from pathlib import Path
 TOP = Path(__file__).resolve().parent.parent.parent
 sys.path.insert(0, str(TOP / "bindings/python"))
 
-from markring import errors, remote  # noqa: E402
+from markring import aio, errors, remote  # noqa: E402
 
 # Whatever comes at all, comes within this many seconds, also if the machine is slow and busy.
 KEPT = 60.0

@@ -7,7 +7,7 @@
 
 A node has up to 64 programs. A program sends its node requests, one after another, each with up to 256 events and
 1,000,000 bytes of objects and letters; the node performs them once, whatever is lost or crashes. An answer comes once all that it
-shows is stored, so nothing takes it back. docs/PROCESSES.md has more.
+shows is stored, so nothing takes it back. `markring.aio` has the same for asyncio. docs/PROCESSES.md has more.
 
 The client is the file that the variable MARKRING_REMOTE_LIBRARY names. Without that variable it is
 `libmarkring-remote.so`, found as the package finds `libmarkring.so`. Each space
@@ -18,6 +18,7 @@ from __future__ import annotations
 import ctypes
 import json
 import threading
+import weakref
 from ctypes import POINTER, byref, c_char_p, c_int, c_int64, c_size_t, c_uint8, c_uint16, c_uint32, c_uint64, c_void_p
 from types import TracebackType
 from typing import Any, NamedTuple, Optional
@@ -112,6 +113,12 @@ class EarlierNode(Failure):
     status, text = 10, "the node is of an earlier version, and knows no bytes of objects, or of letters"
 
 
+class TooMany(Failure):
+    """The program has as many requests under way as it may (`markring.aio.UNDER_WAY`). Nothing was sent."""
+
+    status, text = 12, "the program has too many requests under way"
+
+
 class Closed(Failure):
     """The space or the program was closed."""
 
@@ -143,6 +150,16 @@ class RawRemoteEvent(ctypes.Structure):
 
 class RawResult(ctypes.Structure):
     _fields_ = [("status", c_int), ("answer", RawAnswer)]
+
+
+class RawPolled(ctypes.Structure):
+    _fields_ = [
+        ("results", POINTER(RawResult)),
+        ("count", c_size_t),
+        ("bytes", POINTER(c_uint8)),
+        ("length", c_size_t),
+        ("is_over", c_uint8),
+    ]
 
 
 class RawFacts(ctypes.Structure):
@@ -324,6 +341,14 @@ def _load() -> ctypes.CDLL:
         "read": (at, numbers, c_size_t, results, c_int64),
         "read_bytes": (at, c_uint16, c_uint32, c_uint32, c_char_p, results, c_int64),
         "wait": (at, POINTER(c_uint64), c_int64),
+        "send": (at, POINTER(RawRemoteEvent), c_size_t, c_int64),
+        "send_read": (at, numbers, c_size_t, c_int64),
+        "send_read_bytes": (at, c_uint16, c_uint32, c_uint32, c_int64),
+        "send_wait": (at, c_int64),
+        "poll": (at, POINTER(RawPolled)),
+        "poll_wait": (at, POINTER(c_uint64)),
+        "resume": (at, c_int64),
+        "fd": (at,),
         "ask": (at, c_uint8, c_char_p, c_char_p, c_size_t, c_int64),
     }
     for name, words in calls.items():
@@ -377,6 +402,7 @@ class Space:
         self.name = name
         self._lock = threading.Lock()
         self._at = c_void_p()
+        self._programs: weakref.WeakSet[Program] = weakref.WeakSet()
         words = [it.encode() if it is not None else None for it in (url, ca, certificate, key, credentials)]
         _check(_LIBRARY.markring_remote_connect(byref(self._at), byref(RawOptions(*words)), name.encode()))
 
@@ -402,8 +428,10 @@ class Space:
         return json.loads(text.value)
 
     def close(self) -> None:
-        """Ends the connection. Close its programs first."""
+        """Closes the programs, and ends the connection."""
         with self._lock:
+            for program in list(self._programs):
+                program._free()
             _LIBRARY.markring_remote_disconnect(self._at)
             self._at = c_void_p()
 
@@ -439,6 +467,7 @@ class Program:
             call = _LIBRARY.markring_remote_open_apart
         with space._lock:
             _check(call(byref(self._at), space._handle(), *numbers, _milliseconds(timeout), byref(facts)))
+            space._programs.add(self)
         self.facts = Facts(*(getattr(facts, it) for it in Facts._fields))
 
     def last(self) -> list[Result]:
@@ -608,8 +637,11 @@ class Program:
     def close(self) -> None:
         """Frees the program. The node isn't told."""
         with self._space._lock:
-            _LIBRARY.markring_remote_close(self._at)
-            self._at = c_void_p()
+            self._free()
+
+    def _free(self) -> None:
+        at, self._at = self._at, c_void_p()
+        _LIBRARY.markring_remote_close(at)
 
     def __enter__(self) -> Program:
         return self

@@ -9,6 +9,8 @@
 //! - [`Events`]: what a node does.
 //! - [`Roots`], [`Root`]: registers that are chosen and emptied automatically.
 //! - [`Shape`]: how large a space is.
+//! - `host`, with the feature `host`: a node in a folder, for a program that has its own loop and
+//!   transport. `remote`, with the feature `remote`: programs of nodes in processes.
 //! - [`Space`], [`Cell`], [`Watch`], with the feature `spaces`: the nodes of a space in threads of
 //!   one process, which move frames in shared memory.
 //!
@@ -70,6 +72,8 @@ extern crate std;
 
 mod events;
 mod ffi;
+#[cfg(feature = "host")]
+pub mod host;
 mod node;
 mod refusal;
 #[cfg(feature = "remote")]

@@ -75,6 +75,8 @@ pub(crate) fn refill(bytes: &mut Vec<u8>, length: usize) -> Result<()> {
 /// # Ok(())
 /// # }
 /// ```
+// (a host has the handle of its node, and shows it as one)
+#[repr(transparent)]
 pub struct Node {
     at: UnsafeCell<ffi::Handle>,
 }

@@ -20,18 +20,34 @@
 //! # Ok(())
 //! # }
 //! ```
+//!
+//! # Requests under way
+//!
+//! [`Program::send`] doesn't wait: it returns a [`Request`], a future of the answer, which
+//! [`Request::wait`] waits for without an executor. Requests of a program are performed in the
+//! order in which they were sent, and answered in that order. An executor waits until the space's
+//! descriptor ([`AsFd`]) is readable, and then calls [`Program::take_answers`], which wakes the
+//! tasks whose answers came: with tokio, for example, a task in a loop over `AsyncFd::readable`.
 
 use crate::ffi::{RawAnswer, RawEvent, RawRef};
 use crate::{Answer, Event, Letter, Ref, Refusal};
+use alloc::collections::VecDeque;
 use alloc::ffi::CString;
+use alloc::rc::Rc;
 use alloc::string::String;
 use alloc::vec::Vec;
+use core::cell::RefCell;
 use core::ffi::{c_char, c_int, c_void, CStr};
 use core::fmt;
+use core::future::Future;
 use core::marker::PhantomData;
+use core::mem;
 use core::ops::Range;
+use core::pin::Pin;
 use core::ptr::{self, NonNull};
+use core::task::{Context, Poll, Waker};
 use core::time::Duration;
+use std::os::unix::io::{AsFd, AsRawFd, BorrowedFd, RawFd};
 
 /// Events in one request, at most.
 pub const EVENTS: usize = 256;
@@ -39,8 +55,11 @@ pub const EVENTS: usize = 256;
 pub const BYTES: usize = 1_000_000;
 /// Bytes of a letter, at most.
 pub const LETTER: u32 = 65_535;
+/// Requests of a program under way, at most.
+pub const UNDER_WAY: usize = 64;
 const TEXT: usize = 8192;
 const NOT_DONE: c_int = 150;
+const PENDING: c_int = 11;
 
 /// The result of a call of this module.
 pub type Result<T, E = Failure> = core::result::Result<T, E>;
@@ -72,6 +91,8 @@ pub enum Failure {
     TooLong,
     /// The node is of an earlier version, and knows no bytes. Nothing was performed.
     Earlier,
+    /// The program has [`UNDER_WAY`] requests under way. Nothing was sent.
+    TooMany,
     /// The node refused the event.
     Refused(Refusal),
 }
@@ -89,6 +110,7 @@ impl fmt::Display for Failure {
             Failure::Registers => "the program can't have these registers for itself",
             Failure::TooLong => "the request or its answer would carry too many bytes",
             Failure::Earlier => "the node is of an earlier version",
+            Failure::TooMany => "the program has too many requests under way",
             Failure::Refused(refusal) => return refusal.fmt(f),
         })
     }
@@ -116,6 +138,7 @@ fn checked(status: c_int) -> Result<()> {
         8 => Failure::Registers,
         9 => Failure::TooLong,
         10 => Failure::Earlier,
+        12 => Failure::TooMany,
         status => panic!("the client returned the status {status}, which this crate doesn't know"),
     })
 }
@@ -141,6 +164,15 @@ struct RawStep {
 struct RawResult {
     status: c_int,
     answer: RawAnswer,
+}
+
+#[repr(C)]
+struct RawPolled {
+    results: *const RawResult,
+    count: usize,
+    bytes: *const u8,
+    length: usize,
+    is_over: u8,
 }
 
 #[repr(C)]
@@ -204,15 +236,31 @@ extern "C" {
         room: usize,
         count: *mut usize,
     ) -> c_int;
-    fn markring_remote_perform_bytes(
+    fn markring_remote_send(
         program: *mut c_void,
         events: *const RawStep,
         count: usize,
-        results: *mut RawResult,
         timeout: i64,
     ) -> c_int;
-    fn markring_remote_finish(program: *mut c_void, results: *mut RawResult, timeout: i64)
-        -> c_int;
+    fn markring_remote_send_read(
+        program: *mut c_void,
+        registers: *const u16,
+        count: usize,
+        timeout: i64,
+    ) -> c_int;
+    fn markring_remote_send_read_bytes(
+        program: *mut c_void,
+        object: u16,
+        offset: u32,
+        count: u32,
+        timeout: i64,
+    ) -> c_int;
+    fn markring_remote_send_wait(program: *mut c_void, timeout: i64) -> c_int;
+    fn markring_remote_poll(program: *mut c_void, answer: *mut RawPolled) -> c_int;
+    fn markring_remote_await(program: *mut c_void, timeout: i64) -> c_int;
+    fn markring_remote_poll_wait(program: *mut c_void, letters: *mut u64) -> c_int;
+    fn markring_remote_resume(program: *mut c_void, timeout: i64) -> c_int;
+    fn markring_remote_fd(space: *const c_void) -> c_int;
     fn markring_remote_letter_bytes(
         program: *mut c_void,
         index: usize,
@@ -283,14 +331,16 @@ impl Options {
     }
 }
 
-/// A connection to the server of a space. One thread at a time uses it and its programs.
+/// A connection to the server of a space. Different threads may use its programs at the same time.
 #[derive(Debug)]
 pub struct Space {
     at: NonNull<c_void>,
 }
 
-// SAFETY: the client may be used by any thread, one at a time.
+// SAFETY: the client may be used by any thread.
 unsafe impl Send for Space {}
+// SAFETY: its calls, all but the last one, may be made by several threads at the same time.
+unsafe impl Sync for Space {}
 
 impl Space {
     /// Connects to the server of the space with this name. A server that can't be reached is tried
@@ -406,6 +456,22 @@ impl Space {
     }
 }
 
+impl AsRawFd for Space {
+    fn as_raw_fd(&self) -> RawFd {
+        // SAFETY: the space is connected.
+        unsafe { markring_remote_fd(self.at.as_ptr()) }
+    }
+}
+
+/// The descriptor is readable while some program of the space has an answer to take. Wait for it,
+/// but don't read it.
+impl AsFd for Space {
+    fn as_fd(&self) -> BorrowedFd<'_> {
+        // SAFETY: it stays open as long as the space.
+        unsafe { BorrowedFd::borrow_raw(self.as_raw_fd()) }
+    }
+}
+
 impl Drop for Space {
     fn drop(&mut self) {
         // SAFETY: its programs, which borrow it, are closed.
@@ -491,12 +557,13 @@ pub enum Outcome {
     NotDone,
 }
 
-/// A program of a node.
+/// A program of a node. One thread at a time uses it.
 #[derive(Debug)]
 pub struct Program<'s> {
     at: NonNull<c_void>,
-    // Of the request that was sent last.
-    count: usize,
+    // The requests under way, the oldest first; and the wait for a letter.
+    queue: RefCell<VecDeque<Slot>>,
+    waiting: RefCell<Option<Slot>>,
     timeout: Duration,
     nodes: u8,
     node: u8,
@@ -504,12 +571,17 @@ pub struct Program<'s> {
     space: PhantomData<&'s Space>,
 }
 
+// SAFETY: any thread may use the program, one at a time. Slots are shared with requests alone, which
+// borrow the program.
+unsafe impl Send for Program<'_> {}
+
 impl Program<'_> {
     fn of(at: *mut c_void, facts: &RawFacts, timeout: Duration) -> Result<Self> {
         let at = NonNull::new(at).ok_or(Failure::Memory)?;
         Ok(Program {
             at,
-            count: 0,
+            queue: RefCell::default(),
+            waiting: RefCell::default(),
             timeout,
             nodes: facts.nodes,
             node: facts.node,
@@ -553,7 +625,7 @@ impl Program<'_> {
         checked(unsafe {
             markring_remote_last(self.at.as_ptr(), results.as_mut_ptr(), EVENTS, &mut count)
         })?;
-        Ok(self.outcomes(&results[..count]))
+        Ok(outcomes(self.events(&results[..count])))
     }
 
     /// Performs events, in order, up to the first one that is refused.
@@ -564,32 +636,10 @@ impl Program<'_> {
     /// `BadArgument` (there are more than [`EVENTS`] events), `TooLong`, `Unfinished` nothing was
     /// sent. `Earlier`, `Superseded`, `Confused`.
     pub fn perform(&mut self, steps: &[Step<'_>]) -> Result<Vec<Outcome>> {
-        if steps.len() > EVENTS {
-            return Err(Failure::BadArgument);
+        if !self.queue.borrow().is_empty() {
+            return Err(Failure::Unfinished);
         }
-        let raw: Vec<RawStep> = steps.iter().map(|step| step.to_raw()).collect();
-        let mut results = [NO_RESULT; EVENTS];
-        // SAFETY: the bytes of the events live until the call is over, which copies them.
-        let status = unsafe {
-            markring_remote_perform_bytes(
-                self.at.as_ptr(),
-                raw.as_ptr(),
-                raw.len(),
-                results.as_mut_ptr(),
-                milliseconds(self.timeout),
-            )
-        };
-        let done = checked(status);
-        let unsent = [
-            Err(Failure::Memory),
-            Err(Failure::BadArgument),
-            Err(Failure::Unfinished),
-            Err(Failure::TooLong),
-        ];
-        if !unsent.contains(&done) {
-            self.count = raw.len();
-        }
-        done.map(|()| self.outcomes(&results[..raw.len()]))
+        self.send(steps)?.wait()
     }
 
     /// Asks again for the answer to the request that had none. It is performed once.
@@ -598,16 +648,189 @@ impl Program<'_> {
     ///
     /// Those of [`Program::perform`]. `BadArgument` if there is no such request.
     pub fn finish(&mut self) -> Result<Vec<Outcome>> {
-        let mut results = [NO_RESULT; EVENTS];
-        // SAFETY: there is room for all results that a request can have.
-        checked(unsafe {
-            markring_remote_finish(
-                self.at.as_ptr(),
-                results.as_mut_ptr(),
-                milliseconds(self.timeout),
+        self.again()?.wait()
+    }
+
+    /// Sends events, as [`Program::perform`] performs them, without waiting. At most [`UNDER_WAY`]
+    /// requests may be under way.
+    ///
+    /// # Errors
+    ///
+    /// `TooMany`, `Superseded`, `BadArgument`, `TooLong`, `Memory`: nothing was sent, nor will be.
+    pub fn send(&self, steps: &[Step<'_>]) -> Result<Request<'_, Vec<Outcome>>> {
+        let raw: Vec<RawStep> = steps.iter().map(|step| step.to_raw()).collect();
+        let wait = milliseconds(self.timeout);
+        // SAFETY: the bytes of the events live until the call is over, which copies them.
+        let status =
+            unsafe { markring_remote_send(self.at.as_ptr(), raw.as_ptr(), raw.len(), wait) };
+        self.request(status, |came| Ok(outcomes(came.results)))
+    }
+
+    /// Sends a reading of registers, as [`Program::registers`]: of what they hold after the
+    /// requests before it.
+    ///
+    /// # Errors
+    ///
+    /// Those of [`Program::send`].
+    pub fn send_registers(&self, registers: &[u16]) -> Result<Request<'_, Vec<Option<Ref>>>> {
+        let (wait, count) = (milliseconds(self.timeout), registers.len());
+        // SAFETY: the registers live until the call is over.
+        let status =
+            unsafe { markring_remote_send_read(self.at.as_ptr(), registers.as_ptr(), count, wait) };
+        self.request(status, |came| {
+            references(came.results.iter().map(|it| &it.0))
+        })
+    }
+
+    /// Sends a reading of bytes, as [`Program::read_bytes`]. Its answer also has how many the object
+    /// has in all.
+    ///
+    /// # Errors
+    ///
+    /// Those of [`Program::send`].
+    pub fn send_read_bytes(
+        &self,
+        object: u16,
+        offset: u32,
+        count: u32,
+    ) -> Result<Request<'_, (u64, Vec<u8>)>> {
+        let (at, wait) = (self.at.as_ptr(), milliseconds(self.timeout));
+        // SAFETY: the program is open.
+        let status = unsafe { markring_remote_send_read_bytes(at, object, offset, count, wait) };
+        self.request(status, |came| {
+            let (found, _) = came.results.first().ok_or(Failure::Confused)?;
+            crate::refusal::checked(found.status)?;
+            Ok((found.answer.number, came.bytes))
+        })
+    }
+
+    /// Waits for a letter, as [`Program::wait`], without holding up other requests.
+    ///
+    /// # Errors
+    ///
+    /// `Unfinished` if another such request is under way; `Memory`.
+    pub fn send_wait(&self, timeout: Duration) -> Result<Request<'_, u64>> {
+        // SAFETY: the program is open.
+        checked(unsafe { markring_remote_send_wait(self.at.as_ptr(), milliseconds(timeout)) })?;
+        let slot = Slot::default();
+        *self.waiting.borrow_mut() = Some(slot.clone());
+        Ok(Request {
+            program: self,
+            slot,
+            read: |came| Ok(came.letters),
+        })
+    }
+
+    /// Asks again for the answer to the oldest request, after `TimedOut`, `Carrier` or `Confused`:
+    /// it stays under way, and those behind it wait. It is performed once.
+    ///
+    /// # Errors
+    ///
+    /// `BadArgument` if nothing is under way, or the oldest request has not failed. `Superseded`.
+    pub fn again(&self) -> Result<Request<'_, Vec<Outcome>>> {
+        self.take_answers();
+        let mut queue = self.queue.borrow_mut();
+        if !queue.front().map_or(true, Slot::has_failed) {
+            return Err(Failure::BadArgument);
+        }
+        // SAFETY: the program is open.
+        checked(unsafe { markring_remote_resume(self.at.as_ptr(), milliseconds(self.timeout)) })?;
+        let front = queue.front_mut().ok_or(Failure::BadArgument)?;
+        *front = Slot::default();
+        let slot = front.clone();
+        Ok(Request {
+            program: self,
+            slot,
+            read: |came| Ok(outcomes(came.results)),
+        })
+    }
+
+    /// Takes all answers that have come, and wakes the tasks that wait for them. Whoever waits for
+    /// the descriptor of the space calls this for its programs once it is readable. It never waits.
+    pub fn take_answers(&self) {
+        let mut raw = NO_ANSWER;
+        loop {
+            // SAFETY: what the answer points to stays until the next call.
+            let status = unsafe { markring_remote_poll(self.at.as_ptr(), &mut raw) };
+            if !self.take(status, &raw) {
+                break;
+            }
+        }
+        self.take_letters();
+    }
+
+    // Waits until an answer can be taken. Returns false if none will come.
+    fn pause(&self) -> bool {
+        // SAFETY: the program is open.
+        let status = unsafe { markring_remote_await(self.at.as_ptr(), i64::MAX) };
+        status == 0 || status == PENDING
+    }
+
+    // Gives an outcome to the oldest request. Returns whether there was one.
+    fn take(&self, status: c_int, raw: &RawPolled) -> bool {
+        let mut queue = self.queue.borrow_mut();
+        if status == PENDING || queue.is_empty() {
+            return false;
+        }
+        let came = checked(status).map(|()| self.came(raw));
+        let slot = match raw.is_over {
+            0 => queue.front().cloned(),
+            _ => queue.pop_front(),
+        };
+        // (a waker may call this again)
+        drop(queue);
+        if let Some(slot) = slot {
+            slot.settle(came);
+        }
+        true
+    }
+
+    fn take_letters(&self) {
+        let mut letters = 0;
+        let mut waiting = self.waiting.borrow_mut();
+        if waiting.is_none() {
+            return;
+        }
+        // SAFETY: the call fills the number.
+        let status = unsafe { markring_remote_poll_wait(self.at.as_ptr(), &mut letters) };
+        if status == PENDING {
+            return;
+        }
+        let slot = waiting.take();
+        drop(waiting);
+        if let Some(slot) = slot {
+            slot.settle(checked(status).map(|()| Came {
+                letters,
+                ..Came::default()
+            }));
+        }
+    }
+
+    // A copy of an answer, which the client keeps until the next one.
+    fn came(&self, raw: &RawPolled) -> Came {
+        // SAFETY: the client gives as many results and bytes as it says, or none.
+        let (results, bytes) = unsafe {
+            (
+                slice_of(raw.results, raw.count),
+                slice_of(raw.bytes, raw.length),
             )
-        })?;
-        Ok(self.outcomes(&results[..self.count]))
+        };
+        Came {
+            results: self.events(results),
+            bytes: bytes.to_vec(),
+            letters: 0,
+        }
+    }
+
+    fn request<T>(&self, status: c_int, read: Read<T>) -> Result<Request<'_, T>> {
+        checked(status)?;
+        let slot = Slot::default();
+        self.queue.borrow_mut().push_back(slot.clone());
+        Ok(Request {
+            program: self,
+            slot,
+            read,
+        })
     }
 
     /// Performs one event.
@@ -661,11 +884,7 @@ impl Program<'_> {
                 milliseconds(self.timeout),
             )
         })?;
-        let found = results[..registers.len()].iter().map(|it| {
-            let is_there = crate::refusal::found(it.status)?;
-            Ok(Ref::from_raw(it.answer.reference).filter(|_| is_there))
-        });
-        found.collect()
+        references(results[..registers.len()].iter())
     }
 
     /// Bytes of the object that the register refers to: `count` of them, from `offset` on.
@@ -732,33 +951,21 @@ impl Program<'_> {
         Ok(letters)
     }
 
-    fn outcomes(&self, results: &[RawResult]) -> Vec<Outcome> {
-        let outcome = |(index, it): (usize, &RawResult)| match it.status {
-            0 => self.done(index, Answer::from_raw(&it.answer)),
-            NOT_DONE => Outcome::NotDone,
-            status => match crate::refusal::checked(status) {
-                Ok(()) => Outcome::NotDone,
-                Err(refusal) => Outcome::Refused(refusal),
-            },
-        };
-        results.iter().enumerate().map(outcome).collect()
+    // The bytes of the letter that the event with this index has accepted, if it asked for them.
+    fn letter(&self, index: usize) -> Option<Vec<u8>> {
+        let (mut bytes, mut length) = (ptr::null(), 0);
+        // SAFETY: the bytes stay until the next answer is taken.
+        unsafe {
+            let status =
+                markring_remote_letter_bytes(self.at.as_ptr(), index, &mut bytes, &mut length);
+            (status == 0).then(|| slice_of(bytes, length).to_vec())
+        }
     }
 
-    // A letter whose bytes the event asked for has them in the client.
-    fn done(&self, index: usize, answer: Answer) -> Outcome {
-        let Answer::Letter(letter) = answer else {
-            return Outcome::Done(answer);
-        };
-        let (mut bytes, mut length) = (ptr::null(), 0);
-        // SAFETY: the bytes stay until the next request.
-        unsafe {
-            let at = self.at.as_ptr();
-            if markring_remote_letter_bytes(at, index, &mut bytes, &mut length) != 0 {
-                return Outcome::Done(answer);
-            }
-            let bytes = core::slice::from_raw_parts(bytes, length);
-            Outcome::Letter(letter, bytes.to_vec())
-        }
+    // Each result, with its letter's bytes.
+    fn events(&self, results: &[RawResult]) -> Vec<(RawResult, Option<Vec<u8>>)> {
+        let with_letter = |(index, it): (usize, &RawResult)| (*it, self.letter(index));
+        results.iter().enumerate().map(with_letter).collect()
     }
 }
 
@@ -766,5 +973,173 @@ impl Drop for Program<'_> {
     fn drop(&mut self) {
         // SAFETY: nothing uses the handle after this.
         unsafe { markring_remote_close(self.at.as_ptr()) }
+    }
+}
+
+// What became of events.
+fn outcomes(results: Vec<(RawResult, Option<Vec<u8>>)>) -> Vec<Outcome> {
+    let outcome = |(it, bytes): (RawResult, Option<Vec<u8>>)| match it.status {
+        0 => match (Answer::from_raw(&it.answer), bytes) {
+            (Answer::Letter(letter), Some(bytes)) => Outcome::Letter(letter, bytes),
+            (answer, _) => Outcome::Done(answer),
+        },
+        NOT_DONE => Outcome::NotDone,
+        status => match crate::refusal::checked(status) {
+            Ok(()) => Outcome::NotDone,
+            Err(refusal) => Outcome::Refused(refusal),
+        },
+    };
+    results.into_iter().map(outcome).collect()
+}
+
+// What registers hold.
+fn references<'a>(results: impl Iterator<Item = &'a RawResult>) -> Result<Vec<Option<Ref>>> {
+    let found = results.map(|it| {
+        let is_there = crate::refusal::found(it.status)?;
+        Ok(Ref::from_raw(it.answer.reference).filter(|_| is_there))
+    });
+    found.collect()
+}
+
+// SAFETY: the pointer is that of as many values, if any.
+unsafe fn slice_of<'a, T>(at: *const T, count: usize) -> &'a [T] {
+    if count == 0 {
+        return &[];
+    }
+    // SAFETY: as the caller says.
+    unsafe { core::slice::from_raw_parts(at, count) }
+}
+
+const NO_ANSWER: RawPolled = RawPolled {
+    results: ptr::null(),
+    count: 0,
+    bytes: ptr::null(),
+    length: 0,
+    is_over: 1,
+};
+
+// An answer, as it came.
+#[derive(Default)]
+struct Came {
+    results: Vec<(RawResult, Option<Vec<u8>>)>,
+    bytes: Vec<u8>,
+    letters: u64,
+}
+
+type Read<T> = fn(Came) -> Result<T>;
+
+// A request between its program and whoever waits for it.
+#[derive(Clone, Default)]
+struct Slot(Rc<RefCell<Stage>>);
+
+#[derive(Default)]
+enum Stage {
+    #[default]
+    UnderWay,
+    Awaited(Waker),
+    Came(Result<Came>),
+    // Its outcome was taken; whether that was a failure.
+    Over(bool),
+}
+
+impl Slot {
+    fn settle(&self, came: Result<Came>) {
+        let before = mem::replace(&mut *self.0.borrow_mut(), Stage::Came(came));
+        if let Stage::Awaited(waker) = before {
+            waker.wake();
+        }
+    }
+
+    fn take(&self) -> Option<Result<Came>> {
+        let mut stage = self.0.borrow_mut();
+        match mem::take(&mut *stage) {
+            Stage::Came(came) => {
+                *stage = Stage::Over(came.is_err());
+                Some(came)
+            }
+            other => {
+                *stage = other;
+                None
+            }
+        }
+    }
+
+    fn has_failed(&self) -> bool {
+        matches!(&*self.0.borrow(), Stage::Came(Err(_)) | Stage::Over(true))
+    }
+}
+
+impl fmt::Debug for Slot {
+    fn fmt(&self, f: &mut fmt::Formatter<'_>) -> fmt::Result {
+        f.write_str(match &*self.0.borrow() {
+            Stage::UnderWay | Stage::Awaited(_) => "UnderWay",
+            Stage::Came(_) => "Came",
+            Stage::Over(_) => "Over",
+        })
+    }
+}
+
+/// A request under way: a future of its answer. It looks for answers when it is polled; after that,
+/// [`Program::take_answers`] wakes it. If it is dropped, the request is performed nevertheless.
+///
+/// After `TimedOut`, `Carrier` and `Confused` for events, nobody knows yet whether they were
+/// performed: [`Program::again`] asks for their answer.
+#[must_use = "the request is performed, but only this tells its answer"]
+pub struct Request<'p, T> {
+    program: &'p Program<'p>,
+    slot: Slot,
+    read: Read<T>,
+}
+
+impl<T> Request<'_, T> {
+    /// Waits for the answer, and takes those of the program's requests before it.
+    ///
+    /// # Errors
+    ///
+    /// Those of the request. `Unfinished` if a request before it has failed: call
+    /// [`Program::again`].
+    pub fn wait(self) -> Result<T> {
+        loop {
+            self.program.take_answers();
+            if let Some(came) = self.slot.take() {
+                return came.and_then(self.read);
+            }
+            if self.is_held_up() || !self.program.pause() {
+                return Err(Failure::Unfinished);
+            }
+        }
+    }
+
+    fn is_held_up(&self) -> bool {
+        let is_mine = |it: &Slot| Rc::ptr_eq(&it.0, &self.slot.0);
+        let queue = self.program.queue.borrow();
+        queue.iter().any(is_mine) && queue.front().map_or(false, Slot::has_failed)
+    }
+}
+
+impl<T> Future for Request<'_, T> {
+    type Output = Result<T>;
+
+    /// # Panics
+    ///
+    /// If the answer was taken.
+    fn poll(self: Pin<&mut Self>, context: &mut Context<'_>) -> Poll<Self::Output> {
+        self.program.take_answers();
+        if let Some(came) = self.slot.take() {
+            return Poll::Ready(came.and_then(self.read));
+        }
+        let mut stage = self.slot.0.borrow_mut();
+        assert!(
+            !matches!(&*stage, Stage::Over(_)),
+            "the answer was taken before"
+        );
+        *stage = Stage::Awaited(context.waker().clone());
+        Poll::Pending
+    }
+}
+
+impl<T> fmt::Debug for Request<'_, T> {
+    fn fmt(&self, f: &mut fmt::Formatter<'_>) -> fmt::Result {
+        f.debug_tuple("Request").field(&self.slot).finish()
     }
 }
