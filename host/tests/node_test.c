@@ -635,9 +635,9 @@ static void ask_to_open(uint64_t session, uint64_t number, const char *reply)
 // While saves fail, nobody is answered. A failed sync ends the node.
 static void test_saves(void)
 {
-    real = at.store.calls;
-    at.store.calls.write_at = write_or_fail;
-    at.store.calls.sync = sync_or_fail;
+    real = at.keeper.folder.calls;
+    at.keeper.folder.calls.write_at = write_or_fail;
+    at.keeper.folder.calls.sync = sync_or_fail;
     listen();
     ask_to_open(1, 1, "_INBOX.one");
     HOLDS(hears("_INBOX.one"));
@@ -671,7 +671,7 @@ static void test_signal(void)
     memset(&options, 0, sizeof options);
     options.host.cycle_every = CYCLE;
     host_free(at.host);
-    store_close(&at.store);
+    keeper_close(&at.keeper);
     sync_error = 0;
     HOLDS(open_node(&at, &options.host) == 0 && go_on(5 * CYCLE) == USABLE);
     listen();
@@ -721,7 +721,7 @@ int main(void)
     end_saver(&at, saves);
     disconnect_node(&at);
     host_free(at.host);
-    store_close(&at.store);
+    keeper_close(&at.keeper);
     HOLDS(model.alive == 0);
     free((void *)(uintptr_t)at.folder);
     char command[PATH + 8];
