@@ -4,7 +4,6 @@ import pwd
 import shutil
 import subprocess
 import tempfile
-import time
 from pathlib import Path
 
 
@@ -44,7 +43,7 @@ class Postgres:
         self.folder = Path(self.place.name)
         self.folder.chmod(0o755)
         self.data, self.sockets = self.folder / "data", self.folder / "s"
-        self.programs, self.before = programs(), ordinary()
+        self.programs, self.before, self.port = programs(), ordinary(), settings.get("port", 5432)
         for it in (self.data, self.sockets):
             it.mkdir()
             if self.before:
@@ -57,7 +56,10 @@ class Postgres:
 
     def call(self, program: str, *words, check: bool = True, data: str = None) -> str:
         command = [*self.before, str(self.programs / program), *map(str, words)]
-        done = subprocess.run(command, input=data, capture_output=True, text=True, check=False, cwd="/", timeout=120)
+        variables = {**os.environ, "PGHOST": str(self.sockets), "PGPORT": str(self.port), "PGUSER": "markring"}
+        done = subprocess.run(
+            command, input=data, capture_output=True, text=True, check=False, cwd="/", timeout=120, env=variables
+        )
         if check and done.returncode != 0:
             raise RuntimeError(f"{program}: {done.stderr.strip()}")
         return done.stdout
@@ -85,8 +87,7 @@ class Postgres:
 
     def sql(self, text: str, database: str = "postgres", check: bool = True) -> str:
         return self.call(
-            "psql", "-h", self.sockets, "-U", "markring", "-d", database, "-qAtX", "-v", "ON_ERROR_STOP=1",
-            check=check, data=text,
+            "psql", "-d", database, "-qAtX", "-v", "ON_ERROR_STOP=1", check=check, data=text
         ).strip()
 
     def make(self, database: str) -> None:
@@ -95,19 +96,12 @@ class Postgres:
     def url(self, database: str, node: str = "", **more) -> str:
         """The address of a database, or of a node in it."""
         words = "".join(f"&{name}={it}" for name, it in more.items())
-        return f"postgresql://markring@/{database}?host={self.sockets}{words}" + (f"#{node}" if node else "")
+        return f"postgresql://markring@/{database}?host={self.sockets}&port={self.port}{words}" + (f"#{node}" if node else "")
 
     def dump(self, database: str, to: Path) -> None:
-        text = self.call("pg_dump", "-h", self.sockets, "-U", "markring", "-n", "markring", database)
+        text = self.call("pg_dump", "-n", "markring", database)
         to.write_text(text)
 
     def restore(self, dump: Path, database: str) -> None:
         self.make(database)
         self.sql(dump.read_text(), database)
-
-    def wait(self, seconds: float = 30) -> None:
-        end = time.monotonic() + seconds
-        while time.monotonic() < end:
-            if self.call("pg_isready", "-h", self.sockets, check=False):
-                return
-            time.sleep(0.1)
