@@ -166,7 +166,6 @@ static void open_again(rows *server, const outcome *was)
     rows_client client = {.server = server};
     database at;
     database_calls calls = rows_calls(&client);
-    HOLDS(server->used_twice == 0);
     HOLDS(database_open(&at, &calls, 11, &value) == STORE_OK);
     if (value.buffer == NULL) {
         return;
@@ -202,6 +201,7 @@ static void test_each_call(rows_fault fault, bool in_maker)
         calls = which->calls > calls ? which->calls : calls;
         HOLDS(!was.is_taken || fault == ROWS_TAKES);
         taken += was.is_taken;
+        HOLDS(maker.used_twice == 0 && client.used_twice == 0);
         rows_kill(&client);
         open_again(&server, &was);
         rows_free(&server);
@@ -262,6 +262,86 @@ static void test_taken(void)
     }
 }
 
+// ## Damage
+
+// What can become of the pieces and the row of a node.
+static void take_out(rows_table *at, size_t index)
+{
+    free(at->pieces[index].bytes);
+    at->count--;
+    memmove(&at->pieces[index], &at->pieces[index + 1], (at->count - index) * sizeof *at->pieces);
+}
+
+static void repeat(rows_table *at, size_t index)
+{
+    rows_piece *piece = &at->pieces[index];
+    rows_piece copy = *piece;
+    copy.bytes = malloc(copy.length);
+    memcpy(copy.bytes, piece->bytes, copy.length);
+    at->pieces = realloc(at->pieces, (at->count + 1) * sizeof *at->pieces);
+    memmove(&at->pieces[index + 1], &at->pieces[index], (at->count - index) * sizeof *at->pieces);
+    at->pieces[index] = copy;
+    at->count++;
+}
+
+static void spoil(rows_table *at, int how, size_t index)
+{
+    rows_piece *piece = &at->pieces[index];
+    switch (how) {
+    case 0: take_out(at, index); break;
+    case 1: repeat(at, index); break;
+    case 2: piece->bytes[piece->length / 2] ^= 1; break;
+    case 3: piece->length--; break;
+    case 4: piece->is_entry = !piece->is_entry; break;
+    case 5: piece->number++; break;
+    case 6: piece->part++; break;
+    case 7: at->row.number++; break;
+    default: at->row.number--;
+    }
+}
+
+// A value in two pieces and two entries, of which one has two pieces.
+static void make_node(rows *server)
+{
+    rows_client client = {.server = server};
+    database at;
+    database_calls calls = rows_calls(&client);
+    store_value value = {NULL, 0, 0, false, 0, 0};
+    HOLDS(create(&client) == STORE_OK);
+    HOLDS(database_open(&at, &calls, HOLDER, &value) == STORE_OK);
+    free(value.buffer);
+    for (int i = 4; i < SAVES; i++) {
+        value = value_of(PLANS[i].is_entry, PLANS[i].length, i + 1);
+        HOLDS(database_save(&at, &value) == STORE_OK);
+        free(value.buffer);
+    }
+    database_close(&at);
+}
+
+static void test_damage(void)
+{
+    for (int how = 0; how < 9; how++) {
+        for (size_t index = 0; index < 5; index++) {
+            rows server = {.seed = &seed};
+            rows_client client = {.server = &server};
+            database at;
+            database_calls calls = rows_calls(&client);
+            store_value value = {NULL, 0, 0, false, 0, 0};
+            make_node(&server);
+            HOLDS(server.table.count == 5);
+            spoil(&server.table, how, index);
+            database_row before = server.table.row;
+            bool is_harmless = how == 4 && (index == 1 || index == 3);
+            store_status status = database_open(&at, &calls, OTHER, &value);
+            HOLDS(is_harmless || (status == STORE_DAMAGED && value.buffer == NULL));
+            HOLDS(is_harmless || memcmp(&before, &server.table.row, sizeof before) == 0);
+            free(value.buffer);
+            rows_kill(&client);
+            rows_free(&server);
+        }
+    }
+}
+
 // While the server is away, a save waits. It gives up if the process ends.
 static void test_pauses(void)
 {
@@ -284,7 +364,7 @@ static void test_pauses(void)
     client.refusing = 0;
     uint64_t number = at.number;
     HOLDS(database_save(&at, &next) == STORE_OK && at.number == number + 1);
-    HOLDS(server.used_twice == 0);
+    HOLDS(client.used_twice == 0);
     free(next.buffer);
     database_close(&at);
     rows_free(&server);
@@ -300,6 +380,7 @@ int main(void)
     }
     test_deaths();
     test_taken();
+    test_damage();
     test_pauses();
     printf("%lu passed, %lu failed\n", passed, failed);
     return failed != 0 || passed == 0;

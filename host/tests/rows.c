@@ -302,7 +302,7 @@ static rows_piece piece_of(const database_piece *piece)
 }
 
 // A number is for one save alone. The last bytes of a save are its seal.
-static void note_number(rows *it, const database_piece *piece)
+static void note_number(rows_client *it, const database_piece *piece)
 {
     uint64_t seal = 0;
     if (piece->part > 0 || piece->number >= ROWS_NUMBERS || piece->length < STORE_TAIL) {
@@ -322,7 +322,7 @@ static database_status put(void *context, const database_piece *piece)
     if (fault != ROWS_NO_FAULT) {
         return fault == ROWS_REFUSES ? refuse(it) : lose(it);
     }
-    note_number(it->server, piece);
+    note_number(it, piece);
     return put_piece(table_of(it), &held) ? DATABASE_DONE : refuse(it);
 }
 
@@ -335,7 +335,7 @@ static database_status save(
     if (fault == ROWS_REFUSES) {
         return refuse(it);
     }
-    note_number(it->server, piece);
+    note_number(it, piece);
     if (fault == ROWS_LATER) {
         delay(it->server, from, to, &held);
     }
@@ -386,6 +386,10 @@ static bool pause_client(void *context, uint64_t milliseconds)
     rows_client *it = context;
     (void)milliseconds;
     it->pauses++;
+    if (it->pauses_most == 0 && it->pauses % 8 == 0) {
+        // (after a while the server is well again)
+        it->losing = it->refusing = 0;
+    }
     return !it->dead && (it->pauses_most == 0 || it->pauses < it->pauses_most);
 }
 

@@ -35,9 +35,6 @@ typedef struct rows {
     rows_statement late[ROWS_LATE];
     int late_count;
     uint64_t *seed;
-    // The first checksum of each number that was ever saved, and how often another one came.
-    uint64_t seals[ROWS_NUMBERS];
-    unsigned long used_twice;
     unsigned long overtaken; // late statements that changed nothing
 } rows;
 
@@ -62,6 +59,9 @@ typedef struct rows_client {
     bool dead;
     unsigned long calls, lost, refused, pauses, notes;
     unsigned long pauses_most; // after which `pause` gives up; 0 for never
+    // The checksum of each number that this process has saved, and how often another one came.
+    uint64_t seals[ROWS_NUMBERS];
+    unsigned long used_twice;
 } rows_client;
 
 database_calls rows_calls(rows_client *it);
