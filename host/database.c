@@ -170,6 +170,7 @@ static store_status take_over(database *it, uint64_t holder, store_found *found)
         }
     }
     if (status == DATABASE_DONE) {
+        it->was_held = before.holder != 0;
         it->row = before;
         it->row.holder = holder;
         it->row.session = it->session = 1;

@@ -81,6 +81,7 @@ typedef struct database {
     uint64_t seal;    // the one before the next entry
     bool is_connected;
     bool has_older; // pieces of saves before the base
+    bool was_held;  // another process held the node when it was opened
 } database;
 
 // Makes a new node, whose first save has the number after this one. After any other status than

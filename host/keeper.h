@@ -43,6 +43,7 @@ int keeper_explain(const keeper *it, store_status status);
 // Says why the last call to the server failed. Returns the exit status.
 int explain_server(const postgres *it);
 
+// Closes the place. A node in a database is left to anybody.
 void keeper_close(keeper *it);
 
 #endif

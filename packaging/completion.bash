@@ -3,7 +3,7 @@
 _markring() {
     local words
     case $1 in
-        *-node) words='id create show restore run' ;;
+        *-node) words='id create show restore copy schema check run' ;;
         *-space) words='begin stop forget' ;;
         *-heap) words='why top' ;;
         *) words= ;;

@@ -1,5 +1,5 @@
 // Several hosts in one thread, by seed, with their programs. The net loses, repeats and reorders
-// packets. A third of the spaces are in a database, which loses connections before, during and after
+// packets. A quarter of the spaces are in a database, which loses connections before, during and after
 // commits, and whose nodes are taken over while their processes go on. Calls of the disks fail, and their writes are lost or torn. Processes and machines stop
 // at any call, allocations fail, and the clock jumps. Older folders and snapshots of machines are
 // put back, nodes are stopped, and programs flood nodes. Each answer is compared with a model of
@@ -32,6 +32,9 @@ enum {
     STARTS_MOST = 6,   // of an older folder, while the other nodes are away
     MIXED = 200,
     FLOOD = 150,       // requests
+    // Milliseconds: how often a process shows that it holds its node, and how long it is sure of that.
+    RENEW = 100,
+    SURE_FOR = 300,
     TIGHT = 60000,     // bytes of an image that takes no messages
     // In wide spaces, the registers and places before those that are used.
     MORE_REGISTERS = 400,
@@ -244,6 +247,9 @@ typedef struct station {
     rows_client client;
     database base;
     uint64_t renew_at;
+    // It takes no requests of programs before and after these times: the process before may still
+    // do so, or another one after it.
+    uint64_t serves_at, sure_until;
     host *host;
     store store;
     store_value *job; // a save that is under way
@@ -389,11 +395,10 @@ static uint64_t due_after(const station *at)
 // A process ends, and with it perhaps its machine.
 static void stop(station *at, bool power)
 {
-    host_free(at->host);
-    at->host = NULL;
     at->job = NULL;
     if (is_kept_in_database) {
-        if (!at->client.dead) {
+        bool has_left = at->host != NULL && host_ended(at->host) == HOST_LEFT;
+        if (has_left && !at->client.dead && now >= at->serves_at) {
             database_close(&at->base);
         }
         rows_kill(&at->client);
@@ -406,6 +411,8 @@ static void stop(station *at, bool power)
     } else {
         disk_kill(&at->disk);
     }
+    host_free(at->host);
+    at->host = NULL;
     at->starts_at = now + (is_calm ? 0 : below(below(4) == 0 ? 4000 : 100));
     at->has_left = false;
     crashes++;
@@ -506,6 +513,7 @@ static store_status save_in_place(station *at, store_value *value)
     HOLDS(is_dead(at) || is_holder == (status != STORE_TAKEN));
     HOLDS(at->client.used_twice == 0);
     doubtful += at->base.session != session;
+    at->sure_until = status == STORE_OK ? now + SURE_FOR : at->sure_until;
     return status;
 }
 
@@ -520,7 +528,9 @@ static int start(station *at)
         uint64_t nonce = random_nonce();
         opened = host_open(&at->host, &value, number_of(at), nonce, &options, &events, now);
         memset(at->client.seals, 0, sizeof at->client.seals);
-        at->renew_at = now + 1000;
+        at->renew_at = now + RENEW;
+        at->serves_at = is_kept_in_database && at->base.was_held ? now + SURE_FOR : now;
+        at->sure_until = now + SURE_FOR;
         if (at - stations == mixed_node && mixed_count < MIXED) {
             mixed_nonces[mixed_count++] = nonce;
         }
@@ -558,15 +568,17 @@ static void finish_save(station *at)
     expect_end(at);
 }
 
-// A process that holds its node says so each second.
+// A process that holds its node says so.
 static void renew(station *at)
 {
     if (!is_kept_in_database || at->host == NULL || at->job != NULL || now < at->renew_at) {
         return;
     }
-    at->renew_at = now + 1000;
+    at->renew_at = now + RENEW;
     arm(at);
-    if (database_renew(&at->base) == STORE_TAKEN && !is_dead(at)) {
+    store_status status = database_renew(&at->base);
+    at->sure_until = status == STORE_OK ? now + SURE_FOR : at->sure_until;
+    if (status == STORE_TAKEN && !is_dead(at)) {
         host_taken(at->host);
     }
     disarm(at);
@@ -607,7 +619,8 @@ static void take_over(uint8_t node)
         return;
     }
     *ghost = (station){.node = node, .client = at->client, .base = at->base, .host = at->host,
-        .job = at->job, .job_ends = now + below(500), .renew_at = at->renew_at};
+        .job = at->job, .job_ends = now + below(500), .renew_at = at->renew_at,
+        .serves_at = at->serves_at, .sure_until = at->sure_until};
     ghost->disk.seed = &seed;
     ghost->host->calls.context = ghost;
     ghost->base.calls = rows_calls(&ghost->client);
@@ -642,7 +655,7 @@ static void haunt(station *ghost)
         store_status status = save_in_place(ghost, job);
         host_saved(ghost->host, now, status, ghost->base.number);
     } else if (ghost->job == NULL && now >= ghost->renew_at) {
-        ghost->renew_at = now + 1000;
+        ghost->renew_at = now + RENEW;
         if (database_renew(&ghost->base) == STORE_TAKEN) {
             host_taken(ghost->host);
         }
@@ -656,8 +669,13 @@ static void haunt(station *ghost)
     }
 }
 
-// What comes to a node comes to its ghost, too. (Programs' readings don't: a process drops them
-// unless it has renewed its hold lately.)
+// Whether a process takes requests of programs now.
+static bool is_sure(const station *at)
+{
+    return !is_kept_in_database || (now >= at->serves_at && now < at->sure_until);
+}
+
+// What comes to a node comes to its ghost, too.
 static void haunt_with(station *ghost, const packet *it, const char *reply)
 {
     if (ghost->host == NULL) {
@@ -666,7 +684,7 @@ static void haunt_with(station *ghost, const packet *it, const char *reply)
     in_host = true;
     if (it->kind == 0) {
         host_packet(ghost->host, now, it->from, it->bytes, it->length);
-    } else if (it->bytes[4] == REQUEST_PERFORM) {
+    } else if (is_sure(ghost)) {
         host_request(ghost->host, now, it->bytes, it->length, reply);
     }
     in_host = false;
@@ -1317,7 +1335,7 @@ static void deliver(const packet *it)
         full += host_counted(to->host)->full - before;
         // A window and what was early may come beyond the limit.
         HOLDS(options.letters_most == 0 || letters_at(it->to) <= options.letters_most + 64);
-    } else {
+    } else if (is_sure(to)) {
         host_request(to->host, now, it->bytes, it->length, reply);
     }
     to->touched = true;
@@ -2168,7 +2186,7 @@ int main(int count, char **given)
     for (run_seed = first; run_seed < first + seeds && failures == 0; run_seed++) {
         seed = run_seed * UINT64_C(0x9E3779B97F4A7C15) | 1;
         is_wide = run_seed % 3 == 0;
-        is_kept_in_database = run_seed / 3 % 3 == 1;
+        is_kept_in_database = run_seed % 4 == 2;
         run(steps);
     }
     printf("%lu seeds: %lu requests, %lu answers, %lu crashes, %lu of them with the machine, %lu "
