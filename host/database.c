@@ -90,7 +90,9 @@ static bool collect(void *to, const database_piece *piece)
     if (!make_room(it, piece->length)) {
         return false;
     }
-    memcpy(it->bytes + it->length, piece->bytes, piece->length);
+    if (piece->length > 0) {
+        memcpy(it->bytes + it->length, piece->bytes, piece->length);
+    }
     it->length += piece->length;
     it->number = piece->number;
     it->part = piece->part + 1;

@@ -36,14 +36,15 @@ int make_schema(const char *place)
     if (!names_database(place)) {
         return complain(LEAVE_USAGE, "the schema is for a database: postgresql://USER@HOST/DATABASE");
     }
-    if (!read_address(place, &at.address) || !postgres_open(&at.server, at.address.server)
-        || postgres_make_schema(at.server) != DATABASE_DONE) {
-        return explain_server(at.server);
+    bool is_made = read_address(place, &at.address)
+        && postgres_open(&at.server, at.address.server)
+        && postgres_make_schema(at.server) == DATABASE_DONE;
+    int status = is_made ? 0 : explain_server(at.server);
+    if (is_made) {
+        printf("the schema markring of version %d is there\n", SCHEMA_VERSION);
     }
-    printf("the schema markring of version %d is there\n", SCHEMA_VERSION);
-    postgres_free(at.server);
-    free(at.address.server);
-    return 0;
+    keeper_free(&at);
+    return status;
 }
 
 // ## Looking
@@ -89,12 +90,16 @@ int show_node(const char *place)
     host *it = NULL;
     uint64_t number;
     int status = keeper_begin(&at, place);
-    status = status == 0 ? begin_look(at.server) : status;
+    if (status != 0) {
+        return status;
+    }
+    status = begin_look(at.server);
     status = status == 0 ? look_at_node(&at, &it, &number) : status;
     if (status == 0) {
         print_shape(host_is(it), number);
         host_free(it);
     }
+    keeper_free(&at);
     return status;
 }
 
@@ -245,25 +250,20 @@ int check_nodes(const char *place)
     if (!names_database(place) || !read_address(place, &at.address)) {
         return complain(LEAVE_USAGE, "check needs postgresql://USER@HOST/DATABASE, perhaps with #SPACE");
     }
-    if (!postgres_open(&at.server, at.address.server)) {
-        return explain_server(at.server);
-    }
-    int status = begin_look(at.server);
+    int status = postgres_open(&at.server, at.address.server) ? 0 : explain_server(at.server);
+    status = status == 0 ? begin_look(at.server) : status;
     status = status == 0 ? check_all(&at) : status;
-    postgres_free(at.server);
-    free(at.address.server);
+    keeper_free(&at);
     return status;
 }
 
 // ## Copies
 
-int refuse_if_running(keeper *it)
+// Whether a process renews its hold of the node, or why that isn't known.
+static int look_for_process(keeper *it)
 {
     database_row first, later;
     struct timespec time = {WATCHED / 1000, (long)(WATCHED % 1000) * 1000000};
-    if (!it->is_database) {
-        return 0;
-    }
     database_calls calls = postgres_calls(it->server);
     database_status status = calls.connect(calls.context);
     status = status == DATABASE_DONE ? postgres_peek(it->server, &first) : status;
@@ -280,6 +280,15 @@ int refuse_if_running(keeper *it)
         : complain(LEAVE_FOLDER, "a process runs this node: stop it first");
 }
 
+int refuse_if_running(keeper *it)
+{
+    int status = it->is_database ? look_for_process(it) : 0;
+    if (status != 0) {
+        keeper_free(it);
+    }
+    return status;
+}
+
 // Makes the copy of a node that was opened.
 static int make_copy(host *it, const char *place, uint64_t number)
 {
@@ -291,13 +300,16 @@ static int make_copy(host *it, const char *place, uint64_t number)
     }
     int refused = host_rename(it, host_is(it)->space, &value);
     if (refused != MARKRING_OK) {
+        keeper_free(&to);
         return complain(refused == MARKRING_MEMORY ? LEAVE_SYSTEM : LEAVE_FOLDER,
             markring_status_text(refused));
     }
     store_status created = keeper_create(&to, &value, number);
     free(value.buffer);
     if (created != STORE_OK) {
-        return keeper_explain(&to, created);
+        status = keeper_explain(&to, created);
+        keeper_free(&to);
+        return status;
     }
     print_shape(host_is(it), keeper_number(&to));
     keeper_close(&to);
@@ -316,7 +328,9 @@ int copy_node(const char *from, const char *to)
     }
     store_status opened = keeper_open(&at, &value);
     if (opened != STORE_OK) {
-        return keeper_explain(&at, opened);
+        status = keeper_explain(&at, opened);
+        keeper_free(&at);
+        return status;
     }
     status = open_value(&it, &value, keeper_number(&at));
     if (status == 0) {

@@ -17,7 +17,7 @@ int check_nodes(const char *place);
 // Copies a node that no process runs to a place that has none.
 int copy_node(const char *from, const char *to);
 
-// Refuses a node in a database that a process runs.
+// Refuses a node in a database that a process runs; then it is freed.
 struct keeper;
 int refuse_if_running(struct keeper *it);
 

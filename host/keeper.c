@@ -81,6 +81,12 @@ static int begin_database(keeper *it, const char *place)
     return postgres_open(&it->server, it->address.server) ? 0 : explain_server(it->server);
 }
 
+static int free_with(keeper *it, int status)
+{
+    keeper_free(it);
+    return status;
+}
+
 int keeper_begin(keeper *it, const char *place)
 {
     memset(it, 0, sizeof *it);
@@ -90,13 +96,14 @@ int keeper_begin(keeper *it, const char *place)
     }
     int status = begin_database(it, place);
     if (status == 0 && !it->address.has_node) {
-        return complain(LEAVE_USAGE,
+        status = complain(LEAVE_USAGE,
             "the address has to say which node: add #SPACE/NODE, as in #ring/0");
     }
-    if (status == 0) {
-        postgres_select(it->server, it->address.space, it->address.node);
+    if (status != 0) {
+        return free_with(it, status);
     }
-    return status;
+    postgres_select(it->server, it->address.space, it->address.node);
+    return 0;
 }
 
 int keeper_begin_node(keeper *it, const char *place, const char *space, uint8_t node)
@@ -110,12 +117,13 @@ int keeper_begin_node(keeper *it, const char *place, const char *space, uint8_t 
     if (status == 0
         && ((it->address.has_space && strcmp(it->address.space, space) != 0)
             || (it->address.has_node && it->address.node != node))) {
-        return complain(LEAVE_USAGE, "the address names another space or node");
+        status = complain(LEAVE_USAGE, "the address names another space or node");
     }
-    if (status == 0) {
-        postgres_select(it->server, space, node);
+    if (status != 0) {
+        return free_with(it, status);
     }
-    return status;
+    postgres_select(it->server, space, node);
+    return 0;
 }
 
 // A random number that isn't 0, and that the database can keep; 0 if the system gave none.
@@ -173,4 +181,13 @@ void keeper_close(keeper *it)
     } else {
         store_close(&it->folder);
     }
+    keeper_free(it);
+}
+
+void keeper_free(keeper *it)
+{
+    postgres_free(it->server);
+    free(it->address.server);
+    it->server = NULL;
+    it->address.server = NULL;
 }

@@ -17,7 +17,7 @@ struct keeper {
 };
 
 // Takes a folder or an address, of which nothing is opened yet. Returns 0, or the exit status after
-// it has said why.
+// it has said why; then nothing is to be freed.
 int keeper_begin(keeper *it, const char *place);
 
 // The same for a node of this space; an address may leave it out.
@@ -43,7 +43,10 @@ int keeper_explain(const keeper *it, store_status status);
 // Says why the last call to the server failed. Returns the exit status.
 int explain_server(const postgres *it);
 
-// Closes the place. A node in a database is left to anybody.
+// Closes the place and frees it. A node in a database is left to anybody.
 void keeper_close(keeper *it);
+
+// Frees one that isn't open.
+void keeper_free(keeper *it);
 
 #endif
