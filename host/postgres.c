@@ -605,7 +605,7 @@ static bool take_version(postgres *it, pg_result *result, void *to)
 static const char SETTINGS[] =
     "select set_config('synchronous_commit', current_setting('synchronous_commit'), false), "
     "set_config('default_transaction_isolation', 'read committed', false), "
-    "set_config('lock_timeout', '5s', false), set_config('statement_timeout', '0', false), "
+    "set_config('lock_timeout', '20s', false), set_config('statement_timeout', '0', false), "
     "set_config('idle_in_transaction_session_timeout', '30s', false), "
     "set_config('tcp_keepalives_idle', '5', false), "
     "set_config('tcp_keepalives_interval', '2', false), "
