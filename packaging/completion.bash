@@ -4,7 +4,7 @@ _markring() {
     local words
     case $1 in
         *-node) words='id create show restore copy schema check run' ;;
-        *-space) words='begin stop forget' ;;
+        *-space) words='begin stop forget check' ;;
         *-heap) words='why top' ;;
         *) words= ;;
     esac
