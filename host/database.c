@@ -100,7 +100,8 @@ static bool collect(void *to, const database_piece *piece)
 }
 
 // Reads the value with this row. The last piece has to be of the save that counts.
-static store_status read_value(const database_calls *calls, const database_row *row, store_found *to)
+static store_status read_value(
+    const database_calls *calls, const database_row *row, store_found *to)
 {
     collected all = {NULL, 0, 0, 0, 0, false};
     database_status status = calls->read(calls->context, row->base, collect, &all);

@@ -34,7 +34,8 @@ int make_schema(const char *place)
     keeper at;
     memset(&at, 0, sizeof at);
     if (!names_database(place)) {
-        return complain(LEAVE_USAGE, "the schema is for a database: postgresql://USER@HOST/DATABASE");
+        return complain(
+            LEAVE_USAGE, "the schema is for a database: postgresql://USER@HOST/DATABASE");
     }
     bool is_made = read_address(place, &at.address)
         && postgres_open(&at.server, at.address.server)
@@ -59,9 +60,10 @@ static int open_value(host **it, store_value *value, uint64_t number)
     int refused =
         is_there ? host_open(it, value, number, nonce | 1, &options, &calls, 0) : MARKRING_MEMORY;
     free(value->buffer);
-    return refused == MARKRING_OK ? 0
-                                  : complain(refused == MARKRING_MEMORY ? LEAVE_SYSTEM : LEAVE_FOLDER,
-                                        markring_status_text(refused));
+    return refused == MARKRING_OK
+        ? 0
+        : complain(refused == MARKRING_MEMORY ? LEAVE_SYSTEM : LEAVE_FOLDER,
+            markring_status_text(refused));
 }
 
 // Begins to look at a database, in one transaction.
@@ -179,11 +181,13 @@ static int compare_ages(const age *ages, const age *a)
         if (b == a || !b->is_there) {
             continue;
         }
-        if (memcmp(a->shape.space, b->shape.space, SPACE_ID) != 0 || a->shape.nodes != b->shape.nodes) {
+        if (memcmp(a->shape.space, b->shape.space, SPACE_ID) != 0
+            || a->shape.nodes != b->shape.nodes) {
             printf("nodes %d and %d are of two spaces\n", a->shape.own, b->shape.own);
             status = LEAVE_FOLDER;
         } else if (is_older(a, b)) {
-            printf("node %d is older than what node %d has seen of it\n", a->shape.own, b->shape.own);
+            printf(
+                "node %d is older than what node %d has seen of it\n", a->shape.own, b->shape.own);
             status = LEAVE_FOLDER;
         }
     }
@@ -248,7 +252,8 @@ int check_nodes(const char *place)
     memset(&at, 0, sizeof at);
     at.is_database = true;
     if (!names_database(place) || !read_address(place, &at.address)) {
-        return complain(LEAVE_USAGE, "check needs postgresql://USER@HOST/DATABASE, perhaps with #SPACE");
+        return complain(
+            LEAVE_USAGE, "check needs postgresql://USER@HOST/DATABASE, perhaps with #SPACE");
     }
     int status = postgres_open(&at.server, at.address.server) ? 0 : explain_server(at.server);
     status = status == 0 ? begin_look(at.server) : status;

@@ -54,7 +54,8 @@ static int explain_database(const keeper *it, store_status status)
         return complain(LEAVE_FOLDER,
             "there is no such node in this database. Is it the right database, space and number? A "
             "node that was lost can't be created again: restore the schema markring from a dump");
-    case STORE_EXISTS: return complain(LEAVE_FOLDER, "there is such a node in this database already");
+    case STORE_EXISTS:
+        return complain(LEAVE_FOLDER, "there is such a node in this database already");
     case STORE_DAMAGED:
         return complain(LEAVE_FOLDER,
             "pieces of this node are damaged or missing in the database. Restore the whole schema "

@@ -215,7 +215,8 @@ static void note_text(postgres *it, postgres_reason reason, const char *text)
 {
     it->reason = reason;
     snprintf(it->text, sizeof it->text, "%s", text != NULL ? text : "");
-    for (size_t length = strlen(it->text); length > 0 && isspace((unsigned char)it->text[length - 1]);) {
+    for (size_t length = strlen(it->text);
+         length > 0 && isspace((unsigned char)it->text[length - 1]);) {
         it->text[--length] = 0;
     }
 }
@@ -635,7 +636,8 @@ static database_status test_server(postgres *it, greeting *found)
     }
     if (strcmp(found->commits, "off") == 0) {
         return refuse(it, POSTGRES_ASYNCHRONOUS,
-            "synchronous_commit is off, so the server forgets saves that it has promised. Set it to "
+            "synchronous_commit is off, so the server forgets saves that it has promised. Set it "
+            "to "
             "on for this user or this database: alter role .. set synchronous_commit = on");
     }
     it->warning = strcmp(found->syncs, "off") == 0
@@ -651,7 +653,8 @@ static database_status test_schema(postgres *it, greeting *found)
 {
     if (!found->has_schema) {
         return refuse(it, POSTGRES_NO_SCHEMA,
-            "there is no schema markring in this database: `markring-node schema ADDRESS` makes it, "
+            "there is no schema markring in this database: `markring-node schema ADDRESS` makes "
+            "it, "
             "or apply what `markring-node schema` prints");
     }
     database_status status =
@@ -659,11 +662,12 @@ static database_status test_schema(postgres *it, greeting *found)
     if (status == DATABASE_DONE && found->version != SCHEMA_VERSION) {
         bool is_older = found->version < SCHEMA_VERSION;
         return refuse(it, is_older ? POSTGRES_OLDER : POSTGRES_NEWER,
-            is_older ? "the schema markring is of an earlier version, which this program can't "
-                       "use: copy the nodes into folders with the earlier program, and from there "
-                       "into a database with this one's schema"
-                     : "the schema markring is of a later version: use the program that it was made "
-                       "for, or a later one");
+            is_older
+                ? "the schema markring is of an earlier version, which this program can't "
+                  "use: copy the nodes into folders with the earlier program, and from there "
+                  "into a database with this one's schema"
+                : "the schema markring is of a later version: use the program that it was made "
+                  "for, or a later one");
     }
     return status;
 }
@@ -684,7 +688,8 @@ static postgres_reason reason_of_refusal(
     postgres *it, const char *const *keys, const char *const *values, const char *text)
 {
     int found = it->pq.ping(keys, values, 1);
-    bool has_many = strstr(text, "too many") != NULL || strstr(text, "remaining connection") != NULL;
+    bool has_many = strstr(text, "too many") != NULL
+        || strstr(text, "remaining connection") != NULL;
     return found == PING_IMPOSSIBLE     ? POSTGRES_ADDRESS
         : found == PING_OK && !has_many ? POSTGRES_DENIED
                                         : POSTGRES_AWAY;
@@ -844,7 +849,8 @@ const char *shown_place(const char *word)
         return word;
     }
     const char *mark = strrchr(word, '#');
-    snprintf(shown, sizeof shown, "postgresql://..%.*s", ADDRESS_NAME + 4, mark != NULL ? mark : "");
+    snprintf(
+        shown, sizeof shown, "postgresql://..%.*s", ADDRESS_NAME + 4, mark != NULL ? mark : "");
     return shown;
 }
 
@@ -862,7 +868,8 @@ static bool test_options(postgres *it)
     }
     bool has_password = false;
     for (const pg_option *each = options; each->keyword != NULL; each++) {
-        has_password = has_password || (each->val != NULL && strstr(each->keyword, "password") != NULL);
+        has_password = has_password
+            || (each->val != NULL && strstr(each->keyword, "password") != NULL);
     }
     it->pq.free_options(options);
     if (has_password) {
@@ -883,7 +890,8 @@ bool postgres_open(postgres **made, const char *server)
     }
     if (!load_libpq(&it->pq)) {
         note_text(it, POSTGRES_LIBRARY,
-            "nodes in a database need PostgreSQL's client library libpq.so.5, which can't be loaded: "
+            "nodes in a database need PostgreSQL's client library libpq.so.5, which can't be "
+            "loaded: "
             "install the package libpq5");
         return false;
     }
