@@ -470,6 +470,19 @@ static void note_saved_links(host *it)
     }
 }
 
+void host_taken(host *it)
+{
+    end_with(it, HOST_OLDER,
+        "another process has taken this node over; nothing has left this one that isn't saved. "
+        "Don't start it again while the other one runs");
+}
+
+void host_unreachable(host *it, uint64_t now, bool is_unreachable)
+{
+    bool was_so = it->unreachable_at != 0;
+    it->unreachable_at = !is_unreachable ? 0 : was_so ? it->unreachable_at : now > 0 ? now : 1;
+}
+
 void host_saved(host *it, uint64_t now, store_status status, uint64_t number)
 {
     if (it->end != HOST_RUNS || !it->saving) {
@@ -480,6 +493,8 @@ void host_saved(host *it, uint64_t now, store_status status, uint64_t number)
         it->counts.failed_saves++;
         it->changed = true;
         it->save_at = now + RETRY;
+    } else if (status == STORE_TAKEN) {
+        host_taken(it);
     } else if (status != STORE_OK) {
         end_with(it, HOST_UNSURE,
             "a sync of the saved node failed; when the disk is well, start it again");

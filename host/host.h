@@ -28,7 +28,9 @@ typedef markring_host_shape host_shape;
 #define host_rename markring_host_rename
 #define host_request markring_host_request
 #define host_saved markring_host_saved
+#define host_taken markring_host_taken
 #define host_turn markring_host_turn
+#define host_unreachable markring_host_unreachable
 #define host_wait markring_host_wait
 #define host_wrote markring_host_wrote
 

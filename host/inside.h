@@ -194,6 +194,7 @@ struct markring_host {
     // How often the node has reclaimed in this turn because it was full.
     int full_reclaims;
     uint64_t cycle_at, objects_after, saved_at, save_took, save_began;
+    uint64_t unreachable_at; // since when the place of saves can't be reached; 0 if it can be
     char stop_reply[HOST_REPLY];
     notes notes;
     host_times saves, cycles, requests;

@@ -62,15 +62,20 @@ static void say_how(service *it, uint64_t now, const host_view *view, bool is_co
     (void)notify(text);
 }
 
+void service_alive(service *it, uint64_t now)
+{
+    if (it->every > 0 && now - it->alive_at >= it->every && notify("WATCHDOG=1")) {
+        it->alive_at = now;
+    }
+}
+
 void service_turn(service *it, uint64_t now, const host_view *view, bool is_connected)
 {
     if (!it->is_ready && is_connected && view->counts.saves > 0) {
         it->is_ready = notify("READY=1");
         it->said_at = 0;
     }
-    if (it->every > 0 && now - it->alive_at >= it->every && notify("WATCHDOG=1")) {
-        it->alive_at = now;
-    }
+    service_alive(it, now);
     if (it->said_at == 0 || now - it->said_at >= SAYS_EACH) {
         say_how(it, now, view, is_connected);
     }

@@ -39,6 +39,8 @@ const host_number HOST_NUMBER[] = {
     NUMBER("save", save, "save", "The number of the last save"),
     TIME("saved_ago", saved_ago, "save_age_seconds", "Time since the last save"),
     TIME("save_took", save_took, "last_save_seconds", "Time that the last save took"),
+    TIME("database_lost", database_lost, "database_lost_seconds",
+        "Time since the node's database can't be reached; 0 if it can be, or if there isn't one"),
     NUMBER("run", run, "first_save", "The number of the first save of this process"),
     NUMBER("packets_in", counts.packets_in, "packets_received_total", "Packets of other nodes"),
     NUMBER("packets_out", counts.packets_out, "packets_sent_total", "Packets to other nodes"),
@@ -116,6 +118,7 @@ void host_look(host *it, uint64_t now, host_view *to)
     to->save = it->stored;
     to->saved_ago = now - it->saved_at;
     to->save_took = it->save_took;
+    to->database_lost = it->unreachable_at > 0 ? now - it->unreachable_at + 1 : 0;
     to->run = it->run;
     to->counts = it->counts;
     to->saves = it->saves;

@@ -32,7 +32,7 @@ typedef struct host_view {
     uint64_t own, nodes, registers, slots, places, bytes, wide, limit;
     uint64_t byte_limit, letter_bytes, queued_bytes;
     uint64_t cycle, ended, swept, token, live, letters, unacknowledged;
-    uint64_t image, save, saved_ago, save_took, run;
+    uint64_t image, save, saved_ago, save_took, database_lost, run;
     host_counts counts;
     host_times saves, cycles, requests;
     host_peer_view peers[64]; // `nodes` of them

@@ -145,32 +145,38 @@ static void lengthen(store *it, uint64_t end)
     }
 }
 
-// Adds an entry. Its checksum begins with the one before it, so bytes of earlier saves that follow
-// aren't taken for entries.
-static store_status add_entry(store *it, store_value *value, uint64_t number)
+store_bytes store_seal_entry(store_value *value, uint64_t number, uint64_t before)
 {
     uint8_t *entry = value->buffer + STORE_HEAD - ENTRY_HEAD;
     writer head = writer_of(entry, ENTRY_HEAD);
     write_number(&head, value->length, 8);
     write_number(&head, number, 8);
     size_t length = ENTRY_HEAD + value->length;
-    uint64_t seal = XXH3_64bits_withSeed(entry, length, it->seal);
+    uint64_t seal = XXH3_64bits_withSeed(entry, length, before);
     writer tail = writer_of(entry + length, STORE_TAIL);
     write_number(&tail, seal, 8);
+    return (store_bytes){entry, length + STORE_TAIL, seal};
+}
+
+// Adds an entry. Its checksum begins with the one before it, so bytes of earlier saves that follow
+// aren't taken for entries.
+static store_status add_entry(store *it, store_value *value, uint64_t number)
+{
+    store_bytes entry = store_seal_entry(value, number, it->seal);
     int file = it->slots[it->counts];
-    store_status status = write_all(it, file, entry, length + STORE_TAIL, it->end);
+    store_status status = write_all(it, file, entry.bytes, entry.length, it->end);
     if (status == STORE_OK) {
-        lengthen(it, it->end + length + STORE_TAIL);
+        lengthen(it, it->end + entry.length);
         status = sync_file(it, file);
     }
     if (status == STORE_OK) {
-        it->seal = seal;
-        it->end += length + STORE_TAIL;
+        it->seal = entry.seal;
+        it->end += entry.length;
     }
     return status;
 }
 
-static store_status replace(store *it, store_value *value, uint64_t number)
+store_bytes store_seal_whole(store_value *value, uint64_t number)
 {
     writer head = writer_of(value->buffer, STORE_HEAD);
     write_bytes(&head, MAGIC, sizeof MAGIC);
@@ -180,16 +186,22 @@ static store_status replace(store *it, store_value *value, uint64_t number)
     uint64_t seal = XXH3_64bits(value->buffer, length);
     writer tail = writer_of(value->buffer + length, STORE_TAIL);
     write_number(&tail, seal, 8);
+    return (store_bytes){value->buffer, length + STORE_TAIL, seal};
+}
+
+static store_status replace(store *it, store_value *value, uint64_t number)
+{
+    store_bytes whole = store_seal_whole(value, number);
     int other = 1 - it->counts;
-    store_status status = write_all(it, it->slots[other], value->buffer, length + STORE_TAIL, 0);
+    store_status status = write_all(it, it->slots[other], whole.bytes, whole.length, 0);
     if (status == STORE_OK) {
         status = sync_file(it, it->slots[other]);
     }
     if (status == STORE_OK) {
         it->counts = other;
-        it->seal = it->base = seal;
+        it->seal = it->base = whole.seal;
         it->length = value->length;
-        it->end = it->size = length + STORE_TAIL;
+        it->end = it->size = whole.length;
     }
     return status;
 }
@@ -233,9 +245,16 @@ static store_status test_empty(store *it)
 
 store_status store_create(store *it, const store_calls *calls, const char *path, store_value *value)
 {
+    return store_create_after(it, calls, path, value, 0);
+}
+
+store_status store_create_after(
+    store *it, const store_calls *calls, const char *path, store_value *value, uint64_t number)
+{
     it->calls = *calls;
     it->cause = 0;
     forget(it);
+    it->number = number;
     int made = calls->make_folder(calls->context, path);
     if (made != 0 && made != -EEXIST) {
         return fail(it, made);
@@ -336,6 +355,20 @@ static void find_whole(slot *found)
     if (found->version == MAGIC[sizeof MAGIC - 1]) {
         find_entries(found);
     }
+}
+
+bool store_read_bytes(uint8_t *bytes, size_t length, store_found *to)
+{
+    slot found;
+    memset(&found, 0, sizeof found);
+    found.value.buffer = bytes;
+    found.value.room = length;
+    find_whole(&found);
+    if (found.version != MAGIC[sizeof MAGIC - 1] || found.value.end != length) {
+        return false;
+    }
+    *to = (store_found){found.value, found.number, found.seal};
+    return true;
 }
 
 // ## Rot
@@ -600,6 +633,7 @@ const char *store_text(store_status status)
     case STORE_DAMAGED: return "the files a and b are damaged";
     case STORE_STALE: return "memory has what the disk hasn't, since a sync failed";
     case STORE_FAILED: return "a call to the system failed";
+    case STORE_TAKEN: return "another process has taken over";
     default: return "a sync failed";
     }
 }

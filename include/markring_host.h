@@ -51,7 +51,10 @@ typedef enum markring_store_status {
     MARKRING_STORE_FAILED,
     // A sync failed: nobody knows whether the new value or the old one is on the disk. The process
     // has to end, since another sync could succeed without having written. `cause` says why.
-    MARKRING_STORE_UNKNOWN
+    MARKRING_STORE_UNKNOWN,
+    // Another process has taken over, so nothing can be saved any more. A store in a folder doesn't
+    // say so; a place of the caller's own may.
+    MARKRING_STORE_TAKEN
 } markring_store_status;
 
 // The system calls. Each returns what it opened, how many bytes it moved, or 0; or a negative
@@ -311,7 +314,8 @@ void markring_host_control(
 // Collects, begins a save if one is due, answers programs and sends packets.
 void markring_host_turn(markring_host *it, uint64_t now);
 
-// The save that `save` began is over. `number` is that of the save, if it succeeded.
+// The save that `save` began is over. `number` is that of the save, if it succeeded. After
+// MARKRING_STORE_TAKEN the host ends with MARKRING_HOST_OLDER.
 void markring_host_saved(
     markring_host *it, uint64_t now, markring_store_status status, uint64_t number);
 
@@ -320,6 +324,12 @@ uint64_t markring_host_wait(markring_host *it, uint64_t now);
 
 // The carrier has a connection again after it had none: what isn't acknowledged is sent again.
 void markring_host_connected(markring_host *it, uint64_t now);
+
+// Another process runs the node: this host ends with MARKRING_HOST_OLDER.
+void markring_host_taken(markring_host *it);
+
+// The place of saves can't be reached, or can be reached again. The status shows it.
+void markring_host_unreachable(markring_host *it, uint64_t now, bool is_unreachable);
 
 // Asks the host to save all and to leave.
 void markring_host_leave(markring_host *it);

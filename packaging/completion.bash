@@ -3,8 +3,8 @@
 _markring() {
     local words
     case $1 in
-        *-node) words='id create show restore run' ;;
-        *-space) words='begin stop forget' ;;
+        *-node) words='id create show restore copy schema check run' ;;
+        *-space) words='begin stop forget check' ;;
         *-heap) words='why top' ;;
         *) words= ;;
     esac

@@ -331,17 +331,17 @@ static void test_openings(void)
     static const int staying[] = {EACCES, EPERM, EROFS, EISDIR, ELOOP, ENAMETOOLONG, EINVAL};
     begin_hearing();
     for (size_t i = 0; i < sizeof passing / sizeof *passing; i++) {
-        HOLDS(explain(STORE_FAILED, passing[i]) == LEAVE_SYSTEM);
-        HOLDS(explain(STORE_UNKNOWN, passing[i]) == LEAVE_SYSTEM);
+        HOLDS(explain_folder(STORE_FAILED, passing[i]) == LEAVE_SYSTEM);
+        HOLDS(explain_folder(STORE_UNKNOWN, passing[i]) == LEAVE_SYSTEM);
     }
     for (size_t i = 0; i < sizeof staying / sizeof *staying; i++) {
-        HOLDS(explain(STORE_FAILED, staying[i]) == LEAVE_FOLDER);
+        HOLDS(explain_folder(STORE_FAILED, staying[i]) == LEAVE_FOLDER);
     }
-    HOLDS(explain(STORE_MEMORY, 0) == LEAVE_SYSTEM);
-    HOLDS(explain(STORE_STALE, 0) == LEAVE_SYSTEM);
-    HOLDS(explain(STORE_ABSENT, EMFILE) == LEAVE_FOLDER);
-    HOLDS(explain(STORE_LOCKED, EMFILE) == LEAVE_FOLDER);
-    HOLDS(explain(STORE_DAMAGED, EMFILE) == LEAVE_FOLDER);
+    HOLDS(explain_folder(STORE_MEMORY, 0) == LEAVE_SYSTEM);
+    HOLDS(explain_folder(STORE_STALE, 0) == LEAVE_SYSTEM);
+    HOLDS(explain_folder(STORE_ABSENT, EMFILE) == LEAVE_FOLDER);
+    HOLDS(explain_folder(STORE_LOCKED, EMFILE) == LEAVE_FOLDER);
+    HOLDS(explain_folder(STORE_DAMAGED, EMFILE) == LEAVE_FOLDER);
     HOLDS(end_hearing(": Too many open files\n") == 2);
 }
 
@@ -373,13 +373,13 @@ static void test_words(void)
 // The node that `create` made in this folder.
 static host_shape shape_in(const char *folder)
 {
-    store it;
+    keeper it;
     host *node = NULL;
     host_shape shape = {0};
-    if (open_folder(&it, &node, folder) == 0) {
+    if (keeper_begin(&it, folder) == 0 && open_folder(&it, &node) == 0) {
         shape = *host_is(node);
         host_free(node);
-        store_close(&it);
+        keeper_close(&it);
     }
     return shape;
 }
@@ -587,7 +587,7 @@ static void test_restore(void)
     HOLDS(create(9, words) == 0 && files_with(folder, words[2]) == 1);
     begin_hearing();
     HOLDS(restore_as(folder, "0123") == LEAVE_USAGE);
-    HOLDS(restore_as(at.folder, OTHER) == LEAVE_FOLDER);
+    HOLDS(restore_as(at.keeper.place, OTHER) == LEAVE_FOLDER);
     HOLDS(restore_as(place, OTHER) == LEAVE_FOLDER);
     HOLDS(end_hearing("another process has this folder") == 1);
     HOLDS(store_open(&used, &STORE_SYSTEM, folder, &value) == STORE_OK);
@@ -601,10 +601,11 @@ static void test_restore(void)
     }
     HOLDS(end_hearing("space test fedcba9876543210, node 1 of 2, 8 registers, 64 slots") == 2);
     host *it = NULL;
-    HOLDS(open_folder(&used, &it, folder) == 0);
-    HOLDS(host_is(it)->own == 1 && host_is(it)->limit == 5 && used.number == 5);
+    keeper opened;
+    HOLDS(keeper_begin(&opened, folder) == 0 && open_folder(&opened, &it) == 0);
+    HOLDS(host_is(it)->own == 1 && host_is(it)->limit == 5 && keeper_number(&opened) == 5);
     host_free(it);
-    store_close(&used);
+    keeper_close(&opened);
 }
 
 // ## Saves
@@ -635,9 +636,9 @@ static void ask_to_open(uint64_t session, uint64_t number, const char *reply)
 // While saves fail, nobody is answered. A failed sync ends the node.
 static void test_saves(void)
 {
-    real = at.store.calls;
-    at.store.calls.write_at = write_or_fail;
-    at.store.calls.sync = sync_or_fail;
+    real = at.keeper.folder.calls;
+    at.keeper.folder.calls.write_at = write_or_fail;
+    at.keeper.folder.calls.sync = sync_or_fail;
     listen();
     ask_to_open(1, 1, "_INBOX.one");
     HOLDS(hears("_INBOX.one"));
@@ -671,7 +672,7 @@ static void test_signal(void)
     memset(&options, 0, sizeof options);
     options.host.cycle_every = CYCLE;
     host_free(at.host);
-    store_close(&at.store);
+    keeper_close(&at.keeper);
     sync_error = 0;
     HOLDS(open_node(&at, &options.host) == 0 && go_on(5 * CYCLE) == USABLE);
     listen();
@@ -695,7 +696,7 @@ static void start(void)
     snprintf(folder, sizeof folder, "%s/node", place);
     words[0] = strdup(folder);
     HOLDS(create(7, words) == 0);
-    at.folder = words[0];
+    HOLDS(keeper_begin(&at.keeper, words[0]) == 0);
     HOLDS(open_node(&at, &options.host) == 0);
     name_node(&at);
     HOLDS(connect_node(&at, &carrier) == NATS_OK);
@@ -721,9 +722,9 @@ int main(void)
     end_saver(&at, saves);
     disconnect_node(&at);
     host_free(at.host);
-    store_close(&at.store);
+    keeper_close(&at.keeper);
     HOLDS(model.alive == 0);
-    free((void *)(uintptr_t)at.folder);
+    free((void *)(uintptr_t)at.keeper.place);
     char command[PATH + 8];
     snprintf(command, sizeof command, "rm -r %s", place);
     HOLDS(system(command) == 0);

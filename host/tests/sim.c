@@ -1,5 +1,6 @@
 // Several hosts in one thread, by seed, with their programs. The net loses, repeats and reorders
-// packets. Calls of the disks fail, and their writes are lost or torn. Processes and machines stop
+// packets. A quarter of the spaces are in a database, which loses connections before, during and after
+// commits, and whose nodes are taken over while their processes go on. Calls of the disks fail, and their writes are lost or torn. Processes and machines stop
 // at any call, allocations fail, and the clock jumps. Older folders and snapshots of machines are
 // put back, nodes are stopped, and programs flood nodes. Each answer is compared with a model of
 // the programs; at checkpoints, each node comes to have exactly the objects that the model reaches.
@@ -9,6 +10,7 @@
 //     sim SEEDS [FIRST [STEPS]]
 #include "../inside.h"
 #include "disk.h"
+#include "rows.h"
 
 #include <stdio.h>
 #include <stdlib.h>
@@ -30,6 +32,9 @@ enum {
     STARTS_MOST = 6,   // of an older folder, while the other nodes are away
     MIXED = 200,
     FLOOD = 150,       // requests
+    // Milliseconds: how often a process shows that it holds its node, and how long it is sure of that.
+    RENEW = 100,
+    SURE_FOR = 300,
     TIGHT = 60000,     // bytes of an image that takes no messages
     // In wide spaces, the registers and places before those that are used.
     MORE_REGISTERS = 400,
@@ -236,7 +241,15 @@ static bool was_written(uint32_t id, uint8_t place, uint32_t content, size_t *si
 // ## The space
 
 typedef struct station {
+    uint8_t node;
     disk disk;
+    rows rows; // the database, in which the node is in its place
+    rows_client client;
+    database base;
+    uint64_t renew_at;
+    // It takes no requests of programs before and after these times: the process before may still
+    // do so, or another one after it.
+    uint64_t serves_at, sure_until;
     host *host;
     store store;
     store_value *job; // a save that is under way
@@ -279,11 +292,15 @@ typedef struct packet {
 } packet;
 
 static station stations[MOST];
+// Processes whose nodes were taken over, and that don't know it yet.
+static station ghosts[MOST];
 static part parts[MOST][PARTS];
 static uint8_t nodes;
 static uint64_t now, limit;
 static bool is_apart; // programs have registers for themselves
 static bool is_wide;
+static bool is_kept_in_database;
+static unsigned long takeovers, surprised, doubtful, overtaken;
 static bool is_calm;  // no faults
 static bool is_quick; // saves take a few milliseconds
 static bool is_still; // nobody asks for cycles
@@ -331,27 +348,31 @@ static station *station_of(void *context)
     return context;
 }
 
+static bool is_dead(const station *at)
+{
+    return at->disk.dead || at->client.dead;
+}
+
 static void on_send(void *context, uint8_t to, const uint8_t *bytes, size_t length)
 {
     station *at = station_of(context);
-    if (!at->disk.dead) {
-        put_in_net(0, (uint8_t)(at - stations), to, bytes, length);
+    if (!is_dead(at)) {
+        put_in_net(0, at->node, to, bytes, length);
     }
 }
 
 static void on_answer(void *context, const char *reply, const uint8_t *bytes, size_t length)
 {
     station *at = station_of(context);
-    if (!at->disk.dead && reply[0] == 's') {
+    if (!is_dead(at) && reply[0] == 's') {
         // All is saved, and no save is under way.
         uint8_t unsaved = 1;
         HOLDS(at->job == NULL && !at->host->changed && at->host->kept > 0);
         HOLDS(markring_node_unsaved(&at->host->node, &unsaved) == MARKRING_OK && unsaved == 0);
         stopped++;
     }
-    if (!at->disk.dead && reply[0] == 'p') {
-        put_in_net(
-            2, (uint8_t)(at - stations), (uint8_t)strtoul(reply + 1, NULL, 10), bytes, length);
+    if (!is_dead(at) && reply[0] == 'p') {
+        put_in_net(2, at->node, (uint8_t)strtoul(reply + 1, NULL, 10), bytes, length);
     }
 }
 
@@ -374,10 +395,14 @@ static uint64_t due_after(const station *at)
 // A process ends, and with it perhaps its machine.
 static void stop(station *at, bool power)
 {
-    host_free(at->host);
-    at->host = NULL;
     at->job = NULL;
-    if (!at->disk.dead) {
+    if (is_kept_in_database) {
+        bool has_left = at->host != NULL && host_ended(at->host) == HOST_LEFT;
+        if (has_left && !at->client.dead && now >= at->serves_at) {
+            database_close(&at->base);
+        }
+        rows_kill(&at->client);
+    } else if (!at->disk.dead) {
         store_close(&at->store);
     }
     if (power) {
@@ -386,6 +411,8 @@ static void stop(station *at, bool power)
     } else {
         disk_kill(&at->disk);
     }
+    host_free(at->host);
+    at->host = NULL;
     at->starts_at = now + (is_calm ? 0 : below(below(4) == 0 ? 4000 : 100));
     at->has_left = false;
     crashes++;
@@ -397,6 +424,9 @@ static void arm(station *at)
     at->disk.failing = wild ? 1 + below(200) : 0;
     at->disk.without_memory = !is_calm && (now < at->full_until || below(60) == 0);
     at->disk.dies_in = !is_calm && below(400) == 0 ? 1 + below(6) : 0;
+    at->client.losing = wild ? 1 + below(300) : is_calm ? 0 : below(20) == 0 ? 30 : 0;
+    at->client.refusing = at->disk.without_memory ? 1000 : 0;
+    at->client.dies_in = at->disk.dies_in;
     refuse_in = !is_calm && below(60) == 0 ? 1 + below(12) : 0;
     in_host = true;
 }
@@ -406,12 +436,12 @@ static void disarm(station *at)
 {
     in_host = false;
     refuse_in = 0;
-    at->disk.failing = 0;
+    at->disk.failing = at->client.losing = at->client.refusing = 0;
     at->disk.without_memory = false;
-    if (at->disk.dead) {
+    if (is_dead(at)) {
         stop(at, below(2) == 0);
     } else {
-        at->disk.dies_in = 0;
+        at->disk.dies_in = at->client.dies_in = 0;
     }
 }
 
@@ -443,17 +473,64 @@ static void expect_end(station *at)
 
 static host_options options;
 
+// A node's place: its folder, or its database.
+
+static store_status open_place(station *at, store_value *value)
+{
+    if (is_kept_in_database) {
+        database_calls calls = rows_calls(&at->client);
+        return database_open(&at->base, &calls, random_nonce() >> 1 | 1, value);
+    }
+    store_calls calls = disk_calls(&at->disk);
+    return store_open(&at->store, &calls, "folder", value);
+}
+
+static void close_place(station *at)
+{
+    if (is_kept_in_database) {
+        database_close(&at->base);
+    } else {
+        store_close(&at->store);
+    }
+}
+
+static uint64_t number_of(const station *at)
+{
+    return is_kept_in_database ? at->base.number : at->store.number;
+}
+
+// A save of the holder counts, and no other one does.
+static store_status save_in_place(station *at, store_value *value)
+{
+    if (!is_kept_in_database) {
+        return store_save(&at->store, value);
+    }
+    const rows *in = at->client.server;
+    bool is_holder = in->table.row.holder == at->base.row.holder;
+    uint64_t session = at->base.session;
+    store_status status = database_save(&at->base, value);
+    HOLDS(is_dead(at) || status != STORE_OK || (is_holder && in->table.row.number == at->base.number));
+    HOLDS(is_dead(at) || is_holder == (status != STORE_TAKEN));
+    HOLDS(at->client.used_twice == 0);
+    doubtful += at->base.session != session;
+    at->sure_until = status == STORE_OK ? now + SURE_FOR : at->sure_until;
+    return status;
+}
+
 static int start(station *at)
 {
     store_value value = {NULL, 0, 0, false, 0, 0};
-    store_calls calls = disk_calls(&at->disk);
     host_calls events = {at, on_send, on_answer, on_save};
     arm(at);
-    store_status status = store_open(&at->store, &calls, "folder", &value);
+    store_status status = open_place(at, &value);
     int opened = MARKRING_MEMORY;
     if (status == STORE_OK) {
         uint64_t nonce = random_nonce();
-        opened = host_open(&at->host, &value, at->store.number, nonce, &options, &events, now);
+        opened = host_open(&at->host, &value, number_of(at), nonce, &options, &events, now);
+        memset(at->client.seals, 0, sizeof at->client.seals);
+        at->renew_at = now + RENEW;
+        at->serves_at = is_kept_in_database && at->base.was_held ? now + SURE_FOR : now;
+        at->sure_until = now + SURE_FOR;
         if (at - stations == mixed_node && mixed_count < MIXED) {
             mixed_nonces[mixed_count++] = nonce;
         }
@@ -462,13 +539,13 @@ static int start(station *at)
             const process *known = &at->host->peers[node].known, *left = &at->known[node];
             HOLDS(known->nonce == left->nonce && known->saves == left->saves);
         }
-    } else if (!at->disk.dead) {
+    } else if (!is_dead(at)) {
         HOLDS(status == STORE_MEMORY || status == STORE_FAILED || status == STORE_UNKNOWN
             || status == STORE_STALE);
     }
     free(value.buffer);
     if (status == STORE_OK && opened != MARKRING_OK) {
-        store_close(&at->store);
+        close_place(at);
     }
     at->starts_at = now + 50;
     at->touched = true;
@@ -481,14 +558,30 @@ static void finish_save(station *at)
     store_value *job = at->job;
     at->job = NULL;
     arm(at);
-    store_status status = store_save(&at->store, job);
+    store_status status = save_in_place(at, job);
     failed_saves += status != STORE_OK;
-    if (!at->disk.dead) {
-        host_saved(at->host, now, status, at->store.number);
+    if (!is_dead(at)) {
+        host_saved(at->host, now, status, number_of(at));
     }
     at->touched = true;
     disarm(at);
     expect_end(at);
+}
+
+// A process that holds its node says so.
+static void renew(station *at)
+{
+    if (!is_kept_in_database || at->host == NULL || at->job != NULL || now < at->renew_at) {
+        return;
+    }
+    at->renew_at = now + RENEW;
+    arm(at);
+    store_status status = database_renew(&at->base);
+    at->sure_until = status == STORE_OK ? now + SURE_FOR : at->sure_until;
+    if (status == STORE_TAKEN && !is_dead(at)) {
+        host_taken(at->host);
+    }
+    disarm(at);
 }
 
 static void take_turn(station *at)
@@ -502,6 +595,7 @@ static void take_turn(station *at)
     if (at->job != NULL && now >= at->job_ends) {
         finish_save(at);
     }
+    renew(at);
     if (at->host == NULL || (!at->touched && due_after(at) > 0)) {
         return;
     }
@@ -513,6 +607,87 @@ static void take_turn(station *at)
     if (at->host != NULL && at->job != NULL && now >= at->job_ends) {
         finish_save(at);
     }
+}
+
+// ## Takeovers
+
+// Another process takes a node over. The one before doesn't know, and goes on.
+static void take_over(uint8_t node)
+{
+    station *at = &stations[node], *ghost = &ghosts[node];
+    if (at->host == NULL || ghost->host != NULL || at->host->stopping) {
+        return;
+    }
+    *ghost = (station){.node = node, .client = at->client, .base = at->base, .host = at->host,
+        .job = at->job, .job_ends = now + below(500), .renew_at = at->renew_at,
+        .serves_at = at->serves_at, .sure_until = at->sure_until};
+    ghost->disk.seed = &seed;
+    ghost->host->calls.context = ghost;
+    ghost->base.calls = rows_calls(&ghost->client);
+    at->client = (rows_client){.server = &at->rows};
+    at->host = NULL;
+    at->job = NULL;
+    at->starts_at = now;
+    at->has_left = false;
+    takeovers++;
+}
+
+static void end_ghost(station *ghost)
+{
+    host_free(ghost->host);
+    ghost->host = NULL;
+    rows_kill(&ghost->client);
+}
+
+// A turn of a process that was taken over. It ends as soon as it has to save or to renew.
+static void haunt(station *ghost)
+{
+    rows *in = ghost->client.server;
+    if (ghost->host == NULL) {
+        return;
+    }
+    bool is_holder = in->table.row.holder == ghost->base.row.holder;
+    in_host = true;
+    ghost->client.losing = is_calm ? 0 : below(3) == 0 ? 100 : 0;
+    if (ghost->job != NULL && now >= ghost->job_ends) {
+        store_value *job = ghost->job;
+        ghost->job = NULL;
+        store_status status = save_in_place(ghost, job);
+        host_saved(ghost->host, now, status, ghost->base.number);
+    } else if (ghost->job == NULL && now >= ghost->renew_at) {
+        ghost->renew_at = now + RENEW;
+        if (database_renew(&ghost->base) == STORE_TAKEN) {
+            host_taken(ghost->host);
+        }
+    }
+    host_turn(ghost->host, now);
+    in_host = false;
+    if (host_ended(ghost->host) != HOST_RUNS) {
+        HOLDS(host_ended(ghost->host) == HOST_OLDER && !is_holder);
+        surprised++;
+        end_ghost(ghost);
+    }
+}
+
+// Whether a process takes requests of programs now.
+static bool is_sure(const station *at)
+{
+    return !is_kept_in_database || (now >= at->serves_at && now < at->sure_until);
+}
+
+// What comes to a node comes to its ghost, too.
+static void haunt_with(station *ghost, const packet *it, const char *reply)
+{
+    if (ghost->host == NULL) {
+        return;
+    }
+    in_host = true;
+    if (it->kind == 0) {
+        host_packet(ghost->host, now, it->from, it->bytes, it->length);
+    } else if (is_sure(ghost)) {
+        host_request(ghost->host, now, it->bytes, it->length, reply);
+    }
+    in_host = false;
 }
 
 // ## Requests
@@ -1148,10 +1323,11 @@ static void deliver(const packet *it)
         return;
     }
     station *to = &stations[it->to];
+    snprintf(reply, sizeof reply, "p%d", it->from);
+    haunt_with(&ghosts[it->to], it, reply);
     if (to->host == NULL) {
         return;
     }
-    snprintf(reply, sizeof reply, "p%d", it->from);
     arm(to);
     if (it->kind == 0) {
         uint64_t before = host_counted(to->host)->full;
@@ -1159,7 +1335,7 @@ static void deliver(const packet *it)
         full += host_counted(to->host)->full - before;
         // A window and what was early may come beyond the limit.
         HOLDS(options.letters_most == 0 || letters_at(it->to) <= options.letters_most + 64);
-    } else {
+    } else if (is_sure(to)) {
         host_request(to->host, now, it->bytes, it->length, reply);
     }
     to->touched = true;
@@ -1217,6 +1393,10 @@ static void step(void)
             work(&parts[node][i]);
         }
         take_turn(&stations[node]);
+        haunt(&ghosts[node]);
+        if (is_kept_in_database && !is_calm && below(500) == 0) {
+            take_over(node);
+        }
         if (stations[node].host != NULL && !is_calm && below(900) == 0) {
             stop(&stations[node], below(2) == 0);
         }
@@ -1555,7 +1735,7 @@ static void mix_up(uint8_t node, mixing how)
     station *at = &stations[node];
     disk newest;
     memset(&newest, 0, sizeof newest);
-    if (!at->has_copy || !is_known(node, at->copy_number)) {
+    if (!at->has_copy || !is_known(node, at->copy_number) || is_kept_in_database) {
         return;
     }
     if (at->host != NULL) {
@@ -1772,7 +1952,7 @@ static void flood(void)
 
 static void try_at_rest(void)
 {
-    if (failures == 0) {
+    if (failures == 0 && !is_kept_in_database) {
         mix_up_at_rest((uint8_t)below(nodes));
     }
     if (failures == 0 && options.letters_most > 0) {
@@ -1836,6 +2016,23 @@ static void make_old(disk *it, uint8_t node)
     file->durable_length = file->seen_length;
 }
 
+// A node is created in its database. Then it is there, or it was before.
+static void create_in_database(station *at, store_value *value)
+{
+    store_status status = STORE_FAILED;
+    while (status == STORE_FAILED && failures == 0) {
+        database_calls calls = rows_calls(&at->client);
+        at->client.losing = below(3) == 0 ? 200 : 0;
+        status = database_create(&at->base, &calls, 1, value, 0);
+        HOLDS(status == STORE_OK || status == STORE_FAILED || status == STORE_EXISTS);
+        if (status == STORE_OK) {
+            database_close(&at->base);
+        }
+    }
+    at->client.losing = 0;
+    free(value->buffer);
+}
+
 // A node is created; until that says that it is done, it may be broken off.
 static void create(uint8_t node)
 {
@@ -1858,6 +2055,10 @@ static void create(uint8_t node)
         store_value value = {NULL, 0, 0, false, 0, 0};
         store_calls calls = disk_calls(&at->disk);
         if (!HOLDS(host_create(&shape, &value) == MARKRING_OK)) {
+            return;
+        }
+        if (is_kept_in_database) {
+            create_in_database(at, &value);
             return;
         }
         at->disk.failing = below(4) == 0 ? 200 : 0;
@@ -1904,6 +2105,11 @@ static void open_parts(void)
 static void forget_all(void)
 {
     for (uint8_t node = 0; node < nodes; node++) {
+        overtaken += stations[node].rows.overtaken;
+        host_free(ghosts[node].host);
+        rows_kill(&ghosts[node].client);
+        rows_kill(&stations[node].client);
+        rows_free(&stations[node].rows);
         host_free(stations[node].host);
         disk_free(&stations[node].disk);
         disk_free(&stations[node].copy);
@@ -1918,6 +2124,7 @@ static void forget_all(void)
         free(objects[id].versions);
     }
     memset(stations, 0, sizeof stations);
+    memset(ghosts, 0, sizeof ghosts);
     memset(last_label, 0, sizeof last_label);
     object_count = letter_count = 0;
 }
@@ -1940,6 +2147,11 @@ static void run(unsigned long steps)
     now = 1000;
     is_calm = false;
     (void)new_object(0, (markring_ref){0, 0, 0});
+    for (uint8_t node = 0; node < MOST; node++) {
+        stations[node].node = node;
+        stations[node].rows.seed = &seed;
+        stations[node].client.server = &stations[node].rows;
+    }
     for (uint8_t node = 0; node < nodes; node++) {
         create(node);
     }
@@ -1974,6 +2186,7 @@ int main(int count, char **given)
     for (run_seed = first; run_seed < first + seeds && failures == 0; run_seed++) {
         seed = run_seed * UINT64_C(0x9E3779B97F4A7C15) | 1;
         is_wide = run_seed % 3 == 0;
+        is_kept_in_database = run_seed % 4 == 2;
         run(steps);
     }
     printf("%lu seeds: %lu requests, %lu answers, %lu crashes, %lu of them with the machine, %lu "
@@ -1982,16 +2195,19 @@ int main(int count, char **given)
            "refused by full nodes, %lu readings, %lu of bytes, %lu events with bytes, %lu letters with "
            "bytes, %lu objects fetched, %lu letters without room, %lu of %lu "
            "stops answered, %lu folders one save old, %lu started again, %lu snapshots (%lu "
-           "unseen), %lu floods, %lu Gets refused, %lu absences\n",
+           "unseen), %lu floods, %lu Gets refused, %lu absences, %lu takeovers, %lu noticed, %lu commits in "
+           "doubt, %lu of them overtaken\n",
         run_seed - first, requests, answered, crashes, powers, failed_saves, failed_calls, refused,
         lost, cycles, checkpoints, mixed, full, tight, readings, byte_readings, byte_events, posted,
-        fetched, no_rooms, stopped, stops, barely, again, snapshots, unseen, floods, congested, absences);
+        fetched, no_rooms, stopped, stops, barely, again, snapshots, unseen, floods, congested, absences, takeovers, surprised, doubtful,
+        overtaken);
     bool all = failures == 0
         && (seeds < 40
             || (crashes && powers && failed_saves && refused && mixed && lost && full && tight
                 && readings && byte_readings && byte_events && posted && fetched && no_rooms
                 && stopped && barely && again
-                && snapshots > 10 * unseen && floods && congested && absences));
+                && snapshots > 10 * unseen && floods && congested && absences && surprised && doubtful
+                && overtaken));
     printf("%lu passed, %d failed\n", run_seed - first - (failures != 0), !all);
     free(objects);
     free(letters);
