@@ -859,6 +859,20 @@ static void plan_post(part *it)
     memcpy(letters[event.label].bytes, it->bytes[at], length);
 }
 
+// A register with another node's object, one that has bytes if there is one; REGISTERS if none has.
+static uint16_t register_of_another(const part *it)
+{
+    uint16_t first = it->number == 0 ? 0 : FIRST, behind = it->number == 0 ? FIRST : REGISTERS;
+    uint16_t found = REGISTERS;
+    for (uint16_t reg = first; reg < behind; reg++) {
+        const object *at = &objects[it->registers[reg]];
+        if (it->registers[reg] != 0 && at->owner != it->node && (found == REGISTERS || at->length > 0)) {
+            found = reg;
+        }
+    }
+    return found;
+}
+
 // Asks another node's object for its word and some of its bytes; now and then for more than it has.
 static void plan_fetch(part *it, uint16_t reg)
 {
@@ -964,6 +978,8 @@ static void plan(part *it)
     it->count = 0;
     if (is_wide && id != 0 && objects[id].owner == it->node && below(4) == 0) {
         plan_bytes(it, reg);
+    } else if (is_wide && register_of_another(it) < REGISTERS && below(4) == 0) {
+        plan_fetch(it, register_of_another(it));
     } else if (kind < 20) {
         plan_new(it, reg);
     } else if (kind < 30) {
@@ -976,8 +992,6 @@ static void plan(part *it)
         plan_post(it);
     } else if (it->number == 0 && kind < 75) {
         plan_gives(it, reg);
-    } else if (is_wide && id != 0 && objects[id].owner != it->node && below(3) == 0) {
-        plan_fetch(it, reg);
     } else if (id != 0 && objects[id].owner != it->node) {
         plan_far(it, reg, other);
     } else if (id != 0) {
@@ -1283,6 +1297,17 @@ static uint16_t last_to_accept(void)
     return is_wide ? FIRST - CARRIED : FIRST - 1;
 }
 
+// Accepts a letter in a quiet space, in a wide one mostly with its bytes.
+static markring_event last_accept(void)
+{
+    markring_event event = {.kind = MARKRING_EVENT_ACCEPT, .reg = last_to_accept()};
+    if (is_wide && below(4) != 0) {
+        event.kind = MARKRING_REMOTE_ACCEPT_INTO;
+        event.count = BYTES + 8;
+    }
+    return event;
+}
+
 static void work(part *it)
 {
     if (!is_calm && below(1500) == 0) {
@@ -1307,7 +1332,7 @@ static void work(part *it)
         && stations[it->node].host != NULL && letters_at(it->node) > 0) {
         // A node with too many letters takes no messages until its program accepts some.
         it->count = 0;
-        add_event(it, (markring_event){.kind = MARKRING_EVENT_ACCEPT, .reg = last_to_accept()});
+        add_event(it, last_accept());
         it->asks = true;
         ask(it);
     }
@@ -1473,8 +1498,7 @@ static void accept_all(void)
     for (uint8_t node = 0; node < nodes && failures == 0; node++) {
         part *it = &parts[node][0];
         while (failures == 0 && letters_at(node) > 0) {
-            uint16_t reg = last_to_accept();
-            if (!ask_and_settle(it, (markring_event){.kind = MARKRING_EVENT_ACCEPT, .reg = reg})) {
+            if (!ask_and_settle(it, last_accept())) {
                 return;
             }
         }
