@@ -322,7 +322,7 @@ typedef struct markring_state {
     int64_t earlier;
     int64_t recent;
     uint64_t grey; // grey objects
-    uint64_t letters; // letters that wait
+    uint64_t letters; // letters that wait; one with several references counts once for each
     uint32_t bytes; // that an object has at most
 } markring_state;
 

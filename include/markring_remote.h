@@ -195,8 +195,9 @@ int markring_remote_read(markring_remote *program, const uint16_t *registers, si
 int markring_remote_read_bytes(markring_remote *program, uint16_t object, uint32_t offset,
     uint32_t count, uint8_t *buffer, markring_result *result, int64_t timeout);
 
-// Waits until a letter waits at the node, and writes how many do. Another program of the node may
-// accept them first. After MARKRING_REMOTE_TIMEOUT nothing has changed.
+// Waits until a letter waits at the node, and writes how many do; one with several references
+// counts once for each. Another program of the node may accept them first. After
+// MARKRING_REMOTE_TIMEOUT nothing has changed.
 int markring_remote_wait(markring_remote *program, uint64_t *letters, int64_t timeout);
 
 // # Requests under way

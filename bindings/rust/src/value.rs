@@ -449,7 +449,7 @@ pub struct State {
     pub recent: i64,
     /// The number of grey objects.
     pub grey: u64,
-    /// The number of letters that wait.
+    /// The number of letters that wait. One with several references counts once for each.
     pub letters: u64,
 }
 
