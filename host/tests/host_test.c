@@ -581,6 +581,20 @@ static void test_old_folder(void)
     free(at.stored);
 }
 
+// A save that says that another process runs the node ends the host; nothing is answered.
+static void test_taken_over(void)
+{
+    station at;
+    make(&at);
+    settle(&at, STORE_OK);
+    deliver(&at, (process){9, 5, 7}, NONCE, 11);
+    host_control(at.host, at.now, "stop", 4, "r");
+    settle(&at, STORE_TAKEN);
+    HOLDS(host_ended(at.host) == HOST_OLDER && at.answers == 0);
+    drop(&at);
+    free(at.stored);
+}
+
 // Each node is told of a save within a second; of many saves, once a second; of none, never.
 static void test_telling(void)
 {
@@ -2097,6 +2111,7 @@ int main(void)
     test_long_line();
     test_meeting();
     test_old_folder();
+    test_taken_over();
     test_telling();
     test_requests();
     test_order();

@@ -153,6 +153,22 @@ static void test_windows(void)
     drop_pair();
 }
 
+// More bytes than a window has go without a pause, as the receiver acknowledges them: none is sent
+// again.
+static void test_stream(void)
+{
+    enum { COUNT = 40, LENGTH = 60000 };
+    make_wide_pair(10);
+    for (uint32_t i = 0; i < COUNT; i++) {
+        HOLDS(post(0, 1, 0, i, LENGTH) == MARKRING_OK);
+        // (none is sent again before they are all posted)
+        pair[0].host->peers[1].resend_at = 0;
+    }
+    go_on(100, 10);
+    HOLDS(acknowledged(0) == COUNT && host_counted(pair[0].host)->resends == 0);
+    drop_pair();
+}
+
 // A program can't post to a node that has many bytes to acknowledge; but it can give.
 static void test_byte_limit(void)
 {
@@ -199,8 +215,15 @@ static void test_letter_bytes(void)
     HOLDS(letters >= 9 && letters <= 10 + WINDOW && host_counted(pair[1].host)->full > 0);
     HOLDS(number_of(&pair[1], "letter_bytes") >= 10000);
     HOLDS(fetch(1, 2, 0, 10) == MARKRING_CONGESTED);
-    for (uint32_t i = 0; i < 100; i++) {
-        HOLDS(accept_into(1, 3, 1000) == MARKRING_OK && brought(1, i, 1000));
+    uint32_t accepted = 0;
+    for (; state_of(1).letters > 5; accepted++) {
+        HOLDS(accept_into(1, 3, 1000) == MARKRING_OK && brought(1, accepted, 1000));
+    }
+    // It has room again, before the last one is accepted.
+    go_on(300, 10);
+    HOLDS(state_of(1).letters > 5);
+    for (; accepted < 100; accepted++) {
+        HOLDS(accept_into(1, 3, 1000) == MARKRING_OK && brought(1, accepted, 1000));
         go_on(state_of(1).letters == 0 ? 300 : 1, 10);
     }
     HOLDS(number_of(&pair[1], "letter_bytes") == 0 && fetch(1, 2, 0, 10) == MARKRING_OK);
@@ -267,6 +290,22 @@ static void test_fetch_pause(void)
     host_connected(pair[1].host, pair[1].now);
     go_on(2000, 10);
     HOLDS(state_of(0).letters == 10 && number_of(&pair[1], "queued_bytes") == 0);
+    drop_pair();
+}
+
+// A Fetch that comes again is acknowledged again, however many bytes wait for the node that asks.
+static void test_fetch_again(void)
+{
+    make_wide_pair(900);
+    HOLDS(post(1, 1, 1, 1, 0) == MARKRING_OK);
+    go_on(20, 10);
+    HOLDS(accept_into(0, 2, 0) == MARKRING_OK);
+    pair[1].host->shape.byte_limit = 100;
+    pair[1].other = NULL;
+    HOLDS(fetch(0, 2, 0, 900) == MARKRING_OK);
+    go_on(1000, 10);
+    HOLDS(number_of(&pair[1], "queued_bytes") >= 900 && host_counted(pair[0].host)->resends > 0);
+    HOLDS(host_counted(pair[1].host)->full == 0);
     drop_pair();
 }
 
@@ -427,10 +466,12 @@ int main(void)
     test_lengths();
     test_give();
     test_windows();
+    test_stream();
     test_byte_limit();
     test_letter_bytes();
     test_fetches();
     test_fetch_pause();
+    test_fetch_again();
     test_letters_that_stay();
     test_apart_letters();
     test_last_letters();
