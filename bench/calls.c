@@ -57,7 +57,7 @@ static void save(markring_node *node)
 // Letters of node 0 to node 1: giving, moving and accepting are timed apart.
 static void letters(void)
 {
-    uint8_t window[1856], ack[11];
+    uint8_t window[1920], ack[MARKRING_ACK_BYTES];
     size_t count, needed;
     double given = 1e18, moved = 1e18, accepted = 1e18;
     for (int round = 0; round < ROUNDS; round++) {
@@ -70,11 +70,12 @@ static void letters(void)
         double saved = now(), spent = 0;
         while (markring_node_frames(&zero, 1, 0, window, sizeof window, &count, &needed)
             == MARKRING_OK) {
+            // (each behind its length, in four bytes, and its number, in eight)
             uint8_t *at = window;
             for (size_t i = 0; i < count; i++) {
-                size_t length = (size_t)at[0] << 8 | at[1];
-                MUST(markring_node_take(&one, at + 10, length, &answer));
-                at += 10 + length;
+                size_t length = (size_t)at[2] << 8 | at[3];
+                MUST(markring_node_take(&one, at + 12, length, &answer));
+                at += 12 + length;
             }
             // Saving isn't counted.
             double paused = now();
