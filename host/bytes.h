@@ -6,6 +6,7 @@
 #include <stdbool.h>
 #include <stddef.h>
 #include <stdint.h>
+#include <stdlib.h>
 #include <string.h>
 
 // Reads from `at` on. `ok` is false once a read went past the end; such a read gives 0.
@@ -43,6 +44,28 @@ static inline uint64_t read_number(reader *it, size_t length)
         number = number << 8 | bytes[i];
     }
     return number;
+}
+
+// Bytes that grow.
+typedef struct growing {
+    uint8_t *bytes;
+    size_t length, room;
+} growing;
+
+// Makes room for this many more bytes. Returns whether there is memory.
+static inline bool make_more_room(growing *it, size_t more)
+{
+    if (more <= it->room - it->length) {
+        return true;
+    }
+    size_t room = 2 * it->room + more;
+    uint8_t *bytes = realloc(it->bytes, room);
+    if (bytes == NULL) {
+        return false;
+    }
+    it->bytes = bytes;
+    it->room = room;
+    return true;
 }
 
 // Writes from `at` on. `ok` is false once a write went past the end; such a write does nothing.

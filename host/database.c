@@ -4,7 +4,11 @@
 
 #include <stdlib.h>
 
-enum { FIRST_WAIT = 50, LONGEST_WAIT = 1000 };
+#define XXH_INLINE_ALL
+#include <xxhash.h>
+
+// Behind the value of a rewrite: the seal before the next entry, and a checksum of that.
+enum { FIRST_WAIT = 50, LONGEST_WAIT = 1000, LINK = 16 };
 
 static const store_value NO_VALUE = {NULL, 0, 0, false, 0, 0};
 
@@ -42,7 +46,7 @@ static store_status close_with(database *it, store_status status)
 static database_status put_pieces(database *it, uint64_t number, bool is_entry, store_bytes what)
 {
     database_status status = DATABASE_DONE;
-    database_piece piece = {number, 0, is_entry, what.bytes, 0};
+    database_piece piece = {number, 0, is_entry, false, what.bytes, 0};
     for (size_t done = 0; done < what.length && status == DATABASE_DONE; piece.part++) {
         piece.bytes = what.bytes + done;
         piece.length = what.length - done < PIECE_MOST ? what.length - done : PIECE_MOST;
@@ -54,66 +58,105 @@ static database_status put_pieces(database *it, uint64_t number, bool is_entry, 
 
 // Bytes that are read, and the place of the next piece.
 typedef struct collected {
-    uint8_t *bytes;
-    size_t length, room;
-    uint64_t number;
+    growing all;
+    uint64_t base;         // the number of the first piece
+    uint64_t number, last; // of this piece; no piece with a higher number than the last is taken
     uint32_t part;
-    bool is_broken; // a piece isn't the one that had to come
+    size_t whole;    // the bytes of the pieces before the first entry
+    bool is_rewrite; // these are of a rewrite
+    bool is_broken;  // a piece isn't the one that had to come
+    bool is_open;    // behind this piece, another one of the same save may have to come
+    bool lacks;      // a piece isn't there; or, if what was read isn't whole, perhaps one isn't
 } collected;
 
-static bool make_room(collected *it, size_t length)
+// Whether a piece is missing before this one: of the save before it, or of its own. A first piece
+// is that of the base.
+static bool lacks_before(const collected *it, const database_piece *piece)
 {
-    if (length <= it->room - it->length) {
-        return true;
-    }
-    size_t room = 2 * it->room + length;
-    uint8_t *bytes = realloc(it->bytes, room);
-    if (bytes == NULL) {
-        return false;
-    }
-    it->bytes = bytes;
-    it->room = room;
-    return true;
+    bool is_next = piece->number == it->number;
+    return piece->part > (is_next ? it->part : 0) || (!is_next && it->is_open)
+        || (it->all.length == 0 && piece->number != it->base);
 }
 
 // A value comes first, and then entries.
 static bool collect(void *to, const database_piece *piece)
 {
     collected *it = to;
-    bool begins = piece->part == 0 && piece->number > it->number
-        && piece->is_entry == (it->length > 0);
+    bool is_first = it->all.length == 0;
+    bool begins = piece->part == 0 && piece->number > it->number && piece->is_entry != is_first;
     bool goes_on = piece->part > 0 && piece->part == it->part && piece->number == it->number;
-    it->is_broken = it->is_broken || !(begins || goes_on) || piece->length > PIECE_MOST;
+    if (piece->number > it->last) {
+        return true;
+    }
+    it->lacks = it->lacks || (!it->is_broken && lacks_before(it, piece));
+    it->is_rewrite = it->is_rewrite || (is_first && piece->is_rewrite);
+    it->is_broken = it->is_broken || !(begins || goes_on) || piece->length > PIECE_MOST
+        || piece->is_rewrite != (it->is_rewrite && !piece->is_entry);
     if (it->is_broken) {
         return true;
     }
-    if (!make_room(it, piece->length)) {
+    if (!make_more_room(&it->all, piece->length)) {
         return false;
     }
     if (piece->length > 0) {
-        memcpy(it->bytes + it->length, piece->bytes, piece->length);
+        memcpy(it->all.bytes + it->all.length, piece->bytes, piece->length);
     }
-    it->length += piece->length;
+    it->all.length += piece->length;
+    it->whole = piece->is_entry ? it->whole : it->all.length;
     it->number = piece->number;
     it->part = piece->part + 1;
+    it->is_open = piece->length == PIECE_MOST || (piece->is_rewrite && piece->length > LINK);
+    return true;
+}
+
+// Behind the value of a rewrite, entries have the seals that they had before it: gives them those
+// that begin behind the value, so that all is as in a slot. `*seal` is the last one that they had.
+static bool join(collected *it, uint64_t *seal)
+{
+    if (it->whole < LINK + STORE_TAIL) {
+        return false;
+    }
+    uint8_t *link = it->all.bytes + it->whole - LINK;
+    reader value = reader_of(link - STORE_TAIL, STORE_TAIL), from = reader_of(link, LINK);
+    uint64_t new = read_number(&value, STORE_TAIL);
+    *seal = read_number(&from, STORE_TAIL);
+    if (read_number(&from, STORE_TAIL) != XXH3_64bits_withSeed(link, STORE_TAIL, new)) {
+        return false;
+    }
+    it->all.length -= LINK;
+    it->whole -= LINK;
+    memmove(link, link + LINK, it->all.length - it->whole);
+    return store_seal_again(link, it->all.length - it->whole, seal, &new);
+}
+
+static bool read_collected(collected *it, store_found *to)
+{
+    uint64_t seal = 0;
+    if (it->is_broken || (it->is_rewrite && !join(it, &seal))
+        || !store_read_bytes(it->all.bytes, it->all.length, to)) {
+        return false;
+    }
+    to->seal = it->is_rewrite ? seal : to->seal;
     return true;
 }
 
 // Reads the value with this row. The last piece has to be of the save that counts.
 static store_status read_value(
-    const database_calls *calls, const database_row *row, store_found *to)
+    const database_calls *calls, const database_row *row, uint64_t last, store_found *to)
 {
-    collected all = {NULL, 0, 0, 0, 0, false};
-    database_status status = calls->read(calls->context, row->base, collect, &all);
-    bool is_whole = status == DATABASE_DONE && !all.is_broken
-        && store_read_bytes(all.bytes, all.length, to) && to->number == row->number
-        && all.number == row->number;
+    collected found = {.base = row->base, .last = last};
+    database_status status = calls->read(calls->context, row->base, collect, &found);
+    bool is_whole = status == DATABASE_DONE && read_collected(&found, to)
+        && to->number == row->number && found.number == row->number;
     if (!is_whole) {
-        free(all.bytes);
+        free(found.all.bytes);
     }
+    bool lacks =
+        found.lacks || (!found.is_broken && (found.is_open || found.number < row->number));
     return is_whole                ? STORE_OK
-        : status == DATABASE_DONE ? STORE_DAMAGED
-                                  : store_status_of(status);
+        : status != DATABASE_DONE ? store_status_of(status)
+        : lacks                   ? STORE_MISSING
+                                  : STORE_DAMAGED;
 }
 
 // ## Opening
@@ -155,7 +198,7 @@ store_status database_look(const database_calls *calls, store_value *value, data
         return STORE_ABSENT;
     }
     store_status read =
-        status == DATABASE_DONE ? read_value(calls, row, &found) : store_status_of(status);
+        status == DATABASE_DONE ? read_value(calls, row, UINT64_MAX, &found) : store_status_of(status);
     *value = read == STORE_OK ? found.value : NO_VALUE;
     return read;
 }
@@ -179,15 +222,20 @@ static store_status take_over(database *it, uint64_t holder, store_found *found)
         it->row.session = it->session = 1;
         status = calls->move(calls->context, &before, &it->row);
     }
+    if (status == DATABASE_DONE) {
+        status = calls->sweep(calls->context, it->row.base);
+    }
     store_status read = store_status_of(status);
     if (read == STORE_OK) {
-        read = read_value(calls, &it->row, found);
+        read = read_value(calls, &it->row, UINT64_MAX, found);
     }
-    if (read == STORE_OK) {
-        read = store_status_of(calls->commit(calls->context));
-        if (read != STORE_OK) {
-            free(found->value.buffer);
-        }
+    if (read != STORE_OK) {
+        return read;
+    }
+    bool is_own = calls->is_own == NULL || calls->is_own(calls->context, &found->value);
+    read = is_own ? store_status_of(calls->commit(calls->context)) : STORE_OTHER;
+    if (read != STORE_OK) {
+        free(found->value.buffer);
     }
     return read;
 }
@@ -288,7 +336,7 @@ static database_status write_save(
         return DATABASE_LOST;
     }
     if (what.length <= PIECE_MOST) {
-        database_piece piece = {to->number, 0, is_entry, what.bytes, what.length};
+        database_piece piece = {to->number, 0, is_entry, false, what.bytes, what.length};
         return calls->save(calls->context, &it->row, to, &piece);
     }
     database_status status = calls->begin(calls->context);
@@ -299,6 +347,26 @@ static database_status write_save(
         status = put_pieces(it, to->number, is_entry, what);
     }
     return status == DATABASE_DONE ? calls->commit(calls->context) : status;
+}
+
+// Finds out whether the save with this number counts, of which no answer came. DATABASE_LOST if it
+// doesn't; `*known` isn't STORE_OK if nobody knows.
+static database_status look_for(database *it, uint64_t number, store_status *known)
+{
+    (void)lose(it);
+    *known = regain(it);
+    return *known == STORE_OK && it->row.number == number ? DATABASE_DONE : DATABASE_LOST;
+}
+
+// A save counts.
+static void note_saved(database *it, const store_value *value, const store_bytes *what)
+{
+    it->seal = what->seal;
+    it->added += value->is_entry ? what->length : 0;
+    it->has_older = it->has_older || !value->is_entry;
+    if (it->has_older) {
+        clear_older(it);
+    }
 }
 
 store_status database_save(database *it, store_value *value)
@@ -312,26 +380,137 @@ store_status database_save(database *it, store_value *value)
         to.base = value->is_entry ? to.base : number;
         database_status status = write_save(it, &to, value->is_entry, what);
         if (status == DATABASE_LOST) {
-            (void)lose(it);
-            store_status known = regain(it);
+            store_status known;
+            status = look_for(it, number, &known);
             if (known != STORE_OK) {
                 return known;
             }
-            status = it->row.number == number ? DATABASE_DONE : DATABASE_LOST;
         } else if (status == DATABASE_DONE) {
             it->row = to;
         }
         if (status == DATABASE_DONE) {
-            it->seal = what.seal;
-            it->has_older = it->has_older || !value->is_entry;
-            if (it->has_older) {
-                clear_older(it);
-            }
+            note_saved(it, value, &what);
         }
         if (status != DATABASE_LOST) {
             return status == DATABASE_MEMORY ? STORE_FAILED : store_status_of(status);
         }
     }
+}
+
+// ## Rewrites
+
+void database_rewrite_begin(database *it, const database_calls *other, database_rewrite *to)
+{
+    memset(to, 0, sizeof *to);
+    to->calls = *other;
+    to->holder = it->row.holder;
+    to->base = it->row.base;
+    to->last = it->row.number;
+    to->seal = it->seal;
+    to->number = ++it->number;
+    to->added = it->added;
+}
+
+store_status database_rewrite_read(database_rewrite *it, store_value *value)
+{
+    const database_calls *calls = &it->calls;
+    database_row row = {.number = it->last, .base = it->base};
+    store_found found;
+    database_status status = calls->connect(calls->context);
+    if (status == DATABASE_DONE) {
+        status = calls->begin(calls->context);
+    }
+    store_status read = status == DATABASE_DONE ? read_value(calls, &row, it->last, &found)
+                                                : store_status_of(status);
+    if (read == STORE_OK && (found.seal != it->seal || calls->commit(calls->context) != DATABASE_DONE)) {
+        free(found.value.buffer);
+        read = STORE_DAMAGED;
+    }
+    if (read != STORE_OK) {
+        calls->disconnect(calls->context);
+        return read;
+    }
+    *value = found.value;
+    return STORE_OK;
+}
+
+// Puts the bytes of a rewrite into pieces that don't count yet.
+static database_status put_apart(database_rewrite *it, const uint8_t *bytes, size_t length)
+{
+    database_status status = DATABASE_DONE;
+    for (size_t done = 0; done < length && status == DATABASE_DONE;) {
+        size_t count = length - done < PIECE_MOST ? length - done : PIECE_MOST;
+        database_piece piece = {it->number, it->parts++, false, true, bytes + done, count};
+        status = it->calls.put_apart(it->calls.context, it->holder, &piece);
+        done += count;
+    }
+    return status;
+}
+
+store_status database_rewrite_write(database_rewrite *it, store_value *whole)
+{
+    uint8_t link[LINK];
+    store_bytes sealed = store_seal_whole(whole, it->number);
+    writer to = writer_of(link, sizeof link);
+    write_number(&to, it->seal, STORE_TAIL);
+    write_number(&to, XXH3_64bits_withSeed(link, STORE_TAIL, sealed.seal), STORE_TAIL);
+    it->length = whole->length;
+    database_status status = put_apart(it, sealed.bytes, sealed.length);
+    status = status == DATABASE_DONE ? put_apart(it, link, sizeof link) : status;
+    it->calls.disconnect(it->calls.context);
+    return store_status_of(status);
+}
+
+// Makes the rewrite the base, with an entry, in one transaction. `*lacks` says that pieces of the
+// rewrite aren't there.
+static database_status write_switch(
+    database *it, const database_row *to, const database_rewrite *with, store_bytes what, bool *lacks)
+{
+    const database_calls *calls = &it->calls;
+    if (!it->is_connected) {
+        return DATABASE_LOST;
+    }
+    database_status status = calls->begin(calls->context);
+    if (status == DATABASE_DONE) {
+        status = calls->move(calls->context, &it->row, to);
+    }
+    if (status == DATABASE_DONE) {
+        status = calls->find_parts(calls->context, with->number, with->parts);
+        *lacks = status == DATABASE_NONE;
+    }
+    if (status == DATABASE_DONE) {
+        status = put_pieces(it, to->number, true, what);
+    }
+    return status == DATABASE_DONE ? calls->commit(calls->context) : status;
+}
+
+store_status database_rewrite_end(
+    database *it, const database_rewrite *with, store_value *entry, bool *is_done)
+{
+    bool lacks = false;
+    uint64_t number = ++it->number;
+    store_bytes what = store_seal_entry(entry, number, it->seal);
+    database_row to = it->row;
+    to.number = number;
+    to.base = with->number;
+    database_status status = write_switch(it, &to, with, what, &lacks);
+    if (status == DATABASE_LOST) {
+        store_status known;
+        status = look_for(it, number, &known);
+        if (known != STORE_OK) {
+            *is_done = false;
+            return known;
+        }
+    } else if (status == DATABASE_DONE) {
+        it->row = to;
+    }
+    *is_done = status == DATABASE_DONE;
+    if (*is_done) {
+        it->has_older = true;
+        note_saved(it, entry, &what);
+        return STORE_OK;
+    }
+    return status == DATABASE_NONE && !lacks ? STORE_TAKEN : database_save(it, entry);
 }
 
 store_status database_renew(database *it)

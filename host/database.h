@@ -30,11 +30,12 @@ typedef struct database_row {
     uint64_t beat;            // changes with each save and each renewal
 } database_row;
 
-// A part of what a save brings: the bytes of a value or an entry, in parts of PIECE_MOST bytes.
+// A part of what a save brings: the bytes of a value or an entry, in parts of PIECE_MOST bytes. That
+// of a rewrite counts only if its number is the row's base.
 typedef struct database_piece {
     uint64_t number;
     uint32_t part;
-    bool is_entry;
+    bool is_entry, is_rewrite;
     const uint8_t *bytes;
     size_t length;
 } database_piece;
@@ -65,7 +66,16 @@ typedef struct database_calls {
         const database_piece *piece);
     // Deletes the pieces with lower numbers than the base, for this holder and session.
     database_status (*clear)(void *context, const database_row *row);
-    // Gives all pieces from the base on to `take`, in order.
+    // Puts a piece of a rewrite in a transaction of its own, if this is the holder; else
+    // DATABASE_NONE. No process takes the node over meanwhile.
+    database_status (*put_apart)(void *context, uint64_t holder, const database_piece *piece);
+    // Whether all parts of a rewrite with this number are there; else DATABASE_NONE.
+    database_status (*find_parts)(void *context, uint64_t number, uint32_t parts);
+    // Deletes the pieces of rewrites that aren't the base.
+    database_status (*sweep)(void *context, uint64_t base);
+    // Whether a value is that of the node that these calls are for. NULL: any is.
+    bool (*is_own)(void *context, const store_value *value);
+    // Gives all pieces from the base on that count to `take`, in order.
     database_status (*read)(void *context, uint64_t base, database_taker take, void *to);
     // Waits. Returns false if it makes no sense to try again.
     bool (*pause)(void *context, uint64_t milliseconds);
@@ -82,6 +92,7 @@ typedef struct database {
     bool is_connected;
     bool has_older; // pieces of saves before the base
     bool was_held;  // another process held the node when it was opened
+    size_t added;   // the bytes of all entries that this process has saved
 } database;
 
 // Makes a new node, whose first save has the number after this one. After any other status than
@@ -90,8 +101,9 @@ store_status database_create(database *it, const database_calls *calls, uint64_t
     store_value *value, uint64_t number);
 
 // Takes the node over, and reads it; the caller frees `value->buffer`. After any other status than
-// STORE_OK the store is closed and nothing has changed, except perhaps the holder. STORE_ABSENT;
-// STORE_DAMAGED; STORE_MEMORY; STORE_FAILED.
+// STORE_OK the store is closed and nothing has changed, except perhaps the holder after STORE_FAILED.
+// STORE_ABSENT; STORE_DAMAGED; STORE_MISSING: pieces that have to be there aren't; STORE_OTHER;
+// STORE_MEMORY.
 store_status database_open(
     database *it, const database_calls *calls, uint64_t holder, store_value *value);
 
@@ -102,6 +114,42 @@ store_status database_look(const database_calls *calls, store_value *value, data
 // says whether it counts; if it doesn't, it is tried again with the next number. STORE_TAKEN;
 // STORE_FAILED: the server refused, and it doesn't count; STORE_UNKNOWN: `pause` gave up.
 store_status database_save(database *it, store_value *value);
+
+// ## Whole values while entries are added
+//
+// A rewrite takes the next number, and another connection puts the pieces of its value under that.
+// They count only once a save makes this number the base. Entries that were saved meanwhile have
+// higher numbers, and stay as they are: what counts are the value and the entries from there on. A
+// process that takes the node over deletes the pieces of a rewrite that it broke off.
+//
+// Begin a rewrite and end it in the thread that saves, with no save under way; the calls between may
+// be made by another one. Save no whole value meanwhile; to give a rewrite up, forget it.
+
+typedef struct database_rewrite {
+    database_calls calls;  // of the other connection
+    uint64_t holder, base; // as they were
+    uint64_t last, seal;   // the number of the last save that the value has, and its seal
+    uint64_t number;       // of the rewrite
+    uint32_t parts;        // that were put
+    size_t length, added;  // of the whole value; the bytes of all entries before
+} database_rewrite;
+
+// Begins a rewrite of what the last save left, which succeeded.
+void database_rewrite_begin(database *it, const database_calls *other, database_rewrite *to);
+
+// Connects, and reads what counted then; the caller frees `value->buffer`. After any other status
+// `value` is as it was, and the rewrite is to be given up. STORE_MEMORY; STORE_FAILED;
+// STORE_DAMAGED, STORE_MISSING: what is there isn't what was.
+store_status database_rewrite_read(database_rewrite *it, store_value *value);
+
+// Puts one value with what was read, and disconnects. After any other status, give the rewrite up.
+// STORE_FAILED; STORE_TAKEN.
+store_status database_rewrite_write(database_rewrite *it, store_value *whole);
+
+// Saves an entry as database_save does, and ends the rewrite; `*is_done` says whether its value
+// counts. If it doesn't, the entry may be saved all the same.
+store_status database_rewrite_end(
+    database *it, const database_rewrite *with, store_value *entry, bool *is_done);
 
 // Shows that the holder is there. The same statuses.
 store_status database_renew(database *it);

@@ -1,12 +1,12 @@
 #include "databases.h"
 
+#include "clock.h"
+#include "explaining.h"
 #include "inside.h"
-#include "keeper.h"
 
 #include <stdio.h>
 #include <stdlib.h>
 #include <sys/random.h>
-#include <time.h>
 
 // Milliseconds in which a process that runs a node has renewed its hold.
 enum { WATCHED = 3500 };
@@ -32,16 +32,16 @@ void print_shape(const host_shape *shape, uint64_t save)
 int make_schema(const char *place)
 {
     keeper at;
-    memset(&at, 0, sizeof at);
     if (!names_database(place)) {
         return complain(
             LEAVE_USAGE, "the schema is for a database: postgresql://USER@HOST/DATABASE");
     }
-    bool is_made = read_address(place, &at.address)
-        && postgres_open(&at.server, at.address.server)
-        && postgres_make_schema(at.server) == DATABASE_DONE;
-    int status = is_made ? 0 : explain_server(at.server);
-    if (is_made) {
+    store_status made = keeper_name(&at, place);
+    if (made == STORE_OK && postgres_make_schema(at.server) != DATABASE_DONE) {
+        made = STORE_FAILED;
+    }
+    int status = made == STORE_OK ? 0 : keeper_explain(&at, made);
+    if (made == STORE_OK) {
         printf("the schema markring of version %d is there\n", SCHEMA_VERSION);
     }
     keeper_free(&at);
@@ -54,7 +54,7 @@ int make_schema(const char *place)
 static int open_value(host **it, store_value *value, uint64_t number)
 {
     host_options options = {0};
-    host_calls calls = {NULL, NULL, NULL, NULL};
+    host_calls calls = {NULL, NULL, NULL, NULL, NULL};
     uint64_t nonce = 0;
     bool is_there = getrandom(&nonce, sizeof nonce, 0) == (ssize_t)sizeof nonce;
     int refused =
@@ -160,7 +160,7 @@ static int read_age(keeper *at, const named_node *name, age *to)
     host_free(it);
     if (strcmp(to->shape.name, name->space) != 0 || to->shape.own != name->node) {
         printf("%s, node %d: is kept under another name\n", name->space, name->node);
-        return LEAVE_FOLDER;
+        return LEAVE_OTHER;
     }
     return 0;
 }
@@ -184,11 +184,11 @@ static int compare_ages(const age *ages, const age *a)
         if (memcmp(a->shape.space, b->shape.space, SPACE_ID) != 0
             || a->shape.nodes != b->shape.nodes) {
             printf("nodes %d and %d are of two spaces\n", a->shape.own, b->shape.own);
-            status = LEAVE_FOLDER;
+            status = LEAVE_OTHER;
         } else if (is_older(a, b)) {
             printf(
                 "node %d is older than what node %d has seen of it\n", a->shape.own, b->shape.own);
-            status = LEAVE_FOLDER;
+            status = LEAVE_OLDER;
         }
     }
     return status;
@@ -233,9 +233,10 @@ static int check_all(keeper *at)
     } else if (all.lacks_memory) {
         status = complain(LEAVE_SYSTEM, "out of memory");
     } else if (all.count == 0) {
-        status = complain(LEAVE_FOLDER, "there is no node in this database");
+        status = complain(LEAVE_ABSENT, "there is no node in this database");
     }
-    for (size_t first = 0, count = 0; status != LEAVE_SYSTEM && first < all.count; first += count) {
+    for (size_t first = 0, count = 0; !leave_may_pass(status) && first < all.count;
+         first += count) {
         int checked = check_space(at, &all, first, &count);
         status = status == 0 ? checked : status;
     }
@@ -268,13 +269,12 @@ int check_nodes(const char *place)
 static int look_for_process(keeper *it)
 {
     database_row first, later;
-    struct timespec time = {WATCHED / 1000, (long)(WATCHED % 1000) * 1000000};
     database_calls calls = postgres_calls(it->server);
     database_status status = calls.connect(calls.context);
     status = status == DATABASE_DONE ? postgres_peek(it->server, &first) : status;
     later = first;
     if (status == DATABASE_DONE && first.holder != 0) {
-        nanosleep(&time, NULL);
+        (void)sleep_ms(WATCHED);
         status = postgres_peek(it->server, &later);
     }
     if (status != DATABASE_DONE) {
@@ -282,7 +282,7 @@ static int look_for_process(keeper *it)
     }
     return first.beat == later.beat
         ? 0
-        : complain(LEAVE_FOLDER, "a process runs this node: stop it first");
+        : complain(LEAVE_IN_USE, "a process runs this node: stop it first");
 }
 
 int refuse_if_running(keeper *it)

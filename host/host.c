@@ -5,8 +5,10 @@
 #include <stdio.h>
 #include <stdlib.h>
 
-// What moves at least before the image is looked at; and as many messages as may be early.
-enum { LEAST_MOVED = 4096, EARLY = 32 };
+// What moves at least before the image is looked at; and as many messages as may be early. An image
+// without a limit is looked at only while it has no more bytes than this, since nobody should wait
+// for it.
+enum { LEAST_MOVED = 4096, EARLY = 32, LOOKED_AT = 1 << 20 };
 
 void end_with(host *it, host_end end, const char *format, ...)
 {
@@ -55,6 +57,12 @@ void hold_answer(host *it, uint64_t due, const char *reply, const uint8_t *bytes
 }
 
 // ## The size of the image
+
+// Whether the image has a limit; or else nobody has to look at it.
+static bool has_limit(const host *it)
+{
+    return it->options.image_most != SIZE_MAX || it->options.image_tight != SIZE_MAX;
+}
 
 // Looks at how many bytes the image has. That takes as long as writing it.
 static void measure(host *it)
@@ -130,7 +138,8 @@ bool takes_messages(host *it)
 static void begin_measuring(host *it)
 {
     it->is_measured = it->moved == 0;
-    if (it->moved > it->measured / 2 + LEAST_MOVED) {
+    bool may_look = has_limit(it) || it->measured <= LOOKED_AT;
+    if (may_look && it->moved > it->measured / 2 + LEAST_MOVED) {
         measure(it);
     }
 }
@@ -276,6 +285,7 @@ int host_open(host **opened, const store_value *value, uint64_t number, uint64_t
     }
     it->calls = *calls;
     it->last = &it->first;
+    it->freed.most = FREED_MOST;
     it->nonce = nonce;
     it->stored = number;
     it->run = number + 1;
@@ -329,6 +339,7 @@ void host_free(host *it)
     for (int i = 0; i < NODES; i++) {
         free(it->peers[i].queue.parcels);
     }
+    free(it->freed.entries);
     free(it->window);
     free(it->packet);
     free(it->value.buffer);
@@ -354,13 +365,31 @@ static bool make_room(host *it, size_t length)
     return true;
 }
 
-// Whether an entry of this length may be added behind the whole value. If not, the save is a whole
-// value: so twice the bytes of the entries are written in the long run, and an opening performs no
-// more events than fit there.
-static bool has_room(const host *it, size_t length)
+// Whether the entries behind the whole value have no more bytes than this many times what they may
+// have, with one of this length. So twice the bytes of the entries are written in the long run, and
+// an opening performs no more events than fit there.
+static bool has_room(const host *it, size_t length, size_t times)
 {
     size_t least = it->options.entries_least, most = it->whole > least ? it->whole : least;
+    most *= times;
     return it->entries <= most && STORE_HEAD + length + STORE_TAIL <= most - it->entries;
+}
+
+// Whether an entry of this length may be added. If there are many, a whole value takes their place,
+// which the caller makes while more are added, if it can.
+static bool may_add(host *it, size_t length)
+{
+    if (has_room(it, length, 1)) {
+        return true;
+    }
+    if (it->calls.rewrite == NULL || !has_room(it, length, 2)) {
+        return false;
+    }
+    if (!it->rewriting && !it->rewrite_failed) {
+        it->rewriting = true;
+        it->calls.rewrite(it->calls.context);
+    }
+    return true;
 }
 
 // Takes a batch, with what else has changed; or returns MARKRING_NO_LOG if an image has to be
@@ -381,7 +410,7 @@ static int take_batch(host *it)
         return status;
     }
     size_t length = entry_size(it, batch);
-    if (!has_room(it, length)) {
+    if (!may_add(it, length)) {
         return MARKRING_NO_LOG;
     }
     if (!make_room(it, length)) {
@@ -407,6 +436,7 @@ static int take_image(host *it)
     writer to = writer_of(it->value.buffer + STORE_HEAD, it->value.length);
     status = write_saved(it, &to, image);
     if (status == MARKRING_OK) {
+        it->rewriting = it->rewrite_failed = false;
         it->measured = it->size = image;
         it->moved = 0;
     }
@@ -445,6 +475,12 @@ static void save(host *it, uint64_t now)
     it->calls.save(it->calls.context, &it->value);
 }
 
+static void end_unsure(host *it)
+{
+    end_with(it, HOST_UNSURE,
+        "a sync of the saved node failed; when the disk is well, start it again");
+}
+
 // The value or the entry is stored.
 static void note_length(host *it)
 {
@@ -455,6 +491,39 @@ static void note_length(host *it)
         it->entries = 0;
         it->whole_due -= it->whole_due > 0;
     }
+}
+
+void host_rewritten(host *it, store_status status, size_t whole, size_t entries)
+{
+    if (it->end != HOST_RUNS || !it->rewriting) {
+        return;
+    }
+    it->rewriting = false;
+    if (status == STORE_OK) {
+        it->whole = whole;
+        it->entries = entries;
+        it->measured = has_limit(it) ? it->measured : whole;
+    } else if (status == STORE_UNKNOWN) {
+        end_unsure(it);
+    } else {
+        it->rewrite_failed = true;
+    }
+}
+
+int host_rewrite(const store_value *stored, store_value *whole)
+{
+    host *it = calloc(1, sizeof *it);
+    if (it == NULL) {
+        return MARKRING_MEMORY;
+    }
+    it->run = UINT64_MAX; // (after all that ran)
+    forget_line(it);
+    int status = read_saved(it, stored);
+    if (status == MARKRING_OK) {
+        status = make_value(it, whole);
+    }
+    host_free(it);
+    return status;
 }
 
 // Acknowledgements are due for what this save holds for the first time.
@@ -496,8 +565,7 @@ void host_saved(host *it, uint64_t now, store_status status, uint64_t number)
     } else if (status == STORE_TAKEN) {
         host_taken(it);
     } else if (status != STORE_OK) {
-        end_with(it, HOST_UNSURE,
-            "a sync of the saved node failed; when the disk is well, start it again");
+        end_unsure(it);
     } else if (markring_node_kept(&it->node, it->mark) != MARKRING_OK) {
         end_with(it, HOST_BROKEN, "the library refused the mark of an image or a batch");
     } else {
@@ -550,6 +618,7 @@ void host_turn(host *it, uint64_t now)
     begin_measuring(it);
     if (!it->stopping) {
         collect(it, now);
+        bound_lists(it);
     }
     if (it->end == HOST_RUNS) {
         save(it, now);

@@ -26,6 +26,8 @@ typedef markring_host_shape host_shape;
 #define host_packet markring_host_packet
 #define host_reason markring_host_reason
 #define host_rename markring_host_rename
+#define host_rewrite markring_host_rewrite
+#define host_rewritten markring_host_rewritten
 #define host_request markring_host_request
 #define host_saved markring_host_saved
 #define host_taken markring_host_taken
@@ -50,6 +52,9 @@ typedef markring_host_shape host_shape;
 #define HOST_UNSURE MARKRING_HOST_UNSURE
 #define HOST_TOO_LARGE MARKRING_HOST_TOO_LARGE
 #define HOST_BROKEN MARKRING_HOST_BROKEN
+
+// Reads of a value what the node is, without its places and bytes. Returns whether it can be read.
+bool read_saved_shape(const store_value *value, host_shape *to);
 
 _Static_assert((int)SPACE_ID == (int)MARKRING_HOST_SPACE_ID, "an id has one length");
 

@@ -15,7 +15,7 @@ enum {
     TELL = 1000,
     // How soon another Fetch of a node is taken that has too many letters to take.
     FETCH_PAUSE = 1000,
-    // Steps of the collector in one turn.
+    // What the collector does in one turn, at most.
     SCANS = 256,
     SWEEPS = 4096,
     // What any event adds to an image, at most, if the node doesn't join a cycle and the object
@@ -37,6 +37,7 @@ enum {
     SCAN_MESSAGES = 32768,
     HELD_ANSWERS = 1024,
     HELD_BYTES = 16 << 20, // in them
+    FREED_MOST = MARKRING_REMOTE_FREED_LISTED,
     WINDOW = MARKRING_WINDOW,
     LINE = 256,
     REGISTERS_MOST = UINT16_MAX, // of a node
@@ -44,6 +45,9 @@ enum {
     // Milliseconds without an answer, after which a node is late, or lost.
     SILENCE = 10000
 };
+
+// The session of a program that the operator has forgotten. No process has it.
+#define FORGOTTEN UINT64_MAX
 
 // A process that ran this node, and the number of its first save. If the nonce is 0, nobody knows
 // any more which processes ran it from that save on.
@@ -125,14 +129,30 @@ typedef struct program {
     // The registers that it has for itself, if any. They are given once.
     uint16_t first_register, registers;
     uint64_t due; // the image that holds the last request
-    bool waits;   // somebody waits for the answer
+    bool waits;   // somebody waits for the answer, to a request of this kind
+    uint8_t kind;
     uint64_t asked_at;
     char reply[HOST_REPLY];
     // Somebody waits for a letter, with a request of this head.
     bool awaits_letter;
     request_head waiting;
     char letter_reply[HOST_REPLY];
+    // The number of its list of what was freed, or 0, and that of the last entry that it has.
+    uint64_t list, had;
+    bool is_list_new; // it hasn't asked for entries yet
 } program;
+
+// The objects that were freed, as far as the library has handed them out and some program hasn't
+// got them: the entries from `first` on, before `end`, in a block with `room`.
+typedef struct freed_list {
+    markring_freed *entries;
+    size_t first, end, room;
+    uint64_t most; // of the entries, with those that the library has
+    uint64_t before; // how many entries were dropped: the number of the last one
+    uint64_t lists;  // of programs that were begun
+    // How many objects were freed before there was a list, and how many the library has handed out.
+    uint64_t taken;
+} freed_list;
 
 // An answer that waits for a save.
 typedef struct held {
@@ -157,6 +177,7 @@ struct markring_host {
     uint8_t owners[REGISTERS_MOST];
     held *first, **last;
     size_t held_count, held_bytes;
+    freed_list freed;
     uint64_t nonce, run, stored; // of this process: its number, its first save, its last one
     // The processes that ran this node, up to this one. The first element has neither nonce nor
     // run. `line_saved`: the last save holds it.
@@ -178,6 +199,8 @@ struct markring_host {
     // be whole values.
     size_t whole, entries;
     int whole_due;
+    // A rewrite is under way; the last one was given up, so that the next whole value is made here.
+    bool rewriting, rewrite_failed;
     // The image had `measured` bytes when that was looked at last, and has at most `size`. Since
     // then about `moved` bytes have come or gone. It isn't looked at twice in one turn, nor before
     // something has happened.
@@ -246,6 +269,8 @@ void begin_line(host *it);
 void forget_line(host *it);
 
 void collect(host *it, uint64_t now);
+// Receives the messages that were early, and whose turn has come. Returns whether it got all.
+bool receive_all_early(host *it);
 // Frees private garbage of a node that is full. Returns whether it has slots again.
 bool reclaim_if_full(host *it);
 void send_packets(host *it, uint64_t now);
@@ -254,6 +279,24 @@ void send_again(host *it, uint8_t to);
 void answer_programs(host *it, uint64_t now);
 // Gives the program its registers, if the node has them and no other program does.
 bool give_registers(host *it, uint8_t number, uint16_t first, uint16_t count);
+// Parts of the answers to requests.
+void fill_head(const host *it, const request_head *request, answer_head *head);
+// An answer without results.
+void refuse(host *it, const request_head *request, verdict why, const char *reply);
+// Whether the request is of the process that speaks for the program.
+bool speaks_for(const program *at, const request_head *request);
+
+// Whether a program has registers for itself, and may come back.
+bool has_apart(const host *it);
+void track_freed(host *it, const request_head *request, reader *from, const char *reply);
+void read_freed(host *it, const request_head *request, reader *from, const char *reply);
+void read_objects(host *it, const request_head *request, reader *from, const char *reply);
+void read_places(host *it, const request_head *request, reader *from, const char *reply);
+// What was freed is no longer listed for anybody.
+void end_lists(host *it);
+// If more is listed than may be, the programs that have the least of it lose their lists.
+void bound_lists(host *it);
+
 // All objects of the space, as far as node 0 knows.
 uint64_t count_objects(const host *it, uint32_t own_live);
 

@@ -2,8 +2,11 @@
 #ifndef HOST_KEEPER_H
 #define HOST_KEEPER_H
 
-#include "leaving.h"
 #include "postgres.h"
+
+// Milliseconds: how often a process shows that it holds a node in a database, and how long it may
+// be sure of that.
+enum { RENEW_EACH = 1000, SURE_FOR = 3000 };
 
 typedef struct keeper keeper;
 
@@ -16,17 +19,55 @@ struct keeper {
     database base;
 };
 
-// Takes a folder or an address, of which nothing is opened yet. Returns 0, or the exit status after
-// it has said why; then nothing is to be freed.
-int keeper_begin(keeper *it, const char *place);
+// Takes a folder or an address, of which nothing is opened yet, and no node is selected. The caller
+// frees it also after a failure. STORE_ADDRESS; STORE_PASSWORD; STORE_LIBRARY; STORE_MEMORY.
+store_status keeper_name(keeper *it, const char *place);
 
-// The same for a node of this space; an address may leave it out.
-int keeper_begin_node(keeper *it, const char *place, const char *space, uint8_t node);
+// What follows is for this node. STORE_ADDRESS if the address names another one.
+store_status keeper_select(keeper *it, const char *space, uint8_t node);
 
-// As for a store. The first save of a new node has the number after `number`.
+// The same for the node that the address names. STORE_ADDRESS if it names none.
+store_status keeper_select_named(keeper *it);
+
+// As for a store, with the statuses of places in databases. The first save of a new node has the
+// number after `number`.
 store_status keeper_create(keeper *it, store_value *value, uint64_t number);
 store_status keeper_open(keeper *it, store_value *value);
+
+// As for a store; in a database STORE_TAKEN too.
 store_status keeper_save(keeper *it, store_value *value);
+
+// ## Whole values while entries are added, as in a store
+//
+// Begin and end a rewrite in the thread that saves; the calls between may be made by another one.
+
+typedef struct keeper_rewrite {
+    bool is_database;
+    store_rewrite folder;
+    database_rewrite base;
+    postgres *server; // another connection
+} keeper_rewrite;
+
+// Begins a rewrite of what the last save left, which succeeded. The caller frees it.
+store_status keeper_rewrite_begin(keeper *it, keeper_rewrite *to);
+store_status keeper_rewrite_read(keeper_rewrite *it, store_value *value);
+store_status keeper_rewrite_write(keeper_rewrite *it, store_value *whole);
+store_status keeper_rewrite_follow(keeper_rewrite *it, uint64_t end);
+void keeper_rewrite_free(keeper_rewrite *it);
+
+// What became of a rewrite: the bytes of the value that counts, and of the entries behind it.
+typedef struct rewritten {
+    bool is_over;
+    store_status status;
+    size_t whole, entries;
+} rewritten;
+
+// Saves an entry and ends the rewrite. Returns the status of the save.
+store_status keeper_rewrite_end(
+    keeper *it, keeper_rewrite *with, store_value *entry, rewritten *outcome);
+
+// The end of what is in a folder, for keeper_rewrite_follow.
+uint64_t keeper_end(const keeper *it);
 
 // Shows that the process is there. It does nothing in a folder.
 store_status keeper_renew(keeper *it);
@@ -37,11 +78,12 @@ uint64_t keeper_number(const keeper *it);
 // Why the last save failed, in words.
 const char *keeper_why(const keeper *it);
 
-// Says why it can't be used. Returns the exit status.
-int keeper_explain(const keeper *it, store_status status);
+// The status of the last call to a server, which failed; and why, in words for an operator.
+store_status server_status(const postgres *it);
+void server_text(const postgres *it, char *text, size_t room);
 
-// Says why the last call to the server failed. Returns the exit status.
-int explain_server(const postgres *it);
+// What a status of a place means, in words for an operator.
+void keeper_text(const keeper *it, store_status status, char *text, size_t room);
 
 // Closes the place and frees it. A node in a database is left to anybody.
 void keeper_close(keeper *it);

@@ -1,17 +1,10 @@
 #include "leaving.h"
 
+#include "clock.h"
 #include "log.h"
 
 #include <errno.h>
 #include <string.h>
-#include <time.h>
-
-uint64_t now_ms(void)
-{
-    struct timespec now;
-    clock_gettime(CLOCK_MONOTONIC, &now);
-    return (uint64_t)now.tv_sec * 1000 + (uint64_t)now.tv_nsec / 1000000;
-}
 
 int complain(enum leave status, const char *text)
 {
@@ -24,6 +17,11 @@ int complain_of(enum leave status, const char *text, int cause)
     log_say(now_ms(), (log_line){LEVEL_ERROR, EVENT_FAILED, {{"status", status}}}, "%s: %s", text,
         strerror(cause));
     return (int)status;
+}
+
+bool leave_may_pass(int status)
+{
+    return status == LEAVE_SYSTEM || (status >= LEAVE_AWAY && status <= LEAVE_IN_USE);
 }
 
 // Whether a call that failed with this errno may succeed later, without anybody's doing.

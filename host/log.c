@@ -27,6 +27,7 @@ static const kind KINDS[LOG_EVENTS] = {
     [EVENT_STRANGERS] = {"strangers", EVENT_STRANGERS},
     [EVENT_SAVES_FAIL] = {"saves_fail", EVENT_SAVES_FAIL},
     [EVENT_SAVES_AGAIN] = {"saves_again", EVENT_SAVES_FAIL},
+    [EVENT_NO_REWRITE] = {"no_rewrite", EVENT_NO_REWRITE},
     [EVENT_SAVE_SLOW] = {"save_slow", EVENT_SAVE_SLOW},
     [EVENT_SAVES_QUICK] = {"saves_quick", EVENT_SAVE_SLOW},
     [EVENT_DATABASE_LOST] = {"database_lost", EVENT_DATABASE_LOST},

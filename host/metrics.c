@@ -1,5 +1,7 @@
 #include "metrics.h"
 
+#include "clock.h"
+
 #include <arpa/inet.h>
 #include <errno.h>
 #include <inttypes.h>
@@ -9,7 +11,6 @@
 #include <pthread.h>
 #include <stdlib.h>
 #include <sys/socket.h>
-#include <time.h>
 #include <unistd.h>
 
 enum {
@@ -133,13 +134,6 @@ void metrics_write(FILE *to, const host_view *view, bool is_connected)
 }
 
 // ## Answers
-
-static uint64_t now_ms(void)
-{
-    struct timespec now;
-    clock_gettime(CLOCK_MONOTONIC, &now);
-    return (uint64_t)now.tv_sec * 1000 + (uint64_t)now.tv_nsec / 1000000;
-}
 
 // Queues an answer; `text` is freed with it if it is `owned`.
 static enum MHD_Result send_text(

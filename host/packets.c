@@ -180,6 +180,20 @@ bool read_answer_head(reader *from, answer_head *it)
     return is_answer && from->ok;
 }
 
+void write_reference(writer *to, const markring_ref *it)
+{
+    write_number(to, it->node, 1);
+    write_number(to, it->slot, 4);
+    write_number(to, it->generation, 8);
+}
+
+void read_reference(reader *from, markring_ref *it)
+{
+    it->node = (uint8_t)read_number(from, 1);
+    it->slot = (uint32_t)read_number(from, 4);
+    it->generation = read_number(from, 8);
+}
+
 void write_result(writer *to, const markring_result *it)
 {
     write_number(to, (uint64_t)it->status, 2);
@@ -191,9 +205,7 @@ void write_result(writer *to, const markring_result *it)
     write_number(to, it->answer.count, 4);
     write_number(to, it->answer.number, 8);
     write_number(to, (uint64_t)it->answer.sum, 8);
-    write_number(to, it->answer.reference.node, 1);
-    write_number(to, it->answer.reference.slot, 4);
-    write_number(to, it->answer.reference.generation, 8);
+    write_reference(to, &it->answer.reference);
 }
 
 void read_result(reader *from, markring_result *it)
@@ -208,9 +220,50 @@ void read_result(reader *from, markring_result *it)
     it->answer.count = (uint32_t)read_number(from, 4);
     it->answer.number = read_number(from, 8);
     it->answer.sum = (int64_t)read_number(from, 8);
-    it->answer.reference.node = (uint8_t)read_number(from, 1);
-    it->answer.reference.slot = (uint32_t)read_number(from, 4);
-    it->answer.reference.generation = read_number(from, 8);
+    read_reference(from, &it->answer.reference);
+}
+
+void write_freed_record(writer *to, const markring_freed *it)
+{
+    write_reference(to, &it->reference);
+    write_number(to, it->word, 8);
+}
+
+void read_freed_record(reader *from, markring_freed *it)
+{
+    read_reference(from, &it->reference);
+    it->word = read_number(from, 8);
+}
+
+void write_object_record(writer *to, const markring_object *it)
+{
+    write_reference(to, &it->reference);
+    write_number(to, it->word, 8);
+    write_number(to, it->bytes, 4);
+    write_number(to, it->places, 1);
+    write_number(to, it->marked, 1);
+    write_number(to, it->shared, 1);
+    write_number(to, it->age, 1);
+}
+
+void read_object_record(reader *from, markring_object *it)
+{
+    memset(it, 0, sizeof *it);
+    read_reference(from, &it->reference);
+    it->word = read_number(from, 8);
+    it->bytes = (uint32_t)read_number(from, 4);
+    it->places = (uint8_t)read_number(from, 1);
+    it->marked = (uint8_t)read_number(from, 1);
+    it->shared = (uint8_t)read_number(from, 1);
+    it->age = (uint8_t)read_number(from, 1);
+}
+
+size_t record_of(uint8_t kind)
+{
+    return kind == REQUEST_FREED     ? FREED_RECORD
+        : kind == REQUEST_OBJECTS    ? OBJECT_RECORD
+        : kind == REQUEST_PLACES     ? REFERENCE_RECORD
+                                     : 0;
 }
 
 void write_letter_head(writer *to, uint16_t result, size_t length)

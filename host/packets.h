@@ -30,6 +30,11 @@ enum {
     RESULT_BYTES = 43,
     // The number of a result and the length of its letter's bytes, before these.
     LETTER_HEAD = 2 + 4,
+    // What follows the result of an answer: objects that were freed, each with its word; objects;
+    // and contents of places.
+    REFERENCE_RECORD = 1 + 4 + 8,
+    FREED_RECORD = REFERENCE_RECORD + 8,
+    OBJECT_RECORD = REFERENCE_RECORD + 8 + 4 + 4,
     // The longest request and answer without bytes of objects and letters; and with them, which is
     // less than the 1,048,576 bytes that servers take, unless they are told otherwise.
     REQUEST_BYTES = REQUEST_HEAD + REQUEST_EVENTS * EVENT_BYTES,
@@ -37,11 +42,18 @@ enum {
     BYTES_MOST = MARKRING_REMOTE_BYTES,
     LONGEST_REQUEST = REQUEST_BYTES + REQUEST_EVENTS * 4 + BYTES_MOST,
     LONGEST_ANSWER = ANSWER_BYTES + REQUEST_EVENTS * LETTER_HEAD + BYTES_MOST,
+    // Of what follows the result of an answer, at most.
+    FREED_IN_ANSWER = MARKRING_REMOTE_FREED,
+    OBJECTS_IN_ANSWER = MARKRING_REMOTE_OBJECTS,
+    PLACES_IN_ANSWER = UINT8_MAX,
     SPACE_ID = 8
 };
 
 _Static_assert(LONGEST_REQUEST <= 1048576 && LONGEST_ANSWER <= 1048576,
     "a server with the usual max_payload takes all messages");
+_Static_assert(FREED_IN_ANSWER * FREED_RECORD <= BYTES_MOST
+        && OBJECTS_IN_ANSWER * OBJECT_RECORD <= BYTES_MOST,
+    "no answer is longer");
 
 // A process that runs a node: a random number, the number of the first save that it made, and that
 // of the last one. All are 0 if nothing is known.
@@ -87,10 +99,34 @@ typedef enum request_kind {
     REQUEST_READ_BYTES = 6,
     // As REQUEST_OPEN and REQUEST_OPEN_APART; the answer has the letters of the last request, too.
     REQUEST_OPEN_LETTERS = 7,
-    REQUEST_OPEN_APART_LETTERS = 8
+    REQUEST_OPEN_APART_LETTERS = 8,
+    // As REQUEST_PERFORM; some event is a Resolve, which earlier versions don't know.
+    REQUEST_PERFORM_RESOLVING = 9,
+    // What the node frees is to be listed for the program. The answer has one result: `sum` is the
+    // list, `number` that of the last entry that the program has, `done` 1 if the list is new.
+    REQUEST_TRACK_FREED = 10,
+    // Entries of that list: the list (8), the number of the last entry that the program has (8) and
+    // how many at most (4) follow the head. The answer has one result, with the list, `number` of
+    // the last one that follows and `count` of them; and these.
+    REQUEST_FREED = 11,
+    // Objects in the slots from one on: the slot (4) and how many at most (4) follow the head. The
+    // answer has one result: `count` of objects follow; `label` is the next slot, and `done` 1 if
+    // no other slot has an object.
+    REQUEST_OBJECTS = 12,
+    // What the places of an object hold, whose reference (13) follows the head. The answer has one
+    // result: `count` of places follow.
+    REQUEST_PLACES = 13
 } request_kind;
 
-enum { READ_BYTES = 2 + 4 + 4 };
+enum { READ_BYTES = 2 + 4 + 4, READ_FREED = 8 + 8 + 4, READ_OBJECTS = 4 + 4 };
+
+static inline bool is_performing(uint8_t kind)
+{
+    return kind == REQUEST_PERFORM || kind == REQUEST_PERFORM_RESOLVING;
+}
+
+// The bytes of each of what follows the result of an answer of this kind; 0 for other kinds.
+size_t record_of(uint8_t kind);
 
 typedef struct request_head {
     uint8_t kind, program;
@@ -125,7 +161,11 @@ typedef enum verdict {
     // The program has other registers, or another program has one of these, or the node hasn't.
     VERDICT_REGISTERS = 5,
     // The request or its answer would carry more than BYTES_MOST bytes of objects and letters.
-    VERDICT_TOO_LONG = 6
+    VERDICT_TOO_LONG = 6,
+    // A program of the node has registers for itself.
+    VERDICT_APART = 7,
+    // The program has no such list of what was freed, or not from there on.
+    VERDICT_LOST = 8
 } verdict;
 
 typedef struct answer_head {
@@ -145,6 +185,13 @@ bool read_answer_head(reader *from, answer_head *it);
 
 void write_result(writer *to, const markring_result *it);
 void read_result(reader *from, markring_result *it);
+
+void write_reference(writer *to, const markring_ref *it);
+void read_reference(reader *from, markring_ref *it);
+void write_freed_record(writer *to, const markring_freed *it);
+void read_freed_record(reader *from, markring_freed *it);
+void write_object_record(writer *to, const markring_object *it);
+void read_object_record(reader *from, markring_object *it);
 
 // The bytes of a letter that was accepted, as they follow the results: after the number of its
 // result, and their length. What is read points into the answer.

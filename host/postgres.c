@@ -1,6 +1,8 @@
 #include "postgres.h"
 
 #include "bytes.h"
+#include "clock.h"
+#include "host.h"
 
 #include <ctype.h>
 #include <dlfcn.h>
@@ -17,6 +19,9 @@ enum {
     // Milliseconds without a sign of the server, after which the connection counts as lost.
     SILENCE = 30000
 };
+
+// The kinds of pieces.
+enum { WHOLE = 0, ENTRY = 1, REWRITE = 2 };
 
 #define NODE "space = $1 and node = $2"
 
@@ -146,7 +151,7 @@ struct postgres {
 };
 
 typedef enum statement {
-    PEEK, LOCK, ADD, MOVE, PUT, SAVE, CLEAR, READ, LIST, STATEMENTS
+    PEEK, LOCK, ADD, MOVE, PUT, PUT_APART, FIND, SWEEP, SAVE, CLEAR, READ, LIST, STATEMENTS
 } statement;
 
 #define ROW "select holder, session, number, base, beat from markring.node where " NODE
@@ -161,6 +166,11 @@ static const char *const SQL[STATEMENTS] = {
     [MOVE] = "update markring.node set holder = $6, session = $7, number = $8, base = $9, "
              "beat = beat + 1 where " NODE MOVED,
     [PUT] = "insert into " PIECE " values ($1, $2, $3, $4, $5, $6)",
+    // (a save changes the row meanwhile, but nobody takes it over: for that it is locked for update)
+    [PUT_APART] = "insert into " PIECE " select $1, $2, $3, $4, $5::int2, $6::bytea from markring.node "
+                  "where " NODE " and holder = $7 for key share",
+    [FIND] = "select count(*) = $4::int8 from markring.piece where " NODE " and number = $3 and kind = 2",
+    [SWEEP] = "delete from markring.piece where " NODE " and kind = 2 and number <> $3",
     // (one statement, so that a save takes one message and its answer)
     [SAVE] = "with moved as (update markring.node set number = $6, base = $7, beat = beat + 1 "
              "where " NODE MOVED " returning 1) "
@@ -168,12 +178,13 @@ static const char *const SQL[STATEMENTS] = {
     [CLEAR] = "delete from markring.piece where " NODE " and number < $3 and exists "
               "(select from markring.node where " NODE " and holder = $4 and session = $5)",
     [READ] = "select number, part, kind, bytes from markring.piece where " NODE
-             " and number >= $3 order by number, part",
+             " and number >= $3 and (kind <> 2 or number = $3) order by number, part",
     [LIST] = "select space, node from markring.node where $1 in ('', space) order by space, node",
 };
 
 static const char *const NAME[STATEMENTS] = {[PEEK] = "markring_peek", [LOCK] = "markring_lock",
     [ADD] = "markring_add", [MOVE] = "markring_move", [PUT] = "markring_put",
+    [PUT_APART] = "markring_put_apart", [FIND] = "markring_find", [SWEEP] = "markring_sweep",
     [SAVE] = "markring_save", [CLEAR] = "markring_clear", [READ] = "markring_read",
     [LIST] = "markring_list"};
 
@@ -479,21 +490,62 @@ static database_status save(
     begin_move(&with, it, from);
     add_number(&with, to->number);
     add_number(&with, to->base);
-    add_number(&with, piece->is_entry);
+    add_number(&with, piece->is_entry ? ENTRY : WHOLE);
     add_bytes(&with, piece->bytes, piece->length);
     return change(it, SAVE, &with);
+}
+
+static void begin_piece(words *to, const postgres *it, const database_piece *piece)
+{
+    begin_words(to, it);
+    add_number(to, piece->number);
+    add_number(to, piece->part);
+    add_number(to, piece->is_entry ? ENTRY : piece->is_rewrite ? REWRITE : WHOLE);
+    add_bytes(to, piece->bytes, piece->length);
 }
 
 static database_status put(void *context, const database_piece *piece)
 {
     postgres *it = context;
     words with;
-    begin_words(&with, it);
-    add_number(&with, piece->number);
-    add_number(&with, piece->part);
-    add_number(&with, piece->is_entry);
-    add_bytes(&with, piece->bytes, piece->length);
+    begin_piece(&with, it, piece);
     return change(it, PUT, &with);
+}
+
+static database_status put_apart(void *context, uint64_t holder, const database_piece *piece)
+{
+    postgres *it = context;
+    words with;
+    begin_piece(&with, it, piece);
+    add_number(&with, holder);
+    return change(it, PUT_APART, &with);
+}
+
+static bool take_truth(postgres *it, pg_result *result, void *to)
+{
+    *(bool *)to = it->pq.result_rows(result) == 1 && strcmp(it->pq.value(result, 0, 0), "t") == 0;
+    return true;
+}
+
+static database_status find_parts(void *context, uint64_t number, uint32_t parts)
+{
+    postgres *it = context;
+    bool are_there = false;
+    words with;
+    begin_words(&with, it);
+    add_number(&with, number);
+    add_number(&with, parts);
+    database_status status = run(it, FIND, &with, take_truth, &are_there);
+    return end_if_failed(it, status == DATABASE_DONE && !are_there ? DATABASE_NONE : status);
+}
+
+static database_status sweep(void *context, uint64_t base)
+{
+    postgres *it = context;
+    words with;
+    begin_words(&with, it);
+    add_number(&with, base);
+    return end_if_failed(it, run(it, SWEEP, &with, NULL, NULL));
 }
 
 static database_status clear(void *context, const database_row *row)
@@ -525,8 +577,9 @@ static bool take_piece(postgres *it, pg_result *result, void *to)
     if (it->pq.result_rows(result) != 1) {
         return true;
     }
+    uint64_t kind = binary_in(it, result, 2);
     database_piece piece = {binary_in(it, result, 0), (uint32_t)binary_in(it, result, 1),
-        binary_in(it, result, 2) == 1, (const uint8_t *)it->pq.value(result, 0, 3),
+        kind == ENTRY, kind == REWRITE, (const uint8_t *)it->pq.value(result, 0, 3),
         (size_t)it->pq.length(result, 0, 3)};
     return read->take(read->to, &piece);
 }
@@ -547,8 +600,7 @@ static bool pause_for(void *context, uint64_t milliseconds)
     if (it->events.pause != NULL) {
         return it->events.pause(it->events.context, milliseconds);
     }
-    struct timespec time = {(time_t)(milliseconds / 1000), (long)(milliseconds % 1000) * 1000000};
-    return nanosleep(&time, NULL) == 0;
+    return sleep_ms(milliseconds);
 }
 
 static void note(void *context, bool is_lost)
@@ -754,10 +806,19 @@ database_status postgres_make_schema(postgres *it)
     return status == DATABASE_DONE ? ask(it, POSTGRES_SCHEMA, NULL, NULL) : status;
 }
 
+// (what can't be read at all is refused by the host)
+static bool is_own(void *context, const store_value *value)
+{
+    const postgres *it = context;
+    host_shape shape;
+    return !read_saved_shape(value, &shape)
+        || (strcmp(shape.name, it->space) == 0 && shape.own == strtoul(it->node, NULL, 10));
+}
+
 database_calls postgres_calls(postgres *it)
 {
     return (database_calls){it, connect_server, disconnect, begin, commit, lock, add, move, put,
-        save, clear, read_pieces, pause_for, note};
+        save, clear, put_apart, find_parts, sweep, is_own, read_pieces, pause_for, note};
 }
 
 // ## Looking
@@ -901,6 +962,20 @@ bool postgres_open(postgres **made, const char *server)
         return false;
     }
     return test_options(it);
+}
+
+bool postgres_again(const postgres *it, postgres **made)
+{
+    postgres *again = calloc(1, sizeof *again);
+    *made = again;
+    if (again == NULL) {
+        return false;
+    }
+    again->pq = it->pq;
+    again->server = strdup(it->server);
+    memcpy(again->space, it->space, sizeof again->space);
+    memcpy(again->node, it->node, sizeof again->node);
+    return again->server != NULL;
 }
 
 void postgres_select(postgres *it, const char *space, uint8_t node)

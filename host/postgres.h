@@ -53,6 +53,9 @@ const char *shown_place(const char *word);
 // also after a failure.
 bool postgres_open(postgres **made, const char *server);
 
+// Makes another one for the same server and node, without connecting. Returns false without memory.
+bool postgres_again(const postgres *it, postgres **made);
+
 // All calls from now on are for this node.
 void postgres_select(postgres *it, const char *space, uint8_t node);
 

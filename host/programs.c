@@ -4,7 +4,7 @@
 #include <stdio.h>
 #include <stdlib.h>
 
-static void fill_head(const host *it, const request_head *request, answer_head *head)
+void fill_head(const host *it, const request_head *request, answer_head *head)
 {
     memset(head, 0, sizeof *head);
     head->kind = request->kind;
@@ -21,8 +21,7 @@ static void fill_head(const host *it, const request_head *request, answer_head *
     head->slots = it->shape.slots;
 }
 
-// An answer without results.
-static void refuse(host *it, const request_head *request, verdict why, const char *reply)
+void refuse(host *it, const request_head *request, verdict why, const char *reply)
 {
     uint8_t bytes[ANSWER_HEAD];
     writer to = writer_of(bytes, sizeof bytes);
@@ -83,7 +82,8 @@ static verdict judge_opening(host *it, const request_head *request, reader *from
         request->kind == REQUEST_OPEN_APART || request->kind == REQUEST_OPEN_APART_LETTERS;
     uint16_t first = is_apart ? (uint16_t)read_number(from, 2) : 0;
     uint16_t count = is_apart ? (uint16_t)read_number(from, 2) : 0;
-    if (request->session == 0 || (is_apart && (!from->ok || from->left > 0 || count == 0))) {
+    bool is_session = request->session != 0 && request->session != FORGOTTEN;
+    if (!is_session || (is_apart && (!from->ok || from->left > 0 || count == 0))) {
         return VERDICT_MALFORMED;
     }
     // A late opening of an earlier process has a number that was used.
@@ -110,6 +110,9 @@ static void open_program(host *it, const request_head *request, reader *from, co
         at->waits = false;
         it->changed = true;
     }
+    if (has_apart(it)) {
+        end_lists(it);
+    }
     bool has_letters =
         request->kind == REQUEST_OPEN_LETTERS || request->kind == REQUEST_OPEN_APART_LETTERS;
     size_t length = 0;
@@ -127,7 +130,8 @@ static void open_program(host *it, const request_head *request, reader *from, co
 static bool is_of_program(uint8_t kind)
 {
     return (kind >= MARKRING_EVENT_ALLOC && kind <= MARKRING_EVENT_GET) || has_bytes(kind)
-        || kind == MARKRING_REMOTE_FETCH || kind == MARKRING_REMOTE_ACCEPT_INTO;
+        || kind == MARKRING_REMOTE_FETCH || kind == MARKRING_REMOTE_ACCEPT_INTO
+        || kind == MARKRING_EVENT_RESOLVE;
 }
 
 static bool is_accept(uint8_t kind)
@@ -146,7 +150,8 @@ static moves moves_of(uint8_t kind)
 {
     switch (kind) {
     case MARKRING_EVENT_ALLOC: return (moves){64, 0};
-    case MARKRING_EVENT_COPY: return (moves){16, 0};
+    case MARKRING_EVENT_COPY:
+    case MARKRING_EVENT_RESOLVE: return (moves){16, 0};
     case MARKRING_EVENT_DROP: return (moves){0, 16};
     case MARKRING_EVENT_LOAD: return (moves){64, 0};
     case MARKRING_EVENT_STORE: return (moves){16, 0};
@@ -226,7 +231,7 @@ static uint32_t registers_of(host *it, const markring_event *event)
         return letter.count;
     }
     return kind <= MARKRING_EVENT_STORE || kind == MARKRING_EVENT_GIVE || is_accept(kind)
-        || kind == MARKRING_EVENT_PUT;
+        || kind == MARKRING_EVENT_PUT || kind == MARKRING_EVENT_RESOLVE;
 }
 
 // Whether the program may use all registers that the event uses.
@@ -245,31 +250,9 @@ static bool may_use_all(host *it, uint8_t number, const markring_event *event)
     return may;
 }
 
-// The letters of a request that were accepted with their bytes, as they follow its results.
-typedef struct pile {
-    uint8_t *bytes;
-    size_t length, room;
-} pile;
-
-// Makes room for this many more bytes. Returns whether there is memory.
-static bool make_room_on(pile *it, size_t length)
-{
-    if (it->room - it->length >= length) {
-        return true;
-    }
-    size_t room = it->length + length + it->length / 2;
-    uint8_t *bytes = realloc(it->bytes, room);
-    if (bytes == NULL) {
-        return false;
-    }
-    it->bytes = bytes;
-    it->room = room;
-    return true;
-}
-
-// Accepts the oldest letter, and puts its bytes on the pile, as those of the result with this
-// number. If it has more bytes than the event has room for, the answer has their number.
-static int accept_into(host *it, const markring_event *event, uint16_t result, pile *letters,
+// Accepts the oldest letter, and puts its bytes behind those before it, as those of the result with
+// this number. If it has more bytes than the event has room for, the answer has their number.
+static int accept_into(host *it, const markring_event *event, uint16_t result, growing *letters,
     markring_answer *answer)
 {
     markring_answer letter;
@@ -283,7 +266,7 @@ static int accept_into(host *it, const markring_event *event, uint16_t result, p
         return MARKRING_SHORT_BUFFER;
     }
     size_t length = (size_t)letter.number;
-    if (!make_room_on(letters, LETTER_HEAD + length)) {
+    if (!make_more_room(letters, LETTER_HEAD + length)) {
         return MARKRING_MEMORY;
     }
     writer to = writer_of(letters->bytes + letters->length, LETTER_HEAD);
@@ -316,7 +299,7 @@ static int post(host *it, const markring_remote_event *event, markring_answer *a
     return status;
 }
 
-static int act(host *it, const markring_remote_event *event, uint16_t result, pile *letters,
+static int act(host *it, const markring_remote_event *event, uint16_t result, growing *letters,
     markring_answer *answer)
 {
     const markring_event *of = &event->event;
@@ -348,12 +331,15 @@ static size_t letter_of(host *it, uint8_t kind, const markring_answer *answer)
 }
 
 static int perform_event(host *it, uint8_t number, const markring_remote_event *event,
-    uint16_t result, pile *letters, markring_answer *answer)
+    uint16_t result, growing *letters, markring_answer *answer)
 {
     uint8_t kind = event->event.kind;
     size_t growth = growth_of(event);
     if (!is_of_program(kind)) {
         return MARKRING_BAD_ARGUMENT;
+    }
+    if (kind == MARKRING_EVENT_RESOLVE && has_apart(it)) {
+        return MARKRING_APART;
     }
     if (!may_use_all(it, number, &event->event)) {
         return MARKRING_NO_REGISTER;
@@ -381,7 +367,7 @@ static int perform_event(host *it, uint8_t number, const markring_remote_event *
 
 // Performs the events up to the first one that is refused.
 static void perform_events(
-    host *it, const request_head *request, reader *from, writer *to, pile *letters)
+    host *it, const request_head *request, reader *from, writer *to, growing *letters)
 {
     int status = MARKRING_OK;
     for (uint16_t i = 0; i < request->count; i++) {
@@ -405,7 +391,7 @@ static void perform(host *it, const request_head *request, reader *from)
     program *at = &it->programs[request->program];
     size_t length = request->count * (size_t)RESULT_BYTES;
     uint8_t *results = malloc(length + 1);
-    pile letters = {NULL, 0, 0};
+    growing letters = {NULL, 0, 0};
     if (results == NULL) {
         it->counts.dropped++;
         return;
@@ -424,9 +410,15 @@ static void perform(host *it, const request_head *request, reader *from)
     it->counts.requests++;
 }
 
+bool speaks_for(const program *at, const request_head *request)
+{
+    return at->session == request->session && request->session != 0
+        && request->session != FORGOTTEN;
+}
+
 static verdict judge(const program *at, const request_head *request)
 {
-    if (at->session != request->session || request->session == 0) {
+    if (!speaks_for(at, request)) {
         return VERDICT_SUPERSEDED;
     }
     if (request->number == 0) {
@@ -474,6 +466,7 @@ static void perform_once(host *it, uint64_t now, const request_head *request, re
     }
     at->asked_at = at->waits ? at->asked_at : now;
     at->waits = at->number == request->number && copy_reply(at->reply, reply);
+    at->kind = request->kind;
 }
 
 // What registers hold. The answer waits, too, until what it shows is stored.
@@ -599,9 +592,14 @@ void host_request(host *it, uint64_t now, const uint8_t *bytes, size_t length, c
     case REQUEST_OPEN_APART:
     case REQUEST_OPEN_LETTERS:
     case REQUEST_OPEN_APART_LETTERS: open_program(it, &head, &from, reply); break;
-    case REQUEST_PERFORM: perform_once(it, now, &head, &from, reply); break;
+    case REQUEST_PERFORM:
+    case REQUEST_PERFORM_RESOLVING: perform_once(it, now, &head, &from, reply); break;
     case REQUEST_READ: read_registers(it, &head, &from, reply); break;
     case REQUEST_READ_BYTES: read_object(it, &head, &from, reply); break;
+    case REQUEST_TRACK_FREED: track_freed(it, &head, &from, reply); break;
+    case REQUEST_FREED: read_freed(it, &head, &from, reply); break;
+    case REQUEST_OBJECTS: read_objects(it, &head, &from, reply); break;
+    case REQUEST_PLACES: read_places(it, &head, &from, reply); break;
     case REQUEST_WAIT: await_letter(it, &head, reply); break;
     default: refuse(it, &head, VERDICT_MALFORMED, reply);
     }
@@ -661,7 +659,7 @@ void answer_programs(host *it, uint64_t now)
         if (!at->waits || at->due > it->kept) {
             continue;
         }
-        request_head request = {REQUEST_PERFORM, i, at->session, at->number, at->count};
+        request_head request = {at->kind, i, at->session, at->number, at->count};
         size_t length = 0;
         uint8_t *bytes = make_last(it, &request, true, &length);
         if (bytes == NULL) {
@@ -690,8 +688,7 @@ static void forget_program(host *it, uint8_t number, const char *reply)
             note_change(it, 0, moves_of(MARKRING_EVENT_DROP).gone);
         }
     }
-    // (a session that isn't that of any process, nor 0)
-    at->session = at->session > 1 ? at->session - 1 : UINT64_MAX;
+    at->session = FORGOTTEN;
     it->changed = true;
     int length = snprintf(
         text, sizeof text, "{\"forgotten\": %d, \"registers\": %d}", number, at->registers);

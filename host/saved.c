@@ -128,9 +128,28 @@ static void note_written(host *it)
     }
 }
 
-int write_entry(host *it, writer *to, size_t batch)
+typedef int (*library_call)(
+    markring_node *of, uint8_t *bytes, size_t room, size_t *needed, uint64_t *mark);
+
+// Writes the bytes of a library's call, which come last and have this length.
+static int write_last(host *it, writer *to, size_t length, library_call call)
 {
     size_t needed = 0;
+    int status = MARKRING_SHORT_BUFFER;
+    if (to->ok && to->room - to->length == length) {
+        status = call(&it->node, to->start + to->length, length, &needed, &it->mark);
+    }
+    if (status == MARKRING_OK && needed != length) {
+        status = MARKRING_SHORT_BUFFER;
+    }
+    if (status == MARKRING_OK) {
+        note_written(it);
+    }
+    return status;
+}
+
+int write_entry(host *it, writer *to, size_t batch)
+{
     uint8_t count = 0;
     for (int i = 0; i < it->shape.nodes; i++) {
         count = (uint8_t)(count + is_known_new(&it->peers[i]));
@@ -149,22 +168,12 @@ int write_entry(host *it, writer *to, size_t batch)
     }
     write_programs(it, to, is_program_new);
     write_number(to, batch, 8);
-    int status = MARKRING_SHORT_BUFFER;
-    if (to->ok && to->room - to->length == batch) {
-        status = markring_node_batch(&it->node, to->start + to->length, batch, &needed, &it->mark);
-    }
-    if (status == MARKRING_OK && needed != batch) {
-        status = MARKRING_SHORT_BUFFER;
-    }
-    if (status == MARKRING_OK) {
-        note_written(it);
-    }
-    return status;
+    return write_last(it, to, batch, markring_node_batch);
 }
 
 int write_saved(host *it, writer *to, size_t image)
 {
-    size_t name = strlen(it->shape.name), needed = 0;
+    size_t name = strlen(it->shape.name);
     write_number(to, THIRD, 1);
     write_number(to, name, 1);
     write_bytes(to, it->shape.name, name);
@@ -179,17 +188,7 @@ int write_saved(host *it, writer *to, size_t image)
     write_line(to, it);
     write_programs(it, to, is_opened);
     write_number(to, image, 8);
-    int status = MARKRING_SHORT_BUFFER;
-    if (to->ok && to->room - to->length == image) {
-        status = markring_node_image(&it->node, to->start + to->length, image, &needed, &it->mark);
-    }
-    if (status == MARKRING_OK && needed != image) {
-        status = MARKRING_SHORT_BUFFER;
-    }
-    if (status == MARKRING_OK) {
-        note_written(it);
-    }
-    return status;
+    return write_last(it, to, image, markring_node_image);
 }
 
 static bool read_shape(host_shape *it, version of, reader *from)
@@ -207,6 +206,23 @@ static bool read_shape(host_shape *it, version of, reader *from)
     it->limit = read_number(from, 8);
     it->byte_limit = of == THIRD ? read_number(from, 8) : BYTE_LIMIT;
     return from->ok && it->nodes <= NODES && it->own < it->nodes;
+}
+
+// Reads the version of a value; one of the first version has none.
+static version read_version(const store_value *value, reader *from)
+{
+    *from = reader_of(value->buffer + STORE_HEAD, value->length);
+    return value->length > 0 && (*from->at == SECOND || *from->at == THIRD)
+        ? (version)read_number(from, 1)
+        : FIRST;
+}
+
+bool read_saved_shape(const store_value *value, host_shape *to)
+{
+    reader from;
+    version of = read_version(value, &from);
+    memset(to, 0, sizeof *to);
+    return read_shape(to, of, &from);
 }
 
 static void read_known(host *it, uint64_t node, reader *from)
@@ -377,10 +393,8 @@ static int read_entries(
 int read_saved(host *it, const store_value *value)
 {
     size_t image_length = 0;
-    reader from = reader_of(value->buffer + STORE_HEAD, value->length);
-    version of = value->length > 0 && (*from.at == SECOND || *from.at == THIRD)
-        ? (version)read_number(&from, 1)
-        : FIRST;
+    reader from;
+    version of = read_version(value, &from);
     if (!read_shape(&it->shape, of, &from)) {
         return MARKRING_BAD_IMAGE;
     }

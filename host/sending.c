@@ -288,24 +288,27 @@ uint64_t count_unacknowledged(host *it)
     return count;
 }
 
-// Scans. Returns the status of the last step; MARKRING_IMAGE_TOO_LARGE if the image has to become
-// smaller first. Requests to mark are messages: if they filled the images of two nodes, neither
-// would take those of the other one.
-static int scan(host *it)
+static size_t least_size(size_t a, size_t b)
 {
-    markring_answer answer;
-    int status = is_full(it) && count_unacknowledged(it) >= SCAN_MESSAGES
-        ? MARKRING_IMAGE_TOO_LARGE
-        : MARKRING_OK;
-    for (int i = 0; i < SCANS && status == MARKRING_OK; i++) {
-        status = is_tight(it) ? MARKRING_IMAGE_TOO_LARGE : markring_node_scan(&it->node, &answer);
-        if (status == MARKRING_OK) {
-            note_change(it, GROWTH, 0);
-            // An object may have more places than GROWTH is for; but most have few.
-            it->size += it->shape.wide ? SCAN_GROWTH * (size_t)it->shape.places : 0;
-        }
+    return a < b ? a : b;
+}
+
+// An object that is scanned may have more places than GROWTH is for; but most have few.
+static size_t places_growth(const host *it)
+{
+    return it->shape.wide ? SCAN_GROWTH * (size_t)it->shape.places : 0;
+}
+
+// How many objects may be scanned in this turn; none if the image has to become smaller first.
+// Requests to mark are messages: if they filled the images of two nodes, neither would take those
+// of the other one.
+static uint32_t scans_of(host *it)
+{
+    if (is_tight(it) || (is_full(it) && count_unacknowledged(it) >= SCAN_MESSAGES)) {
+        return 0;
     }
-    return status;
+    size_t room = it->options.image_tight - least_size(it->size, it->options.image_tight);
+    return (uint32_t)least_size(SCANS, room / (GROWTH + places_growth(it)) + 1);
 }
 
 // About how many bytes of the image are gone with these objects. Nobody counts the bytes of
@@ -319,7 +322,7 @@ static size_t freed_bytes(const host *it, uint32_t count, bool is_last)
 
 static uint32_t least_of(uint32_t a, uint32_t b)
 {
-    return a < b ? a : b;
+    return (uint32_t)least_size(a, b);
 }
 
 // Frees private garbage: all of it, or that of the young objects. Returns whether there was any.
@@ -373,22 +376,33 @@ static void reclaim_if_due(host *it)
     }
 }
 
+// What the collector did has changed the image.
+static void note_work(host *it, const markring_work *work)
+{
+    size_t grown = GROWTH * (size_t)(work->scanned + work->passed);
+    if (work->scanned > 0 || work->passed) {
+        note_change(it, grown, 0);
+        it->size += places_growth(it) * (size_t)work->scanned;
+    }
+    if (work->swept) {
+        note_change(it, MESSAGE_BYTES, freed_bytes(it, work->freed, !work->more));
+        it->counts.freed += work->freed;
+    }
+}
+
 void collect(host *it, uint64_t now)
 {
-    markring_answer answer;
+    markring_work work = {0};
     reclaim_if_due(it);
     bool is_late = begin_if_due(it, now);
-    int scanned = scan(it), passed = markring_node_pass(&it->node, &answer);
-    if (passed == MARKRING_OK) {
-        note_change(it, GROWTH, 0);
-    }
-    int swept = markring_node_sweep(&it->node, SWEEPS, &answer);
-    if (swept == MARKRING_OK) {
-        note_change(it, MESSAGE_BYTES, freed_bytes(it, answer.count, answer.done));
-        it->counts.freed += answer.count;
-    }
-    bool refused = is_late || scanned == MARKRING_IMAGE_TOO_LARGE || scanned == MARKRING_MEMORY
-        || passed == MARKRING_MEMORY || swept == MARKRING_MEMORY;
-    it->has_work = refused || scanned == MARKRING_OK || (swept == MARKRING_OK && !answer.done);
+    // (the library would receive what was early too, and say nothing of its bytes)
+    bool received = receive_all_early(it);
+    uint32_t scans = scans_of(it);
+    int status =
+        received ? markring_node_work(&it->node, scans, SWEEPS, &work) : MARKRING_MEMORY;
+    note_work(it, &work);
+    bool is_stuck = scans == 0 && work.more && !work.swept;
+    bool refused = is_late || is_stuck || status == MARKRING_MEMORY;
+    it->has_work = refused || (status == MARKRING_OK && work.more);
     it->work_at = refused ? now + RETRY : now;
 }

@@ -62,11 +62,17 @@ static void say_how(service *it, uint64_t now, const host_view *view, bool is_co
     (void)notify(text);
 }
 
-void service_alive(service *it, uint64_t now)
+static void show_life(service *it, uint64_t now)
 {
     if (it->every > 0 && now - it->alive_at >= it->every && notify("WATCHDOG=1")) {
         it->alive_at = now;
     }
+}
+
+void service_wait(service *it, uint64_t now)
+{
+    it->is_ready = it->is_ready || notify("READY=1\nSTATUS=on standby");
+    show_life(it, now);
 }
 
 void service_turn(service *it, uint64_t now, const host_view *view, bool is_connected)
@@ -75,7 +81,7 @@ void service_turn(service *it, uint64_t now, const host_view *view, bool is_conn
         it->is_ready = notify("READY=1");
         it->said_at = 0;
     }
-    service_alive(it, now);
+    show_life(it, now);
     if (it->said_at == 0 || now - it->said_at >= SAYS_EACH) {
         say_how(it, now, view, is_connected);
     }

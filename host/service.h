@@ -16,8 +16,8 @@ void service_begin(service *it);
 // The process turns. It is ready once `is_ready` was true.
 void service_turn(service *it, uint64_t now, const host_view *view, bool is_connected);
 
-// The process waits for its turn to run the node.
-void service_alive(service *it, uint64_t now);
+// The process waits for its turn to run the node, which counts as ready: it may wait for long.
+void service_wait(service *it, uint64_t now);
 
 void service_stop(void);
 

@@ -12,9 +12,9 @@
 static const uint8_t MAGIC[4] = {0x4D, 0x52, 0x53, 0x02};
 static const char *const NAMES[2] = {"a", "b"};
 
-// Before an entry: its length and its number. An entry that makes its file longer has zeros behind
-// it up to a multiple of STEP, since a sync is slower if the file's length has changed.
-enum { ENTRY_HEAD = 16, MARK_HEAD = 24, FIRST_VERSION = 1, STEP = 65536, ZEROS = 4096 };
+// An entry that makes its file longer has zeros behind it up to a multiple of STEP, since a sync is
+// slower if the file's length has changed.
+enum { ENTRY_HEAD = STORE_ENTRY_HEAD, MARK_HEAD = 24, FIRST_VERSION = 1, STEP = 65536, ZEROS = 4096 };
 enum { COMPARED = 1 << 20 };
 
 // What a mark begins with, which is no entry's length; and what no save's number reaches.
@@ -49,8 +49,7 @@ void store_close(store *it)
     forget(it);
 }
 
-// A call failed with this negative errno; or with 0, if it moved nothing.
-static store_status fail(store *it, int64_t error)
+store_status store_fail(store *it, int64_t error)
 {
     it->cause = error < 0 ? (int)-error : EIO;
     return STORE_FAILED;
@@ -65,7 +64,7 @@ static store_status close_with(store *it, store_status status)
 static store_status lock(store *it, int descriptor)
 {
     int locked = it->calls.lock(it->calls.context, descriptor);
-    return locked == 0 ? STORE_OK : locked == -EWOULDBLOCK ? STORE_LOCKED : fail(it, locked);
+    return locked == 0 ? STORE_OK : locked == -EWOULDBLOCK ? STORE_LOCKED : store_fail(it, locked);
 }
 
 // Opens the folder, and locks it as earlier versions do. That isn't possible on every file system;
@@ -75,7 +74,7 @@ static store_status enter(store *it, const char *path)
     it->folder = it->calls.open_folder(it->calls.context, path);
     if (it->folder < 0) {
         return it->folder == -ENOENT || it->folder == -ENOTDIR ? STORE_ABSENT
-                                                               : fail(it, it->folder);
+                                                               : store_fail(it, it->folder);
     }
     return lock(it, it->folder) == STORE_LOCKED ? STORE_LOCKED : STORE_OK;
 }
@@ -86,13 +85,13 @@ static store_status open_slots(store *it, int create)
     for (int i = 0; i < 2; i++) {
         it->slots[i] = it->calls.open_file(it->calls.context, it->folder, NAMES[i], create);
         if (it->slots[i] < 0 && (it->slots[i] != -ENOENT || create)) {
-            return fail(it, it->slots[i]);
+            return store_fail(it, it->slots[i]);
         }
     }
     return it->slots[0] >= 0 ? lock(it, it->slots[0]) : STORE_OK;
 }
 
-static store_status sync_file(store *it, int file)
+store_status store_sync(store *it, int file)
 {
     int status;
     do {
@@ -101,7 +100,7 @@ static store_status sync_file(store *it, int file)
     if (status == 0) {
         return STORE_OK;
     }
-    (void)fail(it, status);
+    (void)store_fail(it, status);
     return STORE_UNKNOWN;
 }
 
@@ -111,11 +110,11 @@ static store_status sync_names(store *it)
     if (status == 0) {
         return STORE_OK;
     }
-    (void)fail(it, status);
+    (void)store_fail(it, status);
     return STORE_UNKNOWN;
 }
 
-static store_status write_all(
+store_status store_write_all(
     store *it, int file, const uint8_t *bytes, size_t length, uint64_t offset)
 {
     size_t done = 0;
@@ -123,7 +122,7 @@ static store_status write_all(
         int64_t count = it->calls.write_at(
             it->calls.context, file, bytes + done, length - done, offset + done);
         if (count == 0 || (count < 0 && count != -EINTR)) {
-            return fail(it, count);
+            return store_fail(it, count);
         }
         done += count > 0 ? (size_t)count : 0;
     }
@@ -137,7 +136,7 @@ static void lengthen(store *it, uint64_t end)
     it->size = it->size > end ? it->size : end;
     while (it->size == end && end % STEP != 0) {
         size_t count = ZEROS - (size_t)(end % ZEROS);
-        if (write_all(it, it->slots[it->counts], zeros, count, end) != STORE_OK) {
+        if (store_write_all(it, it->slots[it->counts], zeros, count, end) != STORE_OK) {
             return;
         }
         end += count;
@@ -164,10 +163,10 @@ static store_status add_entry(store *it, store_value *value, uint64_t number)
 {
     store_bytes entry = store_seal_entry(value, number, it->seal);
     int file = it->slots[it->counts];
-    store_status status = write_all(it, file, entry.bytes, entry.length, it->end);
+    store_status status = store_write_all(it, file, entry.bytes, entry.length, it->end);
     if (status == STORE_OK) {
         lengthen(it, it->end + entry.length);
-        status = sync_file(it, file);
+        status = store_sync(it, file);
     }
     if (status == STORE_OK) {
         it->seal = entry.seal;
@@ -193,9 +192,9 @@ static store_status replace(store *it, store_value *value, uint64_t number)
 {
     store_bytes whole = store_seal_whole(value, number);
     int other = 1 - it->counts;
-    store_status status = write_all(it, it->slots[other], whole.bytes, whole.length, 0);
+    store_status status = store_write_all(it, it->slots[other], whole.bytes, whole.length, 0);
     if (status == STORE_OK) {
-        status = sync_file(it, it->slots[other]);
+        status = store_sync(it, it->slots[other]);
     }
     if (status == STORE_OK) {
         it->counts = other;
@@ -209,7 +208,7 @@ static store_status replace(store *it, store_value *value, uint64_t number)
 // Writes a mark behind what was synced: the number of that save, the length of the value, and a
 // checksum that begins with the value's. The next entry is written over it. It needs no sync: it
 // may be lost. If it is there, what is before it was whole, and no crash can have torn it.
-static void put_mark(store *it)
+void store_put_mark(store *it)
 {
     uint8_t mark[MARK_HEAD + STORE_TAIL];
     writer to = writer_of(mark, sizeof mark);
@@ -217,7 +216,7 @@ static void put_mark(store *it)
     write_number(&to, it->number, 8);
     write_number(&to, it->length, 8);
     write_number(&to, XXH3_64bits_withSeed(mark, MARK_HEAD, it->base), STORE_TAIL);
-    (void)write_all(it, it->slots[it->counts], mark, sizeof mark, it->end);
+    (void)store_write_all(it, it->slots[it->counts], mark, sizeof mark, it->end);
 }
 
 store_status store_save(store *it, store_value *value)
@@ -226,7 +225,7 @@ store_status store_save(store *it, store_value *value)
     store_status status =
         value->is_entry ? add_entry(it, value, it->number) : replace(it, value, it->number);
     if (status == STORE_OK) {
-        put_mark(it);
+        store_put_mark(it);
     }
     return status;
 }
@@ -237,7 +236,7 @@ static store_status test_empty(store *it)
     for (int i = 0; i < 2; i++) {
         int64_t size = it->calls.size(it->calls.context, it->slots[i]);
         if (size != 0) {
-            return size > 0 ? STORE_EXISTS : fail(it, size);
+            return size > 0 ? STORE_EXISTS : store_fail(it, size);
         }
     }
     return STORE_OK;
@@ -257,7 +256,7 @@ store_status store_create_after(
     it->number = number;
     int made = calls->make_folder(calls->context, path);
     if (made != 0 && made != -EEXIST) {
-        return fail(it, made);
+        return store_fail(it, made);
     }
     store_status status = enter(it, path);
     if (status == STORE_OK) {
@@ -275,14 +274,15 @@ store_status store_create_after(
     return status == STORE_OK ? STORE_OK : close_with(it, status);
 }
 
-static store_status read_all(store *it, int file, uint8_t *bytes, size_t length)
+store_status store_read_all(
+    store *it, int file, uint8_t *bytes, size_t length, uint64_t offset)
 {
     size_t done = 0;
     while (done < length) {
         int64_t count =
-            it->calls.read_at(it->calls.context, file, bytes + done, length - done, done);
+            it->calls.read_at(it->calls.context, file, bytes + done, length - done, offset + done);
         if (count == 0 || (count < 0 && count != -EINTR)) {
-            return fail(it, count);
+            return store_fail(it, count);
         }
         done += count > 0 ? (size_t)count : 0;
     }
@@ -451,7 +451,7 @@ static store_status read_directly(store *it, int file, int on, bool *done)
 {
     int status = it->calls.read_directly(it->calls.context, file, on);
     *done = status == 0;
-    return status == 0 || (on && status == -EINVAL) ? STORE_OK : fail(it, status);
+    return status == 0 || (on && status == -EINVAL) ? STORE_OK : store_fail(it, status);
 }
 
 // Compares these bytes with those of the file, as it is read now.
@@ -464,7 +464,7 @@ static store_status compare(store *it, int file, const uint8_t *bytes, size_t le
         size_t left = length - done < room ? length - done : room;
         int64_t count = it->calls.read_at(it->calls.context, file, part, left, done);
         if (count < 0 && count != -EINTR) {
-            status = fail(it, count);
+            status = store_fail(it, count);
         } else if (count == 0 || (count > 0 && memcmp(part, bytes + done, (size_t)count) != 0)) {
             status = STORE_STALE;
         }
@@ -497,7 +497,7 @@ static store_status read_slot(store *it, int file, slot *found)
     memset(found, 0, sizeof *found);
     int64_t size = it->calls.size(it->calls.context, file);
     if (size < 0) {
-        return fail(it, size);
+        return store_fail(it, size);
     }
     if (size < STORE_HEAD + STORE_TAIL) {
         return STORE_OK;
@@ -507,7 +507,7 @@ static store_status read_slot(store *it, int file, slot *found)
     if (found->value.buffer == NULL) {
         return STORE_MEMORY;
     }
-    store_status status = read_all(it, file, found->value.buffer, found->value.room);
+    store_status status = store_read_all(it, file, found->value.buffer, found->value.room, 0);
     if (status == STORE_OK) {
         status = compare_with_disk(it, file, found->value.buffer, found->value.room);
     }
@@ -528,10 +528,10 @@ static store_status read_synced(store *it, int file, slot *found)
     if (file < 0) {
         return STORE_OK;
     }
-    store_status status = sync_file(it, file);
+    store_status status = store_sync(it, file);
     if (status == STORE_OK) {
         int forgotten = it->calls.forget(it->calls.context, file);
-        status = forgotten == 0 ? STORE_OK : fail(it, forgotten);
+        status = forgotten == 0 ? STORE_OK : store_fail(it, forgotten);
     }
     return status == STORE_OK ? read_slot(it, file, found) : status;
 }
@@ -634,6 +634,20 @@ const char *store_text(store_status status)
     case STORE_STALE: return "memory has what the disk hasn't, since a sync failed";
     case STORE_FAILED: return "a call to the system failed";
     case STORE_TAKEN: return "another process has taken over";
-    default: return "a sync failed";
+    case STORE_UNKNOWN: return "a sync failed";
+    case STORE_ADDRESS: return "the address can't be read, or doesn't say which node";
+    case STORE_PASSWORD: return "there is a password in the address";
+    case STORE_LIBRARY: return "there is no client library of PostgreSQL";
+    case STORE_AWAY: return "no server takes a connection";
+    case STORE_DENIED: return "the server refuses this user or this database";
+    case STORE_NO_SCHEMA: return "there is no schema in this database";
+    case STORE_EARLIER: return "the schema is of an earlier version";
+    case STORE_LATER: return "the schema is of a later version";
+    case STORE_READS: return "the server takes no changes";
+    case STORE_FORGETS: return "the server forgets what it has committed";
+    case STORE_FULL: return "the server's disk is full";
+    case STORE_OTHER: return "this is the value of another node or another space";
+    case STORE_MISSING: return "pieces of the node are missing";
+    default: return "unknown";
     }
 }

@@ -189,8 +189,8 @@ static void note_received(host *it, uint8_t from, const load *what)
     }
 }
 
-// Messages that were early, and whose turn has come.
-static void receive_early(host *it, uint8_t from)
+// Receives the messages that were early, and whose turn has come. Returns whether it got all.
+static bool receive_early(host *it, uint8_t from)
 {
     markring_answer answer;
     uint64_t number;
@@ -199,10 +199,20 @@ static void receive_early(host *it, uint8_t from)
         load what = noted->number == number ? *noted : (load){number, 0, 0};
         if (!has_room_for(it, from, &what)
             || markring_node_next(&it->node, from, &answer) != MARKRING_OK) {
-            return;
+            return false;
         }
         note_received(it, from, &what);
     }
+    return true;
+}
+
+bool receive_all_early(host *it)
+{
+    bool all = true;
+    for (uint8_t from = 0; from < it->shape.nodes; from++) {
+        all = receive_early(it, from) && all;
+    }
+    return all;
 }
 
 static void note_taken(
@@ -300,5 +310,5 @@ void host_packet(host *it, uint64_t now, uint8_t from, const uint8_t *bytes, siz
         }
         take_frame(it, now, from, frame, size);
     }
-    receive_early(it, from);
+    (void)receive_early(it, from);
 }

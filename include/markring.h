@@ -35,13 +35,20 @@
 //   space.
 // - malloc, realloc and free are those of one allocator, and may be called from any thread.
 // - No call is made from a signal handler, or in the child of a fork of a process with threads.
-// - A frame comes from a handle of the same space, and is given only to the node that it is for.
-// - A node goes on from the image, and the batches after it, that it stored last; and one handle at
-//   a time does.
+// - A frame comes from a handle of the same space.
+// - One handle at a time has a node.
+// - A node is made new only if nothing was ever stored of it, and it was never released. All nodes
+//   of a space have one shape, and each has its own number.
+// - Otherwise a node goes on from the image, and the batches after it, that are stored of it.
+// - Images and batches are stored in the order in which they were taken, a batch behind what is
+//   stored. None is stored that was taken before markring_node_release, or before another handle
+//   got the node.
 // - markring_node_kept is called only once the image or batch with that mark is stored.
 //
-// Of frames, images and batches the library checks that they are well-formed and fit the node, not
-// who made them, and when.
+// The last six are about nodes. If callers keep to them, all handles of a space together do what
+// docs/PROOF.md promises under `c_handles::laws`, also if they end at any moment. Of frames, images
+// and batches the library checks that they are well-formed and fit the node, not who made them, and
+// when.
 //
 // # Buffers
 //
@@ -65,7 +72,7 @@ extern "C" {
 #define MARKRING_VERSION_MINOR 1
 #define MARKRING_VERSION_PATCH 0
 
-// The statuses. Those from 1 to 26 are the refusals of docs/RULES.md.
+// The statuses. Those from 1 to 27 are the refusals of docs/RULES.md.
 enum markring_status {
     MARKRING_OK = 0,
     // An allocation failed.
@@ -120,6 +127,8 @@ enum markring_status {
     MARKRING_TOO_MANY_BYTES = 25,
     // The object doesn't have all of these bytes.
     MARKRING_NO_BYTES = 26,
+    // The object isn't marked yet, and its node marks: try again once marking has ended.
+    MARKRING_NOT_NOW = 27,
 
     // The handle is empty.
     MARKRING_NO_HANDLE = 101,
@@ -207,7 +216,7 @@ enum markring_colour {
 
 // What an answer says. After each kind are the fields that it uses; all others are 0.
 enum markring_answer_kind {
-    // The event is done: Copy, Drop, Store, Clear, SetWord; an acknowledgement.
+    // The event is done: Copy, Drop, Store, Clear, SetWord, Resolve; an acknowledgement.
     MARKRING_ANSWER_DONE = 0,
     // Alloc. `reference`: the new object.
     MARKRING_ANSWER_NEW = 1,
@@ -276,7 +285,8 @@ enum markring_event_kind {
     MARKRING_EVENT_SWEEP = 16,    // count
     MARKRING_EVENT_NEXT = 17,     // node: the sender
     MARKRING_EVENT_RECLAIM = 20,
-    MARKRING_EVENT_RECLAIM_YOUNG = 21
+    MARKRING_EVENT_RECLAIM_YOUNG = 21,
+    MARKRING_EVENT_RESOLVE = 24   // reg; the reference: node, count: its slot, word: its generation
 };
 
 // An event as a value. `reg`, `source` and `object` are registers.
@@ -353,6 +363,12 @@ typedef struct markring_object {
     uint8_t shared; // 1 if other nodes may know it, else 0
     uint8_t age; // an enum markring_age
 } markring_object;
+
+// An object that was freed.
+typedef struct markring_freed {
+    markring_ref reference;
+    uint64_t word;
+} markring_freed;
 
 // What the collector's share of a turn did.
 typedef struct markring_work {
@@ -510,6 +526,16 @@ int markring_node_get(markring_node *node, uint16_t object, uint8_t place, uint3
 // 65,527, or the space isn't wide; MARKRING_LINK_SPENT.
 int markring_node_fetch(markring_node *node, uint16_t object, uint32_t label, uint32_t offset,
     uint32_t count, markring_answer *answer);
+
+// The register gets a reference to an object of this node that the program kept elsewhere, in a
+// table of its own: a *weak* reference. It keeps nothing alive, and the same numbers never name
+// another object. While the object is live and marked, the call leads back to it. Answer: DONE. It
+// takes no memory, and constant time.
+// MARKRING_NO_REGISTER; MARKRING_REMOTE; MARKRING_NO_FIELD: the object was freed, or the next sweep
+// frees it, since marking ended without it; MARKRING_NOT_NOW: the node marks, and hasn't reached
+// the object. Resolve it again when marking has ended.
+int markring_node_resolve(markring_node *node, uint16_t reg, const markring_ref *reference,
+    markring_answer *answer);
 
 // Frees the private objects that nothing needs any more, without the other nodes. An object of a
 // wide space is private until its node sends a reference to it; from then on only a cycle frees it.
@@ -732,6 +758,25 @@ int markring_node_place(markring_node *node, uint32_t slot, uint8_t place,
 int markring_node_bytes_at(markring_node *node, uint32_t slot, uint32_t offset, uint32_t count,
     uint8_t *buffer, size_t length, size_t *needed);
 
+// ## What was freed
+//
+// A program that keeps something of its own for each object, as a file, learns in this way when it
+// may delete that. An object is handed out once it is freed and no image that may still be opened
+// has it: once an image or a batch is kept that was made after the object was freed, or once
+// markring_node_release is called. Each is handed out once.
+
+// Lists the objects that are freed from now on, or, if `on` is 0, drops the list and lists none. If
+// they are listed already, nothing changes. A new handle lists none. While they are listed, each
+// sweep and reclaim takes memory: up to 24 bytes for each object that it frees, and meanwhile for
+// each that a reclaim goes through. If an allocation fails, MARKRING_MEMORY is the status, and
+// nothing is freed.
+int markring_node_track_freed(markring_node *node, uint8_t on);
+
+// Hands out objects that are freed, in the order in which they were, with the words that they had
+// then: at most `room` of them, which leave the list. `*count` is how many were written. It takes
+// no memory.
+int markring_node_freed(markring_node *node, markring_freed *buffer, size_t room, size_t *count);
+
 // `*flag` is 1 if an event has changed the node since the image or batch that was kept last, or
 // since the last markring_node_release, or, if there was neither, since the handle was filled; else
 // 0. An acknowledgement, a repeat and an early message change nothing in this sense.
@@ -844,6 +889,8 @@ int markring_cell_get(markring_cell *cell, uint16_t object, uint8_t place, uint3
     markring_answer *answer);
 int markring_cell_fetch(markring_cell *cell, uint16_t object, uint32_t label, uint32_t offset,
     uint32_t count, markring_answer *answer);
+int markring_cell_resolve(markring_cell *cell, uint16_t reg, const markring_ref *reference,
+    markring_answer *answer);
 int markring_cell_reclaim(markring_cell *cell, markring_answer *answer);
 int markring_cell_reclaim_young(markring_cell *cell, markring_answer *answer);
 int markring_cell_begin(markring_cell *cell, markring_answer *answer);
@@ -901,8 +948,17 @@ int markring_cell_image(markring_cell *cell, uint8_t *buffer, size_t length, siz
 int markring_cell_save(markring_cell *cell, uint64_t mark);
 
 // Goes back to the cell as it was last saved, and opens it. What wasn't saved is lost. After
-// MARKRING_DISK and MARKRING_MEMORY the cell is closed: call again.
+// MARKRING_DISK and MARKRING_MEMORY the cell is closed: call again. Freed objects that were listed
+// aren't any more: the program compares what it has with the cell's objects.
 int markring_cell_reopen(markring_cell *cell);
+
+// Lists the objects that are freed from now on, or, if `on` is 0, drops the list and lists none, as
+// markring_node_track_freed does. A space that was opened lists none.
+int markring_cell_track_freed(markring_cell *cell, uint8_t on);
+
+// Hands out objects that are freed, as markring_node_freed does, once markring_cell_save saved the
+// cell without them.
+int markring_cell_freed(markring_cell *cell, markring_freed *buffer, size_t room, size_t *count);
 
 // ## Reading
 //
@@ -957,6 +1013,38 @@ int markring_cell_bytes_at(markring_cell *cell, uint32_t slot, uint32_t offset, 
 // `*flag` is 1 if an event has changed the node since the last save or reopening, or since the
 // space was opened; else 0.
 int markring_cell_unsaved(markring_cell *cell, uint8_t *flag);
+
+// ## Collecting
+//
+// While all programs are stopped, one thread can collect what is garbage in the whole space:
+//
+//     markring_state state;
+//     uint8_t done = 0;
+//     markring_cell_state(&cells[0], &state);
+//     while (!done) {
+//         markring_space_collect(cells, nodes, state.cycle + 1, &done);
+//         // Here each cell that is unsaved is saved.
+//     }
+//
+// Then the cycle that was under way has ended, and the next one too. What was garbage before, saved
+// or not, is gone, rings of objects across nodes included, if meanwhile no cell was reopened and
+// none resolved a reference.
+
+// Goes on with a collection. `cells` are those of all nodes, in order, and no other thread uses
+// them. `*done` is 1 if all of them are saved, and each node has swept the cycle of this number or
+// a later one. If it is 0, a cell is unsaved: save each that is, and call again.
+//
+// Each cell has at most 33 turns. In a turn it receives from each other cell, scans all grey
+// objects, passes the token, sweeps all slots, and sends to each other cell. There are fewer turns
+// if nothing new happened in the last one and a cell is unsaved. If none is after the turns, and a
+// node hasn't swept the cycle, node 0 begins one.
+//
+// The first refusal of a call ends this one, which returns it; what was done before remains done. A
+// frame that is out of order isn't one: its sender offers it again.
+// MARKRING_BAD_ARGUMENT: the cells aren't those of all nodes, in order; then nothing is done.
+// MARKRING_CLOSED; MARKRING_CYCLES_SPENT; MARKRING_LINK_SPENT; MARKRING_CYCLE_RUNNING: nothing is
+// left to be done, as if another thread used a cell.
+int markring_space_collect(markring_cell *cells, size_t nodes, uint64_t cycle, uint8_t *done);
 
 // # Watches
 
@@ -1113,6 +1201,7 @@ static inline const char *markring_status_text(int status)
     case MARKRING_CLOSED: return "Closed";
     case MARKRING_TOO_MANY_BYTES: return "TooManyBytes";
     case MARKRING_NO_BYTES: return "NoBytes";
+    case MARKRING_NOT_NOW: return "NotNow";
     case MARKRING_NO_HANDLE: return "NoHandle";
     case MARKRING_IN_USE: return "InUse";
     case MARKRING_SHORT_BUFFER: return "ShortBuffer";

@@ -152,6 +152,7 @@ private:
         static constexpr auto put = markring_##kind##_put; \
         static constexpr auto get = markring_##kind##_get; \
         static constexpr auto fetch = markring_##kind##_fetch; \
+        static constexpr auto resolve = markring_##kind##_resolve; \
         static constexpr auto reclaim = markring_##kind##_reclaim; \
         static constexpr auto reclaim_young = markring_##kind##_reclaim_young; \
         static constexpr auto begin = markring_##kind##_begin; \
@@ -173,6 +174,8 @@ private:
         static constexpr auto place = markring_##kind##_place; \
         static constexpr auto bytes_at = markring_##kind##_bytes_at; \
         static constexpr auto unsaved = markring_##kind##_unsaved; \
+        static constexpr auto track_freed = markring_##kind##_track_freed; \
+        static constexpr auto freed = markring_##kind##_freed; \
     }
 MARKRING_CALLS(NodeCalls, node);
 MARKRING_CALLS(CellCalls, cell);
@@ -250,6 +253,26 @@ public:
         std::size_t needed = 0;
         check(Calls::letter_bytes(this->get(), buffer(bytes), bytes.size(), &needed));
         return bytes;
+    }
+    void track_freed(bool on = true) { check(Calls::track_freed(this->get(), on)); }
+    // The objects that were freed and that no image has which may still be opened.
+    std::vector<markring_freed> freed()
+    {
+        std::vector<markring_freed> all;
+        constexpr std::size_t room = 64;
+        std::size_t count = 0;
+        do {
+            const std::size_t had = all.size();
+            all.resize(had + room);
+            const int status = Calls::freed(this->get(), all.data() + had, room, &count);
+            all.resize(had + (status == MARKRING_OK ? count : 0));
+            check(status);
+        } while (count == room);
+        return all;
+    }
+    void resolve(std::uint16_t reg, const markring_ref &reference)
+    {
+        ask(Calls::resolve, reg, &reference);
     }
     // How many objects were freed.
     std::uint32_t reclaim() { return ask(Calls::reclaim).count; }
@@ -582,6 +605,34 @@ public:
         return found ? std::optional<Watch>(std::move(watch)) : std::nullopt;
     }
 };
+
+// Collects what is garbage in a space whose programs are all stopped; `cells` are those of all
+// nodes, in order. It ends the cycle that is under way and the next one, and saves each cell. What
+// was garbage before, saved or not, is gone then, rings of objects across nodes included.
+// `store(node, image)` stores a node's Bytes safely before they count as saved. If it throws, or a
+// call is refused, what was done before remains done, and the call may be repeated.
+template <class Store> void collect(std::vector<Cell> &cells, Store store)
+{
+    std::vector<markring_cell> handles(cells.size());
+    const std::uint64_t cycle = cells.empty() ? 0 : cells[0].state().cycle + 1;
+    for (std::uint8_t done = 0; !done;) {
+        for (std::size_t node = 0; node < cells.size(); node++) {
+            handles[node] = *cells[node].get();
+        }
+        const int status = markring_space_collect(handles.data(), handles.size(), cycle, &done);
+        for (std::size_t node = 0; node < cells.size(); node++) {
+            *cells[node].get() = handles[node];
+        }
+        inside::check(status);
+        for (std::size_t node = 0; node < cells.size(); node++) {
+            if (cells[node].unsaved()) {
+                const Image image = cells[node].image();
+                store(static_cast<std::uint8_t>(node), image.bytes);
+                cells[node].save(image.mark);
+            }
+        }
+    }
+}
 
 } // namespace markring
 

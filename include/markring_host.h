@@ -2,9 +2,10 @@
 // libmarkring-host. It is what markring-node is made of, for programs that have their own loop and
 // their own transport. C11. docs/EMBEDDING.md ("Your loop, our host") says how to use it.
 //
-// There are two parts. A *store* keeps a node in a folder, safe against crashes. A *host* decides
-// what is sent when, answers programs, collects, and says what is to be saved. Programs speak to it
-// by requests of markring_remote.h, or are linked to it (markring_host_node).
+// There are three parts. A *store* keeps a node in a folder, safe against crashes. A *place* is
+// such a folder, or a node's address in a PostgreSQL database. A *host* decides what is sent when,
+// answers programs, collects, and says what is to be saved. Programs speak to it by requests of
+// markring_remote.h, or are linked to it (markring_host_node).
 #ifndef MARKRING_HOST_H
 #define MARKRING_HOST_H
 
@@ -53,8 +54,34 @@ typedef enum markring_store_status {
     // has to end, since another sync could succeed without having written. `cause` says why.
     MARKRING_STORE_UNKNOWN,
     // Another process has taken over, so nothing can be saved any more. A store in a folder doesn't
-    // say so; a place of the caller's own may.
-    MARKRING_STORE_TAKEN
+    // say so; a place in a database does, and one of the caller's own may.
+    MARKRING_STORE_TAKEN,
+    // What follows is of places in databases alone.
+    //
+    // The address can't be read, or doesn't say which node.
+    MARKRING_STORE_ADDRESS,
+    // There is a password in the address, which all users of the machine could see.
+    MARKRING_STORE_PASSWORD,
+    // PostgreSQL's client library can't be loaded.
+    MARKRING_STORE_LIBRARY,
+    // No server takes a connection now. The same may be tried again.
+    MARKRING_STORE_AWAY,
+    // The server refuses this user, this database, or what it is asked for.
+    MARKRING_STORE_DENIED,
+    // There is no schema; or it is of an earlier, or a later version.
+    MARKRING_STORE_NO_SCHEMA,
+    MARKRING_STORE_EARLIER,
+    MARKRING_STORE_LATER,
+    // The server takes no changes: it is a standby, or read-only.
+    MARKRING_STORE_READS,
+    // The server forgets what it has committed: synchronous_commit is off.
+    MARKRING_STORE_FORGETS,
+    // The server's disk is full.
+    MARKRING_STORE_FULL,
+    // The value is of another node, or of another space, than the address names.
+    MARKRING_STORE_OTHER,
+    // Pieces of the node that have to be there aren't.
+    MARKRING_STORE_MISSING
 } markring_store_status;
 
 // The system calls. Each returns what it opened, how many bytes it moved, or 0; or a negative
@@ -141,6 +168,49 @@ markring_store_status markring_store_open(markring_store *it, const markring_sto
 // again: all of it may have been written, and it counts if the process ends before another save.
 markring_store_status markring_store_save(markring_store *it, markring_store_value *value);
 
+// # Whole values while entries are added
+//
+// Once there are many entries behind a value, a whole value should take their place. A *rewrite*
+// makes one while saves of entries go on: it reads back what counts, writes one value in its place
+// into the slot that doesn't count, and the entries that were added meanwhile behind it. The save
+// that ends it adds its entry there, and makes this slot the one that counts. Until then the other
+// one counts, whatever fails and whenever the process ends.
+//
+// Begin a rewrite and end it in the thread that saves, with no save under way. The calls between may
+// be made by another one. Save no whole value meanwhile; to give a rewrite up, forget it, and begin
+// no other one while a call of the first is under way.
+
+typedef struct markring_store_rewrite {
+    markring_store from; // as it was when the rewrite began; `end` and `seal` go on
+    uint8_t head[MARKRING_STORE_HEAD];
+    uint64_t base, seal, length, end; // of what was written to the other slot
+} markring_store_rewrite;
+
+// Begins a rewrite of what the last save left, which succeeded.
+void markring_store_rewrite_begin(const markring_store *it, markring_store_rewrite *to);
+
+// Reads back the value that counted then, with its entries; the caller frees `value->buffer`. After
+// any other status `value` is as it was. MARKRING_STORE_MEMORY; MARKRING_STORE_FAILED;
+// MARKRING_STORE_DAMAGED: the file has changed since it was written.
+markring_store_status markring_store_rewrite_read(
+    markring_store_rewrite *it, markring_store_value *value);
+
+// Writes one value with what was read, as markring_host_rewrite makes it. The bytes around it are
+// overwritten. After any other status, give the rewrite up. MARKRING_STORE_FAILED;
+// MARKRING_STORE_UNKNOWN, after which the process has to end, as after a save.
+markring_store_status markring_store_rewrite_write(
+    markring_store_rewrite *it, markring_store_value *whole);
+
+// Writes the entries up to `end`, which was the `end` of the store after a save that succeeded. It
+// is only for speed, since markring_store_rewrite_end writes what is left. As for
+// markring_store_rewrite_write; MARKRING_STORE_MEMORY; MARKRING_STORE_DAMAGED.
+markring_store_status markring_store_rewrite_follow(markring_store_rewrite *it, uint64_t end);
+
+// Adds an entry as markring_store_save does, and ends the rewrite. After any other status, give it
+// up; the next save has to be a whole value. MARKRING_STORE_FAILED; MARKRING_STORE_UNKNOWN.
+markring_store_status markring_store_rewrite_end(
+    markring_store *it, markring_store_rewrite *with, markring_store_value *entry);
+
 // The next entry behind a value that was read, or NULL. `*at` is 0 for the first entry, and is then
 // moved on.
 const uint8_t *markring_store_next(const markring_store_value *value, size_t *at, size_t *length);
@@ -150,6 +220,90 @@ void markring_store_close(markring_store *it);
 
 // A status in words, for messages.
 const char *markring_store_text(markring_store_status status);
+
+// # Places
+//
+// In what a process keeps its node: a folder, or a PostgreSQL database. The address of a node in one
+// is postgresql://USER@HOST/DATABASE#SPACE/NODE, with any options of libpq. libpq.so.5 is loaded
+// when the first such address is used. docs/PROCESSES.md ("Nodes in a database") says what holds,
+// docs/FORMATS.md ("Databases") has the tables.
+//
+// Whoever opens a node in a database takes it over, and no save of the process before succeeds any
+// more. So call markring_place_renew in each turn, and give the host no request of a program while
+// markring_place_serves says no: the process before could still answer, or another one already.
+//
+// Calls of a place in a database wait for the server. While the connection is lost, a save and a
+// renewal connect again until the server has said what counts, unless `pause` gives up. One thread
+// at a time uses a place, but any thread may call markring_place_serves and markring_place_wait.
+
+typedef struct markring_place markring_place;
+
+// What a place calls while it has no connection.
+typedef struct markring_place_events {
+    void *context;
+    // Waits that many milliseconds before another attempt, at most 1,000. After false, the call of
+    // the place ends with MARKRING_STORE_UNKNOWN. NULL: it sleeps and goes on.
+    bool (*pause)(void *context, uint64_t milliseconds);
+    // The connection is lost, or there again; see markring_host_unreachable. May be NULL.
+    void (*note)(void *context, bool is_lost);
+} markring_place_events;
+
+// Whether this is the address of a database, and not a folder.
+bool markring_place_is_database(const char *where);
+
+// Makes a place for this value, and saves it there. An address may leave out which node: it is that
+// of the value. The caller closes `*it` after any status; NULL is closed without effect. As
+// markring_store_create, and the statuses of databases. After MARKRING_STORE_AWAY and
+// MARKRING_STORE_FAILED the node may be there.
+markring_store_status markring_place_create(
+    markring_place **it, const char *where, markring_store_value *value);
+
+// Opens a place, in a database as the node's new holder, and reads what counts; the caller frees
+// `value->buffer`. The caller closes `*it` after any status. As markring_store_open, and the statuses
+// of databases. After a failure nothing has changed, except that this process may be the holder after
+// MARKRING_STORE_AWAY and MARKRING_STORE_FAILED.
+markring_store_status markring_place_open(
+    markring_place **it, const char *where, markring_store_value *value);
+
+// Makes the schema in a database, unless it has one of this version. The caller closes `*it` after
+// any status. The statuses of databases; MARKRING_STORE_MEMORY; MARKRING_STORE_FAILED.
+markring_store_status markring_place_make_schema(markring_place **it, const char *where);
+
+// From now on, these are called. NULL: none.
+void markring_place_listen(markring_place *it, const markring_place_events *events);
+
+// As markring_store_save; in a database MARKRING_STORE_TAKEN too, and MARKRING_STORE_UNKNOWN if
+// `pause` gave up.
+markring_store_status markring_place_save(markring_place *it, markring_store_value *value);
+
+// Shows to others that this process has the node. It asks the server only if the last save or renewal
+// began at least a second ago, and does nothing in a folder. MARKRING_STORE_TAKEN, after which
+// markring_host_taken ends the host; MARKRING_STORE_FAILED; MARKRING_STORE_UNKNOWN.
+markring_store_status markring_place_renew(markring_place *it);
+
+// How many milliseconds may pass before the next renewal; UINT64_MAX in a folder.
+uint64_t markring_place_wait(const markring_place *it);
+
+// Whether no other process can serve the node's programs now. It is false for 3 seconds after a
+// node was opened that another process had left without closing it, and once 3 seconds have passed
+// since the last save or renewal that succeeded. Always true in a folder.
+bool markring_place_serves(const markring_place *it);
+
+// The number of the last save, also of one that failed.
+uint64_t markring_place_number(const markring_place *it);
+
+// What an operator should know of the server's settings; NULL if there is nothing, or in a folder.
+const char *markring_place_warning(const markring_place *it);
+
+// Why the last call that failed did, in words for an operator; no password is in them. It stays
+// until the next call.
+const char *markring_place_text(const markring_place *it);
+
+// The errno of the last call to the system that failed; 0 in a database.
+int markring_place_cause(const markring_place *it);
+
+// Closes the place and frees it. A node in a database is left to anybody.
+void markring_place_close(markring_place *it);
 
 // # Hosts
 //
@@ -241,8 +395,8 @@ typedef struct markring_host_options {
     // While it has more, or could have more by joining a cycle, the node takes no messages; 0 for
     // MARKRING_HOST_IMAGE_TIGHT, or in a wide space for no limit.
     size_t image_tight;
-    // The entries behind a whole value may have as many bytes as the value, or this many; 0 for
-    // MARKRING_HOST_ENTRIES_LEAST.
+    // The entries behind a whole value may have as many bytes as the value, or this many, before
+    // they are rewritten; and twice as many until that is done. 0 for MARKRING_HOST_ENTRIES_LEAST.
     size_t entries_least;
     // The folder is the newest one, whatever other nodes know; and what was heard of their
     // processes is forgotten. For an operator who knows that a node has lied.
@@ -262,6 +416,12 @@ typedef struct markring_host_calls {
     // until it calls markring_host_saved, also from within this call. No other save begins before
     // that.
     void (*save)(void *context, markring_store_value *value);
+    // Asks for a rewrite of what is stored now, before the next save ("Whole values while entries
+    // are added"). A save that ends it is an entry, and the caller then calls
+    // markring_host_rewritten after markring_host_saved; it does so too when the rewrite was given
+    // up, but not if that is because a whole value was to be saved. NULL: the host saves whole
+    // values itself, and the loop waits while they are made.
+    void (*rewrite)(void *context);
 } markring_host_calls;
 
 // What a host has counted since it was opened.
@@ -319,6 +479,17 @@ void markring_host_turn(markring_host *it, uint64_t now);
 void markring_host_saved(
     markring_host *it, uint64_t now, markring_store_status status, uint64_t number);
 
+// The rewrite that `rewrite` asked for is over: the value that counts has `whole` bytes, and the
+// entries behind it `entries`; or, after any other status than MARKRING_STORE_OK, it was given up.
+// MARKRING_STORE_UNKNOWN ends the host.
+void markring_host_rewritten(
+    markring_host *it, markring_store_status status, size_t whole, size_t entries);
+
+// Makes one value with what a value and its entries have, for a rewrite. Any thread may do it; it
+// takes memory for another node. The caller frees `whole->buffer`. Returns MARKRING_OK,
+// MARKRING_MEMORY or MARKRING_BAD_IMAGE.
+int markring_host_rewrite(const markring_store_value *stored, markring_store_value *whole);
+
 // How many milliseconds may pass before the next turn, if nothing comes.
 uint64_t markring_host_wait(markring_host *it, uint64_t now);
 
@@ -345,7 +516,8 @@ const markring_host_counts *markring_host_counted(const markring_host *it);
 
 // The node, for programs that are linked to the host, and for tests. Call markring_host_changed
 // after an event that was Ok, or markring_host_wrote after one that wrote this many bytes into an
-// object.
+// object. The host lists what is freed for the node's programs: don't call
+// markring_node_track_freed or markring_node_freed of it.
 markring_node *markring_host_node(markring_host *it);
 void markring_host_changed(markring_host *it);
 void markring_host_wrote(markring_host *it, size_t bytes);

@@ -31,6 +31,15 @@ extern "C" {
 // Requests of a program under way, at most.
 #define MARKRING_REMOTE_UNDER_WAY 64
 
+// Objects that were freed, and objects, in one answer, at most. The second number is also how many
+// slots one request looks at.
+#define MARKRING_REMOTE_FREED 47619
+#define MARKRING_REMOTE_OBJECTS 32768
+
+// Objects that a node lists as freed, for all programs together. A program that leaves more to be
+// asked for loses its list.
+#define MARKRING_REMOTE_FREED_LISTED 1000000
+
 enum markring_remote_status {
     MARKRING_REMOTE_OK = 0,
     // An allocation failed.
@@ -55,13 +64,20 @@ enum markring_remote_status {
     // The request, or its answer, would carry more than MARKRING_REMOTE_BYTES bytes of objects and
     // letters.
     MARKRING_REMOTE_TOO_LONG = 9,
-    // The node is of an earlier version, and knows no bytes of objects, or of letters. Nothing was
-    // performed.
+    // The node is of an earlier version, and knows no bytes of objects or of letters, no Resolve,
+    // or not this request. Nothing was performed.
     MARKRING_REMOTE_EARLIER = 10,
     // No answer has come yet.
     MARKRING_REMOTE_PENDING = 11,
     // The program has MARKRING_REMOTE_UNDER_WAY requests under way: take answers first.
-    MARKRING_REMOTE_TOO_MANY = 12
+    MARKRING_REMOTE_TOO_MANY = 12,
+    // A program of the node has registers for itself. What it holds there, others could find by
+    // this request, so nobody may make it. (An operator can have the node forget that program.)
+    MARKRING_REMOTE_APART = 13,
+    // The node doesn't list for the program what was freed since: another process runs the node
+    // now, the program left more than MARKRING_REMOTE_FREED_LISTED objects to be asked for, it
+    // never called markring_remote_track_freed, or meanwhile a program had registers for itself.
+    MARKRING_REMOTE_LOST = 14
 };
 
 typedef struct markring_remote_space markring_remote_space;
@@ -101,10 +117,12 @@ typedef struct markring_remote_event {
     size_t length;
 } markring_remote_event;
 
-// What became of one event. The status is one of markring.h, or MARKRING_NOT_DONE if an event of
-// the same request was refused before it. Unless an event says otherwise, the answer holds
-// something only after MARKRING_OK.
+// What became of one event. The status is one of markring.h, or one of these:
+// - MARKRING_NOT_DONE if an event of the same request was refused before it;
+// - MARKRING_APART for a Resolve, as MARKRING_REMOTE_APART says.
+// Unless an event says otherwise, the answer holds something only after MARKRING_OK.
 #define MARKRING_NOT_DONE 150
+#define MARKRING_APART 151
 typedef struct markring_result {
     int status;
     markring_answer answer;
@@ -200,6 +218,69 @@ int markring_remote_read_bytes(markring_remote *program, uint16_t object, uint32
 // MARKRING_REMOTE_TIMEOUT nothing has changed.
 int markring_remote_wait(markring_remote *program, uint64_t *letters, int64_t timeout);
 
+// # Weak references, and what was freed
+//
+// A program may keep references of its node's objects in tables of its own, which keep nothing
+// alive. The event MARKRING_EVENT_RESOLVE leads back from such a reference to the object, as
+// markring_node_resolve does, and the calls below say what the node has, and what it has freed. All
+// of this is refused while a program of the node has registers for itself (MARKRING_REMOTE_APART,
+// or MARKRING_APART for the event), and by a node of an earlier version (MARKRING_REMOTE_EARLIER).
+//
+// A table whose entries go with their objects:
+//
+//     markring_remote_track_freed                                 then compare the table, by
+//     markring_remote_objects, until all are there                removing what the node hasn't
+//     markring_remote_freed, again and again                      and remove what it hands out
+//     after MARKRING_REMOTE_LOST, all of this again
+
+// A place in the list of what a node has freed for a program: up to there, the program has it. It
+// may be stored with the program's table, and used by the program's next process.
+typedef struct markring_remote_since {
+    uint64_t list;   // which list
+    uint64_t number; // of its last entry that the program has
+} markring_remote_since;
+
+// Has the node list for the program what it frees from now on, and writes the beginning of the list
+// to `*since`. If it does so already, nothing changes: `*since` is then the place that the program
+// named last. `*is_new` is 1 until it has named one: what was freed before isn't listed, so a table
+// from before has to be compared. It may be null. After MARKRING_REMOTE_TIMEOUT the node may have
+// begun; call again.
+// MARKRING_REMOTE_APART, MARKRING_REMOTE_EARLIER, MARKRING_REMOTE_SUPERSEDED.
+int markring_remote_track_freed(
+    markring_remote *program, markring_remote_since *since, uint8_t *is_new, int64_t timeout);
+
+// Hands out objects that were freed, in the order in which they were, with the words that they had
+// then: at most `room` and MARKRING_REMOTE_FREED of them, behind the place `*since`. `*since` is
+// then behind them, and `*count` is how many there were; 0 if there are no more yet. An object is
+// handed out once no crash of the node brings it back, so the answer waits for no save.
+//
+// By this call the program says that it needs nothing before `*since` any more: the node forgets
+// that. So after any status but MARKRING_REMOTE_OK, when `*since` is as it was, and after a crash
+// of a program that had stored `*since`, the same call hands out the same objects, and each object
+// once. Each program has a list of its own.
+// MARKRING_REMOTE_LOST: call markring_remote_track_freed, and compare the table.
+// MARKRING_REMOTE_APART, MARKRING_REMOTE_EARLIER, MARKRING_REMOTE_SUPERSEDED.
+int markring_remote_freed(markring_remote *program, markring_remote_since *since,
+    markring_freed *buffer, size_t room, size_t *count, int64_t timeout);
+
+// Reads objects of the node, in the order of their slots, also those that no register refers to: at
+// most `room` of them, from the slot `*slot` on. `*slot` is then the next slot, `*count` how many
+// there were, also 0, and `*is_over` 1 if there is no other slot with an object, else 0. To read
+// all, begin with slot 0, and call until `*is_over` is 1. An object that is there all the time is
+// read once. The answer comes once all that it shows is stored. After MARKRING_REMOTE_TIMEOUT
+// nothing has changed.
+// MARKRING_REMOTE_APART, MARKRING_REMOTE_EARLIER.
+int markring_remote_objects(markring_remote *program, uint32_t *slot, markring_object *buffer,
+    size_t room, size_t *count, uint8_t *is_over, int64_t timeout);
+
+// Reads what the places of an object of the node hold, each a reference or nothing, into `places`,
+// which has room for 255. `*status` is MARKRING_OK, and `*count` how many places there are then;
+// MARKRING_REMOTE: the object is of another node; or MARKRING_NO_FIELD: it is gone. The answer comes
+// once all that it shows is stored. After MARKRING_REMOTE_TIMEOUT nothing has changed.
+// MARKRING_REMOTE_APART, MARKRING_REMOTE_EARLIER.
+int markring_remote_places(markring_remote *program, const markring_ref *object,
+    markring_ref *places, size_t *count, int *status, int64_t timeout);
+
 // # Requests under way
 //
 // For programs that must not wait, such as event loops. They send requests, wait for a descriptor
@@ -230,8 +311,23 @@ int markring_remote_send_read(
 int markring_remote_send_read_bytes(markring_remote *program, uint16_t object, uint32_t offset,
     uint32_t count, int64_t timeout);
 
-// The answer to a request: a result for each event or register, or one for bytes, which follow in
-// `bytes`. `is_over` is 0 if the request stays under way without an answer.
+// Send what markring_remote_track_freed, markring_remote_freed, markring_remote_objects and
+// markring_remote_places ask for. The same may be refused. The answer has one result:
+// - of the first two, markring_remote_since_of has the place; `answer.done` is `*is_new`;
+// - of all but the first, `answer.count` is `*count`, and the calls below read what was found;
+// - of `objects`, `answer.label` is the next slot, and `answer.done` is `*is_over`;
+// - of `places`, `status` is `*status`.
+int markring_remote_send_track_freed(markring_remote *program, int64_t timeout);
+int markring_remote_send_freed(markring_remote *program, const markring_remote_since *since,
+    size_t room, int64_t timeout);
+int markring_remote_send_objects(
+    markring_remote *program, uint32_t slot, size_t room, int64_t timeout);
+int markring_remote_send_places(
+    markring_remote *program, const markring_ref *object, int64_t timeout);
+
+// The answer to a request: a result for each event or register; or one for bytes, which follow in
+// `bytes`, or for objects or places, which the calls below read from there. `is_over` is 0 if the
+// request stays under way without an answer.
 typedef struct markring_remote_answer {
     const markring_result *results;
     size_t count;
@@ -239,6 +335,24 @@ typedef struct markring_remote_answer {
     size_t length;
     uint8_t is_over;
 } markring_remote_answer;
+
+// Read what has this index, counted from 0, of what an answer to such a request found.
+// MARKRING_REMOTE_BAD_ARGUMENT: there are fewer.
+int markring_remote_freed_at(
+    const markring_remote_answer *answer, size_t index, markring_freed *freed);
+int markring_remote_object_at(
+    const markring_remote_answer *answer, size_t index, markring_object *object);
+int markring_remote_place_at(
+    const markring_remote_answer *answer, size_t index, markring_ref *place);
+
+// The place in the list of what was freed that an answer names.
+static inline markring_remote_since markring_remote_since_of(const markring_remote_answer *answer)
+{
+    markring_remote_since since;
+    since.list = (uint64_t)answer->results[0].answer.sum;
+    since.number = answer->results[0].answer.number;
+    return since;
+}
 
 // Takes the answer to the oldest request under way. What `*answer` points to is valid until the next
 // call of `poll`, `perform` or `finish` for this program, or its closing.

@@ -1,10 +1,12 @@
 // Two nodes in two processes, which exchange packets over a Unix socket: each has its own loop, and
 // libmarkring-host does the rest. Node 1 gets an object of node 0 and drops it; a cycle frees it.
 //
-//     cc pair.c $(pkg-config --cflags --libs markring-host) && ./a.out FOLDER FOLDER
+//     cc pair.c $(pkg-config --cflags --libs markring-host) && ./a.out PLACE PLACE
 //
-// What a program does is durable once its save was stored. If a process crashes, start it again on
-// its folder: markring_store_open in place of markring_host_create and markring_store_create.
+// A place is a folder, or the address of a node in a database with the schema of markring:
+// postgresql://USER@HOST/DATABASE. What a program does is durable once its save was stored. If a
+// process crashes, start it again on its place: markring_place_open in place of markring_host_create
+// and markring_place_create.
 #define _GNU_SOURCE
 #include <markring_host.h>
 
@@ -22,7 +24,7 @@ enum { NODES = 2, PACKET = 1 << 16, LABEL = 7, LONGEST = 1000 };
 typedef struct member {
     uint8_t own;
     int socket;
-    markring_store store;
+    markring_place *place;
     markring_host *host;
 } member;
 
@@ -67,39 +69,47 @@ static void send_answer(void *context, const char *reply, const uint8_t *bytes, 
 static void save(void *context, markring_store_value *value)
 {
     member *it = context;
-    markring_store_status status = markring_store_save(&it->store, value);
-    markring_host_saved(it->host, now(), status, it->store.number);
+    markring_store_status status = markring_place_save(it->place, value);
+    markring_host_saved(it->host, now(), status, markring_place_number(it->place));
 }
 
 // ## A node
 
-static void create_and_open(member *it, const char *folder)
+static void create_and_open(member *it, const char *where)
 {
     markring_host_shape shape = {
         .name = "pair", .own = it->own, .nodes = NODES, .registers = 4, .slots = 16};
     markring_host_options options = {.cycle_every = 100};
-    markring_host_calls calls = {it, send_packet, send_answer, save};
+    markring_host_calls calls = {it, send_packet, send_answer, save, NULL};
     markring_store_value value = {0};
     uint64_t nonce;
     must(getrandom(&nonce, sizeof nonce, 0) != (ssize_t)sizeof nonce, "getrandom");
     MUST(markring_host_create(&shape, &value));
-    MUST(markring_store_create(&it->store, &MARKRING_STORE_SYSTEM, folder, &value));
-    MUST(markring_host_open(
-        &it->host, &value, it->store.number, nonce | 1, &options, &calls, now()));
+    must((int)markring_place_create(&it->place, where, &value), markring_place_text(it->place));
+    MUST(markring_host_open(&it->host, &value, markring_place_number(it->place), nonce | 1, &options,
+        &calls, now()));
     free(value.buffer);
 }
 
-// One round of the loop: waits for packets, at most as long as the host may wait, and takes a turn.
+static uint64_t least_of(uint64_t a, uint64_t b)
+{
+    return a < b ? a : b;
+}
+
+// One round of the loop: waits for packets, at most as long as host and place may, and takes a turn.
 static void go_round(member *it)
 {
     static uint8_t packet[PACKET];
     struct pollfd ready = {it->socket, POLLIN, 0};
-    uint64_t wait = markring_host_wait(it->host, now());
-    (void)poll(&ready, 1, (int)(wait < LONGEST ? wait : LONGEST));
+    uint64_t wait = least_of(markring_host_wait(it->host, now()), markring_place_wait(it->place));
+    (void)poll(&ready, 1, (int)least_of(wait, LONGEST));
     ssize_t length = recv(it->socket, packet, sizeof packet, MSG_DONTWAIT);
     if (length > 0) {
         markring_host_packet(
             it->host, now(), (uint8_t)(1 - it->own), packet, (size_t)length);
+    }
+    if (markring_place_renew(it->place) == MARKRING_STORE_TAKEN) {
+        markring_host_taken(it->host);
     }
     markring_host_turn(it->host, now());
 }
@@ -141,11 +151,11 @@ static void accept_and_drop(member *it)
 }
 
 // Runs a node until its program is done; node 1 runs on until the socket is closed.
-static void run(uint8_t own, int socket, const char *folder)
+static void run(uint8_t own, int socket, const char *where)
 {
     member it = {.own = own, .socket = socket};
     char end;
-    create_and_open(&it, folder);
+    create_and_open(&it, where);
     if (own == 0) {
         give_and_wait(&it);
     } else {
@@ -160,14 +170,14 @@ static void run(uint8_t own, int socket, const char *folder)
     }
     printf("node %d: %s\n", own, markring_host_reason(it.host));
     markring_host_free(it.host);
-    markring_store_close(&it.store);
+    markring_place_close(it.place);
 }
 
 int main(int count, char **given)
 {
     int sockets[2], status = 0;
     if (count != 3) {
-        fputs("usage: pair FOLDER FOLDER\n", stderr);
+        fputs("usage: pair PLACE PLACE\n", stderr);
         return 2;
     }
     // Two processes print: each line goes out at once.

@@ -43,6 +43,7 @@ class Slot:
     entries: list[tuple[int, int]] = field(default_factory=list)
     # The last save that was whole once.
     synced: int = 0
+    name: str = ""
 
     def seal_at(self, at: int) -> int:
         return int.from_bytes(self.data[at : at + TAIL], "big")
@@ -119,15 +120,22 @@ def find_behind(it: Slot, head: int, before: int) -> int:
     return expected if found and found.number == expected + 1 else 0
 
 
-def read_process(folder: Path) -> Saved:
-    """The node in a folder, by the file that counts: the whole one whose last save has the higher number."""
+def slots_of(folder: Path) -> list[Slot]:
+    """The files of a folder, the one that counts last: the whole one whose last save has the higher number."""
     slots = [read_slot(read_file(folder / it)) for it in "ab"]
     last = max(slots, key=lambda it: (it.is_whole, it.number))
     is_tie = all(it.is_whole for it in slots) and slots[0].number == slots[1].number
     if not last.is_whole or is_tie or any(it.synced > last.number for it in slots):
         raise Unreadable(f"{folder}: the files a and b are damaged: " + "; ".join(map(state_of, "ab", slots)))
-    name = f"{folder}/{'ab'[slots.index(last)]}"
-    return read_value(Reader(name, last.data[: HEAD + last.length], HEAD), last)
+    last.name, other = f"{folder}/{'ab'[slots.index(last)]}", slots[slots[0] is last]
+    other.name = f"{folder}/{'ab'[slots.index(other)]}"
+    return [other, last]
+
+
+def read_process(folder: Path) -> Saved:
+    """The node in a folder."""
+    last = slots_of(folder)[-1]
+    return read_value(Reader(last.name, last.data[: HEAD + last.length], HEAD), last)
 
 
 def state_of(name: str, it: Slot) -> str:

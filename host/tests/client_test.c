@@ -19,6 +19,8 @@
 enum { EVENTS = 5, SHORT = 4, LONG = 2000, ROOM = 400 };
 // Of the request with bytes and of the reading.
 enum { SET = 3, PATCHED = 2, FETCHED = 6 };
+// How many records follow the result of an answer about objects.
+enum { RECORDS = 2, RECORDS_ROOM = 5 };
 
 static atomic_ulong passed, failed;
 
@@ -115,6 +117,7 @@ static struct {
     int count;                      // of results; -1 for as many as are right
     int length;                     // of the answer that is left; -1 for all
     int behind;                     // bytes behind the results; -1 for as many as are right
+    int records;                    // how many follow, as the result says; -1 for that
     uint64_t session, number, round, last;
     bool silent, astray, is_text;
     bool is_earlier; // it knows no letters
@@ -146,7 +149,7 @@ static size_t answer_length;
 static void behave(void)
 {
     memset(&node, 0, sizeof node);
-    node.count = node.length = node.behind = -1;
+    node.count = node.length = node.behind = node.records = -1;
     node.own = 3;
     node.round = 7;
     node.last = 41;
@@ -161,7 +164,8 @@ static int right_count(void)
 {
     bool opens =
         asked.kind == REQUEST_OPEN || asked.kind == REQUEST_OPEN_APART || knows_letters();
-    HOLDS(asked.kind != REQUEST_READ_BYTES || asked.count == 1);
+    HOLDS((asked.kind != REQUEST_READ_BYTES && asked.kind < REQUEST_TRACK_FREED)
+        || asked.count == 1);
     return asked.kind == REQUEST_WAIT ? 1 : opens ? 2 : asked.count;
 }
 
@@ -169,7 +173,8 @@ static int right_count(void)
 static uint32_t wanted_bytes(void)
 {
     reader from = reader_of(request + REQUEST_HEAD + 6, 4);
-    return asked.kind == REQUEST_READ_BYTES ? (uint32_t)read_number(&from, 4) : 0;
+    return asked.kind == REQUEST_READ_BYTES ? (uint32_t)read_number(&from, 4)
+                                            : RECORDS * (uint32_t)record_of(asked.kind);
 }
 
 static void write_answer(writer *to)
@@ -183,6 +188,13 @@ static void write_answer(writer *to)
     for (int i = 0; i < count; i++) {
         uint64_t base = 1000 * (node.is_numbered ? asked.number : 1);
         markring_result it = {node.status, {.number = base + (uint64_t)i}};
+        if (record_of(asked.kind) > 0 || asked.kind == REQUEST_TRACK_FREED) {
+            it.answer = (markring_answer){.number = base,
+                .sum = INT64_MIN + 5,
+                .label = 0xFFFFFFF0,
+                .count = node.records >= 0 ? (uint32_t)node.records : RECORDS,
+                .done = 1};
+        }
         write_result(to, &it);
     }
     bool has_some = count == 1 && node.status == MARKRING_OK;
@@ -332,11 +344,151 @@ static int wait_for_letter(int64_t timeout)
     return status;
 }
 
-typedef enum call { OPEN, PERFORM, READ, WAIT, WRITE, READ_SOME, CALLS } call;
+// A request with a Resolve, behind others.
+static int resolve(int64_t timeout, bool again)
+{
+    markring_event events[EVENTS];
+    markring_result *results = calloc(EVENTS, sizeof *results);
+    memset(events, 0, sizeof events);
+    events[EVENTS - 1] = (markring_event){.kind = MARKRING_EVENT_RESOLVE,
+        .reg = 258,
+        .node = 3,
+        .count = 0x01020304,
+        .word = 0x05060708090A0B0C};
+    int status = again ? markring_remote_finish(program, results, timeout)
+                       : markring_remote_perform(program, events, EVENTS, results, timeout);
+    for (uint64_t i = 0; i < EVENTS && status == MARKRING_REMOTE_OK; i++) {
+        HOLDS(results[i].status == node.status && results[i].answer.number == 1000 + i);
+    }
+    free(results);
+    return status;
+}
+
+static int track(int64_t timeout)
+{
+    markring_remote_since since = {7, 7};
+    uint8_t is_new = 7;
+    int status = markring_remote_track_freed(program, &since, &is_new, timeout);
+    bool is_ok = status == MARKRING_REMOTE_OK;
+    HOLDS(since.list == (is_ok ? UINT64_C(1) << 63 | 5 : 7) && is_new == (is_ok ? 1 : 7));
+    HOLDS(since.number == (is_ok ? 1000 : 7));
+    return status;
+}
+
+// A number in the bytes 50, 51 and so on, from this one on.
+static uint64_t number_in(size_t at, size_t length)
+{
+    uint64_t number = 0;
+    for (size_t i = 0; i < length; i++) {
+        number = number << 8 | (uint8_t)(50 + at + i);
+    }
+    return number;
+}
+
+static bool is_reference(const markring_ref *it, size_t at)
+{
+    return it->node == number_in(at, 1) && it->slot == number_in(at + 1, 4)
+        && it->generation == number_in(at + 5, 8);
+}
+
+static int ask_freed(int64_t timeout)
+{
+    markring_remote_since since = {0x0102030405060708, 0x1112131415161718};
+    markring_freed *entries = calloc(RECORDS_ROOM, sizeof *entries);
+    size_t count = 77;
+    int status =
+        markring_remote_freed(program, &since, entries, RECORDS_ROOM, &count, timeout);
+    bool is_ok = status == MARKRING_REMOTE_OK;
+    HOLDS(count == (is_ok ? RECORDS : 77));
+    HOLDS(since.list == (is_ok ? UINT64_C(1) << 63 | 5 : 0x0102030405060708));
+    HOLDS(since.number == (is_ok ? 1000 : 0x1112131415161718));
+    for (size_t i = 0; i < RECORDS_ROOM; i++) {
+        bool is_there = is_ok && i < RECORDS;
+        HOLDS(is_there ? is_reference(&entries[i].reference, i * FREED_RECORD)
+                : entries[i].reference.generation == 0);
+        HOLDS(!is_there || entries[i].word == number_in(i * FREED_RECORD + 13, 8));
+    }
+    free(entries);
+    return status;
+}
+
+static int ask_objects(int64_t timeout)
+{
+    markring_object *objects = calloc(RECORDS_ROOM, sizeof *objects);
+    uint32_t slot = 0x01020304;
+    size_t count = 77;
+    uint8_t is_over = 77;
+    int status = markring_remote_objects(
+        program, &slot, objects, RECORDS_ROOM, &count, &is_over, timeout);
+    bool is_ok = status == MARKRING_REMOTE_OK;
+    HOLDS(count == (is_ok ? RECORDS : 77) && is_over == (is_ok ? 1 : 77));
+    HOLDS(slot == (is_ok ? 0xFFFFFFF0 : 0x01020304));
+    for (size_t i = 0; i < RECORDS_ROOM; i++) {
+        const markring_object *it = &objects[i];
+        bool is_there = is_ok && i < RECORDS;
+        size_t at = i * OBJECT_RECORD;
+        HOLDS(is_there ? is_reference(&it->reference, at) : it->reference.generation == 0);
+        HOLDS(!is_there
+            || (it->word == number_in(at + 13, 8) && it->bytes == number_in(at + 21, 4)
+                && it->places == number_in(at + 25, 1) && it->marked == number_in(at + 26, 1)
+                && it->shared == number_in(at + 27, 1) && it->age == number_in(at + 28, 1)));
+    }
+    free(objects);
+    return status;
+}
+
+static int ask_places(int64_t timeout)
+{
+    markring_ref of = {3, 0x01020304, 0x05060708090A0B0C};
+    markring_ref *places = calloc(PLACES_IN_ANSWER, sizeof *places);
+    size_t count = 77;
+    int found = 77;
+    int status = markring_remote_places(program, &of, places, &count, &found, timeout);
+    bool is_ok = status == MARKRING_REMOTE_OK && node.status == MARKRING_OK;
+    HOLDS(found == (status == MARKRING_REMOTE_OK ? node.status : 77));
+    HOLDS(count == (is_ok ? RECORDS : 77));
+    for (size_t i = 0; i < PLACES_IN_ANSWER; i++) {
+        HOLDS(is_ok && i < RECORDS ? is_reference(&places[i], i * REFERENCE_RECORD)
+                                   : places[i].generation == 0);
+    }
+    free(places);
+    return status;
+}
+
+typedef enum call {
+    OPEN,
+    PERFORM,
+    READ,
+    WAIT,
+    WRITE,
+    READ_SOME,
+    RESOLVE,
+    TRACK,
+    FREED,
+    OBJECTS,
+    PLACES,
+    CALLS
+} call;
 
 static bool performs(call which)
 {
-    return which == PERFORM || which == WRITE;
+    return which == PERFORM || which == WRITE || which == RESOLVE;
+}
+
+// Whether its answer has one result.
+static bool has_one(call which)
+{
+    return which == WAIT || which == READ_SOME || which >= TRACK;
+}
+
+// How many bytes follow the results.
+static int behind_of(call which)
+{
+    return which == READ_SOME ? FETCHED
+        : which == FREED      ? RECORDS * FREED_RECORD
+        : which == OBJECTS    ? RECORDS * OBJECT_RECORD
+        : which == PLACES     ? RECORDS * REFERENCE_RECORD
+                              : 0;
 }
 
 static int call_once(call which, int64_t timeout, bool again)
@@ -347,6 +499,11 @@ static int call_once(call which, int64_t timeout, bool again)
     case WAIT: return wait_for_letter(timeout);
     case READ_SOME: return read_some(timeout);
     case WRITE: return write_some(timeout, again);
+    case RESOLVE: return resolve(timeout, again);
+    case TRACK: return track(timeout);
+    case FREED: return ask_freed(timeout);
+    case OBJECTS: return ask_objects(timeout);
+    case PLACES: return ask_places(timeout);
     default: return perform(timeout, again);
     }
 }
@@ -376,9 +533,9 @@ static void test_right(void)
         unsigned long before = asks;
         HOLDS(ask(which, LONG) == MARKRING_REMOTE_OK && asks == before + 1);
     }
-    // The number of the last request, and one more. (Two have been performed.)
-    HOLDS(ask(PERFORM, LONG) == MARKRING_REMOTE_OK && asked.number == 44 && asked.program == 9);
-    HOLDS(ask(PERFORM, LONG) == MARKRING_REMOTE_OK && asked.number == 45);
+    // The number of the last request, and one more. (Three have been performed.)
+    HOLDS(ask(PERFORM, LONG) == MARKRING_REMOTE_OK && asked.number == 45 && asked.program == 9);
+    HOLDS(ask(PERFORM, LONG) == MARKRING_REMOTE_OK && asked.number == 46);
     HOLDS(perform(LONG, true) == MARKRING_REMOTE_BAD_ARGUMENT);
     HOLDS(request_length == REQUEST_HEAD + EVENTS * EVENT_BYTES);
 }
@@ -403,6 +560,66 @@ static void test_spelling(void)
     // A reading that is refused has no bytes.
     node.status = MARKRING_NO_BYTES;
     HOLDS(read_some(LONG) == MARKRING_REMOTE_OK);
+}
+
+// How questions about objects are spelled.
+static void test_spelling_of_questions(void)
+{
+    static const struct {
+        call which;
+        uint8_t kind;
+        size_t length;
+        const char *text;
+    } cases[] = {{TRACK, 10, 0, ""},
+        {FREED, 11, 20, "\1\2\3\4\5\6\7\10\21\22\23\24\25\26\27\30\0\0\0\5"},
+        {OBJECTS, 12, 8, "\1\2\3\4\0\0\0\5"},
+        {PLACES, 13, 13, "\3\1\2\3\4\5\6\7\10\11\12\13\14"}};
+    behave();
+    for (size_t i = 0; i < sizeof cases / sizeof *cases; i++) {
+        HOLDS(ask(cases[i].which, LONG) == MARKRING_REMOTE_OK && asked.kind == cases[i].kind);
+        HOLDS(request_length == REQUEST_HEAD + cases[i].length);
+        HOLDS(memcmp(request + REQUEST_HEAD, cases[i].text, cases[i].length) == 0);
+    }
+    HOLDS(resolve(LONG, false) == MARKRING_REMOTE_OK && asked.kind == 9);
+    HOLDS(request_length == REQUEST_HEAD + EVENTS * EVENT_BYTES);
+    const uint8_t *event = request + request_length - EVENT_BYTES;
+    HOLDS(memcmp(event, "\30\3\0\1\2\0\0\0\0\0\0\0\0\1\2\3\4\5\6\7\10\11\12\13\14", EVENT_BYTES)
+        == 0);
+    // No more is asked for than an answer may have.
+    static markring_freed entries[RECORDS];
+    static markring_object objects[RECORDS];
+    markring_remote_since since = {1, 2};
+    uint32_t slot = 0;
+    size_t count = 0;
+    uint8_t is_over = 0;
+    int status = markring_remote_freed(program, &since, entries, SIZE_MAX, &count, LONG);
+    HOLDS(status == MARKRING_REMOTE_OK && memcmp(request + REQUEST_HEAD + 16, "\0\0\xBA\3", 4) == 0);
+    status = markring_remote_objects(program, &slot, objects, SIZE_MAX, &count, &is_over, LONG);
+    HOLDS(status == MARKRING_REMOTE_OK && memcmp(request + REQUEST_HEAD + 4, "\0\0\x80\0", 4) == 0);
+    // `is_new` may be null.
+    status = markring_remote_track_freed(program, &since, NULL, LONG);
+    HOLDS(status == MARKRING_REMOTE_OK && since.number == 1000);
+}
+
+// Results that don't go with what follows, or with the request.
+static void test_wrong_records(void)
+{
+    for (call which = FREED; which <= PLACES; which++) {
+        int record = behind_of(which) / RECORDS;
+        for (int records = 0; records <= RECORDS + 1; records++) {
+            behave();
+            node.records = records;
+            HOLDS(records == RECORDS || ask(which, SHORT) == MARKRING_REMOTE_TIMEOUT);
+        }
+        behave();
+        node.records = PLACES_IN_ANSWER + 1;
+        node.behind = (PLACES_IN_ANSWER + 1) * record;
+        HOLDS(ask(which, SHORT) == MARKRING_REMOTE_TIMEOUT);
+        // A status, with nothing behind it.
+        behave();
+        node.status = MARKRING_NO_FIELD;
+        HOLDS(ask(which, LONG) == (which == PLACES ? MARKRING_REMOTE_OK : MARKRING_REMOTE_CONFUSED));
+    }
 }
 
 // A node of an earlier version refuses both; the program goes on with the same number.
@@ -659,21 +876,20 @@ static void test_verdicts(void)
 {
     static const int counts[] = {-1, 0, 1, 2, EVENTS - 1, EVENTS, EVENTS + 1, 256, 257, ROOM};
     for (call which = OPEN; which < CALLS; which++) {
-        for (unsigned said = 0; said < 7; said++) {
+        for (unsigned said = 0; said < 9; said++) {
             for (size_t i = 0; i < sizeof counts / sizeof *counts; i++) {
                 behave();
                 HOLDS(open_program(LONG) == MARKRING_REMOTE_OK);
                 node.verdict = (uint8_t)said;
                 node.count = counts[i];
-                bool is_one = which == WAIT || which == READ_SOME;
+                bool is_one = has_one(which), needs_session = which == TRACK || which == FREED;
                 int count = counts[i] >= 0 ? counts[i]
                     : said != 0            ? 0
                     : is_one               ? 1
                     : which == OPEN        ? 2
                                            : EVENTS;
                 int most = which == OPEN ? 256 : is_one ? 1 : EVENTS;
-                bool is_earlier =
-                    said == VERDICT_MALFORMED && (which == WRITE || which == READ_SOME);
+                bool is_earlier = said == VERDICT_MALFORMED && which >= WRITE;
                 bool is_right = said == VERDICT_DONE && (which == OPEN || count == most);
                 int status = ask(which, 2 * SHORT);
                 if (count > most || (which == OPEN && said == VERDICT_STALE)) {
@@ -686,6 +902,12 @@ static void test_verdicts(void)
                     HOLDS(status == MARKRING_REMOTE_SUPERSEDED);
                     unsigned long before = asks;
                     HOLDS(perform(LONG, true) == MARKRING_REMOTE_SUPERSEDED && asks == before);
+                } else if (needs_session && said == VERDICT_SUPERSEDED) {
+                    HOLDS(status == MARKRING_REMOTE_SUPERSEDED);
+                } else if (which >= TRACK && said == VERDICT_APART) {
+                    HOLDS(status == MARKRING_REMOTE_APART);
+                } else if (which == FREED && said == VERDICT_LOST) {
+                    HOLDS(status == MARKRING_REMOTE_LOST);
                 } else if (is_earlier) {
                     HOLDS(status == MARKRING_REMOTE_EARLIER);
                 } else {
@@ -700,9 +922,9 @@ static void test_verdicts(void)
 static void test_others(void)
 {
     for (call which = OPEN; which < CALLS; which++) {
-        bool is_one = which == WAIT || which == READ_SOME;
-        int length = ANSWER_HEAD + RESULT_BYTES * (is_one ? 1 : which == OPEN ? 2 : EVENTS);
-        length += which == READ_SOME ? FETCHED : 0;
+        int length =
+            ANSWER_HEAD + RESULT_BYTES * (has_one(which) ? 1 : which == OPEN ? 2 : EVENTS);
+        length += behind_of(which);
         for (int left = 0; left < length; left++) {
             behave();
             node.length = left;
@@ -710,7 +932,7 @@ static void test_others(void)
         }
         // More bytes than are right.
         behave();
-        node.behind = which == READ_SOME ? FETCHED + 1 : 1;
+        node.behind = behind_of(which) + 1;
         HOLDS(ask(which, SHORT) == MARKRING_REMOTE_TIMEOUT);
         for (int i = 0; i < 6; i++) {
             behave();
@@ -1112,6 +1334,25 @@ static void test_superseded_queue(void)
     HOLDS(asks == before + 2);
 }
 
+// One of the calls that send, or of those that ask about objects.
+static int send_without_memory(int which)
+{
+    static const uint16_t registers[1];
+    static const markring_remote_since since;
+    static const markring_ref of;
+    switch (which) {
+    case 0: return markring_remote_send_read(program, registers, 1, LONG);
+    case 1: return markring_remote_send_read_bytes(program, 0, 0, 1, LONG);
+    case 2: return markring_remote_send_wait(program, LONG);
+    case 3: return markring_remote_send_track_freed(program, LONG);
+    case 4: return markring_remote_send_freed(program, &since, 1, LONG);
+    case 5: return markring_remote_send_objects(program, 0, 1, LONG);
+    case 6: return markring_remote_send_places(program, &of, LONG);
+    case 7: return track(LONG);
+    default: return send_one(0, LONG);
+    }
+}
+
 // Arguments that are out of range, and memory that is refused: nothing is sent.
 static void test_refused_sends(void)
 {
@@ -1126,14 +1367,10 @@ static void test_refused_sends(void)
     HOLDS(markring_remote_send_read_bytes(program, 0, 0, BYTES_MOST + 1, LONG)
         == MARKRING_REMOTE_TOO_LONG);
     for (int which = 1; which < 3; which++) {
-        int statuses[4];
-        for (int i = 0; i < 4; i++) {
+        for (int i = 0; i < 9; i++) {
             refuse_in = which;
-            statuses[i] = i == 0 ? send_one(0, LONG)
-                : i == 1         ? markring_remote_send_read(program, registers, 1, LONG)
-                : i == 2         ? markring_remote_send_read_bytes(program, 0, 0, 1, LONG)
-                                 : markring_remote_send_wait(program, LONG);
-            HOLDS(refuse_in == 0 && statuses[i] == MARKRING_REMOTE_MEMORY);
+            int status = send_without_memory(i);
+            HOLDS(refuse_in == 0 && status == MARKRING_REMOTE_MEMORY);
             refuse_in = 0;
         }
     }
@@ -1202,6 +1439,75 @@ static void test_readings_of_queue(void)
     bring(NULL, 0);
     HOLDS(send_many(1) == MARKRING_REMOTE_OK && next_outcome(&it) == MARKRING_REMOTE_OK);
     HOLDS(has_no_letter(0));
+}
+
+// Questions about objects have their place between events, too.
+static void test_questions_of_queue(void)
+{
+    static const uint8_t kinds[] = {REQUEST_TRACK_FREED, REQUEST_PERFORM, REQUEST_FREED,
+        REQUEST_OBJECTS, REQUEST_PERFORM_RESOLVING, REQUEST_PLACES};
+    markring_remote_event back = {{.kind = MARKRING_EVENT_RESOLVE}, NULL, 0};
+    markring_remote_since since = {1, 2};
+    markring_ref of = {3, 4, 5}, place;
+    markring_freed freed;
+    markring_object object;
+    markring_remote_answer it;
+    begin_queue();
+    node.is_numbered = false;
+    HOLDS(markring_remote_send_track_freed(program, LONG) == MARKRING_REMOTE_OK);
+    HOLDS(send_many(1) == MARKRING_REMOTE_OK);
+    HOLDS(markring_remote_send_freed(program, &since, RECORDS, LONG) == MARKRING_REMOTE_OK);
+    HOLDS(markring_remote_send_objects(program, 9, RECORDS, LONG) == MARKRING_REMOTE_OK);
+    HOLDS(markring_remote_send(program, &back, 1, LONG) == MARKRING_REMOTE_OK);
+    HOLDS(markring_remote_send_places(program, &of, LONG) == MARKRING_REMOTE_OK);
+    HOLDS(next_outcome(&it) == MARKRING_REMOTE_OK && it.count == 1 && it.results[0].answer.done);
+    since = markring_remote_since_of(&it);
+    HOLDS(since.list == (UINT64_C(1) << 63 | 5) && since.number == 1000);
+    HOLDS(next_outcome(&it) == MARKRING_REMOTE_OK && it.count == 1);
+    HOLDS(next_outcome(&it) == MARKRING_REMOTE_OK && it.results[0].answer.count == RECORDS);
+    HOLDS(markring_remote_freed_at(&it, 1, &freed) == MARKRING_REMOTE_OK);
+    HOLDS(is_reference(&freed.reference, FREED_RECORD) && freed.word == number_in(34, 8));
+    HOLDS(markring_remote_freed_at(&it, 2, &freed) == MARKRING_REMOTE_BAD_ARGUMENT);
+    HOLDS(markring_remote_freed_at(&it, SIZE_MAX, &freed) == MARKRING_REMOTE_BAD_ARGUMENT);
+    HOLDS(next_outcome(&it) == MARKRING_REMOTE_OK && it.results[0].answer.label == 0xFFFFFFF0);
+    HOLDS(markring_remote_object_at(&it, 1, &object) == MARKRING_REMOTE_OK);
+    HOLDS(is_reference(&object.reference, OBJECT_RECORD) && object.age == number_in(57, 1));
+    HOLDS(markring_remote_object_at(&it, 2, &object) == MARKRING_REMOTE_BAD_ARGUMENT);
+    HOLDS(next_outcome(&it) == MARKRING_REMOTE_OK && it.count == 1 && it.bytes == NULL);
+    HOLDS(next_outcome(&it) == MARKRING_REMOTE_OK && it.results[0].answer.count == RECORDS);
+    HOLDS(markring_remote_place_at(&it, 1, &place) == MARKRING_REMOTE_OK);
+    HOLDS(is_reference(&place, REFERENCE_RECORD));
+    HOLDS(markring_remote_place_at(&it, 2, &place) == MARKRING_REMOTE_BAD_ARGUMENT);
+    for (size_t i = 0; i < sizeof kinds; i++) {
+        HOLDS(seen_count == sizeof kinds && seen[i].kind == kinds[i]);
+    }
+    HOLDS(seen[1].number == 42 && seen[4].number == 43);
+    // A refusal is over, and nothing is held up, except after another process has opened the program.
+    static const struct {
+        int verdict, outcome;
+    } cases[] = {{VERDICT_APART, MARKRING_REMOTE_APART}, {VERDICT_LOST, MARKRING_REMOTE_LOST},
+        {VERDICT_MALFORMED, MARKRING_REMOTE_EARLIER}};
+    for (size_t i = 0; i < sizeof cases / sizeof *cases; i++) {
+        node.verdict = (uint8_t)cases[i].verdict;
+        HOLDS(markring_remote_send_freed(program, &since, RECORDS, LONG) == MARKRING_REMOTE_OK);
+        expect_outcome(cases[i].outcome, true);
+    }
+    HOLDS(markring_remote_send(program, &back, 1, LONG) == MARKRING_REMOTE_OK);
+    expect_outcome(MARKRING_REMOTE_EARLIER, true);
+    node.verdict = VERDICT_DONE;
+    HOLDS(markring_remote_send(program, &back, 1, LONG) == MARKRING_REMOTE_OK);
+    HOLDS(next_outcome(&it) == MARKRING_REMOTE_OK && asked.number == 44);
+    // A Resolve without an answer stays under way.
+    node.silent = true;
+    HOLDS(markring_remote_send(program, &back, 1, SHORT) == MARKRING_REMOTE_OK);
+    expect_outcome(MARKRING_REMOTE_TIMEOUT, false);
+    node.silent = false;
+    HOLDS(markring_remote_resume(program, LONG) == MARKRING_REMOTE_OK);
+    HOLDS(next_outcome(&it) == MARKRING_REMOTE_OK && asked.number == 45);
+    node.verdict = VERDICT_SUPERSEDED;
+    HOLDS(markring_remote_send_track_freed(program, LONG) == MARKRING_REMOTE_OK);
+    expect_outcome(MARKRING_REMOTE_SUPERSEDED, true);
+    HOLDS(send_one(0, LONG) == MARKRING_REMOTE_SUPERSEDED);
 }
 
 // A wait for a letter beside the others, and its outcomes.
@@ -1526,6 +1832,8 @@ int main(void)
     HOLDS(markring_remote_connect(&space, &options, "test") == MARKRING_REMOTE_OK);
     test_right();
     test_spelling();
+    test_spelling_of_questions();
+    test_wrong_records();
     test_earlier();
     test_earlier_openings();
     test_letters();
@@ -1548,6 +1856,7 @@ int main(void)
     test_superseded_queue();
     test_refused_sends();
     test_readings_of_queue();
+    test_questions_of_queue();
     test_wait_of_queue();
     test_two_programs();
     test_threads();

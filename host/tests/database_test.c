@@ -1,6 +1,7 @@
 // A node in a database, over a model of the server. In each run one thing happens at one call: the
 // connection is lost before it was done, after it, or so that it is done later; the server refuses;
-// another process takes over; the process dies. Then the node is opened again.
+// another process takes over; the process dies. Then the node is opened again. The same with a
+// rewrite, whose value another connection puts there.
 //
 //     database_test
 #include "rows.h"
@@ -9,7 +10,7 @@
 #include <stdlib.h>
 #include <string.h>
 
-enum { SAVES = 7, LARGE = PIECE_MOST + 1000, MOST_CALLS = 80, HOLDER = 7, OTHER = 9 };
+enum { SAVES = 7, LARGE = PIECE_MOST + 1000, MOST_CALLS = 80, HOLDER = 7, OTHER = 9, WHOLE = 99 };
 
 static unsigned long passed, failed;
 static uint64_t seed = 88172645463325252u;
@@ -86,9 +87,9 @@ static bool has_content(const store_value *value, const content *it)
     return store_next(value, &at, &length) == NULL;
 }
 
-// What came of a run: what surely counts, and what may count besides.
+// What came of a run: what surely counts, and what may count besides; of a rewrite, two things may.
 typedef struct outcome {
-    content sure, perhaps;
+    content sure, perhaps, rewritten;
     bool is_created, is_open, is_taken;
 } outcome;
 
@@ -132,7 +133,7 @@ static void save_all(database *at, rows_client *client, outcome *to)
 // second.
 static outcome run(rows *server, rows_client *maker, rows_client *client)
 {
-    outcome to = {{0, {0}, 0}, {0, {0}, 0}, false, false, false};
+    outcome to = {{0, {0}, 0}, {0, {0}, 0}, {-1, {0}, 0}, false, false, false};
     store_value value = {NULL, 0, 0, false, 0, 0};
     database at;
     store_status created = create(maker);
@@ -170,8 +171,13 @@ static void open_again(rows *server, const outcome *was)
     if (value.buffer == NULL) {
         return;
     }
-    HOLDS(has_content(&value, &was->sure) || has_content(&value, &was->perhaps));
+    HOLDS(has_content(&value, &was->sure) || has_content(&value, &was->perhaps)
+        || has_content(&value, &was->rewritten));
     free(value.buffer);
+    for (size_t i = 0; i < server->table.count; i++) {
+        const rows_piece *piece = &server->table.pieces[i];
+        HOLDS(!piece->is_rewrite || piece->number == server->table.row.base);
+    }
     // Nothing that is late changes what was opened.
     database_row row = server->table.row;
     size_t count = server->table.count;
@@ -262,6 +268,177 @@ static void test_taken(void)
     }
 }
 
+// ## Rewrites
+
+static void save_one(database *at, rows_client *client, outcome *to, int index)
+{
+    store_value value = value_of(true, PLANS[index - 1].length, index);
+    if (to->is_taken || client->dead) {
+        free(value.buffer);
+        return;
+    }
+    to->perhaps = to->sure;
+    to->perhaps.entries[to->perhaps.count++] = index;
+    store_status status = database_save(at, &value);
+    while (status == STORE_FAILED && !client->dead) {
+        status = database_save(at, &value);
+    }
+    to->is_taken = status == STORE_TAKEN;
+    HOLDS(status == STORE_OK || to->is_taken || client->dead);
+    to->sure = status == STORE_OK && !client->dead ? to->perhaps : to->sure;
+    free(value.buffer);
+}
+
+// The part of a rewrite that another thread does. Returns whether its value was written.
+static bool write_apart(database_rewrite *again, rows_client *other, const content *before)
+{
+    store_value stored = {NULL, 0, 0, false, 0, 0}, whole = value_of(false, LARGE, WHOLE);
+    store_status status = database_rewrite_read(again, &stored);
+    HOLDS(status != STORE_OK || has_content(&stored, before));
+    HOLDS((status == STORE_OK) == (stored.buffer != NULL));
+    free(stored.buffer);
+    if (status == STORE_OK) {
+        status = database_rewrite_write(again, &whole);
+    }
+    free(whole.buffer);
+    HOLDS(status == STORE_OK || other->lost || other->refused || other->dead || status == STORE_TAKEN
+        || status == STORE_DAMAGED || status == STORE_MISSING);
+    return status == STORE_OK;
+}
+
+// Ends a rewrite with an entry, which may count without it.
+static bool end_rewrite(
+    database *at, rows_client *client, const database_rewrite *again, outcome *to, int index)
+{
+    bool is_done = false;
+    store_value value = value_of(true, PLANS[index - 1].length, index);
+    to->perhaps = to->sure;
+    to->perhaps.entries[to->perhaps.count++] = index;
+    to->rewritten = (content){WHOLE, {0}, to->perhaps.count - 2};
+    memcpy(to->rewritten.entries, to->perhaps.entries + 2, sizeof(int) * (SAVES - 2));
+    store_status status = database_rewrite_end(at, again, &value, &is_done);
+    to->is_taken = status == STORE_TAKEN;
+    HOLDS(!is_done || status == STORE_OK);
+    HOLDS(status == STORE_OK || status == STORE_FAILED || to->is_taken || client->dead);
+    if (status == STORE_OK && !client->dead) {
+        to->sure = is_done ? to->rewritten : to->perhaps;
+        to->rewritten.value = -1;
+    }
+    free(value.buffer);
+    return is_done && !client->dead;
+}
+
+// Two entries are rewritten while others are saved. Returns whether the rewrite counts.
+static bool rewrite_all(rows *server, rows_client *client, rows_client *other, outcome *to)
+{
+    bool is_done = false;
+    database at;
+    database_rewrite again;
+    database_calls calls = rows_calls(client), apart = rows_calls(other);
+    store_value value = {NULL, 0, 0, false, 0, 0};
+    rows_client maker = {.server = server};
+    HOLDS(create(&maker) == STORE_OK);
+    *to = (outcome){{0, {0}, 0}, {0, {0}, 0}, {-1, {0}, 0}, true, true, false};
+    if (database_open(&at, &calls, OTHER, &value) != STORE_OK) {
+        return false;
+    }
+    free(value.buffer);
+    save_one(&at, client, to, 1);
+    save_one(&at, client, to, 2);
+    if (to->is_taken || client->dead) {
+        return false;
+    }
+    content before = to->sure;
+    database_rewrite_begin(&at, &apart, &again);
+    save_one(&at, client, to, 3);
+    bool is_written = write_apart(&again, other, &before);
+    save_one(&at, client, to, 4);
+    if (is_written && !to->is_taken && !client->dead) {
+        is_done = end_rewrite(&at, client, &again, to, 5);
+        HOLDS(again.length == LARGE);
+    }
+    save_one(&at, client, to, 6);
+    if (is_done && !to->is_taken && !client->dead) {
+        HOLDS(at.row.base == again.number && server->table.pieces[0].number == again.number);
+        HOLDS(at.added - again.added > LARGE);
+    }
+    if (!client->dead && !to->is_taken) {
+        database_close(&at);
+    }
+    return is_done;
+}
+
+// The fault is in the calls of the process, or in those of its other connection.
+static void test_each_rewrite(rows_fault fault, bool in_other, bool dies)
+{
+    unsigned long calls = 0, done = 0;
+    for (unsigned long at = 0; at <= calls; at++) {
+        rows server = {.seed = &seed};
+        rows_client client = {.server = &server}, other = {.server = &server};
+        rows_client *which = in_other ? &other : &client;
+        which->fault = fault;
+        which->fault_at = dies ? 0 : at;
+        which->dies_in = dies ? at : 0;
+        outcome was;
+        done += rewrite_all(&server, &client, &other, &was);
+        calls = which->calls > calls ? which->calls : calls;
+        HOLDS(client.used_twice == 0 && other.used_twice == 0);
+        HOLDS(!was.is_taken || fault == ROWS_TAKES);
+        rows_kill(&client);
+        rows_kill(&other);
+        open_again(&server, &was);
+        rows_free(&server);
+    }
+    HOLDS(calls > 5 && calls < MOST_CALLS);
+    // (what is lost on the other connection is given up)
+    HOLDS(done > 0 && (done <= calls || !in_other || (fault == ROWS_NO_FAULT && !dies)));
+}
+
+// The pieces of a rewrite that was broken off, of a process that was taken over, don't come any
+// more; nor do those count that a server lost.
+static void test_lost_pieces(void)
+{
+    for (int way = 0; way < 3; way++) {
+        rows server = {.seed = &seed};
+        rows_client client = {.server = &server}, other = client, next = client;
+        database at, after;
+        database_rewrite again;
+        database_calls calls = rows_calls(&client), apart = rows_calls(&other), later = rows_calls(&next);
+        store_value value = {NULL, 0, 0, false, 0, 0}, whole = value_of(false, 50, WHOLE);
+        store_value entry = value_of(true, 100, 1);
+        bool is_done = true;
+        HOLDS(create(&client) == STORE_OK && database_open(&at, &calls, HOLDER, &value) == STORE_OK);
+        free(value.buffer);
+        database_rewrite_begin(&at, &apart, &again);
+        HOLDS(database_rewrite_read(&again, &value) == STORE_OK);
+        free(value.buffer);
+        if (way == 0) {
+            HOLDS(database_open(&after, &later, OTHER, &value) == STORE_OK);
+            HOLDS(database_rewrite_write(&again, &whole) == STORE_TAKEN && server.table.count == 1);
+            HOLDS(database_save(&after, &entry) == STORE_OK && server.table.count == 2);
+            HOLDS(database_rewrite_end(&at, &again, &entry, &is_done) == STORE_TAKEN && !is_done);
+        } else if (way == 1) {
+            HOLDS(database_rewrite_write(&again, &whole) == STORE_OK && server.table.count == 3);
+            HOLDS(database_open(&after, &later, OTHER, &value) == STORE_OK);
+            HOLDS(server.table.count == 1);
+            HOLDS(database_save(&after, &entry) == STORE_OK && server.table.count == 2);
+        } else {
+            HOLDS(database_rewrite_write(&again, &whole) == STORE_OK && server.table.count == 3);
+            free(server.table.pieces[--server.table.count].bytes);
+            HOLDS(database_rewrite_end(&at, &again, &entry, &is_done) == STORE_OK && !is_done);
+            HOLDS(server.table.row.base == 5 && server.table.row.number == at.number);
+            value.buffer = NULL;
+        }
+        free(value.buffer);
+        free(whole.buffer);
+        free(entry.buffer);
+        rows_kill(&client);
+        rows_kill(&other);
+        rows_kill(&next);
+        rows_free(&server);
+    }
+}
+
 // ## Damage
 
 // What can become of the pieces and the row of a node.
@@ -296,6 +473,7 @@ static void spoil(rows_table *at, int how, size_t index)
     case 5: piece->number++; break;
     case 6: piece->part++; break;
     case 7: at->row.number++; break;
+    case 9: piece->is_rewrite = !piece->is_rewrite; break;
     default: at->row.number--;
     }
 }
@@ -318,22 +496,64 @@ static void make_node(rows *server)
     database_close(&at);
 }
 
-static void test_damage(void)
+// A value of a rewrite in three pieces and two entries, of which one has two pieces.
+static void make_rewritten_node(rows *server)
 {
-    for (int how = 0; how < 9; how++) {
-        for (size_t index = 0; index < 5; index++) {
+    rows_client client = {.server = server}, other = client;
+    database at;
+    database_rewrite again;
+    database_calls calls = rows_calls(&client), apart = rows_calls(&other);
+    store_value value = {NULL, 0, 0, false, 0, 0}, whole = value_of(false, LARGE, WHOLE);
+    bool is_done = false;
+    HOLDS(create(&client) == STORE_OK);
+    HOLDS(database_open(&at, &calls, HOLDER, &value) == STORE_OK);
+    free(value.buffer);
+    database_rewrite_begin(&at, &apart, &again);
+    HOLDS(database_rewrite_read(&again, &value) == STORE_OK);
+    HOLDS(database_rewrite_write(&again, &whole) == STORE_OK);
+    free(value.buffer);
+    free(whole.buffer);
+    value = value_of(true, LARGE, 6);
+    HOLDS(database_save(&at, &value) == STORE_OK);
+    free(value.buffer);
+    value = value_of(true, 9, 7);
+    HOLDS(database_rewrite_end(&at, &again, &value, &is_done) == STORE_OK && is_done);
+    free(value.buffer);
+    database_close(&at);
+    rows_kill(&other);
+}
+
+// Whether a piece isn't in its place: it was taken out or has another number, or the row names a
+// save that isn't there. A piece behind the last save doesn't count. An entry that passes for a
+// piece of a rewrite isn't read.
+static bool lacks_piece(int how, bool is_entry, bool is_last)
+{
+    return how == 0 || (how == 5 && !is_last) || how == 6 || how == 7 || (how == 9 && is_entry);
+}
+
+static void test_damage(bool is_rewritten)
+{
+    const size_t count = is_rewritten ? 6 : 5;
+    for (int how = 0; how < 10; how++) {
+        for (size_t index = 0; index < count; index++) {
             rows server = {.seed = &seed};
             rows_client client = {.server = &server};
             database at;
             database_calls calls = rows_calls(&client);
             store_value value = {NULL, 0, 0, false, 0, 0};
-            make_node(&server);
-            HOLDS(server.table.count == 5);
+            if (is_rewritten) {
+                make_rewritten_node(&server);
+            } else {
+                make_node(&server);
+            }
+            HOLDS(server.table.count == count);
+            bool lacks = lacks_piece(how, server.table.pieces[index].is_entry, index == count - 1);
             spoil(&server.table, how, index);
             database_row before = server.table.row;
-            bool is_harmless = how == 4 && (index == 1 || index == 3);
+            bool is_harmless = how == 4 && !is_rewritten && (index == 1 || index == 3);
             store_status status = database_open(&at, &calls, OTHER, &value);
-            HOLDS(is_harmless || (status == STORE_DAMAGED && value.buffer == NULL));
+            store_status expected = lacks ? STORE_MISSING : STORE_DAMAGED;
+            HOLDS(is_harmless || (status == expected && value.buffer == NULL));
             HOLDS(is_harmless || memcmp(&before, &server.table.row, sizeof before) == 0);
             free(value.buffer);
             rows_kill(&client);
@@ -380,7 +600,15 @@ int main(void)
     }
     test_deaths();
     test_taken();
-    test_damage();
+    for (size_t i = 0; i < sizeof faults / sizeof *faults; i++) {
+        test_each_rewrite(faults[i], false, false);
+        test_each_rewrite(faults[i], true, false);
+    }
+    test_each_rewrite(ROWS_NO_FAULT, false, true);
+    test_each_rewrite(ROWS_NO_FAULT, true, true);
+    test_lost_pieces();
+    test_damage(false);
+    test_damage(true);
     test_pauses();
     printf("%lu passed, %lu failed\n", passed, failed);
     return failed != 0 || passed == 0;

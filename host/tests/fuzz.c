@@ -93,7 +93,7 @@ static bool is_wide;
 static host *open_host(uint8_t own)
 {
     static const host_options options = {.entries_least = 4096};
-    host_calls calls = {&stations[own], on_send, on_answer, on_save};
+    host_calls calls = {&stations[own], on_send, on_answer, on_save, NULL};
     host_shape shape = {.name = "fuzz", .own = own, .nodes = 2, .registers = 8, .slots = 32,
         .wide = is_wide, .places = is_wide ? 20 : 0, .bytes = is_wide ? 30 : 0};
     store_value value = {NULL, 0, 0, false, 0, 0};
@@ -149,14 +149,41 @@ static uint8_t any_kind(void)
     return below(3) == 0 ? kinds[below(sizeof kinds)] : (uint8_t)below(25);
 }
 
+// Whether programs may have registers for themselves: then nobody looks at objects.
+static bool may_be_apart;
+
+// What follows the head of a question about objects, mostly what the program has.
+static void write_question(writer *to, uint8_t kind, const program *of)
+{
+    to->length = REQUEST_HEAD;
+    to->start[REQUEST_HEAD - 1] = 1;
+    if (kind == REQUEST_FREED) {
+        write_number(to, below(9) == 0 ? below(UINT32_MAX) : of->list, 8);
+        write_number(to, of->had + (below(9) == 0 ? UINT64_MAX : below(3)), 8);
+    } else if (kind == REQUEST_PLACES) {
+        write_number(to, below(2), 1);
+        write_number(to, below(9) == 0 ? below(UINT32_MAX) : below(9), 4);
+        write_number(to, 1 + below(3), 8);
+    } else if (kind == REQUEST_OBJECTS) {
+        write_number(to, below(9) == 0 ? below(UINT32_MAX) : below(9), 4);
+    }
+    if (kind == REQUEST_FREED || kind == REQUEST_OBJECTS) {
+        write_number(to, below(9) == 0 ? UINT32_MAX : below(9), 4);
+    }
+}
+
 static void try_request(host *it, uint64_t now)
 {
     uint8_t bytes[REQUEST_BYTES + 512], data[40];
     uint16_t count = (uint16_t)below(6);
     writer to = writer_of(bytes, sizeof bytes - 64);
     program *program = &it->programs[0];
-    uint8_t kind = (uint8_t)(1 + below(9));
+    uint8_t kind = (uint8_t)(1 + below(REQUEST_PLACES + 1));
     bool is_apart = kind == REQUEST_OPEN_APART || kind == REQUEST_OPEN_APART_LETTERS;
+    if (is_apart && !may_be_apart) {
+        is_apart = false;
+        kind = REQUEST_PERFORM;
+    }
     bool opens = is_apart || kind == REQUEST_OPEN || kind == REQUEST_OPEN_LETTERS;
     request_head head = {kind, (uint8_t)(below(9) == 0 ? below(256) : 0),
         below(2) ? program->session : 1 + below(3),
@@ -180,6 +207,9 @@ static void try_request(host *it, uint64_t now)
         write_number(&to, below(9), 2);
         write_number(&to, below(5) == 0 ? below(UINT32_MAX) : below(9), 4);
         write_number(&to, below(5) == 0 ? below(UINT32_MAX) : below(32), 4);
+    }
+    if (kind >= REQUEST_TRACK_FREED && below(4) > 0) {
+        write_question(&to, kind, program);
     }
     size_t length = below(3) == 0 ? damage(bytes, to.length, sizeof bytes) : to.length;
     uint8_t *exact = malloc(length > 0 ? length : 1);
@@ -212,7 +242,7 @@ static void try_value(void)
 {
     static const host_options options = {0};
     static station other;
-    static const host_calls calls = {&other, on_send, on_answer, on_save};
+    static const host_calls calls = {&other, on_send, on_answer, on_save, NULL};
     const store_value *stored = &stations[below(2)].stored;
     store_value value = *stored;
     host *it = NULL;
@@ -274,10 +304,11 @@ static void fuzz(unsigned long rounds)
 int main(int count, char **given)
 {
     unsigned long rounds = count > 1 ? strtoul(given[1], NULL, 10) : 100000;
-    for (int way = 0; way < 2; way++) {
-        is_wide = way == 1;
+    for (int way = 0; way < 4; way++) {
+        is_wide = way % 2 == 1;
+        may_be_apart = way >= 2;
         sent_count = 0;
-        fuzz(rounds / 2);
+        fuzz(rounds / 4);
     }
     printf("%lu passed, %lu failed\n", passed, failed);
     return failed != 0 || passed == 0;

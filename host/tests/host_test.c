@@ -25,6 +25,7 @@ static void check(bool holds, const char *text, int line)
 // ## The library
 
 static size_t wrong_size;
+static int looks; // at the size
 
 int __real_markring_node_image_size(markring_node *node, size_t *size);
 int __wrap_markring_node_image_size(markring_node *node, size_t *size);
@@ -33,6 +34,7 @@ int __wrap_markring_node_image_size(markring_node *node, size_t *size)
 {
     int status = __real_markring_node_image_size(node, size);
     *size += wrong_size;
+    looks++;
     return status;
 }
 
@@ -40,6 +42,8 @@ int __wrap_markring_node_image_size(markring_node *node, size_t *size)
 
 // The largest block that was asked for.
 static size_t largest;
+// The next block with exactly this size is refused; 0 for none.
+static size_t refuse_size;
 
 void *__real_malloc(size_t size);
 void *__wrap_malloc(size_t size);
@@ -47,6 +51,10 @@ void *__wrap_malloc(size_t size);
 void *__wrap_malloc(size_t size)
 {
     largest = size > largest ? size : largest;
+    if (size == refuse_size && size > 0) {
+        refuse_size = 0;
+        return NULL;
+    }
     return __real_malloc(size);
 }
 
@@ -57,7 +65,8 @@ typedef struct station {
     uint64_t nonce; // of the next process
     uint64_t now, number;
     store_value *job;
-    int saves; // that the host began
+    int saves;  // that the host began
+    int wholes; // whole values that were saved
     // The value that was saved last, with the room around it, and entries behind it; up to `end`.
     uint8_t *stored;
     size_t length, end;
@@ -106,12 +115,23 @@ static void on_save(void *context, store_value *value)
     at->saves++;
 }
 
+// Whether hosts may ask for rewrites, and how often they did.
+static bool rewrites;
+static int asked;
+
+static void on_rewrite(void *context)
+{
+    station *at = context;
+    HOLDS(at->job == NULL);
+    asked++;
+}
+
 // Opens what is stored.
 static void open_host(station *at)
 {
     store_value value = {
         at->stored, at->length, at->end, false, at->end, at->has_entries ? 0 : 1000000};
-    host_calls calls = {at, on_send, on_answer, on_save};
+    host_calls calls = {at, on_send, on_answer, on_save, rewrites ? on_rewrite : NULL};
     int status = host_open(&at->host, &value, at->number, at->nonce, &options, &calls, at->now);
     HOLDS(status == MARKRING_OK);
 }
@@ -164,6 +184,7 @@ static void finish_save(station *at, store_status status)
         HOLDS(to.ok);
         at->end += length;
     } else if (status == STORE_OK) {
+        at->wholes++;
         free(at->stored);
         at->length = job->length;
         at->end = STORE_HEAD + job->length + STORE_TAIL;
@@ -1548,7 +1569,7 @@ static void test_bytes_growth(void)
     HOLDS(refused > 0 && image_of(&at) > MOST && set_bytes(&at, 1, 1, 1) != MARKRING_OK);
     // What needs no room is done.
     HOLDS(patch(&at, 1, 0, 2, LENGTH) == MARKRING_OK && has(&at, 1, 1, LENGTH, 0, 2, LENGTH));
-    options.image_most = 0;
+    options.image_most = 100 * MOST;
     drop(&at);
     open_host(&at);
     settle(&at, STORE_OK);
@@ -1557,6 +1578,17 @@ static void test_bytes_growth(void)
         expect_bound(&at);
         HOLDS(at.host->size < 10 * MOST);
     }
+    drop(&at);
+    // Without a limit nobody looks at the size of a large image, which takes as long as making it.
+    options.image_most = 0;
+    open_host(&at);
+    settle(&at, STORE_OK);
+    at.host->measured = (1 << 20) + 1;
+    looks = at.wholes = 0;
+    for (int i = 0; i < 200; i++) {
+        HOLDS(set_bytes(&at, 1, 1, (uint32_t)(i % 2) * LENGTH) == MARKRING_OK);
+    }
+    HOLDS(looks == 0 && at.wholes == 0);
     drop(&at);
     free(at.stored);
     // Bytes that are replaced by none.
@@ -1568,6 +1600,110 @@ static void test_bytes_growth(void)
     HOLDS(image_of(&at) < MOST);
     drop(&at);
     free(at.stored);
+}
+
+// ## Rewrites
+
+enum { REWRITE_LENGTH = 300, REWRITE_LEAST = 4000 };
+
+// Performs events until the host has asked as often, or saves a whole value. Returns how many bytes
+// the entries have then.
+static size_t add_entries(station *at, int until)
+{
+    int wholes = at->wholes;
+    for (int i = 0; i < 200 && asked < until && at->wholes == wholes; i++) {
+        HOLDS(set_bytes(at, 1, 1, REWRITE_LENGTH) == MARKRING_OK);
+    }
+    return at->host->entries;
+}
+
+static void begin_rewrites(station *at)
+{
+    rewrites = true;
+    asked = 0;
+    options.entries_least = REWRITE_LEAST;
+    make_with_bytes(at, REWRITE_LENGTH, true);
+    HOLDS(add_entries(at, 1) < 2 * REWRITE_LEAST && asked == 1);
+    at->wholes = 0;
+}
+
+static void end_rewrites(station *at)
+{
+    drop(at);
+    free(at->stored);
+    rewrites = false;
+    options.entries_least = 0;
+}
+
+// The value that a rewrite makes takes the place of what is stored, with what is added meanwhile.
+static void test_rewrite(void)
+{
+    station at;
+    begin_rewrites(&at);
+    store_value stored = {at.stored, at.length, at.end, false, at.end, 0}, whole = {0};
+    HOLDS(host_rewrite(&stored, &whole) == MARKRING_OK);
+    size_t before = at.end;
+    HOLDS(set_bytes(&at, 1, 1, 7) == MARKRING_OK && at.end > before && at.wholes == 0);
+    size_t added = at.end - before;
+    uint8_t *joined = malloc(whole.room + added);
+    memcpy(joined, whole.buffer, whole.room);
+    memcpy(joined + whole.room, at.stored + before, added);
+    free(at.stored);
+    free(whole.buffer);
+    at.stored = joined;
+    at.length = whole.length;
+    at.end = whole.room + added;
+    host_rewritten(at.host, STORE_OK, at.length, added);
+    // The host goes on with entries, and asks again when there are too many.
+    HOLDS(at.host->entries == added && asked == 1);
+    HOLDS(add_entries(&at, 2) < 2 * REWRITE_LEAST && asked == 2 && at.wholes == 0);
+    size_t image = image_of(&at);
+    drop(&at);
+    open_host(&at);
+    settle(&at, STORE_OK);
+    HOLDS(image_of(&at) == image && has(&at, 1, 1, REWRITE_LENGTH, 0, 0, 0));
+    end_rewrites(&at);
+}
+
+// A rewrite that comes to no end, or is given up: entries are added up to twice the limit; then the
+// host makes a whole value, and a later rewrite is another one.
+static void test_rewrites_given_up(void)
+{
+    for (int fails = 0; fails < 2; fails++) {
+        station at;
+        begin_rewrites(&at);
+        if (fails) {
+            host_rewritten(at.host, STORE_MEMORY, 0, 0);
+        }
+        (void)add_entries(&at, 2);
+        HOLDS(asked == 1 && at.wholes == 1);
+        if (!fails) {
+            // What comes late counts for nothing.
+            size_t entries = at.host->entries;
+            host_rewritten(at.host, STORE_OK, 1, 123456);
+            HOLDS(at.host->entries == entries);
+        }
+        (void)add_entries(&at, 2);
+        HOLDS(asked == 2 && at.wholes == 1);
+        end_rewrites(&at);
+    }
+    station at;
+    begin_rewrites(&at);
+    host_rewritten(at.host, STORE_UNKNOWN, 0, 0);
+    HOLDS(host_ended(at.host) == HOST_UNSURE);
+    end_rewrites(&at);
+}
+
+// What isn't a saved node isn't made one.
+static void test_rewrite_refused(void)
+{
+    station at;
+    begin_rewrites(&at);
+    store_value stored = {at.stored, at.length, at.end, false, at.end, 0}, whole = {0};
+    at.stored[STORE_HEAD + 1] ^= 0x40;
+    HOLDS(host_rewrite(&stored, &whole) == MARKRING_BAD_IMAGE && whole.buffer == NULL);
+    at.stored[STORE_HEAD + 1] ^= 0x40;
+    end_rewrites(&at);
 }
 
 // A node whose image is larger than that of a plain space may be: it is saved, takes messages and
@@ -1751,7 +1887,7 @@ static void test_results(void)
         settle(&at, STORE_OK);
         drop(&at);
         store_value value = {at.stored, at.length, at.end, false, at.end, 0};
-        host_calls calls = {&at, on_send, on_answer, on_save};
+        host_calls calls = {&at, on_send, on_answer, on_save, NULL};
         int status = host_open(&at.host, &value, at.number, NONCE, &options, &calls, at.now);
         HOLDS(status == (count > REQUEST_EVENTS ? MARKRING_BAD_IMAGE : MARKRING_OK));
         drop(&at);
@@ -1811,6 +1947,37 @@ static void test_swept_bytes(void)
     host_control(pair[0].host, pair[0].now, "begin", 5, "r");
     go_on(100, 10);
     HOLDS(live(&pair[0]) == 0 && image_of(&pair[0]) < LENGTH / 10);
+    drop_pair();
+}
+
+// More objects than one turn scans: the next turn is due at once, until all are scanned and swept.
+static void test_work_that_is_left(void)
+{
+    enum { OBJECTS = 600 };
+    markring_answer answer;
+    uint32_t few = slots;
+    int turns = 0;
+    slots = OBJECTS;
+    make_pair();
+    slots = few;
+    go_on(20, 10);
+    markring_node *node = host_node(pair[0].host);
+    for (int i = 0; i < OBJECTS; i++) {
+        HOLDS(markring_node_alloc(node, 1, 1, &answer) == MARKRING_OK);
+        HOLDS(i == 0 || markring_node_store(node, 1, 0, 0, &answer) == MARKRING_OK);
+        HOLDS(markring_node_copy(node, 0, 1, &answer) == MARKRING_OK);
+    }
+    host_changed(pair[0].host);
+    go_on(20, 10);
+    HOLDS(host_wait(pair[0].host, pair[0].now) > 0);
+    host_control(pair[0].host, pair[0].now, "begin", 5, "r");
+    do {
+        turn(&pair[0], 10, STORE_OK);
+        turns++;
+    } while (host_wait(pair[0].host, pair[0].now) == 0 && turns < 10);
+    HOLDS(turns == 3);
+    go_on(100, 10);
+    HOLDS(live(&pair[0]) == OBJECTS && host_wait(pair[0].host, pair[0].now) > 0);
     drop_pair();
 }
 
@@ -2133,6 +2300,9 @@ int main(void)
     test_bytes_wait();
     test_held_bytes();
     test_bytes_growth();
+    test_rewrite();
+    test_rewrites_given_up();
+    test_rewrite_refused();
     test_results();
     test_pace();
     test_absence();
@@ -2144,6 +2314,7 @@ int main(void)
     test_gets();
     test_waiting();
     test_swept_bytes();
+    test_work_that_is_left();
     printf("%lu passed, %lu failed\n", passed, failed);
     return failed != 0 || passed == 0;
 }

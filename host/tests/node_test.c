@@ -345,6 +345,26 @@ static void test_openings(void)
     HOLDS(end_hearing(": Too many open files\n") == 2);
 }
 
+// Those of databases; tests/database has the others, which need a server.
+static void test_openings_of_databases(void)
+{
+    static const keeper at = {.is_database = true};
+    begin_hearing();
+    HOLDS(keeper_explain(&at, STORE_MEMORY) == LEAVE_SYSTEM);
+    HOLDS(keeper_explain(&at, STORE_ABSENT) == LEAVE_ABSENT);
+    HOLDS(keeper_explain(&at, STORE_EXISTS) == LEAVE_EXISTS);
+    HOLDS(keeper_explain(&at, STORE_OTHER) == LEAVE_OTHER);
+    HOLDS(keeper_explain(&at, STORE_DAMAGED) == LEAVE_DAMAGED);
+    HOLDS(keeper_explain(&at, STORE_MISSING) == LEAVE_MISSING);
+    HOLDS(keeper_explain(&at, STORE_TAKEN) == LEAVE_OLDER);
+    HOLDS(end_hearing("from one dump\n") == 2);
+    for (int status = LEAVE_USAGE; status <= LEAVE_MISSING; status++) {
+        bool is_passing = status == LEAVE_SYSTEM || status == LEAVE_AWAY || status == LEAVE_READS
+            || status == LEAVE_FULL || status == LEAVE_IN_USE;
+        HOLDS(leave_may_pass(status) == is_passing);
+    }
+}
+
 // Each word of `create` at its limit, and one past it.
 static void test_words(void)
 {
@@ -376,7 +396,7 @@ static host_shape shape_in(const char *folder)
     keeper it;
     host *node = NULL;
     host_shape shape = {0};
-    if (keeper_begin(&it, folder) == 0 && open_folder(&it, &node) == 0) {
+    if (keeper_begin(&it, folder) == 0 && open_folder(&it, &node, false) == 0) {
         shape = *host_is(node);
         host_free(node);
         keeper_close(&it);
@@ -494,6 +514,15 @@ static void test_connection_lines(void)
         model_connect(model.last);
         look_soon();
         HOLDS(at.is_connected && end_hearing("there again") == 1);
+        // A look may see the connection before its event comes.
+        model.is_away = true;
+        look_soon();
+        begin_hearing();
+        model.is_away = false;
+        look_soon();
+        model_connect(model.last);
+        look_soon();
+        HOLDS(at.is_connected && end_hearing("there again") == 1);
     }
 }
 
@@ -602,7 +631,7 @@ static void test_restore(void)
     HOLDS(end_hearing("space test fedcba9876543210, node 1 of 2, 8 registers, 64 slots") == 2);
     host *it = NULL;
     keeper opened;
-    HOLDS(keeper_begin(&opened, folder) == 0 && open_folder(&opened, &it) == 0);
+    HOLDS(keeper_begin(&opened, folder) == 0 && open_folder(&opened, &it, false) == 0);
     HOLDS(host_is(it)->own == 1 && host_is(it)->limit == 5 && keeper_number(&opened) == 5);
     host_free(it);
     keeper_close(&opened);
@@ -706,20 +735,21 @@ static void start(void)
 
 int main(void)
 {
-    pthread_t saves, signals;
+    pthread_t saves, rewrites, signals;
     model.published = on_published;
     HOLDS(mkdtemp(place) != NULL);
-    HOLDS(start_threads(&at, &saves, &signals));
+    HOLDS(start_threads(&at, &saves, &rewrites, &signals));
     start();
     static void (*const tests[])(void) = {test_addresses, test_denials, test_late_calls,
-        test_refusals, test_payload, test_floods, test_long_messages, test_openings, test_words,
+        test_refusals, test_payload, test_floods, test_long_messages, test_openings,
+        test_openings_of_databases, test_words,
         test_wide_words, test_create_options, test_connection_lines, test_looks, test_options, test_restore, test_saves, test_signal};
     for (size_t i = 0; i < sizeof tests / sizeof *tests; i++) {
         tests[i]();
         // The connection, and the subscription.
         HOLDS(model.alive == 2);
     }
-    end_saver(&at, saves);
+    end_saver(&at, saves, rewrites);
     disconnect_node(&at);
     host_free(at.host);
     keeper_close(&at.keeper);

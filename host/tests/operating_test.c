@@ -313,6 +313,29 @@ static void test_busy_manager(void)
     close(manager);
 }
 
+// A process on standby is ready at once, and shows that it lives.
+static void test_standby(void)
+{
+    service it;
+    char name[PATH + 16];
+    host_view view = {.counts.saves = 1};
+    snprintf(name, sizeof name, "@%s/standby", place);
+    make_manager(name);
+    setenv("WATCHDOG_USEC", "3000000", 1);
+    service_begin(&it);
+    service_wait(&it, 1000);
+    HOLDS(strcmp(told(), "READY=1\nSTATUS=on standby") == 0 && strcmp(told(), "WATCHDOG=1") == 0);
+    service_wait(&it, 1999);
+    HOLDS(strcmp(told(), "") == 0);
+    service_wait(&it, 2000);
+    HOLDS(strcmp(told(), "WATCHDOG=1") == 0);
+    // It runs the node then, of which systemd hears how it is.
+    service_turn(&it, 2001, &view, true);
+    HOLDS(strncmp(told(), "STATUS=node 0", 13) == 0 && strcmp(told(), "") == 0);
+    unsetenv("WATCHDOG_USEC");
+    close(manager);
+}
+
 static void test_service(void)
 {
     char name[PATH + 16];
@@ -363,6 +386,7 @@ static void test_service(void)
         close(manager);
     }
     test_busy_manager();
+    test_standby();
     unsetenv("NOTIFY_SOCKET");
     service it;
     host_view view = {.counts.saves = 1};

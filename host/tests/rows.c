@@ -101,13 +101,27 @@ static void clear_below(rows_table *at, const database_row *row)
     at->count -= gone;
 }
 
+static void sweep_table(rows_table *at, uint64_t base)
+{
+    size_t kept = 0;
+    for (size_t i = 0; i < at->count; i++) {
+        if (at->pieces[i].is_rewrite && at->pieces[i].number != base) {
+            free(at->pieces[i].bytes);
+        } else {
+            at->pieces[kept++] = at->pieces[i];
+        }
+    }
+    at->count = kept;
+}
+
 // ## Statements that are late
 
 void rows_arrive(rows *it)
 {
     for (int i = 0; i < it->late_count; i++) {
         rows_statement *late = &it->late[i];
-        bool is_done = move_row(&it->table, &late->from, &late->to);
+        bool is_done = late->holder != 0 ? it->table.row.holder == late->holder
+                                         : move_row(&it->table, &late->from, &late->to);
         it->overtaken += !is_done;
         if (is_done && late->has_piece) {
             (void)put_piece(&it->table, &late->piece);
@@ -121,7 +135,7 @@ static void delay(rows *it, const database_row *from, const database_row *to, co
 {
     if (it->late_count < ROWS_LATE) {
         rows_statement *late = &it->late[it->late_count++];
-        *late = (rows_statement){*from, *to, {0, 0, false, NULL, 0}, piece != NULL};
+        *late = (rows_statement){*from, *to, {0, 0, false, false, NULL, 0}, piece != NULL, 0};
         if (piece != NULL) {
             late->piece = copy_of(piece);
         }
@@ -134,6 +148,7 @@ void rows_take(rows *it, rows_client *from)
         it->table.row.holder = 1 + below_number(it->seed, UINT32_MAX - 1);
         it->table.row.session = 1;
         it->table.row.beat++;
+        sweep_table(&it->table, it->table.row.base);
     }
 }
 
@@ -297,7 +312,7 @@ static database_status move(void *context, const database_row *from, const datab
 
 static rows_piece piece_of(const database_piece *piece)
 {
-    return (rows_piece){piece->number, piece->part, piece->is_entry,
+    return (rows_piece){piece->number, piece->part, piece->is_entry, piece->is_rewrite,
         (uint8_t *)(uintptr_t)piece->bytes, piece->length};
 }
 
@@ -324,6 +339,54 @@ static database_status put(void *context, const database_piece *piece)
     }
     note_number(it, piece);
     return put_piece(table_of(it), &held) ? DATABASE_DONE : refuse(it);
+}
+
+static database_status put_apart(void *context, uint64_t holder, const database_piece *piece)
+{
+    rows_client *it = context;
+    rows_piece held = piece_of(piece);
+    rows_fault fault = enter(it);
+    if (fault == ROWS_REFUSES) {
+        return refuse(it);
+    }
+    if (fault == ROWS_LATER && it->server->late_count < ROWS_LATE) {
+        static const database_row none;
+        delay(it->server, &none, &none, &held);
+        it->server->late[it->server->late_count - 1].holder = holder;
+    }
+    if (fault == ROWS_BEFORE || fault == ROWS_LATER) {
+        return lose(it);
+    }
+    bool is_holder = it->server->table.row.holder == holder;
+    if (is_holder && !put_piece(&it->server->table, &held)) {
+        return refuse(it);
+    }
+    return answer(it, fault, is_holder);
+}
+
+static database_status find_parts(void *context, uint64_t number, uint32_t parts)
+{
+    rows_client *it = context;
+    uint32_t count = 0;
+    rows_fault fault = enter(it);
+    if (fault != ROWS_NO_FAULT) {
+        return fault == ROWS_REFUSES ? refuse(it) : lose(it);
+    }
+    for (size_t i = 0; i < it->work.count; i++) {
+        count += it->work.pieces[i].number == number && it->work.pieces[i].is_rewrite;
+    }
+    return answer(it, fault, count == parts);
+}
+
+static database_status sweep(void *context, uint64_t base)
+{
+    rows_client *it = context;
+    rows_fault fault = enter(it);
+    if (fault != ROWS_NO_FAULT) {
+        return fault == ROWS_REFUSES ? refuse(it) : lose(it);
+    }
+    sweep_table(&it->work, base);
+    return DATABASE_DONE;
 }
 
 static database_status save(
@@ -371,8 +434,10 @@ static database_status read_pieces(void *context, uint64_t base, database_taker 
     }
     for (size_t i = 0; i < it->work.count; i++) {
         const rows_piece *at = &it->work.pieces[i];
-        database_piece piece = {at->number, at->part, at->is_entry, at->bytes, at->length};
-        if (at->number >= base && !take(to, &piece)) {
+        database_piece piece = {
+            at->number, at->part, at->is_entry, at->is_rewrite, at->bytes, at->length};
+        bool counts = at->number >= base && (!at->is_rewrite || at->number == base);
+        if (counts && !take(to, &piece)) {
             end_transaction(it);
             it->is_connected = false;
             return DATABASE_MEMORY;
@@ -402,7 +467,7 @@ static void note(void *context, bool is_lost)
 database_calls rows_calls(rows_client *it)
 {
     return (database_calls){it, connect_client, disconnect, begin, commit, lock, add, move, put, save,
-        clear, read_pieces, pause_client, note};
+        clear, put_apart, find_parts, sweep, NULL, read_pieces, pause_client, note};
 }
 
 void rows_kill(rows_client *it)

@@ -10,7 +10,7 @@ enum { ROWS_LATE = 4, ROWS_NUMBERS = 4096 };
 typedef struct rows_piece {
     uint64_t number;
     uint32_t part;
-    bool is_entry;
+    bool is_entry, is_rewrite;
     uint8_t *bytes;
     size_t length;
 } rows_piece;
@@ -28,6 +28,7 @@ typedef struct rows_statement {
     database_row from, to;
     rows_piece piece;
     bool has_piece;
+    uint64_t holder; // of a piece of a rewrite; else 0
 } rows_statement;
 
 typedef struct rows {

@@ -7,6 +7,10 @@
 // A third of the spaces are wide: their programs use the last registers and places of many, bytes of
 // objects, letters with bytes and several references, and what is fetched from other nodes.
 //
+// If no program has registers for itself, each keeps a weak table of all that it made, and resolves
+// some of it. Entries go once, with their words, as the node hands out what it freed, or as a walk
+// misses it. At checkpoints, just what the model reaches is left.
+//
 //     sim SEEDS [FIRST [STEPS]]
 #include "../inside.h"
 #include "disk.h"
@@ -121,7 +125,10 @@ void *__wrap_realloc(void *block, size_t size)
 
 typedef struct object {
     markring_ref name;
-    uint8_t owner;
+    uint8_t owner, maker; // the node, and the program
+    // For each program of its node: whether it was handed out as freed, or a walk has missed it; and
+    // whether this walk has found it.
+    bool is_gone[PARTS], is_listed[PARTS], is_seen[PARTS];
     uint32_t content[PLACES]; // as last written by a request that was answered; 0 for nothing
     uint8_t bytes[BYTES];     // the same of its bytes
     uint32_t length;
@@ -254,6 +261,14 @@ typedef struct station {
     store store;
     store_value *job; // a save that is under way
     uint64_t job_ends;
+    // A rewrite of what the folder has; from when on its long part is done.
+    enum { REWRITE_NONE, REWRITE_ASKED, REWRITE_BEGUN, REWRITE_WRITTEN } stage;
+    uint64_t rewrite_at;
+    store_rewrite again;
+    database_rewrite again_apart; // over another connection
+    rows_client apart;
+    bool has_rewritten; // the last save ended it
+    bool is_rewritten;  // and its value counts
     uint64_t starts_at; // if it has no host
     bool touched;       // something came since the last turn
     uint64_t full_until; // its disk has no room
@@ -281,6 +296,11 @@ typedef struct part {
     uint64_t reads, reading; // the last reading or waiting, and the one that waits for its answer
     uint16_t from_register;  // a reading of bytes
     uint32_t from_byte, wanted;
+    // What was freed is listed for it, from there on. While it walks: the next slot, and how many
+    // objects were known before. `is_done`: nothing more came. `heard`: the last place that came.
+    markring_remote_since since, heard;
+    bool is_tracking, is_walking, is_done;
+    uint32_t slot, known;
 } part;
 
 typedef struct packet {
@@ -300,8 +320,9 @@ static uint64_t now, limit;
 static bool is_apart; // programs have registers for themselves
 static bool is_wide;
 static bool is_kept_in_database;
-static unsigned long takeovers, surprised, doubtful, overtaken;
+static unsigned long rewrites, rewrites_apart, fenced, rewrites_failed, takeovers, surprised, doubtful, overtaken;
 static bool is_calm;  // no faults
+static bool is_draining; // weak tables are being compared
 static bool is_quick; // saves take a few milliseconds
 static bool is_still; // nobody asks for cycles
 static bool is_flood; // nobody accepts letters
@@ -309,6 +330,8 @@ static uint64_t byte_limit;
 static packet net[NET];
 static int in_net;
 static unsigned long full, tight, readings, byte_readings, byte_events, posted, fetched, no_rooms;
+static unsigned long resolved, unresolved, freed_entries, missed, lists_lost, refused_apart;
+static uint64_t freed_most; // in a list
 static unsigned long unseen; // snapshots that made as many saves again before they met a node
 static unsigned long crashes, powers, cycles, answered, lost, requests, checkpoints, mixed,
     failed_saves, failed_calls, stops, stopped, barely, again, snapshots, floods, absences,
@@ -350,7 +373,7 @@ static station *station_of(void *context)
 
 static bool is_dead(const station *at)
 {
-    return at->disk.dead || at->client.dead;
+    return at->disk.dead || at->client.dead || at->apart.dead;
 }
 
 static void on_send(void *context, uint8_t to, const uint8_t *bytes, size_t length)
@@ -385,6 +408,13 @@ static void on_save(void *context, store_value *value)
     at->job_ends = now + (is_quick ? below(10) : below(3) == 0 ? below(60) : 0);
 }
 
+static void on_rewrite(void *context)
+{
+    station *at = station_of(context);
+    HOLDS(at->stage == REWRITE_NONE && at->job == NULL);
+    at->stage = REWRITE_ASKED;
+}
+
 static uint64_t due_after(const station *at)
 {
     bool was = in_host;
@@ -396,12 +426,14 @@ static uint64_t due_after(const station *at)
 static void stop(station *at, bool power)
 {
     at->job = NULL;
+    at->stage = REWRITE_NONE;
     if (is_kept_in_database) {
         bool has_left = at->host != NULL && host_ended(at->host) == HOST_LEFT;
         if (has_left && !at->client.dead && now >= at->serves_at) {
             database_close(&at->base);
         }
         rows_kill(&at->client);
+        rows_kill(&at->apart);
     } else if (!at->disk.dead) {
         store_close(&at->store);
     }
@@ -427,6 +459,9 @@ static void arm(station *at)
     at->client.losing = wild ? 1 + below(300) : is_calm ? 0 : below(20) == 0 ? 30 : 0;
     at->client.refusing = at->disk.without_memory ? 1000 : 0;
     at->client.dies_in = at->disk.dies_in;
+    at->apart.losing = at->client.losing;
+    at->apart.refusing = at->client.refusing;
+    at->apart.dies_in = at->client.dies_in;
     refuse_in = !is_calm && below(60) == 0 ? 1 + below(12) : 0;
     in_host = true;
 }
@@ -437,11 +472,12 @@ static void disarm(station *at)
     in_host = false;
     refuse_in = 0;
     at->disk.failing = at->client.losing = at->client.refusing = 0;
+    at->apart.losing = at->apart.refusing = 0;
     at->disk.without_memory = false;
     if (is_dead(at)) {
         stop(at, below(2) == 0);
     } else {
-        at->disk.dies_in = at->client.dies_in = 0;
+        at->disk.dies_in = at->client.dies_in = at->apart.dies_in = 0;
     }
 }
 
@@ -499,16 +535,94 @@ static uint64_t number_of(const station *at)
     return is_kept_in_database ? at->base.number : at->store.number;
 }
 
+// The long part of a rewrite, which another thread does.
+static store_status write_again(station *at)
+{
+    store_value stored = {NULL, 0, 0, false, 0, 0}, whole = stored;
+    store_status status = is_kept_in_database ? database_rewrite_read(&at->again_apart, &stored)
+                                              : store_rewrite_read(&at->again, &stored);
+    if (status != STORE_OK) {
+        return status;
+    }
+    int made = host_rewrite(&stored, &whole);
+    HOLDS(made == MARKRING_OK || made == MARKRING_MEMORY);
+    free(stored.buffer);
+    status = made != MARKRING_OK     ? STORE_MEMORY
+        : is_kept_in_database ? database_rewrite_write(&at->again_apart, &whole)
+                              : store_rewrite_write(&at->again, &whole);
+    free(whole.buffer);
+    return status == STORE_OK && !is_kept_in_database && below(2) == 0
+        ? store_rewrite_follow(&at->again, at->store.end)
+        : status;
+}
+
+static void rewrite(station *at)
+{
+    if (at->host == NULL || at->stage != REWRITE_BEGUN || now < at->rewrite_at) {
+        return;
+    }
+    arm(at);
+    store_status status = write_again(at);
+    at->stage = status == STORE_OK ? REWRITE_WRITTEN : REWRITE_NONE;
+    if (status != STORE_OK && !is_dead(at)) {
+        rewrites_failed++;
+        host_rewritten(at->host, status, 0, 0);
+    }
+    at->touched = true;
+    disarm(at);
+    expect_end(at);
+}
+
+// A save in a folder, which may begin or end a rewrite.
+static store_status save_in_folder(station *at, store_value *value)
+{
+    if (at->stage == REWRITE_ASKED && value->is_entry) {
+        store_rewrite_begin(&at->store, &at->again);
+        at->stage = REWRITE_BEGUN;
+        at->rewrite_at = now + (below(2) == 0 ? below(200) : 0);
+    }
+    if (!value->is_entry) {
+        at->stage = REWRITE_NONE;
+    }
+    if (at->stage != REWRITE_WRITTEN) {
+        return store_save(&at->store, value);
+    }
+    at->stage = REWRITE_NONE;
+    at->has_rewritten = true;
+    return store_rewrite_end(&at->store, &at->again, value);
+}
+
+// A save in a database, which may begin or end a rewrite.
+static store_status save_in_database(station *at, store_value *value)
+{
+    if (at->stage == REWRITE_ASKED && value->is_entry) {
+        at->apart = (rows_client){.server = at->client.server};
+        database_calls calls = rows_calls(&at->apart);
+        database_rewrite_begin(&at->base, &calls, &at->again_apart);
+        at->stage = REWRITE_BEGUN;
+        at->rewrite_at = now + (below(2) == 0 ? below(2000) : 0);
+    }
+    if (!value->is_entry) {
+        at->stage = REWRITE_NONE;
+    }
+    if (at->stage != REWRITE_WRITTEN) {
+        return database_save(&at->base, value);
+    }
+    at->stage = REWRITE_NONE;
+    at->has_rewritten = true;
+    return database_rewrite_end(&at->base, &at->again_apart, value, &at->is_rewritten);
+}
+
 // A save of the holder counts, and no other one does.
 static store_status save_in_place(station *at, store_value *value)
 {
     if (!is_kept_in_database) {
-        return store_save(&at->store, value);
+        return save_in_folder(at, value);
     }
     const rows *in = at->client.server;
     bool is_holder = in->table.row.holder == at->base.row.holder;
     uint64_t session = at->base.session;
-    store_status status = database_save(&at->base, value);
+    store_status status = save_in_database(at, value);
     HOLDS(is_dead(at) || status != STORE_OK || (is_holder && in->table.row.number == at->base.number));
     HOLDS(is_dead(at) || is_holder == (status != STORE_TAKEN));
     HOLDS(at->client.used_twice == 0);
@@ -520,7 +634,7 @@ static store_status save_in_place(station *at, store_value *value)
 static int start(station *at)
 {
     store_value value = {NULL, 0, 0, false, 0, 0};
-    host_calls events = {at, on_send, on_answer, on_save};
+    host_calls events = {at, on_send, on_answer, on_save, on_rewrite};
     arm(at);
     store_status status = open_place(at, &value);
     int opened = MARKRING_MEMORY;
@@ -535,6 +649,9 @@ static int start(station *at)
             mixed_nonces[mixed_count++] = nonce;
         }
         HOLDS(opened == MARKRING_OK || opened == MARKRING_MEMORY);
+        if (opened == MARKRING_OK) {
+            at->host->freed.most = freed_most;
+        }
         for (uint8_t node = 0; node < nodes && at->has_left && opened == MARKRING_OK; node++) {
             const process *known = &at->host->peers[node].known, *left = &at->known[node];
             HOLDS(known->nonce == left->nonce && known->saves == left->saves);
@@ -553,6 +670,23 @@ static int start(station *at)
     return opened;
 }
 
+// The save with this status has ended a rewrite.
+static void tell_rewritten(station *at, store_status status)
+{
+    const store *in = &at->store;
+    size_t whole = (size_t)in->length;
+    size_t entries = (size_t)in->end - STORE_HEAD - whole - STORE_TAIL;
+    if (is_kept_in_database) {
+        whole = at->again_apart.length;
+        entries = at->base.added - at->again_apart.added;
+        status = at->is_rewritten ? STORE_OK : STORE_FAILED;
+        rewrites_apart += at->is_rewritten;
+    }
+    rewrites += status == STORE_OK;
+    rewrites_failed += status != STORE_OK;
+    host_rewritten(at->host, status, whole, entries);
+}
+
 static void finish_save(station *at)
 {
     store_value *job = at->job;
@@ -560,8 +694,13 @@ static void finish_save(station *at)
     arm(at);
     store_status status = save_in_place(at, job);
     failed_saves += status != STORE_OK;
+    bool has_rewritten = at->has_rewritten;
+    at->has_rewritten = false;
     if (!is_dead(at)) {
         host_saved(at->host, now, status, number_of(at));
+    }
+    if (has_rewritten && !is_dead(at)) {
+        tell_rewritten(at, status);
     }
     at->touched = true;
     disarm(at);
@@ -595,6 +734,7 @@ static void take_turn(station *at)
     if (at->job != NULL && now >= at->job_ends) {
         finish_save(at);
     }
+    rewrite(at);
     renew(at);
     if (at->host == NULL || (!at->touched && due_after(at) > 0)) {
         return;
@@ -620,11 +760,14 @@ static void take_over(uint8_t node)
     }
     *ghost = (station){.node = node, .client = at->client, .base = at->base, .host = at->host,
         .job = at->job, .job_ends = now + below(500), .renew_at = at->renew_at,
-        .serves_at = at->serves_at, .sure_until = at->sure_until};
+        .serves_at = at->serves_at, .sure_until = at->sure_until, .stage = at->stage,
+        .rewrite_at = now + below(500), .again_apart = at->again_apart, .apart = at->apart};
     ghost->disk.seed = &seed;
     ghost->host->calls.context = ghost;
     ghost->base.calls = rows_calls(&ghost->client);
-    at->client = (rows_client){.server = &at->rows};
+    ghost->again_apart.calls = rows_calls(&ghost->apart);
+    at->client = at->apart = (rows_client){.server = &at->rows};
+    at->stage = REWRITE_NONE;
     at->host = NULL;
     at->job = NULL;
     at->starts_at = now;
@@ -637,6 +780,22 @@ static void end_ghost(station *ghost)
     host_free(ghost->host);
     ghost->host = NULL;
     rows_kill(&ghost->client);
+    rows_kill(&ghost->apart);
+}
+
+// The other connection of a process that was taken over puts no pieces of a rewrite any more.
+static void haunt_apart(station *ghost, bool is_holder)
+{
+    const rows *in = ghost->client.server;
+    size_t before = in->table.count;
+    if (ghost->stage != REWRITE_BEGUN || now < ghost->rewrite_at) {
+        return;
+    }
+    ghost->stage = REWRITE_NONE;
+    store_status status = write_again(ghost);
+    HOLDS(is_holder || (status != STORE_OK && in->table.count == before));
+    fenced += status == STORE_TAKEN;
+    host_rewritten(ghost->host, status == STORE_OK ? STORE_FAILED : status, 0, 0);
 }
 
 // A turn of a process that was taken over. It ends as soon as it has to save or to renew.
@@ -649,6 +808,7 @@ static void haunt(station *ghost)
     bool is_holder = in->table.row.holder == ghost->base.row.holder;
     in_host = true;
     ghost->client.losing = is_calm ? 0 : below(3) == 0 ? 100 : 0;
+    haunt_apart(ghost, is_holder);
     if (ghost->job != NULL && now >= ghost->job_ends) {
         store_value *job = ghost->job;
         ghost->job = NULL;
@@ -712,7 +872,7 @@ static void send_request(part *it, uint8_t kind, uint64_t number)
 {
     uint8_t bytes[REQUEST_BYTES + OPERATIONS * (4 + BYTES + 1)];
     writer to = writer_of(bytes, sizeof bytes);
-    uint16_t count = kind == REQUEST_PERFORM ? it->count : 0;
+    uint16_t count = is_performing(kind) ? it->count : 0;
     request_head head = {kind, it->number, it->session, number, count};
     write_request_head(&to, &head);
     if (kind == REQUEST_OPEN_APART || kind == REQUEST_OPEN_APART_LETTERS) {
@@ -737,7 +897,7 @@ static bool is_opening(uint8_t kind)
 static bool has_letters(uint8_t kind)
 {
     return kind == REQUEST_OPEN_LETTERS || kind == REQUEST_OPEN_APART_LETTERS
-        || kind == REQUEST_PERFORM;
+        || is_performing(kind);
 }
 
 static uint16_t random_register(const part *it)
@@ -759,6 +919,28 @@ static void write_reading(part *it, writer *to)
     write_number(to, (uint64_t)first_register() + it->from_register, 2);
     write_number(to, it->from_byte, 4);
     write_number(to, it->wanted, 4);
+}
+
+// Asks for the next step of its weak table: to begin a list, to walk, or for what was freed.
+static void ask_about_freed(part *it)
+{
+    uint8_t bytes[REQUEST_HEAD + READ_FREED];
+    writer to = writer_of(bytes, sizeof bytes);
+    uint8_t kind = !it->is_tracking ? REQUEST_TRACK_FREED
+        : it->is_walking            ? REQUEST_OBJECTS
+                                    : REQUEST_FREED;
+    write_request_head(&to, &(request_head){kind, it->number, it->session, ++it->reads, 1});
+    if (kind == REQUEST_OBJECTS) {
+        write_number(&to, it->slot, 4);
+        write_number(&to, 1 + below(40), 4);
+    } else if (kind == REQUEST_FREED) {
+        write_number(&to, it->since.list, 8);
+        write_number(&to, it->since.number, 8);
+        write_number(&to, 1 + below(20), 4);
+    }
+    it->reading = it->reads;
+    it->asked_at = now;
+    put_in_net(1, (uint8_t)(10 * it->node + it->number), it->node, bytes, to.length);
 }
 
 // Asks what all registers hold, or for bytes of an object, or waits for a letter.
@@ -786,10 +968,14 @@ static void read_something(part *it)
 static void ask(part *it)
 {
     // (programs of earlier versions know no letters)
-    bool knows = is_wide || below(2) == 0;
+    bool knows = is_wide || below(2) == 0, resolves = false;
+    for (uint16_t i = 0; i < it->count; i++) {
+        resolves = resolves || it->events[i].kind == MARKRING_EVENT_RESOLVE;
+    }
+    uint8_t performing = resolves ? REQUEST_PERFORM_RESOLVING : REQUEST_PERFORM;
     uint8_t opening = is_apart ? (knows ? REQUEST_OPEN_APART_LETTERS : REQUEST_OPEN_APART)
                                : (knows ? REQUEST_OPEN_LETTERS : REQUEST_OPEN);
-    send_request(it, it->opened ? REQUEST_PERFORM : opening, it->opened ? it->last + 1 : it->round);
+    send_request(it, it->opened ? performing : opening, it->opened ? it->last + 1 : it->round);
 }
 
 static void add_event(part *it, markring_event event)
@@ -970,13 +1156,39 @@ static void plan_new(part *it, uint16_t reg)
     add_event(it, name);
 }
 
+// An object that this program made, or one that is in a register of its own.
+static uint32_t made_by(const part *it)
+{
+    uint32_t id = it->registers[random_register(it)];
+    for (int tries = 0; tries < 20; tries++) {
+        if (id != 0 && objects[id].owner == it->node && objects[id].maker == it->number) {
+            return id;
+        }
+        id = object_count - 1 - below(object_count < 200 ? object_count : 200);
+    }
+    return 0;
+}
+
+static void plan_resolve(part *it, uint16_t reg, uint32_t id)
+{
+    markring_ref of = objects[id].name;
+    add_event(it, (markring_event){.kind = MARKRING_EVENT_RESOLVE,
+                      .reg = reg,
+                      .node = of.node,
+                      .count = of.slot,
+                      .word = of.generation});
+}
+
 // Thinks of the next request.
 static void plan(part *it)
 {
     uint16_t reg = random_register(it), other = random_register(it);
     uint32_t id = it->registers[reg], kind = below(100);
+    uint32_t back = below(is_apart ? 60 : 10) == 0 ? made_by(it) : 0;
     it->count = 0;
-    if (is_wide && id != 0 && objects[id].owner == it->node && below(4) == 0) {
+    if (back != 0) {
+        plan_resolve(it, reg, back);
+    } else if (is_wide && id != 0 && objects[id].owner == it->node && below(4) == 0) {
         plan_bytes(it, reg);
     } else if (is_wide && register_of_another(it) < REGISTERS && below(4) == 0) {
         plan_fetch(it, register_of_another(it));
@@ -1092,6 +1304,34 @@ static void check_bytes_done(part *it, uint16_t at)
     byte_events++;
 }
 
+// The object that a Resolve names.
+static uint32_t resolved_by(const markring_event *event)
+{
+    return object_named((markring_ref){event->node, event->count, event->word});
+}
+
+// What is gone for good doesn't come back.
+static void check_resolved(part *it, const markring_event *event)
+{
+    uint32_t id = resolved_by(event);
+    for (int i = 0; i < PARTS; i++) {
+        HOLDS(!objects[id].is_gone[i]);
+    }
+    HOLDS(!is_apart);
+    it->registers[event->reg] = id;
+    resolved++;
+}
+
+// Whether one of the program's registers has the object.
+static bool is_held(const part *it, uint32_t id)
+{
+    bool any = false;
+    for (int reg = 0; reg < REGISTERS; reg++) {
+        any = any || it->registers[reg] == id;
+    }
+    return any;
+}
+
 static void check_done(part *it, uint16_t at, const markring_answer *answer, const uint8_t *bytes)
 {
     const markring_event *event = &it->events[at];
@@ -1102,7 +1342,10 @@ static void check_done(part *it, uint16_t at, const markring_answer *answer, con
     case MARKRING_EVENT_ALLOC:
         HOLDS(answer->reference.node == it->node);
         it->registers[event->reg] = new_object(it->node, answer->reference);
+        objects[object_count - 1].maker = it->number;
+        words[(object_count - 1) % (1 << 20)] = 0;
         break;
+    case MARKRING_EVENT_RESOLVE: check_resolved(it, event); break;
     case MARKRING_EVENT_SET_WORD: words[id % (1 << 20)] = event->word; break;
     case MARKRING_EVENT_WORD: HOLDS(answer->number == words[id % (1 << 20)]); break;
     case MARKRING_EVENT_COPY: it->registers[event->reg] = it->registers[event->source]; break;
@@ -1138,6 +1381,12 @@ static bool is_right_refusal(const part *it, uint16_t at, int status)
     bool far_event = event->kind == MARKRING_EVENT_PUT || asks;
     switch (event->kind) {
     case MARKRING_EVENT_ALLOC: return status == MARKRING_ARENA_FULL;
+    case MARKRING_EVENT_RESOLVE:
+        unresolved += status == MARKRING_NO_FIELD;
+        refused_apart += status == MARKRING_APART;
+        return is_apart ? status == MARKRING_APART
+                        : (status == MARKRING_NO_FIELD || status == MARKRING_NOT_NOW)
+                && !is_held(it, resolved_by(event));
     case MARKRING_EVENT_COPY:
         return status == MARKRING_EMPTY_REGISTER && it->registers[event->source] == 0;
     case MARKRING_EVENT_DROP: return status == MARKRING_EMPTY_REGISTER && held == 0;
@@ -1246,6 +1495,121 @@ static void check_bytes(part *it, const answer_head *head, reader *from)
     readings++;
 }
 
+// The object with this name that this program knows; 0 if it doesn't know it yet.
+static uint32_t known_object(markring_ref name)
+{
+    for (uint32_t id = object_count; id-- > 1;) {
+        if (same(objects[id].name, name)) {
+            return id;
+        }
+    }
+    return 0;
+}
+
+// Whether a request of the node is under way, which may have made objects that nobody knows yet.
+static bool may_make(uint8_t node)
+{
+    return parts[node][0].asks || parts[node][1].asks || !parts[node][0].opened
+        || !parts[node][1].opened;
+}
+
+// An entry of the list of what was freed comes once, unless the program has forgotten that it came.
+static bool is_new_entry(part *it, uint64_t number)
+{
+    if (it->heard.list == it->since.list && number <= it->heard.number) {
+        return false;
+    }
+    it->heard = (markring_remote_since){it->since.list, number};
+    return true;
+}
+
+// What was freed: each object once, with its word. It isn't there any more.
+static void check_entries(part *it, const markring_answer *said, reader *from)
+{
+    HOLDS(from->left == said->count * (size_t)FREED_RECORD);
+    HOLDS((uint64_t)said->sum == it->since.list);
+    HOLDS(said->number == it->since.number + said->count);
+    for (uint32_t i = 0; i < said->count; i++) {
+        markring_freed entry;
+        read_freed_record(from, &entry);
+        uint32_t id = known_object(entry.reference);
+        HOLDS(entry.reference.node == it->node && (id != 0 || may_make(it->node)));
+        bool is_new = is_new_entry(it, it->since.number + i + 1);
+        if (id != 0) {
+            HOLDS(objects[id].is_listed[it->number] == !is_new && !is_held(it, id));
+            HOLDS(entry.word == words[id % (1 << 20)]);
+            objects[id].is_gone[it->number] = objects[id].is_listed[it->number] = true;
+            freed_entries++;
+        }
+    }
+    it->since.number = said->number;
+    it->is_done = said->count == 0;
+}
+
+// What the node has. At the end of a walk, what was made before and wasn't found is gone.
+static void check_walk(part *it, const markring_answer *said, reader *from)
+{
+    HOLDS(from->left == said->count * (size_t)OBJECT_RECORD && said->label >= it->slot);
+    for (uint32_t i = 0; i < said->count; i++) {
+        markring_object object;
+        read_object_record(from, &object);
+        uint32_t id = known_object(object.reference);
+        HOLDS(object.reference.node == it->node && (id != 0 || may_make(it->node)));
+        HOLDS(id == 0 || (!objects[id].is_gone[0] && !objects[id].is_gone[1]));
+        objects[id].is_seen[it->number] = true;
+    }
+    it->slot = said->label;
+    it->is_walking = said->done == 0;
+    for (uint32_t id = 1; id < it->known && !it->is_walking; id++) {
+        object *of = &objects[id];
+        if (of->owner == it->node && !of->is_seen[it->number] && !of->is_gone[it->number]) {
+            HOLDS(!is_held(it, id));
+            of->is_gone[it->number] = true;
+            missed++;
+        }
+    }
+}
+
+static void begin_walk(part *it, const markring_answer *said)
+{
+    it->since = (markring_remote_since){(uint64_t)said->sum, said->number};
+    it->is_tracking = true;
+    // (another process of the program may have named a place before)
+    it->is_walking = said->done != 0 || it->slot == 0;
+    it->slot = 0;
+    it->known = object_count;
+    for (uint32_t id = 0; id < object_count; id++) {
+        objects[id].is_seen[it->number] &= objects[id].owner != it->node;
+    }
+}
+
+// The next step of its weak table is answered.
+static void check_table(part *it, const answer_head *head, reader *from)
+{
+    markring_result found;
+    it->reading = 0;
+    if (is_apart) {
+        HOLDS(head->verdict == VERDICT_APART && head->count == 0);
+        refused_apart++;
+        return;
+    }
+    if (head->verdict == VERDICT_LOST) {
+        HOLDS(head->kind == REQUEST_FREED);
+        it->is_tracking = false;
+        it->slot = 0;
+        lists_lost++;
+        return;
+    }
+    read_result(from, &found);
+    HOLDS(head->verdict == VERDICT_DONE && head->count == 1 && found.status == MARKRING_OK);
+    switch (head->kind) {
+    case REQUEST_TRACK_FREED: begin_walk(it, &found.answer); break;
+    case REQUEST_FREED: check_entries(it, &found.answer, from); break;
+    default: check_walk(it, &found.answer, from);
+    }
+    HOLDS(from->ok && from->left == 0);
+}
+
 static void take_answer(part *it, const packet *came)
 {
     answer_head head;
@@ -1272,10 +1636,12 @@ static void take_answer(part *it, const packet *came)
             // It wasn't done. The program thinks of something else.
             it->asks = false;
         }
-    } else if (head.kind != REQUEST_PERFORM) {
+    } else if (!is_performing(head.kind)) {
         if (it->opened && head.number == it->reading) {
             bool is_of_bytes = head.kind == REQUEST_READ_BYTES;
-            (is_of_bytes ? check_bytes : check_reading)(it, &head, &from);
+            (head.kind >= REQUEST_TRACK_FREED ? check_table
+                    : is_of_bytes             ? check_bytes
+                                              : check_reading)(it, &head, &from);
         }
     } else if (it->opened && it->asks && head.number == it->last + 1) {
         if (HOLDS(head.verdict == VERDICT_DONE)) {
@@ -1314,6 +1680,9 @@ static void work(part *it)
         // The program's process ends, and another one speaks for it.
         it->session = random_nonce();
         it->opened = false;
+        // It may have stored how far it was, or asks for that; or nothing of its table.
+        it->is_tracking = it->is_tracking && below(2) == 0;
+        it->is_walking = it->is_walking && it->is_tracking;
         ask(it);
         return;
     }
@@ -1322,9 +1691,12 @@ static void work(part *it)
             ask(it);
         }
     } else if (it->reading > 0) {
-        it->reading = is_calm || now >= it->asked_at + 100 ? 0 : it->reading;
+        bool is_late = (is_calm && !is_draining) || now >= it->asked_at + 100;
+        it->reading = is_late ? 0 : it->reading;
     } else if (!is_calm && below(10) == 0) {
         read_something(it);
+    } else if (!is_calm && below(10) == 0) {
+        ask_about_freed(it);
     } else if (!is_calm && below(3) == 0) {
         plan(it);
         ask(it);
@@ -1571,6 +1943,33 @@ static void expect_objects(void)
     }
 }
 
+// All that was freed comes: what the model reaches is left in the weak tables, and nothing else.
+static void expect_tables(void)
+{
+    uint32_t counts[MOST] = {0};
+    uint8_t *seen = need(calloc(object_count + 1, 1));
+    for (uint8_t node = 0; node < nodes; node++) {
+        for (int reg = 0; reg < REGISTERS; reg++) {
+            reach(parts[node][reg >= FIRST].registers[reg], seen, counts);
+        }
+    }
+    for (uint8_t at = 0; at < nodes * PARTS && !is_apart; at++) {
+        part *it = &parts[at / PARTS][at % PARTS];
+        it->is_done = false;
+        is_draining = true;
+        for (int i = 0; i < 2000 && !it->is_done && failures == 0; i++) {
+            ask_about_freed(it);
+            (void)settle();
+        }
+        is_draining = false;
+        HOLDS(it->is_done);
+        for (uint32_t id = 1; id < object_count; id++) {
+            HOLDS(objects[id].owner != it->node || objects[id].is_gone[it->number] == !seen[id]);
+        }
+    }
+    free(seen);
+}
+
 static void checkpoint(void)
 {
     is_calm = true;
@@ -1579,6 +1978,9 @@ static void checkpoint(void)
     }
     if (failures == 0) {
         expect_objects();
+    }
+    if (failures == 0) {
+        expect_tables();
     }
     is_calm = false;
     checkpoints++;
@@ -2132,7 +2534,9 @@ static void forget_all(void)
         overtaken += stations[node].rows.overtaken;
         host_free(ghosts[node].host);
         rows_kill(&ghosts[node].client);
+        rows_kill(&ghosts[node].apart);
         rows_kill(&stations[node].client);
+        rows_kill(&stations[node].apart);
         rows_free(&stations[node].rows);
         host_free(stations[node].host);
         disk_free(&stations[node].disk);
@@ -2160,6 +2564,7 @@ static void run(unsigned long steps)
     byte_limit = below(2) == 0 ? 0 : 100 + below(2000);
     is_apart = below(2) == 0;
     options = (host_options){.cycle_objects = 40};
+    freed_most = below(3) == 0 ? 1 + below(30) : FREED_MOST;
     // Whole values now and then.
     options.entries_least = below(3) != 0 ? 1 + below(8000) : 0;
     if (below(3) == 0) {
@@ -2174,7 +2579,7 @@ static void run(unsigned long steps)
     for (uint8_t node = 0; node < MOST; node++) {
         stations[node].node = node;
         stations[node].rows.seed = &seed;
-        stations[node].client.server = &stations[node].rows;
+        stations[node].client.server = stations[node].apart.server = &stations[node].rows;
     }
     for (uint8_t node = 0; node < nodes; node++) {
         create(node);
@@ -2220,18 +2625,22 @@ int main(int count, char **given)
            "bytes, %lu objects fetched, %lu letters without room, %lu of %lu "
            "stops answered, %lu folders one save old, %lu started again, %lu snapshots (%lu "
            "unseen), %lu floods, %lu Gets refused, %lu absences, %lu takeovers, %lu noticed, %lu commits in "
-           "doubt, %lu of them overtaken\n",
+           "doubt, %lu of them overtaken, %lu rewrites, %lu in databases, %lu given up, %lu of nodes "
+           "that were taken over, %lu objects resolved, %lu not, %lu listed as freed, %lu found gone, "
+           "%lu lists lost, %lu questions refused beside programs apart\n",
         run_seed - first, requests, answered, crashes, powers, failed_saves, failed_calls, refused,
         lost, cycles, checkpoints, mixed, full, tight, readings, byte_readings, byte_events, posted,
         fetched, no_rooms, stopped, stops, barely, again, snapshots, unseen, floods, congested, absences, takeovers, surprised, doubtful,
-        overtaken);
+        overtaken, rewrites, rewrites_apart, rewrites_failed, fenced, resolved, unresolved,
+        freed_entries, missed, lists_lost, refused_apart);
     bool all = failures == 0
         && (seeds < 40
             || (crashes && powers && failed_saves && refused && mixed && lost && full && tight
                 && readings && byte_readings && byte_events && posted && fetched && no_rooms
                 && stopped && barely && again
                 && snapshots > 10 * unseen && floods && congested && absences && surprised && doubtful
-                && overtaken));
+                && overtaken && rewrites && rewrites_apart && rewrites_failed && fenced
+                && resolved && unresolved && freed_entries && missed && lists_lost && refused_apart));
     printf("%lu passed, %d failed\n", run_seed - first - (failures != 0), !all);
     free(objects);
     free(letters);

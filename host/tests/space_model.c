@@ -91,7 +91,7 @@ static int open_place(place *at)
     static const host_options options = {0};
     size_t end = STORE_HEAD + at->length + STORE_TAIL;
     store_value value = {at->stored, at->length, end, false, end, 1000000000};
-    host_calls calls = {at, on_send, on_answer, on_save};
+    host_calls calls = {at, on_send, on_answer, on_save, NULL};
     at->nonce++;
     return host_open(&at->host, &value, at->number, at->nonce, &options, &calls, now_is);
 }
@@ -103,7 +103,8 @@ static int make_place(place *at, uint8_t own)
     store_value value = {0};
     host_free(at->host);
     free(at->stored);
-    *at = (place){.own = own, .number = 1, .nonce = 100 + own};
+    // (a number beyond those with a sign)
+    *at = (place){.own = own, .number = 1, .nonce = (UINT64_C(1) << 63) + 100 + own};
     int status = host_create(&shape, &value);
     at->stored = value.buffer;
     at->length = value.length;

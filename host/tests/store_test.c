@@ -18,7 +18,7 @@
 enum { LENGTH = 1000, CALLS = 48, MARK = 32, LIVES = 6, SAVES = 12, LONGEST = 9000, TRIES = 300 };
 
 static uint64_t seed = 1;
-static unsigned long passed, failed;
+static unsigned long passed, failed, rewrites;
 
 static void check(bool holds, const char *text, int line)
 {
@@ -452,6 +452,61 @@ static uint64_t last_in(const store_value *it)
     return number;
 }
 
+// A rewrite that goes on beside saves.
+typedef struct rewriting {
+    store_rewrite of;
+    enum { NONE, BEGUN, WRITTEN } stage;
+    uint64_t base; // what counted when it began
+} rewriting;
+
+// Writes one value with what counts.
+static store_status write_again(disk *at, store_rewrite *of, uint64_t kept)
+{
+    store_value old = {NULL, 0, 0, false, 0, 0};
+    store_status status = store_rewrite_read(of, &old);
+    if (status != STORE_OK) {
+        HOLDS(status == STORE_FAILED && (at->failing > 0 || at->dead));
+        return status;
+    }
+    HOLDS(last_in(&old) == kept);
+    store_value whole = any_value(at, last_in(&old), false);
+    status = store_rewrite_write(of, &whole);
+    free(old.buffer);
+    free(whole.buffer);
+    return status;
+}
+
+// A step of a rewrite, or none. Returns whether the process may go on.
+static bool rewrite(disk *at, const store *it, rewriting *now, uint64_t kept)
+{
+    store_status status = STORE_OK;
+    if (now->stage == NONE && below(3) == 0) {
+        store_rewrite_begin(it, &now->of);
+        now->stage = BEGUN;
+        now->base = kept;
+    } else if (now->stage == BEGUN && below(2) == 0) {
+        status = write_again(at, &now->of, now->base);
+        now->stage = status == STORE_OK ? WRITTEN : NONE;
+    } else if (now->stage == WRITTEN && below(2) == 0) {
+        status = store_rewrite_follow(&now->of, it->end);
+        now->stage = status == STORE_OK ? WRITTEN : NONE;
+    }
+    return status != STORE_UNKNOWN;
+}
+
+// Saves, perhaps so that a rewrite ends. It is given up if a whole value is saved, or a save fails.
+static store_status save_beside(store *it, rewriting *now, store_value *value)
+{
+    bool ends = value->is_entry && now->stage == WRITTEN && below(2) == 0;
+    store_status status =
+        ends ? store_rewrite_end(it, &now->of, value) : store_save(it, value);
+    rewrites += ends && status == STORE_OK;
+    if (ends || !value->is_entry || status != STORE_OK) {
+        now->stage = NONE;
+    }
+    return status;
+}
+
 // One process: it finds what was saved last, or a later save that was begun, and saves until
 // something fails or it dies.
 static void live(disk *at, uint64_t *kept, uint64_t *begun)
@@ -468,11 +523,18 @@ static void live(disk *at, uint64_t *kept, uint64_t *begun)
     uint64_t now = last_in(&value);
     HOLDS(now >= *kept && now <= *begun);
     *kept = now;
-    bool is_whole = value.whole > 0;
+    bool is_whole = value.whole > 0, goes_on = true;
+    rewriting again = {.stage = NONE};
     free(value.buffer);
-    for (uint32_t i = below(SAVES); i > 0 && status != STORE_UNKNOWN && !at->dead; i--) {
+    for (uint32_t i = below(SAVES); i > 0 && goes_on && status != STORE_UNKNOWN && !at->dead; i--) {
+        if (status == STORE_OK) {
+            goes_on = rewrite(at, &it, &again, *kept) && rewrite(at, &it, &again, *kept);
+        }
+        if (!goes_on) {
+            break;
+        }
         value = any_value(at, ++*begun, !is_whole && below(5) > 0);
-        status = store_save(&it, &value);
+        status = save_beside(&it, &again, &value);
         *kept = status == STORE_OK ? *begun : *kept;
         is_whole = status != STORE_OK;
         free(value.buffer);
@@ -482,6 +544,7 @@ static void live(disk *at, uint64_t *kept, uint64_t *begun)
 
 static void test_lives(unsigned long times)
 {
+    unsigned long before = rewrites;
     for (unsigned long i = 0; i < times; i++) {
         disk it = fresh();
         uint64_t kept = 1, begun = 1;
@@ -509,6 +572,129 @@ static void test_lives(unsigned long times)
         live(&it, &kept, &begun);
         disk_free(&it);
     }
+    HOLDS(rewrites > before);
+}
+
+// ## Rewrites
+
+// Opens, adds an entry, and rewrites what is there while another one is added; a third one ends that.
+// Returns how many saves succeeded.
+static int work_again(disk *at, bool *unsure)
+{
+    store it;
+    store_calls calls = disk_calls(at);
+    store_value value = {NULL, 0, 0, false, 0, 0};
+    store_rewrite again;
+    store_status status = open_at(&it, &calls, &value);
+    int saved = 0;
+    free(value.buffer);
+    *unsure = status == STORE_UNKNOWN;
+    if (status != STORE_OK) {
+        return 0;
+    }
+    for (uint8_t number = 2; number <= 4 && status == STORE_OK; number++) {
+        way = ENTRIES;
+        value = value_of(number);
+        status = number == 4 ? store_rewrite_end(&it, &again, &value) : store_save(&it, &value);
+        saved += status == STORE_OK;
+        free(value.buffer);
+        if (number == 2 && status == STORE_OK) {
+            way = WHOLE;
+            value = value_of(2);
+            store_rewrite_begin(&it, &again);
+            status = store_rewrite_write(&again, &value);
+            free(value.buffer);
+        }
+        if (number == 3 && status == STORE_OK && below(2) == 0) {
+            status = store_rewrite_follow(&again, it.end);
+        }
+    }
+    *unsure = status == STORE_UNKNOWN;
+    store_close(&it);
+    return saved;
+}
+
+// The process dies at each call of a rewrite, and the machine with it or not.
+static void test_rewrites(unsigned long times)
+{
+    for (unsigned long i = 0; i < times; i++) {
+        for (unsigned long at = 0; at < 2 * CALLS; at++) {
+            disk it = fresh();
+            bool unsure = false;
+            way = ENTRIES;
+            HOLDS(create(&it, 1) == STORE_OK);
+            it.dies_in = at;
+            it.failing = i % 4 == 3 ? 100 : 0;
+            int saved = work_again(&it, &unsure);
+            HOLDS(at > 0 || it.failing > 0 || saved == 3);
+            it.failing = 0;
+            if (i % 2 == 0) {
+                disk_power_off(&it);
+            } else {
+                disk_kill(&it);
+            }
+            int now = found(&it);
+            HOLDS(now == 1 + saved || now == 2 + saved);
+            disk_power_off(&it);
+            HOLDS(found(&it) == now);
+            disk_free(&it);
+        }
+    }
+}
+
+// What a rewrite leaves in which slot, and that each changed byte is found.
+static void test_rewritten(void)
+{
+    disk it = fresh();
+    bool unsure;
+    size_t whole = STORE_HEAD + LENGTH + STORE_TAIL, entry = 16 + LENGTH + STORE_TAIL;
+    way = ENTRIES;
+    HOLDS(create(&it, 1) == STORE_OK && work_again(&it, &unsure) == 3);
+    disk_rest(&it);
+    HOLDS(it.files[0].seen[STORE_HEAD] == 1 && it.files[1].seen[STORE_HEAD] == 2);
+    HOLDS(it.files[1].seen_length == whole + 2 * entry + MARK && found(&it) == 4);
+    for (size_t length = 0; length < whole + 2 * entry; length++) {
+        // (no crash leaves the same save in both)
+        bool is_same = length >= whole + entry;
+        HOLDS(found_in_cut(&it, 1, length) == (is_same ? -100 - STORE_DAMAGED : 3));
+    }
+    HOLDS(rot(&it, 4) == 0);
+    disk_free(&it);
+}
+
+// What counts has changed on the disk since it was written: it isn't taken into the new value.
+static void test_rewrite_of_rot(void)
+{
+    disk it = fresh();
+    store at;
+    store_calls calls = disk_calls(&it);
+    store_value value = {NULL, 0, 0, false, 0, 0};
+    store_rewrite again;
+    way = ENTRIES;
+    HOLDS(create(&it, 1) == STORE_OK);
+    HOLDS(store_open(&at, &calls, "folder", &value) == STORE_OK);
+    free(value.buffer);
+    store_rewrite_begin(&at, &again);
+    it.files[0].seen[STORE_HEAD + 5] ^= 1;
+    HOLDS(store_rewrite_read(&again, &value) == STORE_DAMAGED);
+    it.files[0].seen[STORE_HEAD + 5] ^= 1;
+    HOLDS(store_rewrite_read(&again, &value) == STORE_OK && number_in(&value) == 1);
+    HOLDS(store_rewrite_write(&again, &value) == STORE_OK);
+    free(value.buffer);
+    value = value_of(2);
+    uint64_t place = at.end;
+    HOLDS(store_save(&at, &value) == STORE_OK);
+    free(value.buffer);
+    it.files[0].seen[place + 20] ^= 1;
+    HOLDS(store_rewrite_follow(&again, at.end) == STORE_DAMAGED);
+    value = value_of(3);
+    HOLDS(store_rewrite_end(&at, &again, &value) == STORE_FAILED && at.counts == 0);
+    it.files[0].seen[place + 20] ^= 1;
+    HOLDS(store_rewrite_end(&at, &again, &value) == STORE_OK && at.counts == 1);
+    free(value.buffer);
+    store_close(&at);
+    HOLDS(found(&it) == 3);
+    disk_free(&it);
 }
 
 static int64_t (*real_write)(void *, int, const uint8_t *, size_t, uint64_t);
@@ -675,6 +861,9 @@ int main(int count, char **given)
     test_forgeries();
     test_garbage(50 * times);
     test_lives(5 * times);
+    test_rewrites(times);
+    test_rewritten();
+    test_rewrite_of_rot();
     test_failed_sync(times);
     test_failed_write();
     test_versions();

@@ -1,8 +1,9 @@
-// Collections by markring_collect.h: rings of objects across nodes, letters beyond a window, stores
-// that fail, closed cells. What is expected comes from docs/RULES.md and from the header.
+// Collections by markring_space_collect: rings of objects across nodes, letters beyond a window,
+// stores that fail, closed cells, wrong arguments. What is expected comes from docs/RULES.md and
+// from the header.
 #include "check.h"
 
-#include "markring_collect.h"
+#include <stdbool.h>
 
 enum { MOST = 64 };
 
@@ -29,6 +30,55 @@ static void end(void)
     }
 }
 
+// Stores the image of a node, and returns a status.
+typedef int store(void *context, uint8_t node, const uint8_t *image, size_t length);
+
+static int store_nowhere(void *context, uint8_t node, const uint8_t *image, size_t length)
+{
+    HOLDS(context == NULL && node < nodes && image != NULL && length > 0);
+    return MARKRING_OK;
+}
+
+// Saves the cell, if it is unsaved.
+static int save_cell(uint8_t node, store *keep, void *context)
+{
+    static uint8_t image[1 << 20];
+    uint8_t unsaved = 0;
+    size_t length = 0;
+    uint64_t mark = 0;
+    OK(markring_cell_unsaved(&cells[node], &unsaved));
+    if (!unsaved) {
+        return MARKRING_OK;
+    }
+    int status = markring_cell_image(&cells[node], image, sizeof image, &length, &mark);
+    if (status == MARKRING_OK) {
+        status = keep(context, node, image, length);
+    }
+    return status == MARKRING_OK ? markring_cell_save(&cells[node], mark) : status;
+}
+
+// Collects until each node has swept this cycle, or a call fails.
+static int collect_until(uint64_t cycle, store *keep, void *context)
+{
+    uint8_t done = 2;
+    int status = MARKRING_OK;
+    for (int calls = 0; done != 1 && status == MARKRING_OK && calls < 100000; calls++) {
+        done = 2;
+        status = markring_space_collect(cells, nodes, cycle, &done);
+        HOLDS(status == MARKRING_OK ? done < 2 : done == 2);
+        bool has_saved = false;
+        for (uint8_t node = 0; node < nodes && status == MARKRING_OK; node++) {
+            uint8_t unsaved = 0;
+            OK(markring_cell_unsaved(&cells[node], &unsaved));
+            has_saved = has_saved || unsaved;
+            status = save_cell(node, keep, context);
+        }
+        HOLDS(status != MARKRING_OK || has_saved == !done);
+    }
+    HOLDS(status != MARKRING_OK || done == 1);
+    return status;
+}
+
 static markring_state state_of(uint8_t node)
 {
     markring_state state = {0};
@@ -39,9 +89,7 @@ static markring_state state_of(uint8_t node)
 // A collection, after which each node has this many objects and has swept this cycle.
 static void collect(uint32_t objects, uint64_t cycle)
 {
-    uint64_t moves = 0;
-    OK(markring_space_collect(cells, nodes, NULL, NULL, &moves));
-    HOLDS(moves > 0);
+    OK(collect_until(state_of(0).cycle + 1, store_nowhere, NULL));
     for (uint8_t node = 0; node < nodes; node++) {
         uint8_t unsaved = 1;
         markring_state state = state_of(node);
@@ -166,17 +214,16 @@ static void stores(void)
     unsigned most = 0;
     for (unsigned fails_at = 0; fails_at == 0 || fails_at <= most; fails_at++) {
         shelf stored = {{0}, {0}, 0, fails_at};
-        uint64_t moves = 0;
         begin(3);
         make_ring();
         for (uint8_t node = 0; node < nodes; node++) {
             OK(markring_cell_drop(&cells[node], 0, &answer));
         }
         if (fails_at > 0) {
-            IS(MARKRING_DISK, markring_space_collect(cells, nodes, keep, &stored, &moves));
+            IS(MARKRING_DISK, collect_until(state_of(0).cycle + 1, keep, &stored));
             EQUAL(fails_at, stored.calls);
         }
-        OK(markring_space_collect(cells, nodes, keep, &stored, &moves));
+        OK(collect_until(state_of(0).cycle + 1, keep, &stored));
         most = fails_at == 0 ? stored.calls : most;
         uint64_t swept = state_of(0).swept;
         HOLDS(swept == 2 || (fails_at > 0 && swept == 3));
@@ -190,6 +237,31 @@ static void stores(void)
     HOLDS(most > 10);
 }
 
+// Cells that aren't those of all nodes, in order, are refused, and nothing is done.
+static void arguments(void)
+{
+    uint8_t done = 2;
+    begin(3);
+    markring_cell swapped[3] = {cells[1], cells[0], cells[2]};
+    markring_cell with_none[3] = {cells[0], cells[1], {0}};
+    IS(MARKRING_BAD_ARGUMENT, markring_space_collect(swapped, 3, 1, &done));
+    IS(MARKRING_BAD_ARGUMENT, markring_space_collect(with_none, 3, 1, &done));
+    for (size_t count = 0; count < 3; count++) {
+        IS(MARKRING_BAD_ARGUMENT, markring_space_collect(cells, count, 1, &done));
+    }
+    IS(MARKRING_BAD_ARGUMENT, markring_space_collect(swapped + 1, 1, 1, &done));
+    EQUAL(2, done);
+    for (uint8_t node = 0; node < nodes; node++) {
+        uint8_t unsaved = 1;
+        OK(markring_cell_unsaved(&cells[node], &unsaved));
+        EQUAL(0, unsaved);
+    }
+    // A cycle that each node has swept needs nothing.
+    OK(markring_space_collect(cells, 3, 0, &done));
+    EQUAL(1, done);
+    end();
+}
+
 // collect [NODES]: the nodes of the largest ring, 64 without a word.
 int main(int argc, char **argv)
 {
@@ -200,5 +272,6 @@ int main(int argc, char **argv)
     windows();
     half_a_cycle();
     stores();
+    arguments();
     return report();
 }

@@ -227,6 +227,12 @@ void bytes()
     node.alloc(1, 0);
     node.drop(1);
     HOLDS(node.reclaim_young() == 1);
+    const markring_ref kept = node.alloc(1, 0);
+    node.set_word(1, 5);
+    node.drop(1);
+    node.resolve(1, kept);
+    HOLDS(node.word(1) == 5);
+    REFUSED(MARKRING_NO_FIELD, node.resolve(1, {0, 9, 1}));
 }
 
 void images()
@@ -300,6 +306,40 @@ void work()
     HOLDS(one.work(1, 1).received == 0);
     Node none;
     REFUSED(MARKRING_NO_HANDLE, none.work(1, 1));
+}
+
+// What was freed, of a node and of the cells of a space that collects.
+void lists()
+{
+    const markring_shape shape = {100, 0, 2, 2, 1, 1};
+    Node node(shape, 0);
+    node.track_freed();
+    for (std::uint64_t number = 0; number < 90; number++) {
+        node.alloc(0, 0);
+        node.set_word(0, number);
+    }
+    HOLDS(node.reclaim() == 89 && node.freed().empty());
+    node.release();
+    const auto freed = node.freed();
+    HOLDS(freed.size() == 89 && freed[88].word == 88 && is(freed[88].reference, 0, 88, 1));
+    HOLDS(node.freed().empty());
+    Space space(shape);
+    space.open();
+    std::vector<Cell> cells;
+    cells.push_back(std::move(*space.cell(0)));
+    cells.push_back(std::move(*space.cell(1)));
+    cells[1].track_freed();
+    const markring_ref lost = cells[1].alloc(0, 0);
+    cells[1].drop(0);
+    std::size_t stored[2] = {0, 0};
+    const auto store = [&](std::uint8_t own, const Bytes &image) { stored[own] = image.size(); };
+    markring::collect(cells, store);
+    const auto gone = cells[1].freed();
+    HOLDS(gone.size() == 1 && gone[0].reference.slot == lost.slot && gone[0].word == 0);
+    HOLDS(cells[0].state().swept == 1 && stored[0] == cells[0].image_size());
+    cells[1].track_freed(false);
+    cells.pop_back();
+    REFUSED(MARKRING_BAD_ARGUMENT, markring::collect(cells, [](std::uint8_t, const Bytes &) {}));
 }
 
 void moves()
@@ -376,6 +416,7 @@ int main()
     images();
     early();
     work();
+    lists();
     moves();
     cells();
     std::printf("%lu passed, %lu failed\n", passed, failed);

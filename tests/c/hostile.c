@@ -24,6 +24,9 @@ static void blot_buffer(void)
 
 #define TO(type) ((type *)(void *)(buffer + 1024))
 
+// A reference that no answer shows.
+static const markring_ref named = {0, 0, 1};
+
 #define NONE_OF_BOTH(type) \
     NONE(markring_##type##_free(at)); \
     NONE(markring_##type##_alloc(at, 0, 0, answer)); \
@@ -47,6 +50,7 @@ static void blot_buffer(void)
     NONE(markring_##type##_put(at, 0, 0, 0, answer)); \
     NONE(markring_##type##_get(at, 0, 0, 0, answer)); \
     NONE(markring_##type##_fetch(at, 0, 0, 0, 0, answer)); \
+    NONE(markring_##type##_resolve(at, 0, &named, answer)); \
     NONE(markring_##type##_reclaim(at, answer)); \
     NONE(markring_##type##_reclaim_young(at, answer)); \
     NONE(markring_##type##_begin(at, answer)); \
@@ -553,7 +557,8 @@ static void events(void)
     bytes before = shown(&node);
     for (int kind = 0; kind < 256; kind++) {
         if ((kind >= MARKRING_EVENT_ALLOC && kind <= MARKRING_EVENT_NEXT)
-            || kind == MARKRING_EVENT_RECLAIM || kind == MARKRING_EVENT_RECLAIM_YOUNG) {
+            || kind == MARKRING_EVENT_RECLAIM || kind == MARKRING_EVENT_RECLAIM_YOUNG
+            || kind == MARKRING_EVENT_RESOLVE) {
             continue;
         }
         memset(&event, 0, sizeof event);

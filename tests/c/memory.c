@@ -337,9 +337,15 @@ static bytes with_bytes(void)
         markring_node_bytes(zero, 1, 0, length_of + 1, found, sizeof found, &needed));
     SPARES(markring_node_bytes_at(zero, 0, 0, 1, found, sizeof found, &needed));
     MAKE(MARKRING_SHORT_BUFFER, 1, markring_node_bytes(zero, 1, 0, 2, found, 1, &needed));
+    markring_ref kept;
+    SPARES(markring_node_register(zero, 2, &kept));
+    SPARES(markring_node_drop(zero, 2, &answer));
+    SPARES(markring_node_resolve(zero, 2, &kept, &answer));
     SPARES(markring_node_drop(zero, 2, &answer));
     MAY(markring_node_begin(zero, &answer));
+    MAKE(MARKRING_NOT_NOW, 1, markring_node_resolve(zero, 2, &kept, &answer));
     finish_cycle();
+    MAKE(MARKRING_NO_FIELD, 1, markring_node_resolve(zero, 2, &kept, &answer));
     EQUAL(2, state.live);
     MAY(markring_node_image(zero, image, sizeof image, &needed, &mark));
     SPARES(markring_node_free(zero));
@@ -838,6 +844,71 @@ static void saves(void)
     printf("%lu allocations of a save refused\n", one - 1);
 }
 
+enum { LOST = 40 };
+static const markring_shape LISTED = {64, 0, 4, 2, 1, 1};
+static markring_freed entries[LOST + 1];
+
+// Makes objects, of which the last stays in register 0, and frees the others by a reclaim, and what
+// that register had before.
+#define LOSE(type, at, had) \
+    do { \
+        for (uint64_t i = 0; i <= LOST; i++) { \
+            MAY(markring_##type##_alloc(at, 0, 0, &answer)); \
+            SPARES(markring_##type##_set_word(at, 0, i, &answer)); \
+        } \
+        MAY(markring_##type##_reclaim(at, &answer)); \
+        EQUAL(LOST + (had), answer.count); \
+        SPARES(markring_##type##_freed(at, entries, LOST + 1, &count)); \
+        EQUAL(0, count); \
+    } while (0)
+
+// All of them are handed out, in order, some at first.
+#define HAND_OUT(type, at) \
+    do { \
+        SPARES(markring_##type##_freed(at, entries, 3, &count)); \
+        EQUAL(3, count); \
+        SPARES(markring_##type##_freed(at, entries + 3, LOST + 1 - 3, &count)); \
+        EQUAL(LOST - 3, count); \
+        for (uint64_t i = 0; i < LOST; i++) { \
+            EQUAL(i, entries[i].word); \
+        } \
+        SPARES(markring_##type##_freed(at, entries, LOST + 1, &count)); \
+        EQUAL(0, count); \
+    } while (0)
+
+// A scenario in which a node and a cell list what they free.
+static bytes with_lists(void)
+{
+    markring_space space = {0};
+    MAY(markring_node_make(&nodes[0], &LISTED, 0, 0));
+    SPARES(markring_node_track_freed(&nodes[0], 1));
+    LOSE(node, &nodes[0], 0);
+    MAY(markring_node_image(&nodes[0], image, sizeof image, &needed, &mark));
+    SPARES(markring_node_kept(&nodes[0], mark));
+    HAND_OUT(node, &nodes[0]);
+    bytes all = image_of(&nodes[0]);
+    SPARES(markring_node_free(&nodes[0]));
+    MAY(markring_space_make(&space, &LISTED, 0));
+    MAY(open_space(&space));
+    SPARES(markring_space_cell(&space, 0, &cells[0]));
+    SPARES(markring_space_free(&space));
+    SPARES(markring_cell_track_freed(&cells[0], 1));
+    LOSE(cell, &cells[0], 0);
+    save_cell(0);
+    HAND_OUT(cell, &cells[0]);
+    // What is lost in a reopening is listed no more.
+    LOSE(cell, &cells[0], 1);
+    reopen(&cells[0]);
+    save_cell(0);
+    SPARES(markring_cell_freed(&cells[0], entries, LOST + 1, &count));
+    EQUAL(0, count);
+    bytes shown = cell_shown(&cells[0]);
+    add(&all, shown.at, shown.length);
+    drop_bytes(&shown);
+    SPARES(markring_cell_free(&cells[0]));
+    return all;
+}
+
 // `flags` is how many requests are for flags of wide nodes.
 static void refuse_each(bytes (*scenario)(void), unsigned long flags)
 {
@@ -872,6 +943,7 @@ int main(void)
     refuse_each(over_cells, 0);
     refuse_each(in_cells, 2);
     refuse_each(letters_in_cells, 2);
+    refuse_each(with_lists, 2);
     saves();
     return report();
 }

@@ -14,7 +14,7 @@ enum { NODES = 64, WORDS = 16, LINE = 1 << 18, LENGTH = 4 };
 
 // A word of a line that is an event, its kind, and its numbers in order: r for `reg`, s for
 // `source`, o for `object`, p for `place`, n for `node`, l for `label`, c for `count`, w for
-// `word`.
+// `word`. R is a reference, in one word.
 static const struct {
     const char *word;
     uint8_t kind;
@@ -32,6 +32,7 @@ static const struct {
     {"accept", MARKRING_EVENT_ACCEPT, "r"},
     {"put", MARKRING_EVENT_PUT, "opr"},
     {"get", MARKRING_EVENT_GET, "opl"},
+    {"resolve", MARKRING_EVENT_RESOLVE, "rR"},
     {"reclaim", MARKRING_EVENT_RECLAIM, ""},
     {"begin", MARKRING_EVENT_BEGIN, ""},
     {"scan", MARKRING_EVENT_SCAN, ""},
@@ -59,6 +60,15 @@ static uint64_t number_at(int place)
     return place < count ? strtoull(words[place], NULL, 10) : 0;
 }
 
+// Reads the reference at this place.
+static void read_reference(int place, markring_event *event)
+{
+    unsigned node = 0;
+    HOLDS(place < count);
+    HOLDS(sscanf(words[place], "%u.%" SCNu32 ".%" SCNu64, &node, &event->count, &event->word) == 3);
+    event->node = (uint8_t)node;
+}
+
 // Reads an event, whose word is at this place. Returns whether it is one.
 static int read_event(int place, markring_event *event)
 {
@@ -81,6 +91,7 @@ static int read_event(int place, markring_event *event)
             case 'n': event->node = (uint8_t)number; break;
             case 'l': event->label = (uint32_t)number; break;
             case 'c': event->count = (uint32_t)number; break;
+            case 'R': read_reference(place, event); break;
             default: event->word = number; break;
             }
         }

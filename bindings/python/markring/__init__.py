@@ -9,9 +9,10 @@ package, beside it, or in the folder above that; or else the system's `libmarkri
 Calls keep the interpreter's lock, so any thread may use any of these objects.
 """
 from . import errors
-from ._space import Again, Age, Batch, Cell, Ended, Freed, Image, Letter, Link, Node, Object, Passed, Ref, Shape, Space, State
-from ._space import Taken, Watch, Work
+from ._space import Again, Age, Batch, Cell, Ended, Freed, Gone, Image, Letter, Link, Node, Object, Passed, Ref, Shape, Space, State
+from ._space import Taken, Watch, Work, collect
 from .errors import Refusal
+from .weak import WeakTable, upgrade
 
 __version__ = "0.1.0"
 
@@ -22,6 +23,7 @@ __all__ = [
     "Cell",
     "Ended",
     "Freed",
+    "Gone",
     "Image",
     "Letter",
     "Link",
@@ -35,6 +37,9 @@ __all__ = [
     "State",
     "Taken",
     "Watch",
+    "WeakTable",
     "Work",
+    "collect",
     "errors",
+    "upgrade",
 ]

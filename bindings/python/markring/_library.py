@@ -90,6 +90,10 @@ class RawObject(ctypes.Structure):
     ]
 
 
+class RawFreed(ctypes.Structure):
+    _fields_ = [("reference", RawRef), ("word", c_uint64)]
+
+
 class RawWork(ctypes.Structure):
     _fields_ = [
         ("received", c_uint64),
@@ -125,6 +129,7 @@ EVENTS = {
     "put": (U16, U8, U16),
     "get": (U16, U8, U32),
     "fetch": (U16, U32, U32, U32),
+    "resolve": (U16, POINTER(RawRef)),
     "reclaim": (),
     "reclaim_young": (),
     "begin": (),
@@ -150,6 +155,8 @@ BOTH = {
     "place": (U32, U8, POINTER(RawRef)),
     "bytes_at": (U32, U32, U32, c_char_p, SIZE, TO_SIZE),
     "unsaved": (TO_FLAG,),
+    "track_freed": (U8,),
+    "freed": (POINTER(RawFreed), SIZE, TO_SIZE),
 }
 FUNCTIONS = {
     "node": {
@@ -176,6 +183,7 @@ FUNCTIONS = {
         "open": (TO_FLAG, TO_FLAG),
         "cell": (U8, AT),
         "watch": (AT,),
+        "collect": (SIZE, U64, TO_FLAG),
         "free": (),
     },
     "cell": {

@@ -4,14 +4,16 @@ from __future__ import annotations
 import ctypes
 from enum import Enum
 from types import TracebackType
-from typing import Any, Iterator, NamedTuple, NoReturn, Optional, TypeVar, Union
+from typing import Any, Callable, Iterator, NamedTuple, NoReturn, Optional, Sequence, TypeVar, Union
 
 from . import _library as c
-from .errors import Ages, BadArgument, NoField, Refusal, check, found
+from .errors import Ages, BadArgument, NoField, Refusal, ShortBuffer, check, found
 
 LENGTH, NUMBER = 4, 8
 FRAME = 48
 WINDOW = 1_920
+# As many freed objects are fetched at once.
+ROOM = 256
 Own = TypeVar("Own", bound="_Handle")
 
 
@@ -24,6 +26,13 @@ class Ref(NamedTuple):
 
     def __str__(self) -> str:
         return f"{self.node}.{self.slot}.{self.generation}"
+
+    def _raw(self) -> c.RawRef:
+        raw = c.RawRef(*self)
+        # (ctypes cuts off what a number has too much.)
+        if (raw.node, raw.slot, raw.generation) != self:
+            raise BadArgument()
+        return raw
 
 
 class Letter(NamedTuple):
@@ -42,6 +51,13 @@ class Freed(NamedTuple):
 
     count: int
     done: bool
+
+
+class Gone(NamedTuple):
+    """An object that was freed: the reference that it had, and its word."""
+
+    reference: Ref
+    word: int
 
 
 class Work(NamedTuple):
@@ -365,6 +381,15 @@ class _Events(_Handle):
         """
         return self._answer("fetch", object, label, offset, count).number
 
+    def resolve(self, register: int, reference: Ref) -> None:
+        """The register gets a reference to an object of this node that the program kept in a table of its own.
+
+        That is a weak reference: it keeps nothing alive, and never names another object. It leads back to the object while
+        that is live and marked. Raises `NoField` if the object was freed, or marking ended without it, so that the next sweep
+        frees it; and `NotNow` if the node marks and hasn't reached it: resolve it again when marking has ended.
+        """
+        self._answer("resolve", register, reference._raw())
+
     def reclaim(self) -> int:
         """Frees the private objects that nothing needs any more, without the other nodes.
 
@@ -491,6 +516,22 @@ class _Events(_Handle):
         self._of_object("bytes_at", slot, offset, count, buffer, len(buffer), needed)
         return buffer.raw
 
+    def track_freed(self, on: bool = True) -> None:
+        """Lists the objects that are freed from now on, or drops the list and lists none. See `freed`."""
+        self._call("track_freed", int(on))
+
+    def freed(self) -> list[Gone]:
+        """The objects that were freed and that no image has which may still be opened, in the order in which they were freed.
+
+        Each is returned once: when an image or a batch is kept that was made after it was freed; of a cell, when it is saved.
+        `track_freed` begins it. (A cell's `reopen` drops the list.)
+        """
+        buffer, count, gone = (c.RawFreed * ROOM)(), ctypes.c_size_t(ROOM), []
+        while count.value == ROOM:
+            self._call("freed", buffer, ROOM, count)
+            gone += [Gone(_object(it.reference), it.word) for it in buffer[: count.value]]
+        return gone
+
     def unsaved(self) -> bool:
         """Whether an event has changed the node since it was last saved."""
         flag = ctypes.c_uint8()
@@ -505,10 +546,18 @@ class _Events(_Handle):
 
     def image(self) -> Image:
         """The node's image, with its mark."""
-        buffer = ctypes.create_string_buffer(self.image_size())
+        buffer, length, mark = self._image_into(ctypes.create_string_buffer(0))
+        return Image(buffer.raw[:length], mark)
+
+    def _image_into(self, buffer: Any) -> tuple[Any, int, int]:
+        # Writes the image into the buffer, or a larger one. Returns that buffer, the length, and the mark.
         needed, mark = ctypes.c_size_t(), ctypes.c_uint64()
-        self._call("image", buffer, len(buffer), needed, mark)
-        return Image(buffer.raw[: needed.value], mark.value)
+        try:
+            self._call("image", buffer, len(buffer), needed, mark)
+        except ShortBuffer:
+            buffer = ctypes.create_string_buffer(needed.value)
+            self._call("image", buffer, len(buffer), needed, mark)
+        return buffer, needed.value, mark.value
 
 
 class Node(_Events):
@@ -707,6 +756,29 @@ class Cell(_Events):
         cycle = ctypes.c_uint64()
         self._call("raise", cycle)
         return cycle.value
+
+
+def collect(cells: Sequence[Cell], store: Optional[Callable[[int, bytes], object]] = None) -> None:
+    """Collects what is garbage in a space whose programs are all stopped. `cells` are those of all nodes, in order.
+
+    It ends the cycle that is under way and the next one, and saves each cell. What was garbage before, saved or not, is gone
+    then, rings of objects across nodes included. `store` stores a node's image safely before it counts as saved; without
+    it, images are stored nowhere. If it raises an exception, or a call is refused, what was done before remains done, and
+    the call may be repeated. Raises `BadArgument` of other cells.
+    """
+    handles, done = (c.Handle * len(cells))(*(it._at for it in cells)), ctypes.c_uint8()
+    cycle = cells[0].state().cycle + 1 if cells else 0
+    buffer = ctypes.create_string_buffer(0)
+    while not done.value:
+        check(c.CALLS["space"]["collect"](handles, len(cells), cycle, done))  # type: ignore[operator]
+        for cell, handle in zip(cells, handles):
+            cell._at.at = handle.at
+        for node, cell in enumerate(cells):
+            if cell.unsaved():
+                buffer, length, mark = cell._image_into(buffer)
+                if store is not None:
+                    store(node, ctypes.string_at(buffer, length))
+                cell.save(mark)
 
 
 class Watch(_Handle):

@@ -18,22 +18,25 @@ from __future__ import annotations
 
 import asyncio
 import ctypes
+import struct
 from collections import deque
 from ctypes import byref, c_uint16, c_uint64, c_void_p
 from dataclasses import dataclass
 from functools import partial
 from types import TracebackType
-from typing import Any, Awaitable, Callable, Optional
+from typing import Any, AsyncIterator, Awaitable, Callable, Iterator, Optional
 
-from . import errors, remote
-from ._space import Letter, Ref
-from .remote import BYTES, EVENTS, LETTER, SECONDS, Event, Facts, Result
+from . import errors, remote, weak
+from ._space import Gone, Letter, Object, Ref
+from .remote import BYTES, EVENTS, FREED, LETTER, OBJECTS, SECONDS, Event, Facts, Result, Since
 
 # Requests of a program under way, at most.
 UNDER_WAY = 64
 
 _LIBRARY = remote._LIBRARY
 _PENDING = 11
+# What follows the result of an answer: objects that were freed, objects, and contents of places.
+_GONE, _OBJECT, _PLACE = struct.Struct(">BIQQ"), struct.Struct(">BIQQIBBBB"), struct.Struct(">BIQ")
 
 
 @dataclass
@@ -156,6 +159,7 @@ class Program:
         self._queue: deque[_Request] = deque()
         self._waiting: Optional[asyncio.Future[int]] = None
         self._last = last
+        self.since: Optional[Since] = None
         self.facts: Facts = opened.facts
         self.timeout = timeout
         space._programs.add(self)
@@ -203,6 +207,36 @@ class Program:
         remote._check(_LIBRARY.markring_remote_send_wait(self._at, self._wait(timeout)))
         self._waiting = self._loop.create_future()
         return self._waiting
+
+    def track_freed(self, timeout: Optional[float] = None) -> Awaitable[bool]:
+        """Has the node list for the program what it frees from now on, for `freed`. If it does so already, nothing changes.
+
+        The result is whether the list is new: what was freed before isn't in it, so compare a table from before with
+        `objects`.
+        """
+        return self._send("send_track_freed", timeout=timeout, read=self._tracked)
+
+    def freed(self, most: int = FREED, timeout: Optional[float] = None) -> Awaitable[list[Gone]]:
+        """Objects that were freed behind the place `since`, as `remote.Program.freed`. `since` moves with the answer, so await
+        one such call before the next."""
+        since, room = remote._raw_since(self.since), min(remote._fits(most, 63), FREED)
+        return self._send("send_freed", byref(since), room, timeout=timeout, read=self._heard)
+
+    async def objects(self, most: int = OBJECTS, timeout: Optional[float] = None) -> AsyncIterator[Object]:
+        """The objects of the node, in the order of their slots, also those that no register refers to.
+
+        It asks for up to `most` at a time. An object that is made or freed meanwhile may be left out.
+        """
+        room, slot, is_over = min(remote._fits(most, 63), OBJECTS), 0, most == 0
+        while not is_over:
+            objects, slot, is_over = await self._send("send_objects", slot, room, timeout=timeout, read=self._walked)
+            for it in objects:
+                yield it
+
+    def places(self, reference: Ref, timeout: Optional[float] = None) -> Awaitable[list[Optional[Ref]]]:
+        """What the places of an object of the node hold. Raises `NoField` if it is gone."""
+        of = remote._raw_reference(reference)
+        return self._send("send_places", byref(of), timeout=timeout, read=self._held)
 
     def close(self) -> None:
         """Frees the program. The node isn't told. What is awaited raises `Closed`."""
@@ -291,6 +325,35 @@ class Program:
         errors.check(answer.results[0].status)
         return answer.results[0].answer.number, ctypes.string_at(answer.bytes, answer.length)
 
+    def _move(self, answer: remote.RawPolled) -> None:
+        said = answer.results[0].answer
+        self.since = Since(said.sum % (1 << 64), said.number)
+
+    def _tracked(self, answer: remote.RawPolled) -> bool:
+        self._move(answer)
+        return bool(answer.results[0].answer.done)
+
+    @staticmethod
+    def _records(answer: remote.RawPolled, form: struct.Struct) -> Iterator[tuple[Any, ...]]:
+        return form.iter_unpack(ctypes.string_at(answer.bytes, answer.length) if answer.length else b"")
+
+    def _heard(self, answer: remote.RawPolled) -> list[Gone]:
+        gone = [Gone(Ref(*it[:3]), it[3]) for it in self._records(answer, _GONE)]
+        self._move(answer)
+        return gone
+
+    def _walked(self, answer: remote.RawPolled) -> tuple[list[Object], int, bool]:
+        objects = [
+            Object(Ref(*it[:3]), it[3], it[5], it[4], bool(it[6]), bool(it[7]), remote._AGES[it[8]])
+            for it in self._records(answer, _OBJECT)
+        ]
+        said = answer.results[0].answer
+        return objects, said.label, bool(said.done)
+
+    def _held(self, answer: remote.RawPolled) -> list[Optional[Ref]]:
+        errors.check(answer.results[0].status)
+        return [Ref(*it) if it[2] else None for it in self._records(answer, _PLACE)]
+
     # Each of these is a request with one event, which raises its refusal.
 
     def _one(self, event: Event) -> asyncio.Future[Any]:
@@ -366,6 +429,11 @@ class Program:
         on. They come in a letter."""
         return self._one(remote.fetch(object, label, offset, count))
 
+    def resolve(self, register: int, reference: Ref) -> Awaitable[None]:
+        """The register gets a reference to an object of the node that the program kept in a table of its own. Raises `NoField`
+        if the object is gone, and `NotNow` if the node marks and hasn't reached it: resolve it again later."""
+        return self._one(remote.resolve(register, reference))
+
     async def __aenter__(self) -> Program:
         return self
 
@@ -376,3 +444,45 @@ class Program:
         trace: Optional[TracebackType],
     ) -> None:
         self.close()
+
+
+class WeakTable(weak.Table):
+    """A table whose entries go with the objects of a program's node, as `remote.WeakTable`.
+
+    The first `poll` has the node list what it frees. Await one call before the next.
+    """
+
+    def __init__(self, program: Program, on_freed: Optional[weak.Freed] = None) -> None:
+        super().__init__(on_freed)
+        self._program, self._is_lost = program, True
+
+    async def poll(self) -> int:
+        """Removes the entries of the objects that are freed for good, in the order in which they were.
+
+        The result is how many. If the node's list is lost, it compares the table with the node's objects: then the word
+        is 0. After a failure, the next call goes on.
+        """
+        count, gone = 0, [Gone(Ref(0, 0, 0), 0)]
+        while gone and not self._is_lost:
+            since = self._program.since
+            try:
+                gone = await self._program.freed()
+                count += self._leave(gone)
+            except remote.Lost:
+                self._is_lost = True
+            except BaseException:
+                self._program.since = since
+                raise
+        return count + await self.prune() if self._is_lost else count
+
+    async def prune(self) -> int:
+        """Removes the entries of the objects that the node doesn't have, by their references, with the word 0.
+
+        The result is how many. For a table that is older than the program's list.
+        """
+        await self._program.track_freed()
+        before = list(self._entries)
+        live = {it.reference async for it in self._program.objects()}
+        count = self._leave_missing((it for it in before if it in self._entries), live)
+        self._is_lost = False
+        return count

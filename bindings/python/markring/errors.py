@@ -177,6 +177,12 @@ class NoBytes(Refusal):
     status, text = 26, "the object doesn't have these bytes"
 
 
+class NotNow(Refusal):
+    """The object isn't marked yet, and its node marks: try again once marking has ended."""
+
+    status, text = 27, "the object isn't marked yet"
+
+
 class NoHandle(Refusal):
     """The node, space, cell or watch was closed."""
 

@@ -8,8 +8,13 @@ It is what `markring-node` is made of, for programs that have their own loop and
             host.packet(sender, packet)
         host.turn()
 
-A host keeps its node in a folder, safe against crashes; it decides what is sent when, collects, and answers requests of
-`markring.remote`. `send(to, packet)` sends a packet, which may be lost. An example is `examples/host/pair.py`.
+A host keeps its node in a folder, safe against crashes, or in a PostgreSQL database, whose address
+`postgresql://USER@HOST/DATABASE#SPACE/NODE` takes the folder's place (as a `str`; libpq is loaded then). It decides what is
+sent when, collects, and answers requests of `markring.remote`. `send(to, packet)` sends a packet, which may be lost. An
+example is `examples/host/pair.py`.
+
+While the database can't be reached, a turn waits for it. An exception meanwhile, as of a signal, ends the wait, and the
+host if a save was under way.
 
 The library is the file that the variable MARKRING_HOST_LIBRARY names. Without that variable it is `libmarkring-host.so`,
 found as the package finds `libmarkring.so`. A host has a lock, so any thread may use it. Times are in seconds.
@@ -43,12 +48,12 @@ Answer = Callable[[str, bytes], None]
 
 
 class FolderError(Exception):
-    """A folder can't be used."""
+    """A folder or a database can't be used."""
 
     status, text = 0, "the folder can't be used"
 
-    def __init__(self) -> None:
-        super().__init__(self.text)
+    def __init__(self, text: str = "") -> None:
+        super().__init__(text or self.text)
 
 
 class OutOfMemory(FolderError, MemoryError):
@@ -58,19 +63,19 @@ class OutOfMemory(FolderError, MemoryError):
 
 
 class Absent(FolderError):
-    """There is no such folder, or no node in it."""
+    """There is no such folder, or no node in it or in the database."""
 
     status, text = 2, "there is no such folder, or no node in it"
 
 
 class Exists(FolderError):
-    """The folder that would be created has a node already."""
+    """There is such a node already."""
 
     status, text = 3, "the folder has a node already"
 
 
 class Locked(FolderError):
-    """Another process has the folder."""
+    """Another process has the folder, or is at work on the row of the database."""
 
     status, text = 4, "another process has the folder"
 
@@ -88,7 +93,7 @@ class Stale(FolderError):
 
 
 class Failed(FolderError):
-    """A call of the system failed: `cause` is its errno. The same may be tried again."""
+    """A call of the system failed: `cause` is its errno. Or the database refused. The same may be tried again."""
 
     status, text = 7, "a call of the system failed"
     cause = 0
@@ -101,7 +106,90 @@ class Unknown(FolderError):
     cause = 0
 
 
-_ERRORS = {it.status: it for it in FolderError.__subclasses__()}
+class DatabaseError(FolderError):
+    """A database can't be used, for a reason that folders don't have."""
+
+
+class BadAddress(DatabaseError):
+    """The address can't be read, or doesn't say which node."""
+
+    status, text = 10, "the address can't be used"
+
+
+class PasswordShown(DatabaseError):
+    """There is a password in the address: write it to a file that PGPASSFILE names."""
+
+    status, text = 11, "there is a password in the address"
+
+
+class NoLibrary(DatabaseError):
+    """PostgreSQL's client library can't be loaded."""
+
+    status, text = 12, "there is no libpq"
+
+
+class Away(DatabaseError):
+    """No server takes a connection now. The same may be tried again."""
+
+    status, text = 13, "no server takes a connection"
+
+
+class Denied(DatabaseError):
+    """The server refuses this user, this database, or what it is asked for."""
+
+    status, text = 14, "the server refuses this user or this database"
+
+
+class NoSchema(DatabaseError):
+    """There is no schema: `make_schema` makes it."""
+
+    status, text = 15, "there is no schema"
+
+
+class EarlierSchema(DatabaseError):
+    """The schema is of an earlier version."""
+
+    status, text = 16, "the schema is of an earlier version"
+
+
+class LaterSchema(DatabaseError):
+    """The schema is of a later version."""
+
+    status, text = 17, "the schema is of a later version"
+
+
+class ReadOnly(DatabaseError):
+    """The server takes no changes: it is a standby, or read-only."""
+
+    status, text = 18, "the server takes no changes"
+
+
+class Forgetful(DatabaseError):
+    """The server forgets what it has committed: synchronous_commit is off."""
+
+    status, text = 19, "the server forgets what it has committed"
+
+
+class Full(DatabaseError):
+    """The server's disk is full."""
+
+    status, text = 20, "the server's disk is full"
+
+
+class OtherNode(DatabaseError):
+    """What is there is another node, or one of another space, than the address names."""
+
+    status, text = 21, "this is another node"
+
+
+class Missing(DatabaseError):
+    """Pieces of the node that have to be there aren't."""
+
+    status, text = 22, "pieces of the node are missing"
+
+
+_ERRORS = {it.status: it for it in [*FolderError.__subclasses__(), *DatabaseError.__subclasses__()]}
+_TAKEN = 9
 
 
 class End(IntEnum):
@@ -109,9 +197,9 @@ class End(IntEnum):
 
     # It was asked to leave, and all is saved.
     LEFT = 1
-    # The folder is older than what other nodes have seen of this node, or is used twice.
+    # The folder is older than what other nodes have seen of this node, or is used twice; or another process has taken over.
     OLDER = 2
-    # A sync failed: nobody knows what is on the disk.
+    # A sync failed, or a save in a database was given up: nobody knows what is there.
     UNSURE = 3
     # The node's image is too large to be saved.
     TOO_LARGE = 4
@@ -194,20 +282,12 @@ class RawValue(ctypes.Structure):
     ]
 
 
-class RawStoreCalls(ctypes.Structure):
-    # Their context and the calls of the operating system, which only the library uses.
-    _fields_ = [("pointers", c_void_p * 13)]
+_PAUSE = CFUNCTYPE(c_bool, c_void_p, c_uint64)
+_NOTE = CFUNCTYPE(None, c_void_p, c_bool)
 
 
-class RawStore(ctypes.Structure):
-    _fields_ = [
-        ("calls", RawStoreCalls),
-        ("folder", c_int),
-        ("slots", c_int * 2),
-        ("counts", c_int),
-        *[(it, c_uint64) for it in ("number", "end", "seal", "base", "length", "size")],
-        ("cause", c_int),
-    ]
+class RawPlaceEvents(ctypes.Structure):
+    _fields_ = [("context", c_void_p), ("pause", _PAUSE), ("note", _NOTE)]
 
 
 _SEND = CFUNCTYPE(None, c_void_p, c_uint8, POINTER(c_uint8), c_size_t)
@@ -216,7 +296,8 @@ _SAVE = CFUNCTYPE(None, c_void_p, POINTER(RawValue))
 
 
 class RawCalls(ctypes.Structure):
-    _fields_ = [("context", c_void_p), ("send", _SEND), ("answer", _ANSWER), ("save", _SAVE)]
+    # (without `rewrite`, the host makes whole values itself)
+    _fields_ = [("context", c_void_p), ("send", _SEND), ("answer", _ANSWER), ("save", _SAVE), ("rewrite", c_void_p)]
 
 
 _COUNTS = (
@@ -232,12 +313,22 @@ class RawCounts(ctypes.Structure):
 
 def _load() -> ctypes.CDLL:
     library = c.open_library(ctypes.CDLL, NAME, "MARKRING_HOST_LIBRARY", "libmarkring1")
-    at, store, value = c_void_p, POINTER(RawStore), POINTER(RawValue)
+    at, value = c_void_p, POINTER(RawValue)
     calls: dict[str, tuple[Any, ...]] = {
-        "store_create": (c_int, store, POINTER(RawStoreCalls), c_char_p, value),
-        "store_open": (c_int, store, POINTER(RawStoreCalls), c_char_p, value),
-        "store_save": (c_int, store, value),
-        "store_close": (None, store),
+        "place_is_database": (c_bool, c_char_p),
+        "place_create": (c_int, POINTER(at), c_char_p, value),
+        "place_open": (c_int, POINTER(at), c_char_p, value),
+        "place_make_schema": (c_int, POINTER(at), c_char_p),
+        "place_listen": (None, at, POINTER(RawPlaceEvents)),
+        "place_save": (c_int, at, value),
+        "place_renew": (c_int, at),
+        "place_wait": (c_uint64, at),
+        "place_serves": (c_bool, at),
+        "place_number": (c_uint64, at),
+        "place_warning": (c_char_p, at),
+        "place_text": (c_char_p, at),
+        "place_cause": (c_int, at),
+        "place_close": (None, at),
         "host_create": (c_int, POINTER(RawShape), value),
         "host_open": (
             c_int, POINTER(at), value, c_uint64, c_uint64, POINTER(RawOptions), POINTER(RawCalls), c_uint64
@@ -250,6 +341,8 @@ def _load() -> ctypes.CDLL:
         "host_saved": (None, at, c_uint64, c_int, c_uint64),
         "host_wait": (c_uint64, at, c_uint64),
         "host_connected": (None, at, c_uint64),
+        "host_taken": (None, at),
+        "host_unreachable": (None, at, c_uint64, c_bool),
         "host_leave": (None, at),
         "host_ended": (c_int, at),
         "host_reason": (c_char_p, at),
@@ -264,7 +357,6 @@ def _load() -> ctypes.CDLL:
 
 
 _LIBRARY = _load()
-_SYSTEM = RawStoreCalls.in_dll(_LIBRARY, "MARKRING_STORE_SYSTEM")
 _FREE = ctypes.CDLL(None).free
 _FREE.argtypes, _FREE.restype = (c_void_p,), None
 # What changes nothing of a node.
@@ -273,13 +365,16 @@ _READINGS = frozenset(
 )
 
 
-def _check(status: int, cause: int) -> None:
-    if status:
-        error = _ERRORS.get(status, FolderError)()
-        if isinstance(error, (Failed, Unknown)):
-            error.cause = cause
-            error.args = (f"{error.text}: {os.strerror(cause)}",)
-        raise error
+def _error(status: int, at: Any, is_database: bool) -> FolderError:
+    """Why a place can't be used."""
+    kind = _ERRORS.get(status, FolderError)
+    if is_database:
+        return kind(_LIBRARY.markring_place_text(at).decode(errors="replace"))
+    error = kind()
+    if isinstance(error, (Failed, Unknown)):
+        error.cause = _LIBRARY.markring_place_cause(at)
+        error.args = (f"{error.text}: {os.strerror(error.cause)}",)
+    return error
 
 
 def _fill(raw: ctypes.Structure, **fields: int) -> None:
@@ -340,19 +435,20 @@ class Host:
 
     def __init__(
         self,
-        open_folder: Callable[[RawStore, RawValue], None],
+        open_place: Callable[[RawValue], Any],
         send: Send,
         answer: Optional[Answer],
         options: Options,
     ) -> None:
         self._lock, self._is_busy = threading.RLock(), False
-        self._at, self._store, self._raised = c_void_p(), RawStore(), None  # type: Any, RawStore, Any
+        self._at, self._place, self._raised = c_void_p(), c_void_p(), None  # type: Any, Any, Any
         self._send, self._answer = send, answer
         # (the library keeps the functions, so this object does)
         self._calls = RawCalls(None, _SEND(self._on_send), _ANSWER(self._on_answer), _SAVE(self._on_save))
+        self._events = RawPlaceEvents(None, _PAUSE(self._on_pause), _NOTE(self._on_note))
         raw, value = _raw_options(options), RawValue()
         try:
-            open_folder(self._store, value)
+            self._place = open_place(value)
             self._open(raw, value)
         finally:
             _FREE(value.buffer)
@@ -361,31 +457,32 @@ class Host:
     def create(
         cls, folder: Path, identity: Identity, send: Send, answer: Optional[Answer] = None, options: Options = Options()
     ) -> Host:
-        """Makes a new node in a new folder, and runs it."""
+        """Makes a new node in a new folder or in a database, and runs it. An address may leave out which node."""
         raw = _raw_shape(identity)
 
-        def create_folder(store: RawStore, value: RawValue) -> None:
+        def create_place(value: RawValue) -> Any:
             errors.check(_LIBRARY.markring_host_create(byref(raw), byref(value)))
-            _use_folder(_LIBRARY.markring_store_create, store, folder, value)
+            return _use_place(_LIBRARY.markring_place_create, folder, byref(value))
 
-        return cls(create_folder, send, answer, options)
+        return cls(create_place, send, answer, options)
 
     @classmethod
     def open(cls, folder: Path, send: Send, answer: Optional[Answer] = None, options: Options = Options()) -> Host:
-        """Runs the node that a folder has, from its last save on."""
+        """Runs the node that a folder or a database has, from its last save on. One in a database is taken over."""
 
-        def open_folder(store: RawStore, value: RawValue) -> None:
-            _use_folder(_LIBRARY.markring_store_open, store, folder, value)
+        def open_place(value: RawValue) -> Any:
+            return _use_place(_LIBRARY.markring_place_open, folder, byref(value))
 
-        return cls(open_folder, send, answer, options)
+        return cls(open_place, send, answer, options)
 
     def _open(self, options: RawOptions, value: RawValue) -> None:
         nonce = int.from_bytes(os.urandom(8), "big") | 1
-        words = self._store.number, nonce, byref(options), byref(self._calls), _now()
+        words = _LIBRARY.markring_place_number(self._place), nonce, byref(options), byref(self._calls), _now()
         status = _LIBRARY.markring_host_open(byref(self._at), byref(value), *words)
         if status:
-            _LIBRARY.markring_store_close(byref(self._store))
+            _LIBRARY.markring_place_close(self._place)
         errors.check(status)
+        _LIBRARY.markring_place_listen(self._place, byref(self._events))
         self.node = LinkedNode(self, _LIBRARY.markring_host_node(self._at).contents)
 
     # What the library calls. An exception doesn't cross it: the call that led to it raises it.
@@ -405,8 +502,19 @@ class Host:
             self._guard(self._answer, reply.decode(errors="replace"), ctypes.string_at(data, length))
 
     def _on_save(self, _: Any, value: Any) -> None:
-        status = _LIBRARY.markring_store_save(byref(self._store), value)
-        _LIBRARY.markring_host_saved(self._at, _now(), status, self._store.number)
+        status = _LIBRARY.markring_place_save(self._place, value)
+        _LIBRARY.markring_host_saved(self._at, _now(), status, _LIBRARY.markring_place_number(self._place))
+
+    def _on_pause(self, _: Any, milliseconds: int) -> bool:
+        try:
+            time.sleep(milliseconds / 1000)
+        except BaseException as error:
+            self._raised = self._raised or error
+            return False
+        return True
+
+    def _on_note(self, _: Any, is_lost: bool) -> None:
+        _LIBRARY.markring_host_unreachable(self._at, _now(), is_lost)
 
     @contextmanager
     def _used(self) -> Iterator[Any]:
@@ -437,9 +545,12 @@ class Host:
         self._call("packet", _now(), sender, data, len(data))
 
     def request(self, request: bytes, reply: str) -> None:
-        """A request of a program came. The answer goes to `reply`, once all that it shows is stored."""
-        data = bytes(request)
-        self._call("request", _now(), data, len(data), _address(reply))
+        """A request of a program came. The answer goes to `reply`, once all that it shows is stored. It is dropped while
+        another process could serve the programs of a node in a database."""
+        data, address = bytes(request), _address(reply)
+        with self._used() as at:
+            if _LIBRARY.markring_place_serves(self._place):
+                _LIBRARY.markring_host_request(at, _now(), data, len(data), address)
 
     def control(self, word: str, reply: str) -> None:
         """A word of the operator came: `status`, `begin` or `stop`. The answer is JSON."""
@@ -447,12 +558,24 @@ class Host:
         self._call("control", _now(), data, len(data), _address(reply))
 
     def turn(self) -> None:
-        """Collects, saves if a save is due, answers programs and sends packets."""
-        self._call("turn", _now())
+        """Collects, saves if a save is due, answers programs and sends packets. In a database, it also shows each second
+        that this process has the node."""
+        with self._used() as at:
+            if _LIBRARY.markring_place_renew(self._place) == _TAKEN:
+                _LIBRARY.markring_host_taken(at)
+            if self._raised is None:
+                _LIBRARY.markring_host_turn(at, _now())
 
     def wait(self) -> float:
         """How long the next turn may wait, if nothing comes."""
-        return self._call("wait", _now()) / 1000
+        with self._used() as at:
+            return min(_LIBRARY.markring_host_wait(at, _now()), _LIBRARY.markring_place_wait(self._place)) / 1000
+
+    def warning(self) -> Optional[str]:
+        """What an operator should know of the settings of the database's server, if anything."""
+        with self._used():
+            text = _LIBRARY.markring_place_warning(self._place)
+        return text.decode() if text else None
 
     def connected(self) -> None:
         """The transport has a connection again after it had none: what isn't acknowledged is sent again."""
@@ -480,14 +603,14 @@ class Host:
             return {it: getattr(raw, it) for it in _COUNTS}
 
     def close(self) -> None:
-        """Frees the node and the folder. Later calls raise `NoHandle`; closing again does nothing."""
+        """Frees the node and its place. Later calls raise `NoHandle`; closing again does nothing."""
         with self._lock:
             if self._is_busy:
                 raise RuntimeError("the host is in a call")
             at, self._at = self._at, c_void_p()
             if at:
                 _LIBRARY.markring_host_free(at)
-                _LIBRARY.markring_store_close(byref(self._store))
+                _LIBRARY.markring_place_close(self._place)
 
     def __enter__(self) -> Host:
         return self
@@ -509,11 +632,22 @@ def _now() -> int:
     return int(time.monotonic() * 1000)
 
 
-def _use_folder(call: Any, store: RawStore, folder: Path, value: RawValue) -> None:
-    path = os.fsencode(folder)
+def make_schema(address: str) -> None:
+    """Makes the schema for nodes in a database, `postgresql://USER@HOST/DATABASE`, unless it has one of this version."""
+    _LIBRARY.markring_place_close(_use_place(_LIBRARY.markring_place_make_schema, address))
+
+
+def _use_place(call: Any, where: Path, *words: Any) -> Any:
+    path, at = os.fsencode(where), c_void_p()
     if b"\0" in path:
         raise errors.BadArgument()
-    _check(call(byref(store), byref(_SYSTEM), path, byref(value)), store.cause)
+    status = call(byref(at), path, *words)
+    if status:
+        is_database = _LIBRARY.markring_place_is_database(path) or call is _LIBRARY.markring_place_make_schema
+        error = _error(status, at, is_database)
+        _LIBRARY.markring_place_close(at)
+        raise error
+    return at
 
 
 def _address(reply: str) -> bytes:

@@ -17,24 +17,27 @@ from __future__ import annotations
 
 import ctypes
 import json
+import struct
 import threading
 import weakref
 from ctypes import POINTER, byref, c_char_p, c_int, c_int64, c_size_t, c_uint8, c_uint16, c_uint32, c_uint64, c_void_p
 from types import TracebackType
-from typing import Any, NamedTuple, Optional
+from typing import Any, Iterator, NamedTuple, Optional
 
-from . import errors
-from ._library import RawAnswer, function, open_library
-from ._space import Letter, Ref
+from . import errors, weak
+from ._library import RawAnswer, RawFreed, RawObject, RawRef, function, open_library
+from ._space import Age, Gone, Letter, Object, Ref
 
 NAME = "libmarkring-remote.so"
 EVENTS = 256
-_ACCEPT_INTO = 138
+_RESOLVE, _ACCEPT_INTO = 24, 138
 # Bytes of objects and letters in one request, or in one answer, at most.
 BYTES = 1_000_000
 # Bytes of a letter, at most.
 LETTER = 65_535
-NOT_DONE = 150
+# Objects that were freed, and objects, in one answer, at most.
+FREED, OBJECTS = 47_619, 32_768
+NOT_DONE, APART = 150, 151
 SECONDS = 10.0
 LONGEST = 1e9
 TEXT = 8192
@@ -108,15 +111,30 @@ class TooLong(Failure, ValueError):
 
 
 class EarlierNode(Failure):
-    """The node is of an earlier version, and knows no bytes of objects, or of letters. Nothing was performed."""
+    """The node is of an earlier version, and knows no bytes of objects or of letters, no `resolve`, or not this request.
+    Nothing was performed."""
 
-    status, text = 10, "the node is of an earlier version, and knows no bytes of objects, or of letters"
+    status, text = 10, "the node is of an earlier version, and doesn't know what the request asks for"
 
 
 class TooMany(Failure):
     """The program has as many requests under way as it may (`markring.aio.UNDER_WAY`). Nothing was sent."""
 
     status, text = 12, "the program has too many requests under way"
+
+
+class Apart(Failure):
+    """A program of the node has registers for itself. What it holds there, others could find by this request, so nobody may
+    make it."""
+
+    status, text = 13, "a program of the node has registers for itself, so nobody may look at its objects"
+
+
+class Lost(Failure):
+    """The node doesn't list for the program what was freed since: another process runs the node now, the program left too
+    many objects to be asked for, it never called `track_freed`, or meanwhile a program had registers for itself."""
+
+    status, text = 14, "the node doesn't list what it has freed since for this program"
 
 
 class Closed(Failure):
@@ -280,9 +298,15 @@ def fetch(object: int, label: int, offset: int = 0, count: int = 0) -> Event:
     return Event(23, object=object, label=label, word=offset, count=count)
 
 
+def resolve(register: int, reference: Ref) -> Event:
+    """The register gets a reference to an object of the node that the program kept in a table of its own, while the object
+    is there."""
+    return Event(_RESOLVE, register=register, node=reference.node, count=reference.slot, word=reference.generation)
+
+
 class Result(NamedTuple):
-    """What became of one event. `status` is 0, the number of a refusal, or NOT_DONE if an event of the same request was
-    refused before it. `value` depends on the event: a reference or nothing (`alloc`, `load`), a number (`word`, `give`,
+    """What became of one event. `status` is 0, the number of a refusal, NOT_DONE if an event of the same request was
+    refused before it, or APART for a `resolve` (see `Apart`). `value` depends on the event: a reference or nothing (`alloc`, `load`), a number (`word`, `give`,
     `post`, `put`, `get`, `fetch`), a letter (`accept`), a letter and its bytes (`accept_with_bytes`), or nothing."""
 
     status: int
@@ -292,6 +316,8 @@ class Result(NamedTuple):
         """The value. Raises the refusal if the event was refused."""
         if self.status == NOT_DONE:
             raise NotDone()
+        if self.status == APART:
+            raise Apart()
         errors.check(self.status)
         return self.value
 
@@ -300,6 +326,13 @@ class NotDone(errors.Refusal):
     """An event of the same request was refused before this one."""
 
     status, text = NOT_DONE, "an earlier event of the request was refused"
+
+
+class Since(NamedTuple):
+    """A place in the list of what a node has freed for a program: which list, and the last entry that the program has."""
+
+    list: int
+    number: int
 
 
 class Facts(NamedTuple):
@@ -326,6 +359,20 @@ def _value(answer: RawAnswer) -> Any:
     return None
 
 
+# RawFreed and RawObject as they are in memory: to read many in this way takes a third of the time.
+_FREED, _OBJECT = struct.Struct("=B3xIQQ"), struct.Struct("=B3xIQQIBBBB")
+_AGES = list(Age)
+
+
+def _read(raw: Any, count: int, form: struct.Struct) -> Iterator[tuple[Any, ...]]:
+    # The first ones of an array.
+    return form.iter_unpack(memoryview(raw).cast("B")[: count * form.size])
+
+
+class RawSince(ctypes.Structure):
+    _fields_ = [("list", c_uint64), ("number", c_uint64)]
+
+
 def _load() -> ctypes.CDLL:
     library = open_library(ctypes.CDLL, NAME, "MARKRING_REMOTE_LIBRARY", "markring-node")
     at, numbers, to_size = c_void_p, POINTER(c_uint16), POINTER(c_size_t)
@@ -350,6 +397,14 @@ def _load() -> ctypes.CDLL:
         "resume": (at, c_int64),
         "fd": (at,),
         "ask": (at, c_uint8, c_char_p, c_char_p, c_size_t, c_int64),
+        "track_freed": (at, POINTER(RawSince), POINTER(c_uint8), c_int64),
+        "freed": (at, POINTER(RawSince), POINTER(RawFreed), c_size_t, to_size, c_int64),
+        "objects": (at, POINTER(c_uint32), POINTER(RawObject), c_size_t, to_size, POINTER(c_uint8), c_int64),
+        "places": (at, POINTER(RawRef), POINTER(RawRef), to_size, POINTER(c_int), c_int64),
+        "send_track_freed": (at, c_int64),
+        "send_freed": (at, POINTER(RawSince), c_size_t, c_int64),
+        "send_objects": (at, c_uint32, c_size_t, c_int64),
+        "send_places": (at, POINTER(RawRef), c_int64),
     }
     for name, words in calls.items():
         call = function(library, f"markring_remote_{name}")
@@ -381,6 +436,15 @@ def _raw_event(event: Event) -> RawRemoteEvent:
         setattr(raw, field, _fits(number, 8 * getattr(RawEvent, field).size))
     data = bytes(memoryview(event.data))
     return RawRemoteEvent(raw, data, len(data))
+
+
+def _raw_reference(reference: Ref) -> RawRef:
+    return RawRef(_fits(reference.node, 8), _fits(reference.slot, 32), _fits(reference.generation, 64))
+
+
+def _raw_since(since: Optional[Since]) -> RawSince:
+    # (no list has the number 0)
+    return RawSince(*(_fits(it, 64) for it in since or Since(0, 0)))
 
 
 def _milliseconds(seconds: float) -> int:
@@ -458,6 +522,7 @@ class Program:
     ) -> None:
         self._space, self._at, self._count = space, c_void_p(), 0
         self.timeout = timeout
+        self.since: Optional[Since] = None
         facts = RawFacts()
         numbers, call = (_fits(node, 8), _fits(number, 8)), _LIBRARY.markring_remote_open
         if registers is not None:
@@ -539,6 +604,58 @@ class Program:
         with self._space._lock:
             _check(_LIBRARY.markring_remote_wait(self._handle(), byref(letters), self._wait(timeout)))
         return letters.value
+
+    def track_freed(self, timeout: Optional[float] = None) -> bool:
+        """Has the node list for the program what it frees from now on, for `freed`. If it does so already, nothing changes.
+
+        Returns whether the list is new: what was freed before isn't in it, so compare a table from before with `objects`.
+        """
+        since, is_new = RawSince(), c_uint8()
+        with self._space._lock:
+            at, wait = self._handle(), self._wait(timeout)
+            _check(_LIBRARY.markring_remote_track_freed(at, byref(since), byref(is_new), wait))
+        self.since = Since(since.list, since.number)
+        return bool(is_new.value)
+
+    def freed(self, most: int = FREED, timeout: Optional[float] = None) -> list[Gone]:
+        """Objects that were freed behind the place `since`, for good and in the order in which they were; none if there are
+        no more yet. `since` moves behind them. The next call says to the node that the program has them: so after a failure
+        it returns the same ones. `since` may be stored with what the program keeps, and set in its next process.
+
+        After `Lost`, call `track_freed`, and compare what the program keeps with `objects`.
+        """
+        room = min(_fits(most, 63), FREED)
+        raw, count, since = (RawFreed * room)(), c_size_t(), _raw_since(self.since)
+        with self._space._lock:
+            at, wait = self._handle(), self._wait(timeout)
+            _check(_LIBRARY.markring_remote_freed(at, byref(since), raw, room, byref(count), wait))
+        gone = [Gone(Ref(*it[:3]), it[3]) for it in _read(raw, count.value, _FREED)]
+        self.since = Since(since.list, since.number)
+        return gone
+
+    def objects(self, most: int = OBJECTS, timeout: Optional[float] = None) -> Iterator[Object]:
+        """The objects of the node, in the order of their slots, also those that no register refers to.
+
+        It asks for up to `most` at a time. An object that is made or freed meanwhile may be left out.
+        """
+        room = min(_fits(most, 63), OBJECTS)
+        raw, slot, count, is_over = (RawObject * room)(), c_uint32(), c_size_t(), c_uint8(not room)
+        while not is_over.value:
+            with self._space._lock:
+                at, wait = self._handle(), self._wait(timeout)
+                words = byref(slot), raw, room, byref(count), byref(is_over), wait
+                _check(_LIBRARY.markring_remote_objects(at, *words))
+            for it in _read(raw, count.value, _OBJECT):
+                yield Object(Ref(*it[:3]), it[3], it[5], it[4], bool(it[6]), bool(it[7]), _AGES[it[8]])
+
+    def places(self, reference: Ref, timeout: Optional[float] = None) -> list[Optional[Ref]]:
+        """What the places of an object of the node hold. Raises `NoField` if it is gone."""
+        raw, count, status, of = (RawRef * 255)(), c_size_t(), c_int(), _raw_reference(reference)
+        with self._space._lock:
+            at, wait = self._handle(), self._wait(timeout)
+            _check(_LIBRARY.markring_remote_places(at, byref(of), raw, byref(count), byref(status), wait))
+        errors.check(status.value)
+        return [_reference(it) for it in raw[: count.value]]
 
     def _results(self, raw: Any, count: int) -> list[Result]:
         # What the events of the last request gave. (A letter of which the node kept no bytes has none here.)
@@ -634,6 +751,11 @@ class Program:
         """Asks the owner of another node's object for the content of the object's place. It comes in a letter."""
         return self._one(get(object, place, label))
 
+    def resolve(self, register: int, reference: Ref) -> None:
+        """The register gets a reference to an object of the node that the program kept in a table of its own. Raises `NoField`
+        if the object is gone, and `NotNow` if the node marks and hasn't reached it: resolve it again later."""
+        self._one(resolve(register, reference))
+
     def close(self) -> None:
         """Frees the program. The node isn't told."""
         with self._space._lock:
@@ -653,3 +775,45 @@ class Program:
         trace: Optional[TracebackType],
     ) -> None:
         self.close()
+
+
+class WeakTable(weak.Table):
+    """A table whose entries go with the objects of a program's node: `poll` removes those of what was freed.
+
+    (A program has one list of what was freed: another table of it wouldn't hear of these objects.)
+    """
+
+    def __init__(self, program: Program, on_freed: Optional[weak.Freed] = None) -> None:
+        super().__init__(on_freed)
+        program.track_freed()
+        self._program, self._is_lost = program, False
+
+    def poll(self) -> int:
+        """Removes the entries of the objects that are freed for good, in the order in which they were.
+
+        Returns how many. If the node's list is lost, it compares the table with the node's objects: then the word is 0.
+        After a failure, the next call goes on.
+        """
+        count, gone = 0, [Gone(Ref(0, 0, 0), 0)]
+        while gone and not self._is_lost:
+            since = self._program.since
+            try:
+                gone = self._program.freed()
+                count += self._leave(gone)
+            except Lost:
+                self._is_lost = True
+            except BaseException:
+                self._program.since = since
+                raise
+        return count + self.prune() if self._is_lost else count
+
+    def prune(self) -> int:
+        """Removes the entries of the objects that the node doesn't have, by their references, with the word 0.
+
+        Returns how many. For a table that is older than the program's list.
+        """
+        self._program.track_freed()
+        before = list(self._entries)
+        count = self._leave_missing(before, {it.reference for it in self._program.objects()})
+        self._is_lost = False
+        return count

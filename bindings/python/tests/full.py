@@ -4,7 +4,7 @@ import mmap
 import resource
 from typing import Any, Callable
 
-from markring import Cell, Node, Refusal, Shape, Space, errors
+from markring import Cell, Node, Ref, Refusal, Shape, Space, errors
 
 BYTES = 16_777_216
 SHAPE = Shape.wide(2, 4, 16, 1, BYTES)
@@ -52,6 +52,7 @@ def closed(cell: Cell) -> None:
         lambda: cell.get(0, 0, 0),
         lambda: cell.post(1, 1),
         lambda: cell.fetch(0, 1),
+        lambda: cell.resolve(0, Ref(0, 0, 1)),
         cell.reclaim,
         cell.reclaim_young,
         cell.begin,

@@ -208,6 +208,31 @@ class Fields(unittest.TestCase):
         # No root leads to the private objects: an old one and two young ones.
         self.assertEqual((self.node(MARKED).reclaim(), self.node(MARKED).reclaim_young()), (3, 2))
 
+    def test_a_reference_is_resolved_by_all_of_its_numbers(self) -> None:
+        # Cycle 41 has marked the objects in the first slot and in the fourth.
+        marking, marked = self.node(MARKING), self.node(MARKED)
+        kept, white = Ref(1, 0, GENERATION), Ref(1, 1, 78)
+        marking.resolve(register=258, reference=kept)
+        self.assertEqual((marking.register(258), marking.word(258)), (kept, WORD))
+        marking.resolve(0, Ref(1, 3, 79))
+        self.assertEqual((marking.register(0), marking.word(0)), (Ref(1, 3, 79), 13))
+        for node, reference, kind in (
+            (marking, kept._replace(node=2), errors.Remote),
+            (marking, kept._replace(slot=1), errors.NoField),
+            (marking, kept._replace(slot=1 << 16), errors.NoField),
+            (marking, kept._replace(generation=0), errors.NoField),
+            (marking, kept._replace(generation=GENERATION + 1), errors.NoField),
+            (marking, white, errors.NotNow),
+            (marked, white, errors.NoField),
+            (marking, kept._replace(node=257), errors.BadArgument),
+            (marking, kept._replace(slot=1 << 32), errors.BadArgument),
+            (marking, kept._replace(generation=GENERATION + (1 << 64)), errors.BadArgument),
+            (marking, kept._replace(slot=-1), errors.BadArgument),
+        ):
+            with self.subTest(reference), self.assertRaises(kind):
+                node.resolve(0, reference)
+        self.assertEqual(marking.register(0), Ref(1, 3, 79))
+
     def take_early(self, node: Node) -> None:
         """Takes two early frames of node 0, and the one that comes before them."""
         self.assertEqual([node.take(frame(it)) for it in (63, 62, 61)], [Taken.EARLY, Taken.EARLY, Taken.RECEIVED])

@@ -2,7 +2,7 @@
 import unittest
 from typing import Any, Callable, Optional, Union
 
-from markring import Cell, Letter, Node, Refusal, Shape, Space, Taken, errors
+from markring import Cell, Letter, Node, Ref, Refusal, Shape, Space, Taken, errors
 
 WIDE = Shape.wide(2, 65_535, 16_777_216, 255, 16_777_216)
 # Numbers of registers that differ in a byte each.
@@ -44,6 +44,7 @@ def calls_with_a_register(node: Either, none: int) -> dict[str, Optional[type]]:
         "put from": refusal(node.put, 0, 0, none),
         "get": refusal(node.get, none, 0, 0),
         "fetch": refusal(node.fetch, none, 0),
+        "resolve": refusal(node.resolve, none, Ref(1, 0, 1)),
         "register": refusal(node.register, none),
     }
 

@@ -63,7 +63,7 @@ class Nodes(unittest.TestCase):
                 call()
             self.assertIsInstance(caught.exception, Refusal)
             self.assertEqual(caught.exception.status, kind.status)
-        self.assertEqual(len(errors.CLASSES), 26 + 9)
+        self.assertEqual(len(errors.CLASSES), 27 + 9)
 
     def test_sizes_of_shapes_are_tested(self) -> None:
         plain = Shape.plain

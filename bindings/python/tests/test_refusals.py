@@ -2,7 +2,7 @@
 import unittest
 from typing import Any, Callable, Union
 
-from markring import Cell, Node, Shape, Space, Taken, errors
+from markring import Cell, Node, Ref, Shape, Space, Taken, errors
 
 from .spelling import spelled
 
@@ -65,6 +65,15 @@ def pair() -> tuple[Node, Node]:
     zero.take(one.frames(0)[0][1])
     zero.accept(1)
     return zero, one
+
+
+def marking() -> Node:
+    """A node that marks, with an object that no register refers to."""
+    node = Node(2, 1, 1, 0)
+    node.alloc(0, 0)
+    node.drop(0)
+    node.begin()
+    return node
 
 
 def cells() -> tuple[Cell, Cell]:
@@ -132,6 +141,9 @@ def of_events(node: Union[Node, Cell]) -> Rows:
         (e.EmptyRegister, lambda: node.fetch(2, 0)),
         (e.Local, lambda: node.fetch(0, 0)),
         (e.TooManyBytes, lambda: node.fetch(1, 0)),
+        (e.NoRegister, lambda: node.resolve(3, Ref(0, 0, 1))),
+        (e.Remote, lambda: node.resolve(2, Ref(1, 0, 1))),
+        (e.NoField, lambda: node.resolve(2, Ref(0, 0, 2))),
         (e.NothingToDo, node.reclaim),
         (e.NothingToDo, node.reclaim_young),
         (e.CycleRunning, twice(node.begin)),
@@ -210,6 +222,7 @@ def of_nodes() -> Rows:
         (e.WrongMark, lambda: zero.kept(1)),
         (e.NoNode, lambda: zero.waiting(0)),
         (e.NotDirector, one.begin),
+        (e.NotNow, lambda: marking().resolve(0, Ref(0, 0, 1))),
         (e.Congested, lambda: zero.give(1, 0, 9)),
         (e.Congested, lambda: zero.put(1, 0, 9)),
         (e.Congested, lambda: zero.get(1, 0, 9)),

@@ -3,7 +3,7 @@ import threading
 import time
 import unittest
 
-from markring import Cell, Node, Ref, Shape, Space, Taken, errors
+from markring import Cell, Node, Ref, Shape, Space, Taken, collect, errors
 
 ROUNDS = 30
 
@@ -11,11 +11,7 @@ ROUNDS = 30
 def turn(cell: Cell, own: int) -> None:
     """One round of a thread of a space of two, without its program."""
     cell.receive(1 - own)
-    for step in (cell.scan, cell.pass_token, lambda: cell.sweep(16)):
-        try:
-            step()
-        except errors.NothingToDo:
-            pass
+    cell.work(scans=16, slots=16)
     if cell.unsaved():
         cell.save(cell.image().mark)
     cell.send(1 - own)
@@ -94,6 +90,39 @@ class Spaces(unittest.TestCase):
         self.assertEqual(seen, [list(range(ROUNDS))] * 2)
         self.assertGreater(watch.look(), 0)
         self.assertEqual([cell.state().live for cell in cells], [0, 0])
+
+    def test_a_collection_frees_a_ring(self) -> None:
+        with Space(3, 4, 16) as space:
+            cells = space.open()
+        stored: dict[int, bytes] = {}
+        for node, cell in enumerate(cells):
+            cell.alloc(0, 1)
+            cell.give((node + 2) % 3, 7, 0)
+        collect(cells)
+        for cell in cells:
+            cell.accept(1)
+            cell.store(0, 0, 1)
+            cell.drop(1)
+        for cell in cells[:2]:
+            cell.drop(0)
+        collect(cells, stored.__setitem__)
+        self.assertEqual([cell.state().live for cell in cells], [1, 1, 1])
+        cells[2].drop(0)
+        with self.assertRaises(ZeroDivisionError):
+            collect(cells, lambda node, image: 1 / 0)
+        collect(cells, stored.__setitem__)
+        self.assertEqual([(it.state().live, it.unsaved(), it.state().cycle) for it in cells], [(0, False, 3)] * 3)
+        with Space(3, 4, 16) as space:
+            for node, data in stored.items():
+                space.disk(node, data)
+            again = space.open()
+        self.assertEqual([(it.state().live, it.state().swept) for it in again], [(0, 3)] * 3)
+        for wrong in ([], cells[:2], cells[::-1], [*cells[:2], cells[1]]):
+            self.assertRaises(errors.BadArgument, collect, wrong)
+        cells[1].close()
+        self.assertRaises(errors.BadArgument, collect, cells)
+        for cell in cells + again:
+            cell.close()
 
     def begin(self, cell: Cell) -> None:
         try:

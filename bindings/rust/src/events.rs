@@ -1,8 +1,8 @@
 //! What nodes and cells have in common: their events, and calls that read them.
 
 use crate::node::filled;
-use crate::{Answer, Event, Freed, Letter, Link, Object, Objects, Passed, Ref, Result, State};
-use crate::{Stopped, Work};
+use crate::{Answer, Event, Freed, Gone, Letter, Link, Object, Objects, Passed, Ref, Result};
+use crate::{State, Stopped, Work};
 use alloc::vec::Vec;
 
 /// The events of a node, and calls that read it. [`Node`](crate::Node) has them, and
@@ -218,6 +218,17 @@ pub trait Events {
     /// 65,527, and in a plain space; `LinkSpent`, `Memory`.
     fn fetch(&self, object: u16, label: u32, offset: u32, count: u32) -> Result<u64>;
 
+    /// The register gets a reference to an object of this node that the program kept in a table of
+    /// its own: a *weak* reference, which keeps nothing alive and never names another object. It
+    /// leads back to the object while that is live and marked.
+    ///
+    /// # Errors
+    ///
+    /// `NoRegister`, `Remote`; `NoField` if the object was freed, or marking ended without it, so
+    /// the next sweep frees it; `NotNow` if the node marks and hasn't reached it. Then resolve it
+    /// again when marking has ended.
+    fn resolve(&self, register: u16, reference: Ref) -> Result<()>;
+
     /// Frees the private objects that nothing needs any more, without the other nodes, and returns
     /// how many these were. An object of a wide space is private until its node sends a reference to
     /// it; from then on only a cycle frees it. It takes time linear in the slots ever used.
@@ -366,6 +377,48 @@ pub trait Events {
     /// then as it was.
     fn read_bytes_at(&self, slot: u32, offset: u32, buffer: &mut [u8]) -> Result<()>;
 
+    /// Lists the objects that are freed from now on, for [`Events::freed`], or drops the list and
+    /// lists none. If they are listed already, nothing changes. A new node and a new cell list none.
+    ///
+    /// While they are listed, a sweep and a reclaim take memory: up to 24 bytes for each object that
+    /// they free, and meanwhile for each that a reclaim goes through. Without it they fail with
+    /// `Memory`.
+    ///
+    /// # Errors
+    ///
+    /// None today.
+    fn track_freed(&self, on: bool) -> Result<()>;
+
+    /// The objects that were freed and that no image has which may still be opened, in the order in
+    /// which they were freed. Each is returned once: when an image or a batch is kept that was made
+    /// after it was freed, or after [`Node::release`](crate::Node::release); of a cell, when it is
+    /// saved. (A [`reopen`](crate::Cell::reopen) drops the list.)
+    ///
+    /// ```
+    /// # fn main() -> markring::Result<()> {
+    /// use markring::{Events, Node, Shape};
+    ///
+    /// let node = Node::with_shape(Shape::wide(2, 4, 16, 1, 0), 0, 0)?;
+    /// node.track_freed(true)?;
+    /// let lost = node.alloc(0, 0)?;
+    /// node.set_word(0, 7)?;
+    /// node.drop_register(0)?;
+    /// node.reclaim()?;
+    /// assert!(node.freed()?.is_empty());
+    ///
+    /// let image = node.image()?; // and store it
+    /// node.kept(image.mark)?;
+    /// let freed = node.freed()?;
+    /// assert_eq!((freed[0].reference, freed[0].word), (lost, 7));
+    /// # Ok(())
+    /// # }
+    /// ```
+    ///
+    /// # Errors
+    ///
+    /// `Memory`, if there isn't enough for what is returned. A later call returns it then.
+    fn freed(&self) -> Result<Vec<Gone>>;
+
     /// Whether an event has changed the node since it was last saved.
     ///
     /// # Errors
@@ -381,16 +434,19 @@ pub trait Events {
     fn image_size(&self) -> Result<usize>;
 }
 
+// As many freed objects are fetched at once.
+pub(crate) const ROOM: usize = 64;
+
 // Implements `Events` by the functions of the C library.
 macro_rules! events {
     ($type:ty {
         $alloc:ident $copy:ident $drop:ident $load:ident $store:ident $clear:ident $word:ident
         $set_word:ident $bytes_length:ident $bytes:ident $set_bytes:ident $patch:ident $give:ident
         $post:ident $accept:ident $letter:ident $letter_bytes:ident $accept_into:ident $put:ident
-        $get:ident $fetch:ident $reclaim:ident $reclaim_young:ident $begin:ident $scan:ident
-        $pass:ident $sweep:ident $next:ident $work:ident $act:ident $state:ident $link:ident $register:ident
+        $get:ident $fetch:ident $resolve:ident $reclaim:ident $reclaim_young:ident $begin:ident
+        $scan:ident $pass:ident $sweep:ident $next:ident $work:ident $act:ident $state:ident $link:ident $register:ident
         $slots:ident $object:ident $place:ident $bytes_at:ident
-        $unsaved:ident $image_size:ident $image:ident
+        $track_freed:ident $freed:ident $unsaved:ident $image_size:ident $image:ident
     }) => {
         impl $type {
             // Asks the library, and returns its answer.
@@ -564,6 +620,12 @@ macro_rules! events {
                 .map(|it| it.number)
             }
 
+            fn resolve(&self, register: u16, reference: Ref) -> Result<()> {
+                let reference = reference.to_raw();
+                self.answer(|at, answer| unsafe { ffi::$resolve(at, register, &reference, answer) })
+                    .map(drop)
+            }
+
             fn reclaim(&self) -> Result<u32> {
                 self.answer(|at, answer| unsafe { ffi::$reclaim(at, answer) })
                     .map(|it| it.count)
@@ -658,6 +720,25 @@ macro_rules! events {
                 there(unsafe {
                     ffi::$bytes_at(self.at.get(), slot, offset, count, to, length, &mut needed)
                 })
+            }
+
+            fn track_freed(&self, on: bool) -> Result<()> {
+                checked(unsafe { ffi::$track_freed(self.at.get(), u8::from(on)) })
+            }
+
+            fn freed(&self) -> Result<Vec<Gone>> {
+                let (mut gone, mut buffer) =
+                    (Vec::new(), [ffi::RawFreed::default(); $crate::events::ROOM]);
+                loop {
+                    gone.try_reserve($crate::events::ROOM)
+                        .map_err(|_| Refusal::Memory)?;
+                    let (to, room, mut count) = (buffer.as_mut_ptr(), buffer.len(), 0);
+                    checked(unsafe { ffi::$freed(self.at.get(), to, room, &mut count) })?;
+                    gone.extend(buffer[..count].iter().map(Gone::from_raw));
+                    if count < room {
+                        return Ok(gone);
+                    }
+                }
             }
 
             fn unsaved(&self) -> Result<bool> {

@@ -110,6 +110,13 @@ pub(crate) struct RawObject {
 
 #[repr(C)]
 #[derive(Clone, Copy, Default)]
+pub(crate) struct RawFreed {
+    pub(crate) reference: RawRef,
+    pub(crate) word: u64,
+}
+
+#[repr(C)]
+#[derive(Clone, Copy, Default)]
 pub(crate) struct RawWork {
     pub(crate) received: u64,
     pub(crate) scanned: u64,
@@ -215,6 +222,12 @@ extern "C" {
     pub(crate) fn markring_space_open(space: Place, sender: *mut u8, receiver: *mut u8) -> c_int;
     pub(crate) fn markring_space_cell(space: Place, node: u8, cell: Place) -> c_int;
     pub(crate) fn markring_space_watch(space: Place, watch: Place) -> c_int;
+    pub(crate) fn markring_space_collect(
+        cells: Place,
+        nodes: usize,
+        cycle: u64,
+        done: *mut u8,
+    ) -> c_int;
     pub(crate) fn markring_space_free(space: Place) -> c_int;
 
     pub(crate) fn markring_cell_free(cell: Place) -> c_int;
@@ -267,6 +280,7 @@ both! {
     markring_node_get markring_cell_get (object: u16, place: u8, label: u32, answer: Reply);
     markring_node_fetch markring_cell_fetch
         (object: u16, label: u32, offset: u32, count: u32, answer: Reply);
+    markring_node_resolve markring_cell_resolve (reg: u16, reference: *const RawRef, answer: Reply);
     markring_node_reclaim markring_cell_reclaim (answer: Reply);
     markring_node_reclaim_young markring_cell_reclaim_young (answer: Reply);
     markring_node_begin markring_cell_begin (answer: Reply);
@@ -291,4 +305,7 @@ both! {
     markring_node_bytes_at markring_cell_bytes_at
         (slot: u32, offset: u32, count: u32, buffer: *mut u8, length: usize, needed: *mut usize);
     markring_node_unsaved markring_cell_unsaved (flag: *mut u8);
+    markring_node_track_freed markring_cell_track_freed (on: u8);
+    markring_node_freed markring_cell_freed
+        (buffer: *mut RawFreed, room: usize, count: *mut usize);
 }

@@ -1,9 +1,11 @@
 //! A node with all that runs it, except for how its packets travel: `markring_host.h`, in Rust. It
 //! is what `markring-node` is made of, for programs that have their own loop and transport.
 //!
-//! A [`Host`] keeps its node in a folder, safe against crashes; it decides what is sent when,
-//! collects, and answers requests of [`remote`](crate::remote). The caller brings packets, and its
-//! [`Transport`] sends them. One turn after another:
+//! A [`Host`] keeps its node in a folder, safe against crashes, or in a PostgreSQL database, whose
+//! address `postgresql://USER@HOST/DATABASE#SPACE/NODE` takes the folder's place (libpq is loaded
+//! then). It decides what is sent when, collects, and answers requests of
+//! [`remote`](crate::remote). The caller brings packets, and its [`Transport`] sends them. One turn
+//! after another:
 //!
 //! ```no_run
 //! use markring::host::{Host, Options, Result, Shape, Transport};
@@ -39,7 +41,6 @@ use alloc::ffi::CString;
 use alloc::string::{String, ToString};
 use core::any::Any;
 use core::ffi::{c_char, c_int, c_void, CStr};
-use core::mem::MaybeUninit;
 use core::panic::AssertUnwindSafe;
 use core::ptr::{self, NonNull};
 use core::slice;
@@ -51,6 +52,7 @@ use std::io::{self, Read};
 use std::os::unix::ffi::OsStrExt;
 use std::panic::{catch_unwind, resume_unwind};
 use std::path::Path;
+use std::thread;
 use std::time::Instant;
 
 /// Packets and requests that one turn should take, at most.
@@ -73,20 +75,54 @@ pub enum Error {
     BadArgument,
     /// An allocation failed.
     Memory,
-    /// There is no such folder, or it has no slots.
+    /// There is no such folder, or no node in it or in the database.
     Absent,
-    /// The folder that would be created has a node already.
+    /// There is such a node already.
     Exists,
-    /// Another process has the folder.
+    /// Another process has the folder, or is at work on the row of the database.
     Locked,
     /// What was saved last isn't whole, or has changed since.
     Damaged,
     /// Memory has what the disk hasn't, since a sync failed before. The same may be tried again.
     Stale,
-    /// A call of the system failed; the same may be tried again.
+    /// A call of the system failed, or the database refused; the same may be tried again.
     Failed(io::Error),
     /// A sync failed: nobody knows what is on the disk.
     Unknown(io::Error),
+    /// A database can't be used, for this reason, which the text says in words for an operator.
+    Database(Reason, String),
+}
+
+/// Why a database can't be used.
+#[derive(Clone, Copy, Debug, PartialEq, Eq, Hash)]
+#[non_exhaustive]
+pub enum Reason {
+    /// The address can't be read, or doesn't say which node.
+    Address,
+    /// There is a password in the address: write it to a file that `PGPASSFILE` names.
+    Password,
+    /// PostgreSQL's client library can't be loaded.
+    Library,
+    /// No server takes a connection now. The same may be tried again.
+    Away,
+    /// The server refuses this user, this database, or what it is asked for.
+    Denied,
+    /// There is no schema: [`make_schema`] makes it.
+    NoSchema,
+    /// The schema is of an earlier version.
+    Earlier,
+    /// The schema is of a later version.
+    Later,
+    /// The server takes no changes: it is a standby, or read-only.
+    Reads,
+    /// The server forgets what it has committed: `synchronous_commit` is off.
+    Forgets,
+    /// The server's disk is full.
+    Full,
+    /// What is there is another node, or one of another space, than the address names.
+    Other,
+    /// Pieces of the node that have to be there aren't.
+    Missing,
 }
 
 impl fmt::Display for Error {
@@ -100,6 +136,7 @@ impl fmt::Display for Error {
             Error::Locked => "another process has the folder",
             Error::Damaged => "what was saved last is damaged",
             Error::Stale => "memory has what the disk hasn't",
+            Error::Database(_, text) => text,
             Error::Failed(error) => return write!(f, "the folder: {error}"),
             Error::Unknown(error) => return write!(f, "a sync of the folder: {error}"),
         })
@@ -116,6 +153,14 @@ pub trait Transport {
     /// Sends an answer to whoever asked with this address. It may be lost.
     fn answer(&mut self, reply: &str, answer: &[u8]) {
         let _ = (reply, answer);
+    }
+
+    /// The database of the node can't be reached: waits that long before another attempt, which a
+    /// call that saves makes then. After `false` it makes none, and the host ends with
+    /// [`End::Unsure`].
+    fn pause(&mut self, time: Duration) -> bool {
+        thread::sleep(time);
+        true
     }
 }
 
@@ -166,9 +211,10 @@ pub struct Options {
 pub enum End {
     /// It was asked to leave, and all is saved.
     Left,
-    /// The folder is older than what other nodes have seen of this node, or is used twice.
+    /// The folder is older than what other nodes have seen of this node, or is used twice; or
+    /// another process has taken over.
     Older,
-    /// A sync failed: nobody knows what is on the disk.
+    /// A sync failed, or a save in a database was given up: nobody knows what is there.
     Unsure,
     /// The node's image is too large to be saved.
     TooLarge,
@@ -240,27 +286,15 @@ struct RawCalls {
     send: extern "C" fn(*mut c_void, u8, *const u8, usize),
     answer: extern "C" fn(*mut c_void, *const c_char, *const u8, usize),
     save: extern "C" fn(*mut c_void, *mut RawValue),
-}
-
-// The calls of the operating system, and their context, which only the library uses.
-#[repr(C)]
-struct RawStoreCalls {
-    pointers: [*const c_void; 13],
+    // None: the host makes whole values itself.
+    rewrite: Option<extern "C" fn(*mut c_void)>,
 }
 
 #[repr(C)]
-struct RawStore {
-    calls: RawStoreCalls,
-    folder: c_int,
-    slots: [c_int; 2],
-    counts: c_int,
-    number: u64,
-    end: u64,
-    seal: u64,
-    base: u64,
-    length: u64,
-    size: u64,
-    cause: c_int,
+struct RawEvents {
+    context: *mut c_void,
+    pause: extern "C" fn(*mut c_void, u64) -> bool,
+    note: extern "C" fn(*mut c_void, bool),
 }
 
 #[repr(C)]
@@ -274,21 +308,24 @@ struct RawValue {
 }
 
 extern "C" {
-    static MARKRING_STORE_SYSTEM: RawStoreCalls;
-    fn markring_store_create(
-        it: *mut RawStore,
-        calls: *const RawStoreCalls,
-        path: *const c_char,
+    fn markring_place_is_database(at: *const c_char) -> bool;
+    fn markring_place_create(
+        it: *mut *mut c_void,
+        at: *const c_char,
         value: *mut RawValue,
     ) -> c_int;
-    fn markring_store_open(
-        it: *mut RawStore,
-        calls: *const RawStoreCalls,
-        path: *const c_char,
-        value: *mut RawValue,
-    ) -> c_int;
-    fn markring_store_save(it: *mut RawStore, value: *mut RawValue) -> c_int;
-    fn markring_store_close(it: *mut RawStore);
+    fn markring_place_open(it: *mut *mut c_void, at: *const c_char, value: *mut RawValue) -> c_int;
+    fn markring_place_make_schema(it: *mut *mut c_void, at: *const c_char) -> c_int;
+    fn markring_place_listen(it: *mut c_void, events: *const RawEvents);
+    fn markring_place_save(it: *mut c_void, value: *mut RawValue) -> c_int;
+    fn markring_place_renew(it: *mut c_void) -> c_int;
+    fn markring_place_wait(it: *const c_void) -> u64;
+    fn markring_place_serves(it: *const c_void) -> bool;
+    fn markring_place_number(it: *const c_void) -> u64;
+    fn markring_place_warning(it: *const c_void) -> *const c_char;
+    fn markring_place_text(it: *const c_void) -> *const c_char;
+    fn markring_place_cause(it: *const c_void) -> c_int;
+    fn markring_place_close(it: *mut c_void);
     fn markring_host_create(shape: *const RawShape, value: *mut RawValue) -> c_int;
     fn markring_host_open(
         it: *mut *mut c_void,
@@ -319,6 +356,8 @@ extern "C" {
     fn markring_host_saved(it: *mut c_void, now: u64, status: c_int, number: u64);
     fn markring_host_wait(it: *mut c_void, now: u64) -> u64;
     fn markring_host_connected(it: *mut c_void, now: u64);
+    fn markring_host_taken(it: *mut c_void);
+    fn markring_host_unreachable(it: *mut c_void, now: u64, is_unreachable: bool);
     fn markring_host_leave(it: *mut c_void);
     fn markring_host_ended(it: *const c_void) -> c_int;
     fn markring_host_reason(it: *const c_void) -> *const c_char;
@@ -343,7 +382,7 @@ pub fn random_id() -> io::Result<[u8; 8]> {
 // What the library is given as the context of its calls.
 struct Inside<T> {
     transport: T,
-    store: RawStore,
+    place: *mut c_void,
     host: *mut c_void,
     began: Instant,
     panic: Option<Box<dyn Any + Send>>,
@@ -386,10 +425,27 @@ extern "C" fn answer<T: Transport>(
 extern "C" fn save<T>(context: *mut c_void, value: *mut RawValue) {
     let inside = context.cast::<Inside<T>>();
     unsafe {
-        let status = markring_store_save(&mut (*inside).store, value);
-        let (host, now, number) = ((*inside).host, (*inside).now(), (*inside).store.number);
-        markring_host_saved(host, now, status, number);
+        let status = markring_place_save((*inside).place, value);
+        let number = markring_place_number((*inside).place);
+        markring_host_saved((*inside).host, (*inside).now(), status, number);
     }
+}
+
+extern "C" fn pause<T: Transport>(context: *mut c_void, milliseconds: u64) -> bool {
+    let inside = unsafe { &mut *context.cast::<Inside<T>>() };
+    let (transport, time) = (&mut inside.transport, Duration::from_millis(milliseconds));
+    match catch_unwind(AssertUnwindSafe(|| transport.pause(time))) {
+        Ok(goes_on) => goes_on,
+        Err(panic) => {
+            inside.panic.get_or_insert(panic);
+            false
+        }
+    }
+}
+
+extern "C" fn note<T>(context: *mut c_void, is_lost: bool) {
+    let inside = context.cast::<Inside<T>>();
+    unsafe { markring_host_unreachable((*inside).host, (*inside).now(), is_lost) };
 }
 
 // SAFETY: the pointer is that of as many bytes, if any.
@@ -412,12 +468,13 @@ pub struct Host<T: Transport> {
 unsafe impl<T: Transport + Send> Send for Host<T> {}
 
 impl<T: Transport> Host<T> {
-    /// Makes a new node of a space in a new folder, and runs it.
+    /// Makes a new node of a space in a new folder or in a database, and runs it. An address may
+    /// leave out which node.
     ///
     /// # Errors
     ///
     /// `BadArgument` if the shape is out of range; `Exists`, `Locked`, `Failed`, `Unknown`,
-    /// `Memory`. After `Failed` and `Unknown`, remove the folder and create it again.
+    /// `Memory`, `Database`. After `Failed` and `Unknown`, remove the folder and create it again.
     pub fn create(
         folder: impl AsRef<Path>,
         shape: &Shape,
@@ -428,28 +485,27 @@ impl<T: Transport> Host<T> {
         let mut value = NO_VALUE;
         // SAFETY: the call fills the value.
         let status = unsafe { markring_host_create(&raw, &mut value) };
-        let made = Self::start(
-            folder.as_ref(),
-            options,
-            transport,
-            &mut value,
-            |it, at, value| {
-                created(status)?;
-                // SAFETY: the path ends with a zero, and the value is that of the library.
-                let status = unsafe { markring_store_create(it, system(), at, value) };
-                stored(status, it.cause)
-            },
-        );
+        let made = created(status).and_then(|()| {
+            Self::start(
+                folder.as_ref(),
+                options,
+                transport,
+                &mut value,
+                markring_place_create,
+            )
+        });
         // SAFETY: the library made the block, if any.
         unsafe { free(value.buffer.cast()) };
         made
     }
 
-    /// Runs the node that a folder has, from its last save on.
+    /// Runs the node that a folder or a database has, from its last save on. One in a database is
+    /// taken over.
     ///
     /// # Errors
     ///
-    /// `Absent`, `Locked`, `Damaged`, `Stale`, `Failed`, `Unknown`, `Memory`; `Refused`.
+    /// `Absent`, `Locked`, `Damaged`, `Stale`, `Failed`, `Unknown`, `Memory`, `Database`;
+    /// `Refused`.
     pub fn open(folder: impl AsRef<Path>, options: &Options, transport: T) -> Result<Self> {
         let mut value = NO_VALUE;
         let made = Self::start(
@@ -457,45 +513,40 @@ impl<T: Transport> Host<T> {
             options,
             transport,
             &mut value,
-            |it, at, value| {
-                // SAFETY: the path ends with a zero, and the call fills the value.
-                let status = unsafe { markring_store_open(it, system(), at, value) };
-                stored(status, it.cause)
-            },
+            markring_place_open,
         );
         // SAFETY: as above.
         unsafe { free(value.buffer.cast()) };
         made
     }
 
-    // Has the store opened, and then the host.
+    // Has the place opened, and then the host.
     fn start(
         folder: &Path,
         options: &Options,
         transport: T,
         value: &mut RawValue,
-        open: impl FnOnce(&mut RawStore, *const c_char, &mut RawValue) -> Result<()>,
+        open: unsafe extern "C" fn(*mut *mut c_void, *const c_char, *mut RawValue) -> c_int,
     ) -> Result<Self> {
-        let path = OsStr::as_bytes(folder.as_os_str());
-        let path = CString::new(path).map_err(|_| Error::BadArgument)?;
         let nonce = u64::from_ne_bytes(random_id().map_err(Error::Failed)?) | 1;
-        // SAFETY: zeros are a store that wasn't opened.
-        let store = unsafe { MaybeUninit::zeroed().assume_init() };
-        let mut inside = Box::new(Inside {
+        // SAFETY: the path ends with a zero; the value is that of the library, or empty.
+        let place = use_place(folder, |it, at| unsafe { open(it, at, value) })?;
+        let inside = Box::new(Inside {
             transport,
-            store,
+            place,
             host: ptr::null_mut(),
             began: Instant::now(),
             panic: None,
         });
-        open(&mut inside.store, path.as_ptr(), value)?;
-        let (now, number) = (inside.now(), inside.store.number);
+        // SAFETY: the place is open.
+        let (now, number) = (inside.now(), unsafe { markring_place_number(place) });
         let inside = NonNull::from(Box::leak(inside));
         let calls = RawCalls {
             context: inside.as_ptr().cast(),
             send: send::<T>,
             answer: answer::<T>,
             save: save::<T>,
+            rewrite: None,
         };
         let (options, mut host) = (options.to_raw(), ptr::null_mut());
         // SAFETY: the value is that of the store; the context stays until the host is freed.
@@ -503,7 +554,15 @@ impl<T: Transport> Host<T> {
             let status = markring_host_open(&mut host, value, number, nonce, &options, &calls, now);
             (*inside.as_ptr()).host = host;
             match (created(status), NonNull::new(host)) {
-                (Ok(()), Some(at)) => Ok(Host { at, inside }),
+                (Ok(()), Some(at)) => {
+                    let events = RawEvents {
+                        context: inside.as_ptr().cast(),
+                        pause: pause::<T>,
+                        note: note::<T>,
+                    };
+                    markring_place_listen(place, &events);
+                    Ok(Host { at, inside })
+                }
                 (opened, _) => {
                     close(inside);
                     Err(opened.err().unwrap_or(Error::Memory))
@@ -530,16 +589,19 @@ impl<T: Transport> Host<T> {
     }
 
     /// A request of a program came. The answer goes to `reply`, once all that it shows is stored.
+    /// It is dropped while another process could serve the programs of a node in a database.
     ///
     /// # Errors
     ///
     /// `BadArgument` if the address is longer than [`REPLY`] bytes, or has a zero.
     pub fn request(&mut self, request: &[u8], reply: &str) -> Result<()> {
         let reply = address(reply)?;
-        let (bytes, length) = (request.as_ptr(), request.len());
+        let (bytes, length, place) = (request.as_ptr(), request.len(), self.place());
         // SAFETY: both live until the call is over.
         self.call(|at, now| unsafe {
-            markring_host_request(at, now, bytes, length, reply.as_ptr());
+            if markring_place_serves(place) {
+                markring_host_request(at, now, bytes, length, reply.as_ptr());
+            }
         });
         Ok(())
     }
@@ -559,17 +621,40 @@ impl<T: Transport> Host<T> {
         Ok(())
     }
 
-    /// Collects, saves if a save is due, answers programs and sends packets.
+    /// Collects, saves if a save is due, answers programs and sends packets. In a database, it also
+    /// shows each second that this process has the node.
     pub fn turn(&mut self) {
-        // SAFETY: the host is open.
+        let place = self.place();
+        // SAFETY: the host and its place are open.
+        self.call(|at, _| unsafe {
+            if markring_place_renew(place) == TAKEN {
+                markring_host_taken(at);
+            }
+        });
+        // SAFETY: as above.
         self.call(|at, now| unsafe { markring_host_turn(at, now) });
     }
 
     /// How long the next turn may wait, if nothing comes.
     #[must_use]
     pub fn wait(&mut self) -> Duration {
+        let place = self.place();
         // SAFETY: as above.
-        Duration::from_millis(self.call(|at, now| unsafe { markring_host_wait(at, now) }))
+        let wait = self
+            .call(|at, now| unsafe { markring_host_wait(at, now).min(markring_place_wait(place)) });
+        Duration::from_millis(wait)
+    }
+
+    /// What an operator should know of the settings of the database's server, if anything.
+    #[must_use]
+    pub fn warning(&self) -> Option<String> {
+        // SAFETY: the place is open, and its text stays until the next call.
+        unsafe { text_at(markring_place_warning(self.place())) }
+    }
+
+    fn place(&self) -> *mut c_void {
+        // SAFETY: the library calls nobody now.
+        unsafe { (*self.inside.as_ptr()).place }
     }
 
     /// The transport has a connection again after it had none: what isn't acknowledged is sent
@@ -672,12 +757,63 @@ impl<T: Transport> fmt::Debug for Host<T> {
     }
 }
 
-// SAFETY: the store is open, and nothing uses the context any more.
+// SAFETY: the place is open, and nothing uses the context any more.
 unsafe fn close<T>(inside: NonNull<Inside<T>>) {
-    // SAFETY: it was a box.
+    // SAFETY: it was a box, whose events the place may call until it is closed.
     unsafe {
-        let mut inside = Box::from_raw(inside.as_ptr());
-        markring_store_close(&mut inside.store);
+        markring_place_close((*inside.as_ptr()).place);
+        drop(Box::from_raw(inside.as_ptr()));
+    }
+}
+
+// SAFETY: the text ends with a zero, if there is any.
+unsafe fn text_at(text: *const c_char) -> Option<String> {
+    // SAFETY: as the caller says.
+    (!text.is_null()).then(|| unsafe { CStr::from_ptr(text).to_string_lossy().to_string() })
+}
+
+/// Makes the schema for nodes in a database, `postgresql://USER@HOST/DATABASE`, unless it has one of
+/// this version.
+///
+/// # Errors
+///
+/// `Database`, `Memory`, `Failed`; `BadArgument` if there is a zero in the address.
+pub fn make_schema(address: &str) -> Result<()> {
+    // SAFETY: the address ends with a zero.
+    let place = use_place(Path::new(address), |it, at| unsafe {
+        markring_place_make_schema(it, at)
+    })?;
+    // SAFETY: the library made it.
+    unsafe { markring_place_close(place) };
+    Ok(())
+}
+
+// Has a place opened.
+fn use_place(
+    path: &Path,
+    open: impl FnOnce(*mut *mut c_void, *const c_char) -> c_int,
+) -> Result<*mut c_void> {
+    let path = OsStr::as_bytes(path.as_os_str());
+    let path = CString::new(path).map_err(|_| Error::BadArgument)?;
+    let mut place = ptr::null_mut();
+    let status = open(&mut place, path.as_ptr());
+    if status == 0 {
+        return Ok(place);
+    }
+    // SAFETY: these take the place as the library left it.
+    unsafe {
+        let text = text_at(markring_place_text(place)).unwrap_or_default();
+        let (is_database, cause) = (
+            markring_place_is_database(path.as_ptr()),
+            markring_place_cause(place),
+        );
+        markring_place_close(place);
+        let failed = if is_database {
+            io::Error::new(io::ErrorKind::Other, text.as_str())
+        } else {
+            io::Error::from_raw_os_error(cause)
+        };
+        Err(stored(status, failed, text))
     }
 }
 
@@ -736,12 +872,6 @@ impl Options {
     }
 }
 
-#[allow(unused_unsafe)] // earlier compilers ask for it
-fn system() -> *const RawStoreCalls {
-    // SAFETY: nobody writes to it, and nothing is read here.
-    unsafe { ptr::addr_of!(MARKRING_STORE_SYSTEM) }
-}
-
 fn address(reply: &str) -> Result<CString> {
     if reply.len() > REPLY {
         return Err(Error::BadArgument);
@@ -757,16 +887,31 @@ fn created(status: c_int) -> Result<()> {
     })
 }
 
-fn stored(status: c_int, cause: c_int) -> Result<()> {
-    Err(match status {
-        0 => return Ok(()),
-        1 => Error::Memory,
-        2 => Error::Absent,
-        3 => Error::Exists,
-        4 => Error::Locked,
-        5 => Error::Damaged,
-        6 => Error::Stale,
-        7 => Error::Failed(io::Error::from_raw_os_error(cause)),
-        _ => Error::Unknown(io::Error::from_raw_os_error(cause)),
-    })
+const TAKEN: c_int = 9;
+
+fn stored(status: c_int, failed: io::Error, text: String) -> Error {
+    let reason = match status {
+        1 => return Error::Memory,
+        2 => return Error::Absent,
+        3 => return Error::Exists,
+        4 => return Error::Locked,
+        5 => return Error::Damaged,
+        6 => return Error::Stale,
+        7 => return Error::Failed(failed),
+        10 => Reason::Address,
+        11 => Reason::Password,
+        12 => Reason::Library,
+        13 => Reason::Away,
+        14 => Reason::Denied,
+        15 => Reason::NoSchema,
+        16 => Reason::Earlier,
+        17 => Reason::Later,
+        18 => Reason::Reads,
+        19 => Reason::Forgets,
+        20 => Reason::Full,
+        21 => Reason::Other,
+        22 => Reason::Missing,
+        _ => return Error::Unknown(failed),
+    };
+    Error::Database(reason, text)
 }

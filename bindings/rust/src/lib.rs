@@ -8,6 +8,7 @@
 //!   images.
 //! - [`Events`]: what a node does.
 //! - [`Roots`], [`Root`]: registers that are chosen and emptied automatically.
+//! - [`Weak`], [`WeakTable`]: what keeps no object alive.
 //! - [`Shape`]: how large a space is.
 //! - `host`, with the feature `host`: a node in a folder, for a program that has its own loop and
 //!   transport. `remote`, with the feature `remote`: programs of nodes in processes.
@@ -82,14 +83,16 @@ mod root;
 #[cfg(feature = "spaces")]
 mod space;
 mod value;
+mod weak;
 
 pub use events::Events;
 pub use node::Node;
 pub use refusal::{Refusal, Result};
 pub use root::{Accepted, Root, Roots};
 #[cfg(feature = "spaces")]
-pub use space::{Cell, Space, Watch};
+pub use space::{collect, Cell, Space, Watch};
 pub use value::{
-    Age, Answer, Batch, Colour, Event, Frame, Freed, Image, Letter, Link, Object, Objects, Passed,
-    Ref, Shape, State, Stopped, Taken, Work,
+    Age, Answer, Batch, Colour, Event, Frame, Freed, Gone, Image, Letter, Link, Object, Objects,
+    Passed, Ref, Shape, State, Stopped, Taken, Work,
 };
+pub use weak::{Weak, WeakTable};

@@ -3,8 +3,8 @@
 use crate::events::events;
 use crate::ffi;
 use crate::refusal::{checked, found, there};
-use crate::{Answer, Batch, Event, Events, Frame, Freed, Image, Letter, Link, Object, Passed, Ref};
-use crate::{Refusal, Result, Shape, State, Stopped, Taken, Work};
+use crate::{Answer, Batch, Event, Events, Frame, Freed, Gone, Image, Letter, Link, Object};
+use crate::{Passed, Ref, Refusal, Result, Shape, State, Stopped, Taken, Work};
 use alloc::vec::Vec;
 use core::cell::UnsafeCell;
 use core::ffi::c_int;
@@ -91,12 +91,13 @@ events! {
         markring_node_bytes_length markring_node_bytes markring_node_set_bytes markring_node_patch
         markring_node_give markring_node_post markring_node_accept markring_node_letter
         markring_node_letter_bytes markring_node_accept_into markring_node_put markring_node_get
-        markring_node_fetch
+        markring_node_fetch markring_node_resolve
         markring_node_reclaim markring_node_reclaim_young markring_node_begin markring_node_scan
         markring_node_pass markring_node_sweep
         markring_node_next markring_node_work markring_node_act markring_node_state markring_node_link
         markring_node_register markring_node_slots markring_node_object markring_node_place
-        markring_node_bytes_at markring_node_unsaved markring_node_image_size markring_node_image
+        markring_node_bytes_at markring_node_track_freed markring_node_freed markring_node_unsaved
+    markring_node_image_size markring_node_image
     }
 }
 

@@ -105,6 +105,8 @@ refusals! {
     TooManyBytes = 25, "the object would have too many bytes";
     /// The object doesn't have all of these bytes.
     NoBytes = 26, "the object doesn't have these bytes";
+    /// The object isn't marked yet, and its node marks: try again once marking has ended.
+    NotNow = 27, "the object isn't marked yet";
     /// The space is open already.
     InUse = 102, "the space is open already";
     /// The letter has more bytes than there is room for. It stays.
@@ -125,7 +127,7 @@ refusals! {
 }
 
 impl Refusal {
-    /// The number of the refusal: 1 to 26 as in the rules of the space, and from 101 on those of
+    /// The number of the refusal: 1 to 27 as in the rules of the space, and from 101 on those of
     /// the library.
     #[must_use]
     pub const fn number(self) -> u8 {

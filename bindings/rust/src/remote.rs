@@ -29,12 +29,13 @@
 //! descriptor ([`AsFd`]) is readable, and then calls [`Program::take_answers`], which wakes the
 //! tasks whose answers came: with tokio, for example, a task in a loop over `AsyncFd::readable`.
 
-use crate::ffi::{RawAnswer, RawEvent, RawRef};
-use crate::{Answer, Event, Letter, Ref, Refusal};
-use alloc::collections::VecDeque;
+use crate::ffi::{RawAnswer, RawEvent, RawFreed, RawObject, RawRef};
+use crate::{Answer, Event, Gone, Letter, Object, Ref, Refusal, Weak, WeakTable};
+use alloc::collections::{BTreeSet, VecDeque};
 use alloc::ffi::CString;
 use alloc::rc::Rc;
 use alloc::string::String;
+use alloc::vec;
 use alloc::vec::Vec;
 use core::cell::RefCell;
 use core::ffi::{c_char, c_int, c_void, CStr};
@@ -57,8 +58,13 @@ pub const BYTES: usize = 1_000_000;
 pub const LETTER: u32 = 65_535;
 /// Requests of a program under way, at most.
 pub const UNDER_WAY: usize = 64;
+/// Objects that were freed, in one answer, at most.
+pub const FREED: usize = 47_619;
+/// Objects in one answer, at most.
+pub const OBJECTS: usize = 32_768;
 const TEXT: usize = 8192;
 const NOT_DONE: c_int = 150;
+const APART: c_int = 151;
 const PENDING: c_int = 11;
 
 /// The result of a call of this module.
@@ -89,10 +95,18 @@ pub enum Failure {
     Registers,
     /// The request, or its answer, would carry more than [`BYTES`] bytes. Nothing was sent.
     TooLong,
-    /// The node is of an earlier version, and knows no bytes. Nothing was performed.
+    /// The node is of an earlier version, and knows no bytes, no Resolve, or not this request.
+    /// Nothing was performed.
     Earlier,
     /// The program has [`UNDER_WAY`] requests under way. Nothing was sent.
     TooMany,
+    /// A program of the node has registers for itself. What it holds there, others could find by
+    /// this request, so nobody may make it.
+    Apart,
+    /// The node doesn't list for the program what was freed since: another process runs the node
+    /// now, the program left too many objects to be asked for, it never called
+    /// [`Program::track_freed`], or meanwhile a program had registers for itself.
+    Lost,
     /// The node refused the event.
     Refused(Refusal),
 }
@@ -111,6 +125,8 @@ impl fmt::Display for Failure {
             Failure::TooLong => "the request or its answer would carry too many bytes",
             Failure::Earlier => "the node is of an earlier version",
             Failure::TooMany => "the program has too many requests under way",
+            Failure::Apart => "a program of the node has registers for itself",
+            Failure::Lost => "the node doesn't list what it has freed since for this program",
             Failure::Refused(refusal) => return refusal.fmt(f),
         })
     }
@@ -139,6 +155,8 @@ fn checked(status: c_int) -> Result<()> {
         9 => Failure::TooLong,
         10 => Failure::Earlier,
         12 => Failure::TooMany,
+        13 => Failure::Apart,
+        14 => Failure::Lost,
         status => panic!("the client returned the status {status}, which this crate doesn't know"),
     })
 }
@@ -173,6 +191,12 @@ struct RawPolled {
     bytes: *const u8,
     length: usize,
     is_over: u8,
+}
+
+#[repr(C)]
+struct RawSince {
+    list: u64,
+    number: u64,
 }
 
 #[repr(C)]
@@ -254,6 +278,39 @@ extern "C" {
         offset: u32,
         count: u32,
         timeout: i64,
+    ) -> c_int;
+    fn markring_remote_send_track_freed(program: *mut c_void, timeout: i64) -> c_int;
+    fn markring_remote_send_freed(
+        program: *mut c_void,
+        since: *const RawSince,
+        room: usize,
+        timeout: i64,
+    ) -> c_int;
+    fn markring_remote_send_objects(
+        program: *mut c_void,
+        slot: u32,
+        room: usize,
+        timeout: i64,
+    ) -> c_int;
+    fn markring_remote_send_places(
+        program: *mut c_void,
+        object: *const RawRef,
+        timeout: i64,
+    ) -> c_int;
+    fn markring_remote_freed_at(
+        answer: *const RawPolled,
+        index: usize,
+        freed: *mut RawFreed,
+    ) -> c_int;
+    fn markring_remote_object_at(
+        answer: *const RawPolled,
+        index: usize,
+        object: *mut RawObject,
+    ) -> c_int;
+    fn markring_remote_place_at(
+        answer: *const RawPolled,
+        index: usize,
+        place: *mut RawRef,
     ) -> c_int;
     fn markring_remote_send_wait(program: *mut c_void, timeout: i64) -> c_int;
     fn markring_remote_poll(program: *mut c_void, answer: *mut RawPolled) -> c_int;
@@ -553,8 +610,29 @@ pub enum Outcome {
     Letter(Letter, Vec<u8>),
     /// It was refused. Nothing has changed.
     Refused(Refusal),
+    /// It was a Resolve, which was refused as [`Failure::Apart`] says.
+    Apart,
     /// An event of the same request was refused before it.
     NotDone,
+}
+
+/// A place in the list of what a node has freed for a program: up to there, the program has it. It
+/// may be stored with what the program keeps, and used by the program's next process.
+#[derive(Clone, Copy, Debug, PartialEq, Eq, Hash)]
+pub struct Since {
+    /// Which list.
+    pub list: u64,
+    /// The number of its last entry that the program has.
+    pub number: u64,
+}
+
+/// The beginning of a list of what a node has freed; see [`Program::track_freed`].
+#[derive(Clone, Copy, Debug, PartialEq, Eq, Hash)]
+pub struct Tracked {
+    /// The place that the program named last, or the beginning.
+    pub since: Since,
+    /// Whether the program hasn't named one yet: what was freed before isn't listed.
+    pub is_new: bool,
 }
 
 /// A program of a node. One thread at a time uses it.
@@ -704,6 +782,90 @@ impl Program<'_> {
         })
     }
 
+    /// Sends what [`Program::track_freed`] asks for.
+    ///
+    /// # Errors
+    ///
+    /// Those of [`Program::send`].
+    pub fn send_track_freed(&self) -> Result<Request<'_, Tracked>> {
+        let wait = milliseconds(self.timeout);
+        // SAFETY: the program is open.
+        let status = unsafe { markring_remote_send_track_freed(self.at.as_ptr(), wait) };
+        self.request(status, |came| {
+            let said = came.only()?;
+            Ok(Tracked {
+                since: since_of(&said),
+                is_new: said.done != 0,
+            })
+        })
+    }
+
+    /// Sends what [`Program::freed`] asks for. The answer has the next place, too.
+    ///
+    /// # Errors
+    ///
+    /// Those of [`Program::send`].
+    pub fn send_freed(&self, since: Since) -> Result<Request<'_, (Vec<Gone>, Since)>> {
+        let Since { list, number } = since;
+        let (at, wait) = (self.at.as_ptr(), milliseconds(self.timeout));
+        // SAFETY: the program is open; the call copies the place.
+        let status =
+            unsafe { markring_remote_send_freed(at, &RawSince { list, number }, FREED, wait) };
+        self.request(status, |came| {
+            let said = came.only()?;
+            let gone = came.records(&said, markring_remote_freed_at);
+            Ok((gone.iter().map(Gone::from_raw).collect(), since_of(&said)))
+        })
+    }
+
+    /// Sends a reading of up to `most` objects, from this slot on. The answer has the next slot, if
+    /// there is one. See [`Program::objects`].
+    ///
+    /// # Errors
+    ///
+    /// Those of [`Program::send`].
+    pub fn send_objects(
+        &self,
+        slot: u32,
+        most: usize,
+    ) -> Result<Request<'_, (Vec<Object>, Option<u32>)>> {
+        let (at, wait) = (self.at.as_ptr(), milliseconds(self.timeout));
+        // SAFETY: the program is open.
+        let status = unsafe { markring_remote_send_objects(at, slot, most, wait) };
+        self.request(status, |came| {
+            let said = came.only()?;
+            let objects = came.records(&said, markring_remote_object_at);
+            let next = (said.done == 0).then_some(said.label);
+            Ok((objects.iter().map(Object::from_raw).collect(), next))
+        })
+    }
+
+    /// Sends what [`Program::places`] asks for.
+    ///
+    /// # Errors
+    ///
+    /// Those of [`Program::send`].
+    pub fn send_places(&self, object: Ref) -> Result<Request<'_, Vec<Option<Ref>>>> {
+        let (at, wait) = (self.at.as_ptr(), milliseconds(self.timeout));
+        let Ref {
+            node,
+            slot,
+            generation,
+        } = object;
+        let raw = RawRef {
+            node,
+            slot,
+            generation,
+        };
+        // SAFETY: the program is open; the call copies the reference.
+        let status = unsafe { markring_remote_send_places(at, &raw, wait) };
+        self.request(status, |came| {
+            let said = came.only()?;
+            let places = came.records(&said, markring_remote_place_at);
+            Ok(places.into_iter().map(Ref::from_raw).collect())
+        })
+    }
+
     /// Waits for a letter, as [`Program::wait`], without holding up other requests.
     ///
     /// # Errors
@@ -843,8 +1005,118 @@ impl Program<'_> {
             Some(Outcome::Done(answer)) => Ok(answer),
             Some(Outcome::Letter(letter, _)) => Ok(Answer::Letter(letter)),
             Some(Outcome::Refused(refusal)) => Err(refusal.into()),
+            Some(Outcome::Apart) => Err(Failure::Apart),
             Some(Outcome::NotDone) | None => Err(Failure::Confused),
         }
+    }
+
+    /// The register gets a reference to an object of the node that the program kept in a table of
+    /// its own. See [`Events::resolve`](crate::Events::resolve).
+    ///
+    /// # Errors
+    ///
+    /// Those of [`Program::one`]; `Apart`; `Earlier`. `Refused` with `NoField` if the object is
+    /// gone, and with `NotNow` if the node marks and hasn't reached it: resolve it again later.
+    pub fn resolve(&mut self, register: u16, reference: Ref) -> Result<()> {
+        let resolve = Event::Resolve {
+            register,
+            reference,
+        };
+        self.one(resolve).map(drop)
+    }
+
+    /// The register gets a reference to the object, as [`Weak::upgrade`] does. Returns false if it
+    /// is gone.
+    ///
+    /// # Errors
+    ///
+    /// Those of [`Program::resolve`] but `NoField`.
+    pub fn upgrade(&mut self, weak: Weak, register: u16) -> Result<bool> {
+        match self.resolve(register, weak.reference()) {
+            Ok(()) => Ok(true),
+            Err(Failure::Refused(Refusal::NoField)) => Ok(false),
+            Err(failure) => Err(failure),
+        }
+    }
+
+    /// Has the node list for the program what it frees from now on, for [`Program::freed`], and
+    /// returns the beginning of the list. If it does so already, nothing changes.
+    ///
+    /// # Errors
+    ///
+    /// `TimedOut`: the node may have begun; call again. `Apart`, `Earlier`, `Superseded`.
+    pub fn track_freed(&mut self) -> Result<Tracked> {
+        self.send_track_freed()?.wait()
+    }
+
+    /// Objects that were freed behind this place, for good and in the order in which they were, up
+    /// to [`FREED`]; none if there are no more yet. The place moves behind them. The next call says
+    /// to the node that the program has them: so after a failure it returns the same ones.
+    ///
+    /// # Errors
+    ///
+    /// `Lost`: call [`Program::track_freed`], and compare what the program keeps with
+    /// [`Program::objects`]. `TimedOut`, `Apart`, `Earlier`, `Superseded`.
+    pub fn freed(&mut self, since: &mut Since) -> Result<Vec<Gone>> {
+        let (gone, next) = self.send_freed(*since)?.wait()?;
+        *since = next;
+        Ok(gone)
+    }
+
+    /// The objects of the node, in the order of their slots, also those that no register refers to.
+    /// It asks for up to [`OBJECTS`] at a time. An object that is made or freed meanwhile may be
+    /// left out. After a failure, it goes on.
+    pub fn objects(&mut self) -> Objects<'_> {
+        Objects {
+            program: self,
+            came: Vec::new().into_iter(),
+            next: Some(0),
+        }
+    }
+
+    /// What the places of an object of the node hold.
+    ///
+    /// # Errors
+    ///
+    /// `TimedOut`: nothing has changed. `Apart`; `Earlier`; `Refused` with `Remote` if the object is
+    /// another node's, and with `NoField` if it is gone.
+    pub fn places(&mut self, object: Ref) -> Result<Vec<Option<Ref>>> {
+        self.send_places(object)?.wait()
+    }
+
+    /// Removes entries of objects that are freed for good, and returns them; none if there are no
+    /// more yet. Call it with a place of the table's own, which is `None` at first.
+    ///
+    /// Without a place, and if the node's list is lost, it compares the table with the node's
+    /// objects: the words are 0 then.
+    ///
+    /// # Errors
+    ///
+    /// Those of [`Program::freed`] but `Lost`. No entry was removed.
+    pub fn take_freed<V>(
+        &mut self,
+        table: &mut WeakTable<V>,
+        since: &mut Option<Since>,
+    ) -> Result<Vec<(Gone, V)>> {
+        while let Some(place) = since {
+            match self.freed(place) {
+                Ok(gone) if gone.is_empty() => return Ok(Vec::new()),
+                Ok(gone) => {
+                    let left = table.leave(gone);
+                    if !left.is_empty() {
+                        return Ok(left);
+                    }
+                }
+                Err(Failure::Lost) => *since = None,
+                Err(failure) => return Err(failure),
+            }
+        }
+        let tracked = self.track_freed()?;
+        let live = self.objects().map(|it| it.map(|it| it.reference));
+        let live = live.collect::<Result<BTreeSet<Ref>>>()?;
+        *since = Some(tracked.since);
+        let gone = |(reference, value)| (Gone { reference, word: 0 }, value);
+        Ok(table.leave_missing(&live).into_iter().map(gone).collect())
     }
 
     /// Accepts the oldest letter that waits, with its bytes; `None` if no letter waits. The
@@ -984,12 +1256,48 @@ fn outcomes(results: Vec<(RawResult, Option<Vec<u8>>)>) -> Vec<Outcome> {
             (answer, _) => Outcome::Done(answer),
         },
         NOT_DONE => Outcome::NotDone,
+        APART => Outcome::Apart,
         status => match crate::refusal::checked(status) {
             Ok(()) => Outcome::NotDone,
             Err(refusal) => Outcome::Refused(refusal),
         },
     };
     results.into_iter().map(outcome).collect()
+}
+
+/// The objects of a program's node; see [`Program::objects`].
+#[derive(Debug)]
+pub struct Objects<'p> {
+    program: &'p Program<'p>,
+    came: alloc::vec::IntoIter<Object>,
+    next: Option<u32>,
+}
+
+impl Iterator for Objects<'_> {
+    type Item = Result<Object>;
+
+    fn next(&mut self) -> Option<Result<Object>> {
+        loop {
+            if let Some(object) = self.came.next() {
+                return Some(Ok(object));
+            }
+            let asked = self.program.send_objects(self.next?, OBJECTS);
+            match asked.and_then(Request::wait) {
+                Ok((objects, next)) => {
+                    self.came = objects.into_iter();
+                    self.next = next;
+                }
+                Err(failure) => return Some(Err(failure)),
+            }
+        }
+    }
+}
+
+fn since_of(said: &RawAnswer) -> Since {
+    Since {
+        list: said.sum as u64,
+        number: said.number,
+    }
 }
 
 // What registers hold.
@@ -1024,6 +1332,34 @@ struct Came {
     results: Vec<(RawResult, Option<Vec<u8>>)>,
     bytes: Vec<u8>,
     letters: u64,
+}
+
+impl Came {
+    // What the only result says.
+    fn only(&self) -> Result<RawAnswer> {
+        let (found, _) = self.results.first().ok_or(Failure::Confused)?;
+        crate::refusal::checked(found.status)?;
+        Ok(found.answer)
+    }
+
+    // What follows the result, as many as it says.
+    fn records<T: Clone + Default>(
+        &self,
+        said: &RawAnswer,
+        read: unsafe extern "C" fn(*const RawPolled, usize, *mut T) -> c_int,
+    ) -> Vec<T> {
+        let raw = RawPolled {
+            bytes: self.bytes.as_ptr(),
+            length: self.bytes.len(),
+            ..NO_ANSWER
+        };
+        let mut records = vec![T::default(); said.count as usize];
+        for (index, record) in records.iter_mut().enumerate() {
+            // SAFETY: the bytes are as many as it says; the call fills the record, or leaves it.
+            unsafe { read(&raw, index, record) };
+        }
+        records
+    }
 }
 
 type Read<T> = fn(Came) -> Result<T>;

@@ -72,6 +72,19 @@ impl<'n, N: Events> Roots<'n, N> {
         filled.ok_or(Refusal::EmptyRegister)
     }
 
+    /// Resolves a reference that the program kept elsewhere.
+    ///
+    /// # Errors
+    ///
+    /// `NoRegister` if no register is left; those of [`Events::resolve`].
+    pub fn resolve(&self, reference: Ref) -> Result<Root<'_, N>> {
+        let filled = self.fill(|register| {
+            self.node.resolve(register, reference)?;
+            Ok(Some(reference))
+        })?;
+        filled.ok_or(Refusal::EmptyRegister)
+    }
+
     /// Accepts the oldest letter that waits, if any, and returns its sender, its label, the
     /// references in it and its bytes.
     ///

@@ -5,8 +5,8 @@ use crate::ffi;
 use crate::node::{filled, refill};
 use crate::refusal::{checked, found, there};
 use crate::{
-    Answer, Event, Events, Freed, Image, Letter, Link, Object, Passed, Ref, Refusal, Result, Shape,
-    State, Stopped, Taken, Work,
+    Answer, Event, Events, Freed, Gone, Image, Letter, Link, Object, Passed, Ref, Refusal, Result,
+    Shape, State, Stopped, Taken, Work,
 };
 use alloc::vec::Vec;
 use core::cell::UnsafeCell;
@@ -183,12 +183,13 @@ events! {
         markring_cell_bytes_length markring_cell_bytes markring_cell_set_bytes markring_cell_patch
         markring_cell_give markring_cell_post markring_cell_accept markring_cell_letter
         markring_cell_letter_bytes markring_cell_accept_into markring_cell_put markring_cell_get
-        markring_cell_fetch
+        markring_cell_fetch markring_cell_resolve
         markring_cell_reclaim markring_cell_reclaim_young markring_cell_begin markring_cell_scan
         markring_cell_pass markring_cell_sweep
         markring_cell_next markring_cell_work markring_cell_act markring_cell_state markring_cell_link
         markring_cell_register markring_cell_slots markring_cell_object markring_cell_place
-        markring_cell_bytes_at markring_cell_unsaved markring_cell_image_size markring_cell_image
+        markring_cell_bytes_at markring_cell_track_freed markring_cell_freed markring_cell_unsaved
+    markring_cell_image_size markring_cell_image
     }
 }
 
@@ -265,6 +266,44 @@ impl fmt::Debug for Cell {
             .field("state", &self.state())
             .finish()
     }
+}
+
+/// Collects what is garbage in a space whose programs are all stopped: `cells` are those of all
+/// nodes, in order. It ends the cycle that is under way and the next one, and saves each cell. What
+/// was garbage before, saved or not, is gone then, rings of objects across nodes included.
+///
+/// `store` stores the image of the node of this number safely, before it counts as saved.
+///
+/// # Errors
+///
+/// `BadArgument` if these aren't the cells of all nodes; otherwise the first refusal of a call, or
+/// the error of `store`. What was done before remains done, and the call may be repeated.
+pub fn collect<E: From<Refusal>>(
+    cells: &[Cell],
+    mut store: impl FnMut(u8, &[u8]) -> core::result::Result<(), E>,
+) -> core::result::Result<(), E> {
+    let first = cells.first().ok_or(Refusal::BadArgument)?;
+    let (cycle, mut done) = (first.state()?.cycle + 1, 0);
+    // SAFETY: nobody else uses these handles while a call lasts, since a cell isn't `Sync`; and it
+    // leaves in each the cell that was there.
+    let mut handles = Vec::new();
+    handles
+        .try_reserve_exact(cells.len())
+        .map_err(|_| Refusal::Memory)?;
+    handles.extend(cells.iter().map(|it| unsafe { it.at.get().read() }));
+    while done == 0 {
+        checked(unsafe {
+            ffi::markring_space_collect(handles.as_mut_ptr(), handles.len(), cycle, &mut done)
+        })?;
+        for (node, cell) in (0..).zip(cells) {
+            if cell.unsaved()? {
+                let image = cell.image()?;
+                store(node, &image.bytes)?;
+                cell.save(image.mark)?;
+            }
+        }
+    }
+    Ok(())
 }
 
 /// A read-only view of the last cycle whose marking has ended.

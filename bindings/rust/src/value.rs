@@ -1,6 +1,7 @@
 //! Plain values: references, events, answers, objects, and a node in numbers.
 
-use crate::ffi::{RawAnswer, RawEvent, RawLink, RawObject, RawRef, RawShape, RawState, RawWork};
+use crate::ffi::RawWork;
+use crate::ffi::{RawAnswer, RawEvent, RawFreed, RawLink, RawObject, RawRef, RawShape, RawState};
 use crate::{Events, Refusal, Result};
 use core::fmt;
 use core::ops::Range;
@@ -28,6 +29,14 @@ impl Ref {
     // Generation 0 means nothing.
     pub(crate) fn from_raw(raw: RawRef) -> Option<Self> {
         (raw.generation != 0).then(|| raw.named())
+    }
+
+    pub(crate) const fn to_raw(self) -> RawRef {
+        RawRef {
+            node: self.node,
+            slot: self.slot,
+            generation: self.generation,
+        }
     }
 }
 
@@ -197,6 +206,8 @@ pub enum Event {
     },
     /// See [`Events::get`](crate::Events::get).
     Get { object: u16, place: u8, label: u32 },
+    /// See [`Events::resolve`](crate::Events::resolve).
+    Resolve { register: u16, reference: Ref },
     /// See [`Events::reclaim`](crate::Events::reclaim).
     Reclaim,
     /// See [`Events::reclaim_young`](crate::Events::reclaim_young).
@@ -241,6 +252,9 @@ impl Event {
                 RawEvent { object, place, reg: register, ..kind(11) }
             }
             Event::Get { object, place, label } => RawEvent { object, place, label, ..kind(12) },
+            Event::Resolve { register, reference: Ref { node, slot, generation } } => {
+                RawEvent { reg: register, node, count: slot, word: generation, ..kind(24) }
+            }
             Event::Reclaim => kind(20),
             Event::ReclaimYoung => kind(21),
             Event::Begin => kind(13),
@@ -550,6 +564,24 @@ impl Object {
                 1 => Age::Young,
                 _ => Age::Remembered,
             },
+        }
+    }
+}
+
+/// An object that was freed; see [`Events::freed`](crate::Events::freed).
+#[derive(Clone, Copy, Debug, PartialEq, Eq, Hash)]
+pub struct Gone {
+    /// The reference that it had.
+    pub reference: Ref,
+    /// The word that it had.
+    pub word: u64,
+}
+
+impl Gone {
+    pub(crate) fn from_raw(raw: &RawFreed) -> Self {
+        Gone {
+            reference: raw.reference.named(),
+            word: raw.word,
         }
     }
 }

@@ -119,6 +119,13 @@ fn reference(node: u8, slot: u32, generation: u64) -> Ref {
     }
 }
 
+// The object in the first slot, which cycle 41 has marked.
+const KEPT: Ref = Ref {
+    node: 1,
+    slot: 0,
+    generation: GENERATION,
+};
+
 const STATE: State = State {
     nodes: 3,
     own: 1,
@@ -641,11 +648,43 @@ fn calls<'a>() -> Vec<Both<'a>> {
         (Event::Accept { register: 256 }, &|it| it.accept(256).map(drop)),
         (Event::Put { object: 299, place: 8, register: 0 }, &|it| it.put(299, 8, 0).map(drop)),
         (Event::Get { object: 299, place: 7, label }, &|it| it.get(299, 7, LABEL as u32).map(drop)),
+        (Event::Resolve { register: 257, reference: KEPT }, &|it| it.resolve(257, KEPT)),
         (Event::Reclaim, &|it| it.reclaim().map(drop)),
         (Event::ReclaimYoung, &|it| it.reclaim_young().map(drop)),
         (Event::Scan, &|it| it.scan().map(drop)),
     ];
     all
+}
+
+// Cycle 41 has marked the objects in the first slot and in the fourth.
+#[test]
+fn a_reference_is_resolved_by_all_of_its_numbers() -> Result<()> {
+    let (marking, marked) = (node(&MARKING)?, node(&MARKED)?);
+    marking.resolve(258, KEPT)?;
+    assert_eq!(
+        (marking.register(258)?, marking.word(258)?),
+        (Some(KEPT), WORD)
+    );
+    marking.resolve(0, reference(1, 3, 79))?;
+    assert_eq!(marking.word(0)?, 13);
+    let white = reference(1, 1, 78);
+    for (node, reference, refusal) in [
+        (&marking, reference(2, 0, GENERATION), Refusal::Remote),
+        (&marking, reference(1, 1, GENERATION), Refusal::NoField),
+        (
+            &marking,
+            reference(1, 1 << 16, GENERATION),
+            Refusal::NoField,
+        ),
+        (&marking, reference(1, 0, 0), Refusal::NoField),
+        (&marking, reference(1, 0, GENERATION + 1), Refusal::NoField),
+        (&marking, white, Refusal::NotNow),
+        (&marked, white, Refusal::NoField),
+    ] {
+        assert_eq!(node.resolve(0, reference), Err(refusal), "{reference}");
+    }
+    assert_eq!(marking.register(0)?, Some(reference(1, 3, 79)));
+    Ok(())
 }
 
 #[test]

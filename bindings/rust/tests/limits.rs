@@ -109,6 +109,13 @@ fn each_event_uses_the_whole_number_of_a_register() -> Result<()> {
     each_event_uses_the_whole_register(&cells[0])
 }
 
+// An object of another node.
+const NAMED: Ref = Ref {
+    node: 1,
+    slot: 0,
+    generation: 1,
+};
+
 // All calls with a register, given the number past the last.
 fn calls_with_a_register(node: &impl Events, none: u16) -> Vec<(&'static str, Option<Refusal>)> {
     vec![
@@ -135,6 +142,7 @@ fn calls_with_a_register(node: &impl Events, none: u16) -> Vec<(&'static str, Op
         ("put from", node.put(0, 0, none).err()),
         ("get", node.get(none, 0, 0).err()),
         ("fetch", node.fetch(none, 0, 0, 0).err()),
+        ("resolve", node.resolve(none, NAMED).err()),
         ("register", node.register(none).err()),
     ]
 }

@@ -1,7 +1,7 @@
 //! What only a lack of memory causes: `Memory`, a cell's `Disk`, and what is `Closed` after it. This
 //! program has one test, since it limits the memory of its process.
 
-use markring::{Cell, Event, Events, Node, Refusal, Result, Roots, Shape, Space};
+use markring::{Cell, Event, Events, Node, Ref, Refusal, Result, Roots, Shape, Space};
 use std::fs;
 
 const RESOURCE: i32 = 9; // RLIMIT_AS
@@ -60,7 +60,13 @@ fn refused(node: &impl Events) -> Result<()> {
     Ok(())
 }
 
-fn closed(cell: &Cell) -> [Option<Refusal>; 30] {
+const FIRST: Ref = Ref {
+    node: 0,
+    slot: 0,
+    generation: 1,
+};
+
+fn closed(cell: &Cell) -> [Option<Refusal>; 31] {
     [
         cell.alloc(1, 0).err(),
         cell.copy(1, 0).err(),
@@ -78,6 +84,7 @@ fn closed(cell: &Cell) -> [Option<Refusal>; 30] {
         cell.get(0, 0, 0).err(),
         cell.post(1, 1, 0, 0, &[]).err(),
         cell.fetch(0, 0, 0, 0).err(),
+        cell.resolve(0, FIRST).err(),
         cell.reclaim().err(),
         cell.reclaim_young().err(),
         cell.begin().err(),
@@ -125,7 +132,7 @@ fn without_memory_calls_are_refused() -> Result<()> {
     let saved = |room: usize| with_room(room * BYTES / 4, || cell.save(mark));
     let first = (0..40).map(saved).find(|it| *it != Err(Refusal::Memory));
     assert_eq!(first, Some(Err(Refusal::Disk)));
-    assert_eq!(closed(&cell), [Some(Refusal::Closed); 30]);
+    assert_eq!(closed(&cell), [Some(Refusal::Closed); 31]);
     // Registers that can't be emptied now are emptied before they are used again.
     drop((saved_root, lost_root));
     assert_eq!(roots.alloc(0).err(), Some(Refusal::Closed));

@@ -1,7 +1,7 @@
 //! Each call is refused with each error that its documentation names. `Memory`, and what only a lack
 //! of memory causes, is in tests/memory.rs.
 
-use markring::{Cell, Events, Node, Refusal, Result, Shape, Space, Taken};
+use markring::{Cell, Events, Node, Ref, Refusal, Result, Shape, Space, Taken};
 use spelling::spelled;
 use std::collections::BTreeSet;
 
@@ -189,6 +189,24 @@ fn spent_rows() -> Result<Rows> {
     Ok(rows)
 }
 
+// A reference to the first object of a slot.
+fn named(node: u8, slot: u32) -> Ref {
+    Ref {
+        node,
+        slot,
+        generation: 1,
+    }
+}
+
+// Node 0 of two, which marks, with an object that no register refers to.
+fn marking() -> Result<Node> {
+    let node = Node::new(2, 1, 1, 0)?;
+    node.alloc(0, 0)?;
+    node.drop_register(0)?;
+    node.begin()?;
+    Ok(node)
+}
+
 // Node 0 of two with two objects: register 0 has one with a place, register 1 one of node 1, which
 // is empty else. There is a register 2, and no register 3.
 fn event_rows(node: &impl Events) -> Rows {
@@ -261,6 +279,9 @@ fn event_rows(node: &impl Events) -> Rows {
         "fetch" EmptyRegister: node.fetch(2, 0, 0, 0);
         "fetch" Local: node.fetch(0, 0, 0, 0);
         "fetch" TooManyBytes: node.fetch(1, 0, 0, 0);
+        "resolve" NoRegister: node.resolve(3, named(0, 0));
+        "resolve" Remote: node.resolve(2, named(1, 0));
+        "resolve" NoField: node.resolve(2, named(0, 1));
         "reclaim" NothingToDo: node.reclaim();
         "reclaim_young" NothingToDo: node.reclaim_young();
         "begin" CycleRunning: node.begin().and_then(|_| node.begin());
@@ -380,6 +401,7 @@ fn node_rows() -> Result<Rows> {
         "kept" WrongMark: zero.kept(1);
         "waiting" NoNode: zero.waiting(0);
         "begin" NotDirector: one.begin();
+        "resolve" NotNow: marking()?.resolve(0, named(0, 0));
     };
     for label in 0..3 {
         zero.give(1, label, 2)?;
@@ -439,6 +461,7 @@ fn cell_rows(zero: &Cell, one: &Cell) -> Rows {
         "save" WrongMark: zero.save(image(zero).mark + 1);
         "save" WrongMark: zero.save(image(zero).mark - 1);
         "raise" NotDirector: one.raise();
+        "collect" BadArgument: markring::collect::<Refusal>(&[], |_, _| Ok(()));
     }
 }
 

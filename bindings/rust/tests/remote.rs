@@ -2,8 +2,8 @@
 //! `MARKRING_REMOTE_LIB_DIR` names the folder into which host/tests/model has built it.
 
 use markring::remote::{Failure, Options, Outcome, Program, Request, Result, Space, Step};
-use markring::remote::{EVENTS, UNDER_WAY};
-use markring::{Answer, Event, Ref, Refusal};
+use markring::remote::{Since, Tracked, EVENTS, UNDER_WAY};
+use markring::{Answer, Event, Gone, Ref, Refusal, Weak, WeakTable};
 use std::future::Future;
 use std::os::raw::{c_int, c_short, c_ulong};
 use std::os::unix::io::{AsFd, AsRawFd};
@@ -365,4 +365,218 @@ fn threads_share_a_space() {
             });
         }
     });
+}
+
+// Two cycles: what is garbage now is gone, and that is saved.
+fn cycle(test: &Test) {
+    let number = |node, name: &str| -> u64 {
+        let text = test.space.ask(node, "status", KEPT).unwrap();
+        let (_, behind) = text.split_once(&format!("\"{name}\": ")).unwrap();
+        let end = behind.find(',').unwrap();
+        behind[..end].parse().unwrap()
+    };
+    for _ in 0..2 {
+        let before = number(0, "cycle");
+        test.space.ask(0, "begin", KEPT).unwrap();
+        while (0..2).any(|node| number(node, "swept") <= before) {}
+    }
+}
+
+// Objects in registers from 0 on, with words from 10 on.
+fn make(program: &mut Program<'_>, count: u16) -> Vec<Ref> {
+    let one = |register: u16| {
+        let outcomes = program.perform(&[
+            alloc(register),
+            set_word(register, 10 + u64::from(register)),
+        ]);
+        match outcomes.unwrap()[..] {
+            [Outcome::Done(Answer::New(made)), Outcome::Done(_)] => made,
+            ref other => panic!("{other:?}"),
+        }
+    };
+    (0..count).map(one).collect()
+}
+
+fn lose_objects(test: &Test, program: &mut Program<'_>, registers: &[u16]) {
+    for &register in registers {
+        program.one(Event::Drop { register }).unwrap();
+    }
+    cycle(test);
+}
+
+#[test]
+fn a_weak_reference_leads_back() {
+    let test = begin();
+    let mut program = test.program(0);
+    let made = make(&mut program, 2);
+    lose_objects(&test, &mut program, &[1]);
+    program.resolve(2, made[0]).unwrap();
+    assert_eq!(program.registers(&[2]).unwrap(), [Some(made[0])]);
+    let no_field = Failure::Refused(Refusal::NoField);
+    assert_eq!(program.resolve(3, made[1]).unwrap_err(), no_field);
+    assert_eq!(program.upgrade(Weak::new(made[0]), 4), Ok(true));
+    assert_eq!(program.upgrade(Weak::new(made[1]), 5), Ok(false));
+    let far = Weak::new(reference(1, 0));
+    let remote = Failure::Refused(Refusal::Remote);
+    assert_eq!(program.upgrade(far, 5).unwrap_err(), remote);
+    assert_eq!(
+        program.registers(&[3, 4, 5]).unwrap(),
+        [None, Some(made[0]), None]
+    );
+    // The answer is lost, and it is done once.
+    lose(0, 1);
+    let back = Event::Resolve {
+        register: 4,
+        reference: made[0],
+    };
+    let steps = [Event::Drop { register: 4 }.into(), Step::Event(back)];
+    let sent = program.send(&steps).unwrap();
+    let outcomes = run(&test, &program, sent).unwrap();
+    assert_eq!(outcomes, vec![Outcome::Done(Answer::Done); 2]);
+}
+
+#[test]
+fn objects_are_read() {
+    let test = begin();
+    let mut program = test.program(0);
+    assert_eq!(program.objects().count(), 0);
+    let made = make(&mut program, 5);
+    let bytes = b"abc";
+    program.one(Step::SetBytes { object: 1, bytes }).unwrap();
+    let store = Event::Store {
+        object: 1,
+        place: 0,
+        register: 2,
+    };
+    program.one(store).unwrap();
+    let give = Event::Give {
+        to: 1,
+        label: 7,
+        register: 3,
+    };
+    program.one(give).unwrap();
+    lose_objects(&test, &mut program, &[4]);
+    let all: Vec<_> = program.objects().map(|it| it.unwrap()).collect();
+    let references: Vec<_> = all.iter().map(|it| it.reference).collect();
+    assert_eq!(references, made[..4]);
+    assert_eq!((all[1].word, all[1].places, all[1].bytes), (11, 1, 3));
+    let shared: Vec<_> = all.iter().map(|it| it.is_shared).collect();
+    assert_eq!(shared, [false, false, false, true]);
+    // A few at a time.
+    let (first, next) = program.send_objects(0, 3).unwrap().wait().unwrap();
+    let (rest, over) = program
+        .send_objects(next.unwrap(), 3)
+        .unwrap()
+        .wait()
+        .unwrap();
+    assert_eq!(([first, rest].concat(), over), (all, None));
+    assert_eq!(program.places(made[1]).unwrap(), [Some(made[2])]);
+    let gone = program.places(made[4]).unwrap_err();
+    assert_eq!(gone, Failure::Refused(Refusal::NoField));
+    lose(MANY, 0);
+    program.set_timeout(SHORT);
+    let late = program.objects().next().unwrap().unwrap_err();
+    assert_eq!(late, Failure::TimedOut);
+}
+
+#[test]
+fn what_was_freed_is_handed_out() {
+    let test = begin();
+    let mut program = test.program(0);
+    let mut since = Since { list: 0, number: 0 };
+    assert_eq!(program.freed(&mut since).unwrap_err(), Failure::Lost);
+    let tracked = program.track_freed().unwrap();
+    assert_eq!(program.track_freed().unwrap(), tracked);
+    assert!(tracked.is_new);
+    since = tracked.since;
+    let made = make(&mut program, 3);
+    lose_objects(&test, &mut program, &[1]);
+    lose_objects(&test, &mut program, &[0]);
+    let gone = [(1, 11), (0, 10)].map(|(at, word)| Gone {
+        reference: made[at],
+        word,
+    });
+    // An answer that doesn't come loses nothing.
+    lose(0, MANY);
+    program.set_timeout(SHORT);
+    assert_eq!(program.freed(&mut since).unwrap_err(), Failure::TimedOut);
+    assert_eq!(since, tracked.since);
+    program.set_timeout(KEPT);
+    lose(1, 1);
+    assert_eq!(program.freed(&mut since).unwrap(), gone);
+    assert_eq!(since.number, tracked.since.number + 2);
+    since.number -= 1;
+    assert_eq!(program.freed(&mut since).unwrap(), gone[1..]);
+    assert_eq!(program.freed(&mut since).unwrap(), []);
+    let is_new = false;
+    assert_eq!(program.track_freed().unwrap(), Tracked { since, is_new });
+    // Another process of the node has no list.
+    assert_eq!(unsafe { model_restart(0) }, 0);
+    assert_eq!(program.freed(&mut since).unwrap_err(), Failure::Lost);
+    assert!(program.track_freed().unwrap().is_new);
+}
+
+#[test]
+fn a_table_loses_what_was_freed() {
+    let test = begin();
+    let mut program = test.program(0);
+    let (mut table, mut since) = (WeakTable::new(), None);
+    let made = make(&mut program, 5);
+    for (at, &object) in made.iter().enumerate() {
+        table.insert(object, at);
+    }
+    assert_eq!(program.take_freed(&mut table, &mut since).unwrap(), []);
+    lose_objects(&test, &mut program, &[2]);
+    let gone = |at: usize, word| {
+        let reference = made[at];
+        (Gone { reference, word }, at)
+    };
+    let found = program.take_freed(&mut table, &mut since).unwrap();
+    assert_eq!(found, [gone(2, 12)]);
+    assert_eq!(program.take_freed(&mut table, &mut since).unwrap(), []);
+    // The list is lost, and answers are.
+    lose_objects(&test, &mut program, &[0]);
+    assert_eq!(unsafe { model_restart(0) }, 0);
+    lose(0, MANY);
+    program.set_timeout(SHORT);
+    let late = program.take_freed(&mut table, &mut since);
+    assert_eq!(late.unwrap_err(), Failure::TimedOut);
+    program.set_timeout(KEPT);
+    lose(1, 2);
+    let found = program.take_freed(&mut table, &mut since).unwrap();
+    assert_eq!(found, [gone(0, 0)]);
+    lose_objects(&test, &mut program, &[4]);
+    let found = program.take_freed(&mut table, &mut since).unwrap();
+    assert_eq!(found, [gone(4, 14)]);
+    let kept: Vec<_> = table.iter().map(|(_, &at)| at).collect();
+    assert_eq!(kept, [1, 3]);
+}
+
+#[test]
+fn beside_a_program_apart_nothing_is_found() {
+    let test = begin();
+    let mut program = test.program(0);
+    let made = make(&mut program, 1);
+    let mut since = program.track_freed().unwrap().since;
+    let apart = test.space.program_apart(0, 5, 8..16, KEPT).unwrap();
+    assert_eq!(program.resolve(1, made[0]).unwrap_err(), Failure::Apart);
+    assert_eq!(program.track_freed().unwrap_err(), Failure::Apart);
+    assert_eq!(program.freed(&mut since).unwrap_err(), Failure::Apart);
+    assert_eq!(program.places(made[0]).unwrap_err(), Failure::Apart);
+    assert_eq!(
+        program.objects().next().unwrap().unwrap_err(),
+        Failure::Apart
+    );
+    let back = Step::Event(Event::Resolve {
+        register: 1,
+        reference: made[0],
+    });
+    assert_eq!(
+        program.perform(&[back, word(0)]).unwrap(),
+        [Outcome::Apart, Outcome::NotDone]
+    );
+    drop(apart);
+    test.space.ask(0, "forget 5", KEPT).unwrap();
+    program.resolve(1, made[0]).unwrap();
+    assert_eq!(program.freed(&mut since).unwrap_err(), Failure::Lost);
 }

@@ -29,6 +29,24 @@ fn a_dropped_root_empties_its_register() -> Result<()> {
 }
 
 #[test]
+fn a_reference_that_was_kept_becomes_a_root_again() -> Result<()> {
+    let node = Node::with_shape(Shape::wide(2, 4, 16, 0, 0), 0, 0)?;
+    let roots = Roots::new(&node, 0..4);
+    let object = roots.alloc(0)?;
+    object.set_word(7)?;
+    let kept = object.reference();
+    drop(object);
+    let again = roots.resolve(kept)?;
+    assert_eq!((again.reference(), again.word()?), (kept, 7));
+    assert_eq!(roots.free(), 3);
+    drop(again);
+    node.reclaim()?;
+    assert_eq!(roots.resolve(kept).unwrap_err(), Refusal::NoField);
+    assert_eq!(roots.free(), 4);
+    Ok(())
+}
+
+#[test]
 fn what_is_refused_takes_no_register() -> Result<()> {
     let node = Node::new(2, 4, 1, 0)?;
     let roots = Roots::new(&node, 0..4);

@@ -1,6 +1,8 @@
 //! Nodes in threads, with cycles of the collector while they work.
 
-use markring::{Cell, Events, Refusal, Result, Roots, Shape, Space, Taken, Watch};
+use markring::{
+    collect, Cell, Events, Refusal, Result, Roots, Shape, Space, Taken, Watch, WeakTable,
+};
 use std::sync::atomic::{AtomicBool, AtomicU8, Ordering};
 use std::thread;
 
@@ -14,7 +16,8 @@ fn turn(cell: &Cell, own: u8) -> Result<bool> {
     for from in (0..NODES).filter(|it| *it != own) {
         busy |= matches!(cell.receive(from)?, Some(Taken::Received | Taken::Early));
     }
-    busy |= cell.scan().is_ok() | cell.pass().is_ok() | cell.sweep(64).is_ok();
+    let work = cell.work(64, 64)?;
+    busy |= work.scanned > 0 || work.passed || work.freed.is_some();
     if cell.unsaved()? {
         let image = cell.image()?;
         cell.save(image.mark)?;
@@ -68,13 +71,17 @@ fn program(cell: &Cell, own: u8, left: &AtomicU8, quit: &AtomicBool) -> Result<(
     Ok(())
 }
 
-// Works until the nodes have no objects left.
+// Collects, after which the nodes have no objects left.
 fn clean(cells: &[Cell]) -> Result<()> {
-    while cells.iter().any(|cell| cell.state().unwrap().live > 0) {
-        for (own, cell) in (0..).zip(cells) {
-            turn(cell, own)?;
-        }
-        let _running = cells[0].begin();
+    let mut stored = 0;
+    collect(cells, |node, image| {
+        assert!(node < NODES && !image.is_empty());
+        stored += 1;
+        Ok::<(), Refusal>(())
+    })?;
+    assert!(stored >= cells.len());
+    for cell in cells {
+        assert_eq!((cell.state()?.live, cell.unsaved()?), (0, false));
     }
     Ok(())
 }
@@ -113,6 +120,7 @@ fn letters_go_around_while_cycles_run() -> Result<()> {
         threads.into_iter().map(|it| it.join().unwrap()).collect()
     });
     clean(&cells)?;
+    assert!(cells[0].raise()? > 0);
     assert!(watch.look()? > 0);
     Ok(())
 }
@@ -191,5 +199,40 @@ fn a_wide_space_opens_on_its_images() -> Result<()> {
     assert_eq!((state.places, state.is_wide), (20, true));
     let other = opened(Shape::wide(2, 300, 2_000_000, 21, 0));
     assert_eq!(other.err(), Some(Refusal::WrongDisks));
+    Ok(())
+}
+
+#[test]
+fn a_table_of_a_cell_hears_of_what_no_save_has() -> Result<()> {
+    let space = Space::with_shape(Shape::wide(2, 4, 64, 1, 0), 0)?;
+    space.open()?;
+    let cell = space.cell(0)?.expect("it wasn't moved out");
+    let mut table = WeakTable::of(&cell)?;
+    let lost = cell.alloc(0, 0)?;
+    cell.set_word(0, 7)?;
+    table.insert(lost, "seven");
+    let kept = cell.alloc(0, 0)?;
+    table.insert(kept, "kept");
+    cell.save(cell.image()?.mark)?;
+
+    // A reopening brings it back, and drops the list.
+    assert_eq!(cell.reclaim()?, 1);
+    assert!(table.take_freed(&cell)?.is_empty());
+    cell.reopen()?;
+    cell.save(cell.image()?.mark)?;
+    assert!(table.take_freed(&cell)?.is_empty());
+    assert!(table.take_missing(&cell)?.is_empty());
+
+    assert_eq!(cell.reclaim()?, 1);
+    assert!(table.take_freed(&cell)?.is_empty());
+    cell.save(cell.image()?.mark)?;
+    let gone = table.take_freed(&cell)?;
+    assert_eq!(gone.len(), 1);
+    assert_eq!(
+        (gone[0].0.reference, gone[0].0.word, gone[0].1),
+        (lost, 7, "seven")
+    );
+    assert_eq!(table.iter().collect::<Vec<_>>(), [(&kept, &"kept")]);
+    cell.track_freed(false)?;
     Ok(())
 }

@@ -189,6 +189,7 @@ module _ (seals : MemoryDisk → Bool) (moment faults : MemoryDisk → ℕ) (sha
   why-refused k refusal.Closed h = h.is
   why-refused k refusal.TooManyBytes h = h.is
   why-refused k refusal.NoBytes h = h.is
+  why-refused k refusal.NotNow h = h.is
 
   pub why : length disks ≡ shape.nodes → (e : Unopened)
       → ages.IsWhy held_by seals moment faults shape disks e → IsWhy shape images (fault_of e)

@@ -9,13 +9,11 @@ use Rattle.model.specs.declared.event.Event.TheVariants as events
 use Rattle.msg.specs.declared.frame.Ack.{Ack}
 use Rattle.model.specs.Effects.{is_change}
 use Rattle.model.proofs.Shown.{ack-answer}
-use Rattle.std.proofs.Common.{Result, Err, OnOk, replicate, drop, take}
+use Rattle.std.proofs.Common.{replicate, drop, take}
 use Rattle.std.specs.Prelude.{◌||◌, ◌&&◌, ◌-◌}
 use Rattle.std.proofs.lemmas.Bool.{true≢false}
 use Rattle.std.proofs.lemmas.List.{take_all}
-use Rattle.node_store.proofs.Stores.{image_plain}
-use Rattle.image.specs.Logged.{IsEither}
-use Rattle.image.specs.Wholes.{IsWholeOf}
+use Rattle.model.specs.State.{got_from}
 use Rattle.model.specs.View.{NodeView, all_kept, kept_of, kept_view, link_to, no_link, used, view_act}
 use Rattle.node.specs.Invariant.{IsNode}
 use Rattle.node.specs.Keeping.{WholeNode}
@@ -179,6 +177,25 @@ sent-at n (suc k) peer =
     subst (λ j. used (link_to n k) ≤ used (link_to n j)) (sym here) (omega arith))
     (omega arith) (sent-at n k peer)
 
+received-at : (n : NodeView) (k peer : ℕ)
+    → (get_or (counts_below n k) peer no_counts).received ≤ got_from n.local peer
+received-at n zero peer = omega arith
+received-at n (suc k) peer =
+    at_push_if (λ (c : Counts). c.received ≤ got_from n.local peer) (counts_below n k) peer
+    (counted n k) no_counts
+    (λ is.
+    let here : peer ≡ k = is ∙ counts-length n k in
+    subst (λ j. got_from n.local k ≤ got_from n.local j) (sym here) (omega arith))
+    (omega arith) (received-at n k peer)
+
+-- of what was received, no more is counted
+pub counts_received : (n : NodeView) (counts : List Counts) → counts ≡ counts_of n → (peer : ℕ)
+    → (get_or counts peer no_counts).received ≤ got_from n.local peer
+unfolding counts_of
+counts_received n counts is peer =
+    subst (λ (l : List Counts). (get_or l peer no_counts).received ≤ got_from n.local peer)
+    (sym is) (received-at n (length n.links) peer)
+
 pub counts_saved : (n : NodeView) (counts : List Counts) → counts ≡ counts_of n → (peer : ℕ)
     → (get_or counts peer no_counts).sent ≤ (link_to (kept_view n) peer).kept
 unfolding counts_of
@@ -223,17 +240,6 @@ fresh_led n bytes log = record {
 }
 
 -- ---- images
-
--- an image that no log follows
-pub any_plain : (bytes : List ℕ) (n : WholeNode) → IsWholeOf bytes n → IsAnyWholeOf bytes n
-any_plain bytes n is = (
-  subst (λ b. IsEither b bytes n.core) (sym (image_plain bytes n.core is.0)) is.0,
-  is.1,
-)
-
-pub on_ok : {A E P Q : Type 0} (r : Result A E) → (P → Q) → OnOk r P → OnOk r Q
-on_ok (Ok a) f p = f p
-on_ok (Err e) f p = tt
 
 -- what follows the zeros
 pub behind_zeros : (bytes image : List ℕ) → bytes ≡ replicate 8 0 ++ image

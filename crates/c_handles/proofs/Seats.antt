@@ -1,6 +1,8 @@
 -- What a call of a seated cell says, by what the cell's own call says.
-use Rattle.std.proofs.Common.{◌≡◌, ◌≢◌, [], ◌∷◌, ◌++◌, false, IfErr, IsErrOf, IsTrue, ℕ, Result}
+use Rattle.std.proofs.Common.{◌≡◌, ◌≢◌, ◌&&◌, ◌∙◌, [], ◌∷◌, ◌++◌, Bool, true, false, IfErr, IsErrOf, IsTrue, ℕ, Ok, Result, ap, inl, inr, subst, sym}
 use Rattle.std.specs.Prelude.{◌↔◌}
+use Rattle.std.proofs.Math.Bool.{and-true}
+use Rattle.std.proofs.lemmas.Bool.{cases_Bool, cond-false}
 use Rattle.circular_buffer.specs.Buffer.{keep_last}
 use Rattle.ids.specs.declared.limits.TheConstants.{TRACE_EVENTS}
 use Rattle.ids.specs.declared.refusal.Refusal.{Refusal}
@@ -16,7 +18,9 @@ use Rattle.cell.specs.Cells.{GoesOn}
 use Rattle.cell.specs.Events.{Given, outcome_of}
 use Rattle.cell.specs.Lines.{call_of}
 use Rattle.cell.specs.Pumping.{PumpedIn}
-use Rattle.c_handles.specs.Cells.{Acted, fresh_after, fresh_received, Keeps, Pumped}
+use Rattle.c_handles.specs.Cells.{Acted, CellActs, fresh_after, fresh_received, Keeps, Pumped}
+use Rattle.model.specs.Steps.{frees}
+use Rattle.c_handles.specs.Gone.{GoneView, listing}
 use Rattle.c_handles.specs.declared.seated.SeatedCell.{SeatedCell}
 
 module _ {old new : SeatedCell} (keeps : Keeps old new) where
@@ -63,3 +67,23 @@ module _ {old new : SeatedCell} (keeps : Keeps old new) where
     keeps = keeps;
     fresh = fresh;
   }
+
+-- ---- Events that free objects
+
+-- an event that frees nothing, or of a cell that lists nothing
+pub acted_plain : {old new : SeatedCell} {e : Event} {a : Answer}
+    → (frees e && (old.gone.tracks && old.cell.is_open)) ≡ false → Acted e old new (Ok a)
+    → CellActs e old new (Ok a)
+acted_plain {old} {new} {e} {a} off acted =
+    let ready : old.cell.is_open ≡ true =
+    elim (cases_Bool old.cell.is_open) [
+      | inl is ↦ is
+      | inr shut ↦ (let never = acted.closed.1 shut in absurd cc)
+    ] in
+    let none : (frees e && old.gone.tracks) ≡ false =
+    sym (ap (λ (b : Bool). frees e && (old.gone.tracks && b)) ready
+    ∙ ap (λ (b : Bool). frees e && b) (and-true old.gone.tracks)) ∙ off in
+    subst (λ (v : GoneView). Acted e (record old { gone = v }) new (Ok a))
+    (sym (cond-false (frees e && old.gone.tracks)
+    (listing old.cell.node.core.local.own old.cell.node.core.local.heap
+    new.cell.node.core.local.heap old.gone) old.gone none)) acted

@@ -10,6 +10,7 @@ use Rattle.disk.proofs.Sent.{memory-send}
 use Rattle.wire.proofs.seats.Watch.TheSendSync as Watch
 use Rattle.wire.proofs.seats.Wire.TheSendSync as Wire
 use Rattle.cell.proofs.Sent.{cell-send}
+use Rattle.c_handles.proofs.gone.GoneList.TheSendSync as GoneList
 use Rattle.c_handles.specs.contracts.seated.SeatedCell as SeatedCell
 use Rattle.c_handles.specs.contracts.space.SeatedSpace as SeatedSpace
 use Rattle.c_handles.specs.contracts.watching.SeatedWatch as SeatedWatch
@@ -22,7 +23,10 @@ seated-send =
       cell-send MemoryDisk.the_row ghosts memory-send,
       (
         Arc-send _ Wire.the_send Wire.the_sync,
-        (search sendable, (search sendable, (search (crosses, sendable), tt))),
+        (
+          search sendable,
+          (search sendable, (search (crosses, sendable), (GoneList.the_send, tt))),
+        ),
       ),
     ))
 

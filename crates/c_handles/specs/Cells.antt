@@ -6,7 +6,7 @@ use Rattle.ids.specs.declared.refusal.Refusal.{Refusal}
 use Rattle.ids.specs.declared.refusal.Refusal.TheVariants as refusal
 use Rattle.cell.specs.Lines.{call_of}
 use Rattle.model.specs.Steps.{is_memory_free}
-use Rattle.model.specs.View.{is_other, kept_view}
+use Rattle.model.specs.View.{NodeView, is_other, kept_view}
 use Rattle.model.specs.declared.event.Answer.{Answer}
 use Rattle.model.specs.declared.event.Event.{Event}
 use Rattle.node.specs.Keeping.{kept_whole, met, own_step}
@@ -29,16 +29,19 @@ use Rattle.model.specs.declared.step.Step.TheVariants as step
 use Rattle.cell.specs.Events.{outcome_of}
 use Rattle.cell.specs.Events as events
 use Rattle.c_values.specs.Bytes.{Wrote}
+use Rattle.c_values.specs.declared.fields.CFreed.{CFreed}
+use Rattle.c_handles.specs.Gone.{HandsOut, IsUnlisted, emptying, list_after, settling, tracking}
 use Rattle.c_handles.specs.Images.{Sized}
 use Rattle.c_values.specs.declared.fault.Fault.{Fault}
 use Rattle.c_values.specs.declared.fault.Fault.TheVariants as fault
 use Rattle.c_handles.specs.declared.seated.SeatedCell.{SeatedCell}
 
--- the wire and the marks stay as they are
+-- the wire, the marks, and the list of what is gone stay as they are
 pub record Keeps (old new : SeatedCell) : Type 0 where
   pub wire : new.wire ≡ old.wire
   pub mark : new.mark ≡ old.mark
   pub imaged : new.imaged ≡ old.imaged
+  pub gone : new.gone ≡ old.gone
 
 -- the mark of the last image is of use unless the event was answered
 abbrev pub fresh_after : {A E : Type 0} → Result A E → Bool → Bool
@@ -62,9 +65,23 @@ pub record Acted (e : Event) (old new : SeatedCell) (r : Result Answer Refusal) 
   pub keeps : Keeps old new
   pub fresh : new.is_fresh ≡ fresh_after r old.is_fresh
 
+-- the list of what is gone has what the event freed, after which this is the node
+abbrev pub cell_listed : SeatedCell → NodeView → Event → SeatedCell
+cell_listed old n e =
+    record old { gone = list_after old.gone old.cell.node.core.local n.local e }
+
+-- The cell is open, and there was no memory for the list.
+pub record CellUnlisted (old new : SeatedCell) (e : Event) (f : Refusal) : Type 0 where
+  pub ready : IsTrue old.cell.is_open
+  pub unlisted : IsUnlisted old.gone old.cell.node.core e f
+  pub same : new.cell ≡ old.cell
+  pub keeps : Keeps old new
+  pub fresh : new.is_fresh ≡ old.is_fresh
+
+-- The node was given the event, and what it freed is listed; or there was no memory for the list.
 abbrev pub CellActs : Event → SeatedCell → SeatedCell → Result Answer Fault → Type 0
-CellActs e old new (Ok a) = Acted e old new (Ok a)
-CellActs e old new (Err (fault.Refused f)) = Acted e old new (Err f)
+CellActs e old new (Ok a) = Acted e (cell_listed old new.cell.node.core e) new (Ok a)
+CellActs e old new (Err (fault.Refused f)) = Acted e old new (Err f) ⊎ CellUnlisted old new e f
 CellActs e old new (Err f) = ⊥
 
 -- ---- Frames
@@ -124,6 +141,7 @@ pub record Took (old new : SeatedCell) (mark : ℕ) : Type 0 where
   pub next : mark ≡ (old.mark + 1) % 2 ^ 64
   pub fresh : new.is_fresh ≡ true
   pub imaged : new.imaged.value ≡ old.cell.node.core
+  pub gone : new.gone ≡ old.gone
 
 -- The image of the node is written, and gets a new mark; or nothing changes.
 abbrev pub Imaged : SeatedCell → SeatedCell → Result ℕ Fault → List ℕ → List ℕ → ℕ → ℕ → Type 0
@@ -177,9 +195,11 @@ pub record SavedAs (old new : SeatedCell) (r : Result (Unit {0}) Refusal) : Type
   pub keeps : Keeps old new
   pub fresh : new.is_fresh ≡ fresh_after r old.is_fresh
 
+-- What is gone is ready: the saved node doesn't have it.
 abbrev pub SavedBy : Bool → SeatedCell → SeatedCell → Result (Unit {0}) Fault → Type 0
 SavedBy false old new r = (new ≡ old) × (r ≡ Err fault.WrongMark)
-SavedBy true old new (Ok u) = SavedAs old new (Ok u)
+SavedBy true old new (Ok u) =
+    SavedAs (record old { gone = settling old.gone }) new (Ok u)
 SavedBy true old new (Err (fault.Refused e)) = SavedAs old new (Err e)
 SavedBy true old new (Err e) = ⊥
 
@@ -223,8 +243,9 @@ pub record ReopenedAs (old new : SeatedCell) (r : Result (Unit {0}) Refusal) : T
   pub keeps : Keeps old new
   pub fresh : new.is_fresh ≡ fresh_after r old.is_fresh
 
+-- A list that is kept is empty then.
 abbrev pub Reopened : SeatedCell → SeatedCell → Result (Unit {0}) Fault → Type 0
-Reopened old new (Ok u) = ReopenedAs old new (Ok u)
+Reopened old new (Ok u) = ReopenedAs (record old { gone = emptying old.gone }) new (Ok u)
 Reopened old new (Err (fault.Refused e)) = ReopenedAs old new (Err e)
 Reopened old new (Err e) = ⊥
 
@@ -247,6 +268,19 @@ abbrev pub Raised : SeatedCell → SeatedCell → Result ℕ Fault → Type 0
 Raised old new (Ok n) = RaisedAs old new (Ok n)
 Raised old new (Err (fault.Refused e)) = RaisedAs old new (Err e)
 Raised old new (Err e) = ⊥
+
+-- ---- What is gone
+
+-- a list is kept from now on, or none is
+abbrev pub CellTracks : Bool → SeatedCell → SeatedCell → Result (Unit {0}) Fault → Type 0
+CellTracks on old new r =
+    (new ≡ record old { gone = tracking on old.gone }) × (r ≡ Ok tt)
+
+-- what is ready of the list is handed out
+pub record CellHandsOut (old new : SeatedCell) (count : ℕ) (held now : List CFreed)
+    : Type 0 where
+  pub hands_out : HandsOut old.gone new.gone count held now
+  pub stays : new ≡ record old { gone = new.gone }
 
 -- ---- The same for what a handle holds
 

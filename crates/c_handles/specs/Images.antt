@@ -6,11 +6,13 @@ use Rattle.model.specs.State.{got_from}
 use Rattle.model.specs.View.{NodeView, kept_view, link_to, used}
 use Rattle.node.specs.Keeping.{WholeNode, kept_whole, kept_whole_with}
 use Rattle.image.specs.Images.{IsTooLarge, image_of}
-use Rattle.image.specs.Logged.{IsAnyWholeOf, logged_image}
+use Rattle.image.specs.Logged.{IsAnyWholeOf}
 use Rattle.image.specs.Wholes.{saved_whole}
+use Rattle.node_store.specs.Values.{image_by}
 use Rattle.c_values.specs.Bytes.{Wrote}
 use Rattle.c_values.specs.declared.fault.Fault.{Fault}
 use Rattle.c_values.specs.declared.fault.Fault.TheVariants as fault
+use Rattle.c_handles.specs.Gone.{covering, keeping, settling}
 use Rattle.c_handles.specs.Logs.{KeepsLog, LogsFrom, begun, logging, no_counts}
 use Rattle.c_handles.specs.declared.lone.images.Counts.{Counts}
 use Rattle.c_handles.specs.declared.lone.LoneNode.{LoneNode}
@@ -42,10 +44,6 @@ keeps counts n = keeps_below counts (length n.core.links) n
 -- ---- The calls
 
 -- the image of the node: one that a log may follow, if the node keeps a log
-abbrev pub image_by : Bool → NodeView → List ℕ
-image_by true n = logged_image n
-image_by false n = image_of n
-
 abbrev pub image_in : LoneNode → List ℕ
 image_in n = image_by n.logs n.node.core
 
@@ -68,6 +66,7 @@ marked n counts mark log = record n {
   is_changed = false;
   log = log;
   is_kept = false;
+  gone = covering n.gone;
 }
 
 -- What is kept for the mark of an image. The image is read as the node, as it is once it is saved,
@@ -96,7 +95,12 @@ abbrev pub after_kept : Option (Vec Counts) → Bool → LoneNode → LoneNode
 after_kept None same n = n
 after_kept (Some counts) false n = n
 after_kept (Some counts) true n =
-    record n { node = keeps counts.items n.node; is_unsaved = n.is_changed; is_kept = true }
+    record n {
+      node = keeps counts.items n.node;
+      is_unsaved = n.is_changed;
+      is_kept = true;
+      gone = keeping n.gone;
+    }
 
 abbrev pub kept_result : Option (Vec Counts) → Bool → Result (Unit {0}) Fault
 kept_result None same = Err fault.WrongMark
@@ -115,6 +119,7 @@ released n = record n {
   is_changed = false;
   is_unsaved = false;
   log = None;
+  gone = settling n.gone;
 }
 
 abbrev pub Released : LoneNode → LoneNode → Result (Unit {0}) Fault → Type 0

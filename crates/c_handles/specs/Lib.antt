@@ -1,5 +1,7 @@
 pub mod Batches
+pub mod Candidates
 pub mod Frames
+pub mod Gone
 pub mod Holds
 pub mod Images
 pub mod Logs
@@ -11,3 +13,8 @@ pub mod Opening
 pub mod Spaces
 pub mod Watches
 pub mod Work
+pub mod Programs
+pub mod Laws
+pub mod Collecting
+pub mod Lists
+pub mod Garbage

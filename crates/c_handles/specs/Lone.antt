@@ -21,12 +21,14 @@ use Rattle.node_store.specs.Acting.{Acts}
 use Rattle.image.specs.Nodes.{IsImageOf}
 use Rattle.c_values.specs.declared.fault.Fault.{Fault}
 use Rattle.c_values.specs.declared.fault.Fault.TheVariants as fault
+use Rattle.c_values.specs.declared.fields.CFreed.{CFreed}
+use Rattle.c_handles.specs.Gone.{HandsOut, IsUnlisted, list_after, tracking, untracked}
 use Rattle.c_handles.specs.Logs.{KeepsLog}
 use Rattle.c_handles.specs.declared.lone.LoneNode.{LoneNode}
 
 -- ---- Making one
 
--- no image was taken, nothing is unsaved, and no log is kept
+-- no image was taken, nothing is unsaved, and neither a log nor a list of what is gone is kept
 abbrev pub lone : WholeNode → ℕ → LoneNode
 lone n limit = record {
   node = n;
@@ -38,6 +40,7 @@ lone n limit = record {
   logs = false;
   log = Some [];
   is_kept = false;
+  gone = untracked;
 }
 
 -- a new node, or the reason why there isn't one: the first that applies, and the only one if no
@@ -109,11 +112,22 @@ pub record Gave (old new : LoneNode) (e : Event) (r : Result Answer Refusal) : T
   pub logs : KeepsLog old new
   pub quiet : has_changed r ≡ false → new.log ≡ old.log
 
--- The node was given the event, or the link is congested.
+-- the list of what is gone has what the event freed, after which this is the node
+abbrev pub listed : LoneNode → NodeView → Event → LoneNode
+listed old n e =
+    record old { gone = list_after old.gone old.node.core.local n.local e }
+
+-- there was no memory for the list
+pub record Unlisted (old new : LoneNode) (e : Event) (f : Refusal) : Type 0 where
+  pub unlisted : IsUnlisted old.gone old.node.core e f
+  pub same : new ≡ old
+
+-- The node was given the event, and what it freed is listed; or there was no memory for the list;
+-- or the link is congested.
 abbrev pub Given : Bool → LoneNode → LoneNode → Event → Result Answer Fault → Type 0
 Given true old new e r = (new ≡ old) × (r ≡ Err fault.Congested)
-Given false old new e (Ok a) = Gave old new e (Ok a)
-Given false old new e (Err (fault.Refused f)) = Gave old new e (Err f)
+Given false old new e (Ok a) = Gave (listed old new.node.core e) new e (Ok a)
+Given false old new e (Err (fault.Refused f)) = Gave old new e (Err f) ⊎ Unlisted old new e f
 Given false old new e (Err f) = ⊥
 
 -- an event of the node's own
@@ -160,3 +174,14 @@ pub record NoRoom (bytes : List ℕ) (old new : LoneNode) (r : Result Answer Fau
 abbrev pub TookIn : List ℕ → LoneNode → LoneNode → Result Answer Fault → Type 0
 TookIn bytes old new r =
     TookFrame bytes old new r ⊎ (NoFrame bytes old new r ⊎ NoRoom bytes old new r)
+
+-- ---- What is gone
+
+-- a list is kept from now on, or none is
+abbrev pub Tracks : Bool → LoneNode → LoneNode → Result (Unit {0}) Fault → Type 0
+Tracks on old new r = (new ≡ record old { gone = tracking on old.gone }) × (r ≡ Ok tt)
+
+-- what is ready of the list is handed out
+pub record HandedOut (old new : LoneNode) (count : ℕ) (held now : List CFreed) : Type 0 where
+  pub hands_out : HandsOut old.gone new.gone count held now
+  pub stays : new ≡ record old { gone = new.gone }

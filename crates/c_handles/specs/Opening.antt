@@ -26,6 +26,7 @@ use Rattle.cell.specs.declared.fault.Unopened.{Unopened}
 use Rattle.cell.specs.declared.fault.Unopened.TheVariants as unopened
 use Rattle.c_values.specs.declared.fault.Fault.{Fault}
 use Rattle.c_values.specs.declared.fault.Fault.TheVariants as fault
+use Rattle.c_handles.specs.Gone.{untracked}
 use Rattle.c_handles.specs.declared.seated.SeatedCell.{SeatedCell}
 use Rattle.c_handles.specs.declared.watching.SeatedWatch.{SeatedWatch}
 
@@ -128,11 +129,12 @@ cell_in = option_map (λ (b : Box SeatedCell). (box_value b).cell)
 abbrev pub watch_in : Box SeatedWatch → Watch
 watch_in b = (box_value b).watch
 
--- the cell is on this wire, and no image of it was taken
+-- The cell is on this wire, no image of it was taken, and no list is kept of what is gone.
 pub record IsFresh (wire : Wire) (c : SeatedCell) : Type 0 where
   pub on : arc_value c.wire ≡ wire
   pub mark : c.mark ≡ 0
   pub fresh : c.is_fresh ≡ false
+  pub gone : c.gone ≡ untracked
 
 abbrev pub IsFreshIn : Wire → Seat → Type 0
 IsFreshIn wire None = ⊥

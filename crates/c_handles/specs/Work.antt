@@ -76,6 +76,12 @@ Repeats {X} Does t (suc most) old new s =
     (x : X) × (r : Result Answer Fault) × Does t old.it x r
     × Follows (λ now. Repeats Does t most now new s) t x old.work new s r
 
+-- a scan, whatever its answer
+abbrev pub Scans : {X : Type 0} → (Task → X → X → Result Answer Fault → Type 0) → X → X
+    → Result (Unit {0}) Fault → Type 0
+Scans Does old new (Ok u) = (a : Answer) × Does task.Scan old new (Ok a)
+Scans Does old new (Err f) = Does task.Scan old new (Err f)
+
 -- ---- In order
 
 -- a task, and how often it is tried at most

@@ -13,6 +13,7 @@ ghost use Rattle.c_handles.specs.Cells.{CellActs, HandleImaged, Raised, Received
 ghost use Rattle.c_handles.specs.Cells.{Sent, SizedSame};
 ghost use Rattle.c_handles.specs.Work.{CellWorks, WorksIf};
 
+mod freed;
 mod letters;
 mod objects;
 

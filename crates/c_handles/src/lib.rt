@@ -17,6 +17,9 @@
 #![tactic(auto)]
 
 mod cell_handle;
+mod collecting;
+mod gone;
+mod headline;
 mod held;
 mod letters;
 mod lone;
@@ -33,6 +36,8 @@ mod working;
 
 use c_values::Fault;
 pub use cell_handle::CellHandle;
+pub use collecting::collect;
+pub use headline::laws;
 pub use lone::LoneNode;
 pub use lone::reopening::stored_once;
 pub use nodes::NodeHandle;

@@ -4,10 +4,12 @@ ghost use Rattle.c_values.specs.Fields.{described};
 ghost use Rattle.model.specs.declared.event.Event.TheVariants as events;
 ghost use Rattle.msg.specs.Frames.{plain};
 ghost use Rattle.node_store.specs.Logs.{is_turn};
+ghost use Rattle.model.specs.Steps.{frees};
 ghost use Rattle.c_handles.specs.Lone.{Acknowledged, Given, Made, Read, TookIn, is_congested};
 ghost use Rattle.c_handles.specs.Lone.{lone, receiver_of, unacknowledged};
 
 mod batches;
+mod freed;
 mod images;
 mod letters;
 mod logging;
@@ -17,6 +19,7 @@ pub(crate) mod reopening;
 mod sending;
 mod working;
 
+use crate::gone::GoneList;
 use c_values::{CShape, Fault};
 use frames::decode;
 use ids::{NodeId, Ref, Refusal};
@@ -49,10 +52,13 @@ pub struct LoneNode {
     log: Log,
     // Whether what the last image or batch holds counts as saved.
     is_kept: bool,
+    // The objects that are gone, if a list of them is kept.
+    gone: GoneList,
 }
 
 impl LoneNode {
-    // A node of which no image was taken, with nothing unsaved, that keeps no log.
+    // A node of which no image was taken, with nothing unsaved, that keeps neither a log nor a list
+    // of what is gone.
     fn of(alloc: Global, node: Node, limit: u64) -> LoneNode
         ensures { result ≡ lone node limit }
     {
@@ -66,6 +72,7 @@ impl LoneNode {
             logs: false,
             log: Log::new(alloc),
             is_kept: false,
+            gone: GoneList::new(alloc),
         }
     }
 
@@ -144,11 +151,12 @@ impl LoneNode {
         self.perform(event)
     }
 
-    /// The same for calls that are inlined, except for `Next` of a node that keeps a log.
+    /// The same for calls that are inlined, except for `Next` of a node that keeps a log, and for
+    /// events that free objects.
     #[inline(always)]
     pub fn act_plain(&mut self, event: Event) -> Result<Answer, Fault>
-        requires { (is_turn event && self.old.logs) ≡ false }
-
+        requires noted { (is_turn event && self.old.logs) ≡ false }
+        requires frees { frees event ≡ false }
         ensures { Given (is_congested self.old event.entry) self.old self.new event.entry result }
     {
         if self.is_congested(&event) {
@@ -162,6 +170,9 @@ impl LoneNode {
     fn perform(&mut self, event: Event) -> Result<Answer, Fault>
         ensures { Given false self.old self.new event.entry result }
     {
+        if self.lists(&event) {
+            return self.perform_listing(&event);
+        }
         if is_turn(&event) && self.logs {
             self.perform_noting(event)
         } else {
@@ -169,12 +180,12 @@ impl LoneNode {
         }
     }
 
-    // Gives the node an event, and notes it if the node keeps a log. An event that isn't `Next` is
-    // noted as it is.
+    // Gives the node an event that frees nothing that is to be listed, and notes it if the node
+    // keeps a log. An event that isn't `Next` is noted as it is.
     #[inline(always)]
     fn perform_plain(&mut self, event: Event) -> Result<Answer, Fault>
-        requires { (is_turn event && self.old.logs) ≡ false }
-
+        requires noted { (is_turn event && self.old.logs) ≡ false }
+        requires unlisted { (frees event && self.old.gone.tracks) ≡ false }
         ensures { Given false self.old self.new event.entry result }
     {
         let answer = self.node.act(&event)?;
@@ -221,7 +232,7 @@ impl LoneNode {
         ensures { TookIn bytes.now self.old self.new result }
     {
         match decode(alloc, bytes)? {
-            Frame::Data(data) => self.perform(Event::Data(data)),
+            Frame::Data(data) => self.perform_plain(Event::Data(data)),
             Frame::Ack(ack) => self.acknowledge(ack),
         }
     }

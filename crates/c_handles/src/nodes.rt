@@ -10,6 +10,7 @@ ghost use Rattle.node_store.specs.Logs.{is_turn};
 ghost use Rattle.c_values.specs.Faults.{Filled, Freed, Through, empty, read};
 ghost use Rattle.c_values.specs.Bytes.{WroteIf};
 ghost use Rattle.c_values.specs.Fields.{described};
+ghost use Rattle.model.specs.Steps.{frees};
 ghost use Rattle.c_handles.specs.Frames.{HandleFrame, HandlePacks, ack_bytes};
 ghost use Rattle.c_handles.specs.Batches.{HandleBatched, Reopened, batch_of, size_of};
 ghost use Rattle.c_handles.specs.Images.{HandleImaged, Kept, Logs, Released, SizedSame};
@@ -18,6 +19,7 @@ ghost use Rattle.c_handles.specs.Lone.{Made, NodeActs, Read, TookIn};
 ghost use Rattle.c_handles.specs.Reads.{link_of, object_bytes, object_len, register_of, waiting_number};
 ghost use Rattle.c_handles.specs.Work.{NodeWorks, WorksIf};
 
+mod freed;
 mod letters;
 mod objects;
 
@@ -170,8 +172,8 @@ impl NodeHandle {
     /// Gives the node an event of its own; see [`LoneNode::act_plain`].
     #[inline(always)]
     pub fn act_plain(&mut self, alloc: Global, event: Event) -> Result<Answer, Fault>
-        requires { (is_turn event && logs_in self.old.held) ≡ false }
-
+        requires noted { (is_turn event && logs_in self.old.held) ≡ false }
+        requires frees { frees event ≡ false }
         ensures { Through (NodeActs event.entry) self.old.held self.new.held result }
     {
         let Some(mut node) = self.take(alloc) else {

@@ -122,7 +122,7 @@ fn seat(alloc: Global, wire: &Arc<Wire>, cell: Cell<MemoryDisk>) -> Result<Box<S
     ensures fresh { IfOk result (λ b. IsFresh (arc_value wire.now) b.value) }
     ensures refused { IfErr result (λ e. e ≡ Memory) }
 {
-    Ok(Box::new(alloc, SeatedCell::new(cell, same_wire(wire)?))?)
+    Ok(Box::new(alloc, SeatedCell::new(alloc, cell, same_wire(wire)?))?)
 }
 
 /// The cells, in order, each with its wire.

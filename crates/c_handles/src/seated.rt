@@ -5,15 +5,18 @@ ghost use Rattle.std.specs.Arc.{arc_value};
 ghost use Rattle.model.specs.Steps.{is_own};
 ghost use Rattle.node.specs.Summaries.{summary_of};
 ghost use Rattle.wire.specs.Readers.{IsSeatOf};
+ghost use Rattle.c_handles.specs.Gone.{untracked};
 ghost use Rattle.c_handles.specs.Images.{Sized};
 ghost use Rattle.c_handles.specs.Reads.{link_of, object_bytes, object_len, register_of};
 ghost use Rattle.c_values.specs.Bytes.{WroteIf};
 
+mod freed;
 mod letters;
 mod objects;
 mod working;
 
 use crate::Marked;
+use crate::gone::GoneList;
 use crate::lone::reading::{bytes_len_of, bytes_of, link_of, register_of};
 use c_values::{CLink, Fault, put};
 use cell::Cell;
@@ -38,6 +41,8 @@ pub struct SeatedCell {
     is_fresh: bool,
     // The core of which that image was taken.
     imaged: Snapshot<Core>,
+    // The objects that are gone, if a list of them is kept.
+    gone: GoneList,
     ghost sits: { IsSeatOf (arc_value wire) cell.seat },
     ghost fresh: { IsTrue is_fresh → imaged.value ≡ cell.node.core },
     // Each save writes the image.
@@ -47,14 +52,16 @@ pub struct SeatedCell {
 impl SeatedCell {
     ghost use Rattle.c_handles.specs.Cells.{CellActs, Imaged, Raised, Received, Reopened, Saved, Sent};
 
-    /// A cell of which no image was taken, whose seat belongs to the wire.
-    pub(crate) fn new(cell: Cell<MemoryDisk>, wire: Arc<Wire>) -> SeatedCell
+    /// A cell of which no image was taken, whose seat belongs to the wire. No list is kept of what
+    /// is gone.
+    pub(crate) fn new(alloc: Global, cell: Cell<MemoryDisk>, wire: Arc<Wire>) -> SeatedCell
         requires seat { IsSeatOf (arc_value wire) cell.seat }
         requires plain { cell.logs ≡ false }
         ensures cell { result.cell ≡ cell }
         ensures wire { result.wire ≡ wire }
         ensures mark { result.mark ≡ 0 }
         ensures fresh { result.is_fresh ≡ false }
+        ensures gone { result.gone ≡ untracked }
     {
         let imaged = Snapshot::of(cell.node().core());
         SeatedCell {
@@ -63,16 +70,21 @@ impl SeatedCell {
             mark: 0,
             is_fresh: false,
             imaged,
+            gone: GoneList::new(alloc),
         }
     }
 
     /// Gives the node an event of its own; see [`Cell::act`]. An answered event makes the mark of
-    /// the last image useless.
+    /// the last image useless. If a list is kept of what is gone, what the event frees is added. If
+    /// there is no memory for that, it fails with `Memory`, unless the cell refuses the event.
     #[inline(always)]
     pub fn act(&mut self, event: Event) -> Result<Answer, Fault>
         requires own { is_own event ≡ true }
         ensures { CellActs event.entry self.old self.new result }
     {
+        if self.lists(&event) {
+            return self.act_listing(&event);
+        }
         let answer = self.cell.act(&self.wire, &event)?;
         self.is_fresh = false;
         Ok(answer)
@@ -125,7 +137,7 @@ impl SeatedCell {
 
     /// Saves the cell, whose image of this mark the caller stored; see [`Cell::save`]. Fails with
     /// `WrongMark` before that if the cell is open, and this isn't the mark of the last image or
-    /// something happened since.
+    /// something happened since. What is gone is then ready to be handed out.
     pub fn save(&mut self, mark: u64) -> Result<(), Fault>
         ensures { Saved mark self.old self.new result }
     {
@@ -134,10 +146,12 @@ impl SeatedCell {
         }
         self.cell.save(&self.wire)?;
         self.is_fresh = false;
+        self.gone.settle();
         Ok(())
     }
 
-    /// Goes back to the cell as it was last saved; see [`Cell::reopen`].
+    /// Goes back to the cell as it was last saved; see [`Cell::reopen`]. Of what is gone, nothing is
+    /// listed any more.
     pub fn reopen(&mut self) -> Result<(), Fault>
         ensures { Reopened self.old self.new result }
     {
@@ -147,6 +161,7 @@ impl SeatedCell {
         let _node = self.cell.node();
         reopened?;
         self.is_fresh = false;
+        self.gone.empty();
         Ok(())
     }
 

@@ -43,6 +43,9 @@ no_reference = record { node = 0; slot = 0; generation = 0 }
 abbrev pub reference_fields : Ref → CRef
 reference_fields r = record { node = r.node; slot = r.slot; generation = r.generation }
 
+abbrev pub reference_of : CRef → Ref
+reference_of c = record { node = c.node; slot = c.slot; generation = c.generation }
+
 abbrev pub optional_fields : Option Ref → CRef
 optional_fields None = no_reference
 optional_fields (Some r) = reference_fields r
@@ -117,6 +120,10 @@ no_work = record {
 
 -- ---- Events
 
+-- the reference that an event names
+abbrev pub described_reference : CEvent → Ref
+described_reference c = record { node = c.node; slot = c.count; generation = c.word }
+
 -- the event of this kind
 abbrev pub event_of : CEvent → Option Event
 event_of c =
@@ -138,7 +145,9 @@ event_of c =
     (cond (c.kind == 16) (Some (event.Sweep c.count))
     (cond (c.kind == 17) (Some (event.Next c.node))
     (cond (c.kind == 20) (Some (event.Reclaim scope.All))
-    (cond (c.kind == 21) (Some (event.Reclaim scope.Young)) None))))))))))))))))))
+    (cond (c.kind == 21) (Some (event.Reclaim scope.Young))
+    (cond (c.kind == 24) (Some (event.Resolve c.register (described_reference c)))
+    None)))))))))))))))))))
 
 -- ---- Sizes of spaces
 

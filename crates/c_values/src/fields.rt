@@ -4,8 +4,8 @@ ghost use Rattle.std.specs.Prelude.{◌≡◌, ◌↔◌, IfSome, IsSome, Some, 
 ghost use Rattle.model.specs.Steps.{is_own};
 ghost use Rattle.c_values.specs.Fields.{age_number, answer_fields, colour_number, event_of};
 ghost use Rattle.c_values.specs.Fields.{freed_fields, letter_fields, no_answer, optional_fields};
-ghost use Rattle.c_values.specs.Fields.{described, plain_fields, reference_fields, state_fields};
-ghost use Rattle.c_values.specs.Fields.{IsDescribed, token_fields};
+ghost use Rattle.c_values.specs.Fields.{described, plain_fields, reference_fields, reference_of};
+ghost use Rattle.c_values.specs.Fields.{state_fields, IsDescribed, token_fields};
 
 use ids::{PLAIN_PLACES, Ref, Shape};
 use model::{Accepted, Age, Answer, Event, Scope, Summary};
@@ -110,6 +110,14 @@ pub struct CObject {
     pub age: u8,
 }
 
+/// An object that was freed: its reference, and its word.
+#[repr(C)]
+#[derive(Clone, Copy)]
+pub struct CFreed {
+    pub reference: CRef,
+    pub word: u64,
+}
+
 /// What the collector's share of a turn did. A flag is 1 or 0.
 #[repr(C)]
 #[derive(Clone, Copy)]
@@ -151,6 +159,22 @@ impl CRef {
             generation,
         } = reference;
         CRef {
+            node,
+            slot,
+            generation,
+        }
+    }
+
+    /// The reference of these fields.
+    pub fn reference(self) -> Ref
+        ensures { result ≡ reference_of self }
+    {
+        let CRef {
+            node,
+            slot,
+            generation,
+        } = self;
+        Ref {
             node,
             slot,
             generation,
@@ -362,6 +386,14 @@ impl CEvent {
             20 => Event::Reclaim { scope: Scope::All },
             21 => Event::Reclaim {
                 scope: Scope::Young,
+            },
+            24 => Event::Resolve {
+                register,
+                reference: Ref {
+                    node,
+                    slot: count,
+                    generation: word,
+                },
             },
             _ => return None,
         };

@@ -12,5 +12,7 @@ mod results;
 
 pub use bytes::put;
 pub use fault::{Fault, OK};
-pub use fields::{CAnswer, CEvent, CLink, CObject, CRef, CShape, CState, CWork, age_number};
+pub use fields::{
+    CAnswer, CEvent, CFreed, CLink, CObject, CRef, CShape, CState, CWork, age_number,
+};
 pub use results::{answered, flagged, status, written};

@@ -8,6 +8,7 @@ use Rattle.model.specs.State.{LocalState, NodeState, got_from, node_at, register
 use Rattle.model.specs.World.{World, acknowledged}
 use Rattle.model.specs.Cuts.{Cut, cut, taken, IsInFlight, IsLive, Reachable, in_letter, in_message, in_place, in_register}
 use Rattle.model.specs.Agreement.{in_flight, EndsAlike}
+use Rattle.laws.specs.Statements.{Leads, is_it, over_place}
 use Rattle.laws.proofs.Net.{HeardMore}
 use Rattle.laws.proofs.Onward.{Behind}
 use Rattle.cell.specs.Reached.{AlikeReach, AreAlike, IsLike}
@@ -89,6 +90,13 @@ alike-reach w v choice r reached h =
     let heard = heard-like v (end_of reached) reached.by (heard-end reached) in
     let cuts = cuts-alike w v choice h heard in
     (reached-too cuts, reached-too (cuts-sym cuts))
+
+pub leads-too : {c d : Cut} {r q : Ref} → CutsAlike c d → Leads c r q → Leads d r q
+leads-too h is_it = is_it
+leads-too h (over_place owner o k there names leads) =
+    over_place owner o k
+    (sym (ap (λ (p : LocalState). slot_at p.heap owner.slot) (h.locals owner.node)) ∙ there) names
+    (leads-too h leads)
 
 pub live-too : {c d : Cut} (r : Ref) → CutsAlike c d → IsLive c r → IsLive d r
 live-too r h live = record {

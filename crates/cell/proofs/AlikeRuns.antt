@@ -6,6 +6,7 @@ use Rattle.ids.specs.declared.refusal.Refusal.{Refusal}
 use Rattle.ids.specs.declared.refusal.Refusal.TheVariants.{AckBeyond, NoNode, WrongNode}
 use Rattle.msg.specs.declared.body.Message.{Message}
 use Rattle.model.specs.declared.event.Answer.{Answer}
+use Rattle.model.specs.declared.event.Event.{Event}
 use Rattle.model.specs.declared.step.Outcome.{Outcome}
 use Rattle.model.specs.declared.step.Outcome.TheVariants as outcome
 use Rattle.model.specs.declared.step.Step.{Step}
@@ -14,6 +15,7 @@ use Rattle.model.specs.State.{LocalState, NodeState, got_from, no_node, node_at,
 use Rattle.model.specs.Steps.{act, is_addressed, receive}
 use Rattle.model.specs.World.{World, acknowledged, delivery, handing, happens, is_eventful, is_node, moved, numbered, outcome_of, release_count, released, run, take_step, world_after}
 use Rattle.model.proofs.Lookups.{at_set_if}
+use Rattle.laws.specs.Statements.{EachDone, IfDone}
 use Rattle.laws.proofs.Cuts.{released-numbered}
 use Rattle.laws.proofs.Net.{HeardMore, heard-onward}
 use Rattle.laws.proofs.Onward.{Behind, step-behind}
@@ -340,6 +342,24 @@ run-like w v [] h heard = h
 run-like w v (s ∷ ss) h heard =
     run-like (happens w s) (happens v s) ss (step-like w v s h heard).worlds
     (step-behind heard-onward v s heard)
+
+-- what is true of each event that is done in the one is true in the other
+if-done-more : (P Q : Event → Type 0) → ((e : Event) → P e → Q e) → (s : Step)
+    (r : Result Outcome Refusal) → IfDone P s r → IfDone Q s r
+if-done-more P Q more (step.Act i e) (Ok o) has = more e has
+if-done-more P Q more s r has = tt
+
+pub done-like : (P Q : Event → Type 0) → ((e : Event) → P e → Q e) → (w v : World)
+    (steps : List Step) → AreAlike w v → Behind HeardMore v → EachDone P w steps
+    → EachDone Q v steps
+done-like P Q more w v [] h heard each = tt
+done-like P Q more w v (s ∷ ss) h heard each =
+    let both = step-like w v s h heard in (
+      subst (λ (r : Result Outcome Refusal). IfDone Q s r) both.outcome
+          (if-done-more P Q more s (outcome_of (take_step w s)) each.0),
+      done-like P Q more (happens w s) (happens v s) ss both.worlds
+          (step-behind heard-onward v s heard) each.1,
+    )
 
 pub events-like : (w v : World) (log : List Step) → AreAlike w v → Behind HeardMore v
     → AreEvents w log → AreEvents v log

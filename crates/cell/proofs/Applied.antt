@@ -1,9 +1,15 @@
 -- The theorems on runs, applied to worlds that a run reaches, except perhaps for acknowledged
 -- messages.
-use Rattle.std.proofs.Common.{◌≡◌, ◌≤◌, ◌<◌, ℕ, pos, Bool, length, sym, ap, ◌∙◌, subst}
+use Rattle.std.proofs.Common.{◌≡◌, ◌≤◌, ◌<◌, ℕ, pos, Bool, List, Result, Ok, Err, length, sym, ap, ◌∙◌, subst}
 use Rattle.ids.specs.declared.names.Ref.{Ref}
-use Rattle.model.specs.State.{LocalState, slot_at}
-use Rattle.model.specs.World.{World, new_world, run}
+use Rattle.ids.specs.declared.refusal.Refusal.{Refusal}
+use Rattle.model.specs.declared.event.Answer.{Answer}
+use Rattle.model.specs.declared.event.Event.TheVariants as event
+use Rattle.model.specs.declared.step.Step.{Step}
+use Rattle.model.specs.State.{LocalState, NodeState, node_at, slot_at}
+use Rattle.model.specs.Shading.{is_open}
+use Rattle.model.specs.Steps.{act}
+use Rattle.model.specs.World.{World, acknowledged, new_world, run}
 use Rattle.model.specs.Cuts.{Cut, cut}
 use Rattle.model.specs.Agreement.{balance, flow, is_counted, number_of, total, EndsAlike, OldGarbage}
 use Rattle.laws.proofs.KeepsSent.{run-count}
@@ -11,12 +17,14 @@ use Rattle.laws.proofs.Live as laws
 use Rattle.laws.proofs.Net.{heard-onward}
 use Rattle.laws.proofs.OldGarbage as garbage
 use Rattle.laws.proofs.Onward.{run-behind}
+use Rattle.laws.proofs.Resolves as resolves
 use Rattle.wire.proofs.NewWires.{new-width}
 use Rattle.cell.specs.Reached.{AreAlike, IsReached}
-use Rattle.laws.specs.Statements.{BalancesAddUp, Garbage, GarbageGoes, NodesAgree, OldGarbageGoes, ReachIsLive}
+use Rattle.laws.specs.Statements.{BalancesAddUp, Garbage, GarbageGoes, GetsBack, IsLeftAlone, NodesAgree, OldGarbageGoes, ReachIsLive, ReachResolves}
 use Rattle.cell.specs.Theorems.{OfEveryReached}
-use Rattle.cell.proofs.AlikeCuts.{CutsAlike, cuts-alike, cuts-sym, ends-too, live-too, reached-too}
-use Rattle.cell.proofs.AlikeRuns.{run-like}
+use Rattle.cell.proofs.Alike.{AnsweredAlike, act-like}
+use Rattle.cell.proofs.AlikeCuts.{CutsAlike, cuts-alike, cuts-sym, ends-too, leads-too, live-too, reached-too}
+use Rattle.cell.proofs.AlikeRuns.{done-like, run-like}
 use Rattle.cell.proofs.Reaches.{end_of, heard-end}
 
 pub cuts-end : (w : World) (choice : ℕ → Bool) (r : IsReached w)
@@ -74,8 +82,16 @@ old-too w v r h cuts old = record {
       old.unreachable choice (reached-too (cuts-sym (cuts choice)) reach);
 }
 
+-- no later step resolves what leads to the reference
+alone-too : (w : World) (reached : IsReached w) (r : Ref) (later : List Step)
+    → IsLeftAlone w r later → IsLeftAlone (end_of reached) r later
+alone-too w reached r later alone =
+    done-like _ _
+    (λ e has q is choice leads. has q is choice (leads-too (cuts-sym (cuts-end w choice reached)) leads))
+    w (end_of reached) later reached.by (heard-end reached) alone
+
 pub old-garbage-goes : OfEveryReached OldGarbageGoes
-old-garbage-goes w reached later choice cycle r before old swept live =
+old-garbage-goes w reached later choice cycle r before old alone swept live =
     let end : World = end_of reached in
     let heard = heard-end reached in
     let cuts : CutsAlike (cut (run w later) choice) (cut (run end later) choice) =
@@ -84,6 +100,7 @@ old-garbage-goes w reached later choice cycle r before old swept live =
     garbage.old-garbage-goes reached.shape reached.limits reached.steps later choice cycle r
     (subst (λ (p : LocalState). p.phases.cycle < cycle) (reached.by.current.each 0).local before)
     (old-too w end r reached.by (λ c. cuts-end w c reached) old)
+    (alone-too w reached r later alone)
     (subst (λ (p : LocalState). cycle ≤ p.phases.swept) (cuts.locals r.node) swept)
     (live-too r cuts live)
 
@@ -99,7 +116,7 @@ garbage-too w v r h cuts dead = record {
 }
 
 pub garbage-goes : OfEveryReached GarbageGoes
-garbage-goes w reached later choice cycle r before dead stays chosen swept live =
+garbage-goes w reached later choice cycle r before dead alone stays chosen swept live =
     let end : World = end_of reached in
     let heard = heard-end reached in
     let cuts : CutsAlike (cut (run w later) choice) (cut (run end later) choice) =
@@ -107,6 +124,30 @@ garbage-goes w reached later choice cycle r before dead stays chosen swept live 
     (run-behind heard-onward end later heard) in
     garbage.garbage-goes reached.shape reached.limits reached.steps later choice cycle r
     (subst (λ (p : LocalState). p.phases.cycle < cycle) (reached.by.current.each 0).local before)
-    (garbage-too w end r reached.by (λ c. cuts-end w c reached) dead) stays chosen
+    (garbage-too w end r reached.by (λ c. cuts-end w c reached) dead)
+    (alone-too w reached r later alone) stays chosen
     (subst (λ (p : LocalState). cycle ≤ p.phases.swept) (cuts.locals r.node) swept)
     (live-too r cuts live)
+
+-- what one of two alike nodes is told, the other is told too
+got-back-too : (acked : ℕ → ℕ) (p q : LocalState) (r u : Result (NodeState × Answer) Refusal)
+    → p ≡ q → AnsweredAlike acked r u → GetsBack q u → GetsBack p r
+got-back-too acked p q (Ok x) (Ok y) same like got = like.1 ∙ got
+got-back-too acked p q (Ok x) (Err e) same like got = absurd like
+got-back-too acked p q (Err e) (Ok y) same like got = absurd like
+got-back-too acked p q (Err e) (Err f) same like got =
+    (like ∙ got.0, ap (λ (z : LocalState). is_open z) same ∙ got.1)
+
+pub reach-resolves : OfEveryReached ReachResolves
+reach-resolves w reached choice i register r current reach here few =
+    let end : World = end_of reached in
+    let like = reached.by.current.each i in
+    got-back-too (acknowledged end i) (node_at w.current i).local (node_at end.current i).local
+    (act (node_at w.current i) (event.Resolve register r))
+    (act (node_at end.current i) (event.Resolve register r))
+    like.local
+    (act-like (acknowledged end i) (node_at w.current i) (node_at end.current i)
+    (event.Resolve register r) like)
+    (resolves.reach-resolves reached.shape reached.limits reached.steps choice i register r current
+    (reached-too (cuts-end w choice reached) reach) here
+    (subst (λ (p : LocalState). register < length p.heap.registers) like.local few))

@@ -4,7 +4,7 @@ use Rattle.std.proofs.lemmas.Option.{slice_get_within}
 use Rattle.ids.specs.declared.saves.Saves.{Saves}
 use Rattle.ids.specs.declared.saves.Saves.TheVariants.{Events, Images}
 use Rattle.disk.specs.Areas.{Areas}
-use Rattle.node_store.specs.declared.place.Place.{Place}
+use Rattle.disk_journal.specs.declared.journal.Tail.{Tail}
 use Rattle.cell.specs.Looking.{logs_at}
 use Rattle.cell.specs.Opened.{AreBeside, IsChosen}
 use Rattle.wire.proofs.Places.{mapped-from, mapped-there, pushed-at, some_at}
@@ -50,7 +50,7 @@ pub new-logs : (saves : Saves) (logs : Bool) → (saves ≡ Events → logs ≡ 
 new-logs Events logs events images = events refl
 new-logs Images logs events images = images refl
 
-pub chosen-as : (saves : Saves) (seen : Areas) (place : Option Place) (logs : Bool)
+pub chosen-as : (saves : Saves) (seen : Areas) (place : Option Tail) (logs : Bool)
     → IsChosen saves seen (logs_at saves place) → logs ≡ logs_at saves place
     → IsChosen saves seen logs
 chosen-as saves seen place logs chosen is = subst (IsChosen saves seen) (sym is) chosen

@@ -1,9 +1,10 @@
 -- A node that was found on a disk, or as it was saved.
 use Rattle.std.proofs.Common.{◌≡◌, ℕ, Bool, true, false, List, length, refl, sym, ap, ◌∙◌, subst, arith}
 use Rattle.std.proofs.Math.ListN.{get_or-map}
-use Rattle.std.proofs.lemmas.List.{length-drop, length-map}
+use Rattle.std.proofs.lemmas.List.{length-drop}
 use Rattle.model.specs.State.{LocalState, NodeState, sent_to}
 use Rattle.model.specs.View.{Link, NodeView, Shows, ShowsSent, all_kept, kept_view, link_to, no_link, used}
+use Rattle.laws.proofs.Carrying.{shows-kept}
 use Rattle.wire.specs.Views.{Known, Pair}
 use Rattle.wire.specs.Plays.{Happens}
 use Rattle.cell.specs.Desks.{IsSavedNode, StandsAt}
@@ -15,16 +16,6 @@ use Rattle.cell.proofs.Standing.{behind-itself}
 -- how many messages were ever sent to a node
 pub used-is : (l : Link) (sent : List _) → ShowsSent l sent → used l ≡ length sent
 used-is l sent h = omega (arith, ap length h.unacknowledged, length-drop l.base sent, h.within)
-
--- a node that shows a state still does once it is saved
-pub shows-kept : (n : NodeView) (s : NodeState) → Shows n s → Shows (kept_view n) s
-shows-kept n s h = record {
-  local = h.local;
-  width = length-map n.links all_kept ∙ h.width;
-  links = λ i.
-      subst (λ (l : Link). ShowsSent l (sent_to s i)) (sym (get_or-map all_kept n.links i no_link))
-      (record { within = (h.links i).within; unacknowledged = (h.links i).unacknowledged });
-}
 
 -- a node whose messages all count as saved shows its state with everything saved
 pub stands-read : (me width : ℕ) (s : NodeState) (n : NodeView) → n.local.own ≡ me

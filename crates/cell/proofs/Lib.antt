@@ -32,6 +32,7 @@ pub mod AlikeCuts
 pub mod Applied
 pub mod Composed
 pub mod OneAge
+pub mod Copies
 pub mod Together
 pub mod Holding
 pub mod Starting

@@ -8,7 +8,7 @@ use Rattle.std.proofs.lemmas.Bool.Decides.{leb_tells}
 use Rattle.disk.specs.Areas.{Areas, IsBlank}
 use Rattle.disk.specs.Crashes.{Unmoved}
 use Rattle.disk_shelf.specs.Seals.{first_of, IsIntact}
-use Rattle.node_store.specs.declared.place.Place.{Place}
+use Rattle.disk_journal.specs.declared.journal.Tail.{Tail}
 use Rattle.node.specs.Keeping.{WholeNode}
 use Rattle.cell.specs.Ages.{IsWhy}
 use Rattle.cell.specs.Looking.{AreIntact, AreLookedAt, AreOn, AreUnmoved, IsLookedAt, IsOfReading}
@@ -54,7 +54,7 @@ set-past (a ∷ xs) (suc i) (suc k) y after = set-past xs i k y (omega (arith, a
 
 pub looked-next : {D : Type 0} {seen : D → Areas} {may_leave : D → Areas → Type 0} {faults : D → ℕ}
     {shape : Shaped} {number : ℕ} {old new : List D} {nodes ns : List WholeNode}
-    {areas bs : List (Option Place)} {x y : D} {n : WholeNode} {area : Option Place}
+    {areas bs : List (Option Tail)} {x y : D} {n : WholeNode} {area : Option Tail}
     → AreLookedAt seen may_leave faults shape number old new nodes areas
     → slice_get old number ≡ Some x → IsLookedAt seen may_leave faults shape number x y n area
     → (ns ≡ nodes ++ n ∷ []) × (bs ≡ areas ++ area ∷ [])
@@ -97,7 +97,7 @@ looked-next {D} {seen} {may_leave} {faults} {shape} {number} {old} {new} {nodes}
           (λ (t : (k ≡ length areas) × (b ≡ area)). t.1)
           (pushed-at areas area k b (ap (λ l. slice_get l k) (sym is.1) ∙ at)) in
           subst (λ (i : ℕ). IsLookedAt seen may_leave faults shape i d e m b) (sym here)
-          (subst (λ (v : Option Place). IsLookedAt seen may_leave faults shape number d e m v)
+          (subst (λ (v : Option Tail). IsLookedAt seen may_leave faults shape number d e m v)
           (sym b_is)
           (subst (λ (v : WholeNode). IsLookedAt seen may_leave faults shape number d e v area)
           (sym last.1)
@@ -114,14 +114,14 @@ looked-next {D} {seen} {may_leave} {faults} {shape} {number} {old} {new} {nodes}
 -- all disks of a space were read, and nothing was written on them
 pub record AreAllRead {D : Type 0} (seen : D → Areas) (may_leave : D → Areas → Type 0)
     (moment faults : D → ℕ) (left_since : D → ℕ → Areas → Type 0) (shape : Shaped)
-    (old new : List D) (nodes : List WholeNode) (areas : List (Option Place)) : Type 0 where
+    (old new : List D) (nodes : List WholeNode) (areas : List (Option Tail)) : Type 0 where
   pub quiet : AreUnmoved seen may_leave moment left_since old new
   pub found : AreLookedAt seen may_leave faults shape shape.nodes old new nodes areas
   pub many : length old ≡ shape.nodes
 
 pub were-read : {D : Type 0} {seen : D → Areas} {may_leave : D → Areas → Type 0}
     {moment faults : D → ℕ} {left_since : D → ℕ → Areas → Type 0} {shape : Shaped}
-    {old slice new : List D} {nodes : List WholeNode} {areas : List (Option Place)}
+    {old slice new : List D} {nodes : List WholeNode} {areas : List (Option Tail)}
     → slice ≡ old → length old ≡ shape.nodes
     → AreUnmoved seen may_leave moment left_since slice new
     → AreLookedAt seen may_leave faults shape shape.nodes slice new nodes areas
@@ -136,7 +136,7 @@ were-read {seen = seen} {may_leave} {moment} {faults} {left_since} {shape} {new 
 
 module _ {D : Type 0} {seen : D → Areas} {may_leave : D → Areas → Type 0} {moment faults : D → ℕ}
     {left_since : D → ℕ → Areas → Type 0} {shape : Shaped} {old new : List D}
-    {nodes : List WholeNode} {areas : List (Option Place)}
+    {nodes : List WholeNode} {areas : List (Option Tail)}
     (h : AreAllRead seen may_leave moment faults left_since shape old new nodes areas) where
   pub all-on : AreOn seen may_leave shape new nodes areas
   all-on = record {
@@ -245,7 +245,7 @@ shelf-next {place = place} {n} {s} Lies nodes shelves h count stands lies is k t
 
 -- all nodes are on their shelves
 pub shelves-found : {D S : Type 0} {seen : D → Areas} {may_leave : D → Areas → Type 0}
-    {shape : Shaped} {disks : List D} {nodes : List WholeNode} {areas : List (Option Place)}
+    {shape : Shaped} {disks : List D} {nodes : List WholeNode} {areas : List (Option Tail)}
     {shelves : List S} (Lies : WholeNode → S → Type 0)
     → AreOn seen may_leave shape disks nodes areas → length shelves ≡ length nodes
     → AreBeside (λ k t m. Lies m t) shelves nodes → AreFound Lies shape nodes shelves
@@ -265,7 +265,7 @@ shelves-found {disks = disks} {areas = areas} Lies on count h = record {
 -- the disk in a place that wasn't read yet
 pub read-there : {D : Type 0} {seen : D → Areas} {may_leave : D → Areas → Type 0} {faults : D → ℕ}
     {shape : Shaped} {number : ℕ} {old new : List D} {nodes : List WholeNode}
-    {areas : List (Option Place)} (at : ℕ) (d : D)
+    {areas : List (Option Tail)} (at : ℕ) (d : D)
     → AreLookedAt seen may_leave faults shape number old new nodes areas
     → length new ≡ length old → at ≡ number → number < length old
     → slice_get old number ≡ Some (get_or new at d)
@@ -286,7 +286,7 @@ unmoved-at {seen = seen} {may_leave = may_leave} {moment = moment} {left_since =
 
 pub looked-at : {D : Type 0} {seen : D → Areas} {may_leave : D → Areas → Type 0} {faults : D → ℕ}
     {shape : Shaped} {number : ℕ} {old new : List D} {nodes ns : List WholeNode}
-    {areas bs : List (Option Place)} {x y : D} {n : WholeNode} {area : Option Place} (at : ℕ)
+    {areas bs : List (Option Tail)} {x y : D} {n : WholeNode} {area : Option Tail} (at : ℕ)
     → AreLookedAt seen may_leave faults shape number old new nodes areas → at ≡ number
     → slice_get old number ≡ Some x → IsLookedAt seen may_leave faults shape number x y n area
     → (ns ≡ nodes ++ n ∷ []) × (bs ≡ areas ++ area ∷ [])
@@ -300,7 +300,7 @@ looked-at {seen = seen} {may_leave = may_leave} {faults = faults} {shape = shape
 -- ---- The disk, the node and the area of one place
 
 pub record AreAt {D : Type 0} (disks : List D) (nodes : List WholeNode)
-    (areas : List (Option Place)) (k : ℕ) (d : D) (n : WholeNode) (place : Option Place)
+    (areas : List (Option Tail)) (k : ℕ) (d : D) (n : WholeNode) (place : Option Tail)
     : Type 0 where
   pub disk : slice_get disks k ≡ Some d
   pub node : slice_get nodes k ≡ Some n
@@ -308,7 +308,7 @@ pub record AreAt {D : Type 0} (disks : List D) (nodes : List WholeNode)
 
 -- The first of the disks that are left, and what its place in the other lists has.
 pub first-at : {D : Type 0} {seen : D → Areas} {may_leave : D → Areas → Type 0} {shape : Shaped}
-    {disks left : List D} {nodes : List WholeNode} {areas : List (Option Place)} {k place : ℕ}
+    {disks left : List D} {nodes : List WholeNode} {areas : List (Option Tail)} {k place : ℕ}
     {d : D} {n : WholeNode} → AreOn seen may_leave shape disks nodes areas → k < length nodes
     → place ≡ k → left ≡ drop k disks → d ≡ get_or left 0 d → n ≡ get_or nodes place n
     → AreAt disks nodes areas k d n (get_or areas place None)

@@ -1,62 +1,19 @@
 -- The frame that a desk's node sends next is one that its saved state releases.
-use Rattle.std.proofs.Common.{◌≡◌, ◌≢◌, ℕ, ◌+◌, ◌-◌, ◌<◌, ltb-true, Bool, true, ◌&&◌, not, ◌==◌, List, length, take, Option, Some, None, slice_get, refl, sym, ap, ◌∙◌, subst, arith, inl, inr}
-use Rattle.std.specs.Prelude.{nat_lt, slice_index_or}
+use Rattle.std.proofs.Common.{◌≡◌, ℕ, ◌+◌, ◌-◌, ◌<◌, true, List, length, take, Option, Some, None, slice_get, refl, sym, ap, ◌∙◌, subst, arith}
+use Rattle.std.specs.Prelude.{slice_index_or}
 use Rattle.std.specs.Option.{option_map}
-use Rattle.std.proofs.lemmas.Bool.{and_parts, cases_Bool, cond-true, cond-false, eq-eqb, lt-ltb}
-use Rattle.ids.specs.declared.limits.TheConstants.{WINDOW}
+use Rattle.std.proofs.lemmas.Bool.{cond-true}
 use Rattle.msg.specs.Frames.{Plain}
 use Rattle.msg.specs.declared.body.Message.{Message}
-use Rattle.model.specs.State.{LocalState, got_from, sent_to}
-use Rattle.model.specs.View.{Link, NodeView, is_other, link_to, released_at}
-use Rattle.model.specs.World.{numbered}
+use Rattle.model.specs.State.{got_from, sent_to}
+use Rattle.model.specs.View.{NodeView, is_other, link_to, released_at}
 use Rattle.model.proofs.Lookups.{slice_get-drop, slice_get-take}
+use Rattle.laws.proofs.Carried.{apart, in-place, numbered-in}
 use Rattle.node.specs.Frames.{frame_of}
 use Rattle.wire.specs.Views.{Pair}
 use Rattle.wire.specs.Plays.{Releases}
 use Rattle.cell.specs.Desks.{StandsAt}
 use Rattle.wire.specs.Sending.{frame_or_ack, frame_due}
-
-pub apart : (p : LocalState) (to : ℕ) → is_other p to ≡ true → to ≢ p.own
-apart p to other same =
-    let differs : not (to == p.own) ≡ true =
-    (and_parts (nat_lt to p.shape.nodes) (not (to == p.own)) other).1 in
-    let never : not true ≡ true =
-    subst (λ (b : Bool). not b ≡ true) (eq-eqb to p.own same) differs in
-    absurd cc
-
-pub inside : (p : LocalState) (to : ℕ) → is_other p to ≡ true → to < p.shape.nodes
-inside p to other =
-    ltb-true to p.shape.nodes (and_parts (nat_lt to p.shape.nodes) (not (to == p.own)) other).0
-
--- a message in a released place of a window
-record IsInPlace (l : Link) (place : ℕ) (x : Message) : Type 0 where
-  before : l.base + place < l.kept
-  there : slice_get l.unacknowledged place ≡ Some x
-
-in-place : (l : Link) (place : ℕ) (x : Message) → released_at l place ≡ Some x
-    → IsInPlace l place x
-in-place l place x found =
-    elim (cases_Bool (nat_lt place WINDOW && nat_lt (l.base + place) l.kept)) as
-    (λ _. IsInPlace l place x) [
-      | inl may ↦ record {
-        before = ltb-true (l.base + place) l.kept
-            (and_parts (nat_lt place WINDOW) (nat_lt (l.base + place) l.kept) may).1;
-        there = sym (cond-true (nat_lt place WINDOW && nat_lt (l.base + place) l.kept)
-            (slice_get l.unacknowledged place) None may) ∙ found;
-      }
-      | inr may ↦ let never : ◌≡◌ {A = Option Message} None (Some x) =
-          sym (cond-false (nat_lt place WINDOW && nat_lt (l.base + place) l.kept)
-          (slice_get l.unacknowledged place) None may) ∙ found in absurd cc
-    ]
-
--- the message in place k of what was sent has the number k + 1
-numbered-in : (sent : List Message) (k number : ℕ) (x : Message) → number ≡ k + 1
-    → slice_get sent k ≡ Some x → numbered sent number ≡ Some x
-numbered-in sent k number x is there =
-    cond-true (nat_lt 0 number) (slice_get sent (number - 1)) None
-    (lt-ltb 0 number (omega (arith, is)))
-    ∙ ap (slice_get sent) (let before : number - 1 ≡ k = omega (arith, is) in before)
-    ∙ there
 
 -- the saved state sent such a message
 saved-place : {me width : ℕ} {p : Pair} {n : NodeView} (to place : ℕ) (x : Message)

@@ -3,6 +3,7 @@
 use Rattle.std.proofs.Common.{◌≡◌, ◌≢◌, ℕ, ◌<◌, List, true, sym, ap, ◌∙◌, subst}
 use Rattle.msg.specs.Frames.{Plain}
 use Rattle.model.specs.View.{is_other}
+use Rattle.laws.proofs.Carried.{apart, inside}
 use Rattle.wire.specs.Views.{Pair}
 use Rattle.wire.specs.Readers.{known, seat_node, IsSame, IsSeatOf}
 use Rattle.wire.specs.declared.seats.NodeSeat.{NodeSeat}
@@ -10,7 +11,6 @@ use Rattle.wire.specs.declared.seats.Wire.{Wire}
 use Rattle.node_store.specs.Noted.{IsLogged}
 use Rattle.cell.specs.Desks.{AreTaken, IsSavedNode, IsSeatAt, IsUnsaved, StandsAt}
 use Rattle.cell.specs.declared.desk.Desk.TheInside.{Inside}
-use Rattle.cell.proofs.Releasing.{apart, inside}
 
 -- another node of the space, in terms of the wire
 pub other-on : (desk : Inside) (w : Wire) (to : ℕ) → IsSeatOf w desk.seat

@@ -1,10 +1,8 @@
 -- What programs see of a space whose wire began in a reached world.
-use Rattle.std.proofs.Common.{◌≡◌, ◌≢◌, ◌<◌, ◌≤◌, ◌+◌, ℕ, Bool, zero, suc, true, false, cond, ◌&&◌, List, [], ◌∷◌, ◌++◌, append-nil, append_assoc, length, Option, Some, None, Result, Ok, Err, refl, sym, ap, ◌∙◌, subst, arith, ⊎_elim, ◌==◌}
-use Rattle.std.specs.Prelude.{not, IfErr}
-use Rattle.std.proofs.lemmas.Bool.{and_from, cond_both, cond-false, cond-true, eqb-false, lt-ltb, not_from_false}
-use Rattle.ids.specs.Limits.{Shaped}
+use Rattle.std.proofs.Common.{◌≡◌, ◌≢◌, ◌<◌, ◌≤◌, ◌+◌, ℕ, Bool, zero, suc, true, cond, ◌&&◌, List, [], ◌∷◌, ◌++◌, append-nil, append_assoc, length, Option, Some, None, Result, Ok, refl, sym, ap, ◌∙◌, subst, arith, ⊎_elim, ◌==◌}
+use Rattle.std.specs.Prelude.{not}
+use Rattle.std.proofs.lemmas.Bool.{cond_both, cond-false, eqb-false, lt-ltb}
 use Rattle.ids.specs.declared.refusal.Refusal.{Refusal}
-use Rattle.ids.specs.declared.refusal.Refusal.TheVariants.{Memory}
 use Rattle.msg.specs.declared.body.Message.{Message}
 use Rattle.model.specs.declared.event.Answer.{Answer}
 use Rattle.model.specs.declared.event.Answer.TheVariants as answer
@@ -16,18 +14,18 @@ use Rattle.model.specs.declared.step.Step.{Step}
 use Rattle.model.specs.declared.step.Step.TheVariants as step
 use Rattle.model.specs.State.{LocalState, NodeState, got_from, node_at, slot_at}
 use Rattle.model.specs.Heaps.{heap_bytes}
-use Rattle.model.specs.Steps.{ack_of, act, is_own}
-use Rattle.model.specs.View.{NodeView, Follows, IsTold}
+use Rattle.model.specs.Steps.{act}
+use Rattle.model.specs.View.{Follows}
 use Rattle.model.specs.World.{World, happens, is_node, moved, new_world, outcome_of, released, run, take_step}
 use Rattle.model.specs.Cuts.{Cut, cut}
-use Rattle.model.proofs.Refusals.{refused-as}
 use Rattle.model.proofs.Runs.{run-append}
-use Rattle.laws.specs.Objects.{Sight, Space, IsRun, after, after_sight, is_program, new_space, told}
+use Rattle.laws.specs.Objects.{Sight, Space, IsRun, after, is_program, new_space, told}
 use Rattle.laws.specs.Sights.{LooksLike, came_of, choice_at_start, observed_in_cut, observed_in_step, programs, told_of}
 use Rattle.laws.proofs.KeepsSent.{run-count}
 use Rattle.laws.proofs.Net.{HeardMore, heard-onward}
 use Rattle.laws.proofs.Onward.{Behind, run-behind, step-behind}
 use Rattle.laws.proofs.StepFacts.{Delivery, IsTurnOf, Receipt, deliver-answer, next, receipt-cases, repeated}
+use Rattle.laws.proofs.Told.{acted-as, choices-append, moved-as, observed-append, program-own, runs-then, sight-of}
 use Rattle.laws.proofs.Transparent.{collector-is-unseen}
 use Rattle.node.specs.Keeping.{Rings, met}
 use Rattle.wire.specs.Views.{Pair}
@@ -39,39 +37,6 @@ use Rattle.cell.proofs.Holding.{saved-count}
 use Rattle.cell.proofs.Left.{restarted-reached, restarts}
 use Rattle.cell.proofs.OneAge.{reopened-is-reached}
 use Rattle.cell.proofs.Reaches.{end_of, heard-end, like-reached, new-reached, stays-reached, world-of-reached}
-
--- ---- Sights, one list of steps after another
-
-choices-append : (xs ys : List Step) (choice : ℕ → Bool)
-    → choice_at_start (xs ++ ys) choice ≡ choice_at_start xs (choice_at_start ys choice)
-choices-append [] ys choice = refl
-choices-append (step.Act i e ∷ xs) ys choice = choices-append xs ys choice
-choices-append (step.Save i ∷ xs) ys choice =
-    ap (λ (c : ℕ → Bool). choice_at_start (step.Save i ∷ []) c) (choices-append xs ys choice)
-choices-append (step.Restart i ∷ xs) ys choice =
-    ap (λ (c : ℕ → Bool). choice_at_start (step.Restart i ∷ []) c) (choices-append xs ys choice)
-choices-append (step.Deliver from to number ∷ xs) ys choice = choices-append xs ys choice
-choices-append (step.Hand from to ∷ xs) ys choice = choices-append xs ys choice
-
-pub observed-append : (w : World) (xs ys : List Step) (choice : ℕ → Bool)
-    → observed_in_cut w (xs ++ ys) choice
-    ≡ observed_in_cut w xs (choice_at_start ys choice) ++ observed_in_cut (run w xs) ys choice
-observed-append w [] ys choice = refl
-observed-append w (x ∷ xs) ys choice =
-    (λ i.
-    observed_in_step w (choices-append xs ys choice i) x (outcome_of (take_step w x))
-    ++ observed-append (happens w x) xs ys choice i)
-    ∙ sym (append_assoc
-    (observed_in_step w (choice_at_start xs (choice_at_start ys choice)) x
-    (outcome_of (take_step w x)))
-    (observed_in_cut (happens w x) xs (choice_at_start ys choice))
-    (observed_in_cut (run (happens w x) xs) ys choice))
-
--- the last part of a run of a space without a collector
-runs-then : (shape : Shaped) (s : Space) (xs ys : List Sight) → IsRun shape s (xs ++ ys)
-    → IsRun shape (after s xs) ys
-runs-then shape s [] ys runs = runs
-runs-then shape s (x ∷ xs) ys runs = runs-then shape (after_sight s x) xs ys runs.1
 
 -- ---- Worlds that differ at most in acknowledged messages
 
@@ -192,60 +157,9 @@ reached-is-unseen w r steps choice =
 
 -- ---- What a cell's program is told
 
-program-own : (e : Event) → is_program e ≡ true → is_own e ≡ true
-program-own (event.Data d) is = absurd cc
-program-own (event.Ack a) is = absurd cc
-program-own e is = refl
-
 program-met : (es : Rings) (e : Event) → is_program e ≡ true → met es e ≡ e
 program-met es (event.Next from) is = absurd cc
 program-met es e is = refl
-
-program-told : (e : Event) (x : Refusal) → is_program e ≡ true → IsTold (ack_of e) x
-program-told (event.Ack a) x is = absurd cc
-program-told e x is = tt
-
--- the outcome of the step that the event is
-abbrev as_outcome : Result Answer Refusal → Result Outcome Refusal
-as_outcome (Ok a) = Ok (outcome.Answer a)
-as_outcome (Err x) = Err x
-
-told-once : (i : ℕ) (e : Event) (result : Result Answer Refusal)
-    → told_of i e (as_outcome result) ≡ told i e result ∷ []
-told-once i e (Ok a) = refl
-told-once i e (Err x) = refl
-
-moved-as : (w : World) (i : ℕ) (e : Event) (result : Result Answer Refusal) (n : NodeView)
-    (r : Result (NodeState × Answer) Refusal) → is_program e ≡ true → Follows e result n r
-    → IfErr result (λ x. x ≢ Memory) → outcome_of (moved w i r) ≡ as_outcome result
-moved-as w i e (Ok a) n r is found plenty =
-    ap (λ (q : Result (NodeState × Answer) Refusal). outcome_of (moved w i q)) found.1
-moved-as w i e (Err x) n r is refused plenty =
-    ap (λ (q : Result (NodeState × Answer) Refusal). outcome_of (moved w i q))
-    (refused-as (refused (program-told e x is)) plenty)
-
-acted-as : (w : World) (i : ℕ) (e : Event) (result : Result Answer Refusal)
-    → is_node w i ≡ true → is_own e ≡ true
-    → outcome_of (moved w i (act (node_at w.current i) e)) ≡ as_outcome result
-    → outcome_of (take_step w (step.Act i e)) ≡ as_outcome result
-unfolding take_step
-acted-as w i e result inside own is =
-    ap outcome_of
-    (cond-true (is_node w i) _ _ inside ∙ cond-true (is_own e) _ _ own)
-    ∙ is
-
--- the one more sight
-sight-of : (w : World) (choice : ℕ → Bool) (i : ℕ) (e : Event) (result : Result Answer Refusal)
-    → is_node w i ≡ true → is_program e ≡ true → choice i ≡ false
-    → outcome_of (take_step w (step.Act i e)) ≡ as_outcome result
-    → observed_in_cut w (step.Act i e ∷ []) choice ≡ told i e result ∷ []
-sight-of w choice i e result inside program current is =
-    append-nil (observed_in_step w choice (step.Act i e) (outcome_of (take_step w (step.Act i e))))
-    ∙ cond-true (is_node w i && (is_program e && not (choice i))) _ _
-    (and_from (is_node w i) _ inside
-    (and_from (is_program e) _ program (not_from_false (choice i) current)))
-    ∙ ap (told_of i e) is
-    ∙ told-once i e result
 
 pub cells-are-told-so : CellsAreToldSo
 cells-are-told-so e result v log choice r below leads current told_it =

@@ -3,16 +3,19 @@ use Rattle.std.proofs.Common.{◌≡◌, ℕ, Bool, List, Some, length, slice_ge
 use Rattle.std.proofs.lemmas.Option.{slice_get_within}
 use Rattle.ids.specs.Limits.{Shaped, IsShape}
 use Rattle.model.specs.World.{World}
+use Rattle.model.specs.declared.step.Step.{Step}
 use Rattle.disk.specs.Areas.{Areas}
 use Rattle.node.specs.Keeping.{WholeNode}
 use Rattle.wire.specs.OneAge.{AreOfOneAge}
 use Rattle.wire.proofs.Places.{some_at}
 use Rattle.cell.specs.Ages.{IfAges, IsWhy}
+use Rattle.cell.specs.Copies.{AreCopies, AreCopiesOn}
 use Rattle.cell.specs.Opened.{AreBeside, IsReadFrom}
 use Rattle.cell.specs.Reached.{BeginReached}
 use Rattle.cell.specs.Theorems.{AreFresh, AreHeldOn, AreLeft, AreLeftOn}
 use Rattle.cell.specs.declared.fault.Unopened.{Unopened}
 use Rattle.cell.specs.declared.fault.Unopened.TheVariants.{Ages, Another, Disks, Failed, Memory}
+use Rattle.cell.proofs.Copies.{copies-are-reached}
 use Rattle.cell.proofs.OneAge.{begin-of-one-age, left-is-of-one-age, reopened-is-reached}
 use Rattle.cell.proofs.Reaches.{fresh-reached}
 
@@ -87,3 +90,25 @@ module _ {D : Type 0} (seen : D → Areas) (shape : Shaped) (disks : List D) whe
       → AreReadOf seen shape disks nodes → AreOfOneAge nodes
   left-ages w on held nodes count read =
       left-is-of-one-age shape w nodes (were-left on nodes count read) (held nodes count read)
+
+  -- the disks are copies of one run
+  were-copied : {steps : List Step} → AreCopiesOn seen shape steps disks → (nodes : List WholeNode)
+      → length nodes ≡ length disks → AreReadOf seen shape disks nodes
+      → AreCopies shape steps nodes
+  were-copied on nodes count read = record {
+    states = on.states;
+    width = on.width;
+    count = count ∙ on.count;
+    each = λ k n there.
+        (let d = disk-of nodes k n count there in (
+          seen d.0,
+          on.each k d.0 d.1,
+          read k d.0 n d.1 there,
+        ));
+  }
+
+  pub copies-begin : {steps : List Step} → IsShape shape → AreCopiesOn seen shape steps disks
+      → (nodes : List WholeNode) → length nodes ≡ length disks
+      → AreReadOf seen shape disks nodes → AreOfOneAge nodes → BeginReached nodes
+  copies-begin {steps = steps} limits on nodes count read ages =
+      copies-are-reached shape steps nodes limits (were-copied on nodes count read) ages

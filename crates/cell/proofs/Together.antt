@@ -1,9 +1,11 @@
 -- Cells at one moment: what holds of the world of that moment holds of their nodes.
-use Rattle.std.proofs.Common.{◌≡◌, ◌<◌, ◌≤◌, ℕ, false, List, sym, ap, ◌∙◌, subst, length}
+use Rattle.std.proofs.Common.{◌≡◌, ◌⊎◌, ⊎_elim, ◌<◌, ◌≤◌, ◌++◌, ℕ, false, List, refl, sym, ap, ◌∙◌, subst, length}
+use Rattle.ids.specs.declared.names.Ref.{Ref}
 use Rattle.model.specs.declared.step.Step.{Step}
-use Rattle.model.specs.State.{LocalState, node_at, register_at, slot_at}
+use Rattle.model.specs.State.{LocalState, NodeState, Object, Occupied, node_at, register_at, slot_at}
 use Rattle.model.specs.World.{World, run}
-use Rattle.model.specs.Cuts.{in_register}
+use Rattle.model.specs.Cuts.{IsLive, cut, in_register}
+use Rattle.model.proofs.Runs.{run-append}
 use Rattle.laws.proofs.KeepsSent.{run-count}
 use Rattle.disk.specs.Areas.{Areas}
 use Rattle.wire.specs.Plays.{LeadsTo}
@@ -11,7 +13,8 @@ use Rattle.wire.specs.Readers.{known, seat_node}
 use Rattle.wire.specs.Views.{Pair, pair_at}
 use Rattle.cell.specs.Cells.{CellView}
 use Rattle.cell.specs.Closing.{CellsAgree, CellsHaveNamed, IsCellOf, IsOver}
-use Rattle.cell.proofs.Applied.{nodes-agree, reach-is-live}
+use Rattle.cell.specs.Garbage.{CellsFreeGarbage, HasNone, HasSwept, WasGarbage}
+use Rattle.cell.proofs.Applied.{garbage-goes, nodes-agree, old-garbage-goes, reach-is-live}
 use Rattle.cell.proofs.Reaches.{stays-reached}
 
 module _ {D : Type 0} (may_leave : D → Areas → Type 0) where
@@ -65,4 +68,39 @@ module _ {D : Type 0} (may_leave : D → Areas → Type 0) where
         ap (λ (p : LocalState). slot_at p.heap r.slot)
             (sym theirs ∙ ap (λ (k : ℕ). (node_at w.current k).local) its)
             ∙ live.there,
+      )
+
+  -- the cell's node doesn't have what was garbage
+  has-freed : {opening : World} {before since : List Step} {cycle : ℕ} {r : Ref} {c : CellView D}
+      → WasGarbage opening before since cycle r
+      → HasSwept may_leave opening before since cycle r c → HasNone c.node.core r
+  has-freed {opening} {before} {since} {cycle} {r} {c} was has =
+      let w : World = run opening before in
+      let there : (node_at (run w since).current r.node).local ≡ c.node.core.local =
+      ap (λ (v : World). (node_at v.current r.node).local) (sym (run-append opening before since))
+      ∙ ap (λ (i : ℕ). (node_at (run opening (before ++ since)).current i).local) (sym has.owns)
+      ∙ local-there opening (before ++ since) c has.of has.leads in
+      let reached = stays-reached opening before was.reached in
+      let done = subst (λ (p : LocalState). cycle ≤ p.phases.swept) (sym there) has.swept in
+      λ o held.
+      let live : IsLive (cut (run w since) (λ _. false)) r = record {
+        object = o;
+        there = ap (λ (p : LocalState). slot_at p.heap r.slot) there ∙ held;
+      } in
+      ⊎_elim
+      (λ old. old-garbage-goes w reached since (λ _. false) cycle r was.earlier old was.alone done live)
+      (λ dead. garbage-goes w reached since (λ _. false) cycle r was.earlier dead.0 was.alone
+      dead.1 refl done live)
+      was.garbage
+
+  pub cells-free-garbage : CellsFreeGarbage may_leave
+  cells-free-garbage opening before since cycle r c was has =
+      let none : HasNone c.node.core r = has-freed was has in (
+        none,
+        λ saved. subst (λ (p : LocalState). (o : Object) → slot_at p.heap r.slot
+            ≡ Occupied r.generation o → ⊥)
+            (has.of.sound.stands.shows.local
+            ∙ ap (λ (s : NodeState). s.local) (has.of.sound.unsaved saved)
+            ∙ sym has.of.sound.was.shows.local)
+            none,
       )

@@ -9,7 +9,9 @@ pub mod Reached
 pub mod Laws
 pub mod Ages
 pub mod Theorems
+pub mod Copies
 pub mod Closing
+pub mod Garbage
 pub mod Unseen
 pub mod Opened
 pub mod Looking

@@ -5,7 +5,7 @@ use Rattle.model.specs.declared.age.Scope.TheVariants as scope
 use Rattle.model.specs.declared.event.Event.{Event}
 use Rattle.model.specs.declared.event.Event.TheVariants as event
 use Rattle.cell.specs.declared.call.Call.{Call}
-use Rattle.cell.specs.declared.call.Call.TheVariants.{Alloc, Copy, Drop, Load, Store, Clear, Word, SetWord, SetBytes, Patch, Give, Post, Accept, Put, Get, Fetch, Reclaim, ReclaimYoung, Begin, Scan, Pass, Sweep, Next, Data, Ack, Save, Reopen}
+use Rattle.cell.specs.declared.call.Call.TheVariants.{Alloc, Copy, Drop, Load, Store, Clear, Word, SetWord, SetBytes, Patch, Give, Post, Accept, Put, Get, Fetch, Resolve, Reclaim, ReclaimYoung, Begin, Scan, Pass, Sweep, Next, Data, Ack, Save, Reopen}
 use Rattle.cell.specs.declared.call.CallOutcome.{CallOutcome}
 use Rattle.cell.specs.declared.call.CallOutcome.TheVariants.{Done, Repeat, Early, Refused}
 use Rattle.cell.specs.declared.trace.TraceLine.{TraceLine}
@@ -27,6 +27,7 @@ call_of (event.Accept register) = Accept
 call_of (event.Put object place register) = Put
 call_of (event.Get object place label) = Get
 call_of (event.Fetch object label offset count) = Fetch
+call_of (event.Resolve register reference) = Resolve
 call_of (event.Reclaim scope.All) = Reclaim
 call_of (event.Reclaim scope.Young) = ReclaimYoung
 call_of event.Begin = Begin
@@ -54,6 +55,7 @@ word_of Accept = codes "accept"
 word_of Put = codes "put"
 word_of Get = codes "get"
 word_of Fetch = codes "fetch"
+word_of Resolve = codes "resolve"
 word_of Reclaim = codes "reclaim"
 word_of ReclaimYoung = codes "reclaim young"
 word_of Begin = codes "begin"

@@ -26,6 +26,7 @@ pub enum Call {
     Put,
     Get,
     Fetch,
+    Resolve,
     Reclaim,
     ReclaimYoung,
     Begin,
@@ -61,6 +62,7 @@ impl Call {
             Event::Put { .. } => Call::Put,
             Event::Get { .. } => Call::Get,
             Event::Fetch { .. } => Call::Fetch,
+            Event::Resolve { .. } => Call::Resolve,
             Event::Reclaim { scope: Scope::All } => Call::Reclaim,
             Event::Reclaim {
                 scope: Scope::Young,
@@ -96,6 +98,7 @@ impl Call {
             Call::Put => "put",
             Call::Get => "get",
             Call::Fetch => "fetch",
+            Call::Resolve => "resolve",
             Call::Reclaim => "reclaim",
             Call::ReclaimYoung => "reclaim young",
             Call::Begin => "begin",

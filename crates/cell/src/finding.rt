@@ -36,10 +36,11 @@ ghost use Rattle.node_store.specs.Stores.{disk_of, is_ready_in, logs_in};
 
 use crate::fault::Unopened;
 use disk::Disk;
+use disk_journal::Tail;
 use disk_shelf::{DIGEST, check_seals, is_blank};
 use ids::{NodeId, Refusal, Saves, Shape};
 use node::Node;
-use node_store::{Place, Store};
+use node_store::Store;
 use std::alloc::Global;
 use std::mem;
 use wire::first_apart;
@@ -84,7 +85,7 @@ fn read_node<D: Disk>(
     disk: &mut D,
     saves: Saves,
     digest: Option<[u8; DIGEST]>,
-) -> Result<(Node, Option<Place>), Unopened>
+) -> Result<(Node, Option<Tail>), Unopened>
     requires { IsBlank (D.seen disk.old) → ⊥ }
     ensures node { IfOk result (λ r. IsNodeOf shape own.number r.0.core) }
     ensures holds { IfOk result (λ r. HoldsNode D.seen D.may_leave disk.new r.0 r.1) }
@@ -107,7 +108,7 @@ fn read_node<D: Disk>(
 }
 
 // A new node. Nothing is created on its disk yet.
-fn new_node(alloc: Global, shape: Shape, own: NodeId) -> Result<(Node, Option<Place>), Unopened>
+fn new_node(alloc: Global, shape: Shape, own: NodeId) -> Result<(Node, Option<Tail>), Unopened>
     requires { own.number < shape.nodes }
     ensures node { IfOk result (λ r. r.0 ≡ new_whole shape own.number) }
     ensures blank { IfOk result (λ r. r.1 ≡ None) }
@@ -127,7 +128,7 @@ fn look_at<D: Disk>(
     own: NodeId,
     disk: &mut D,
     saves: Saves,
-) -> Result<(Node, Option<Place>), Unopened>
+) -> Result<(Node, Option<Tail>), Unopened>
     requires { own.number < shape.nodes }
     ensures node { IfOk result (λ r. IsNodeOf shape own.number r.0.core) }
     ensures holds { IfOk result (λ r. HoldsNode D.seen D.may_leave disk.new r.0 r.1) }
@@ -160,7 +161,7 @@ fn look_at_all<D: Disk>(
     shape: Shape,
     disks: &mut [D],
     saves: Saves,
-) -> Result<(Vec<Node>, Vec<Option<Place>>), Unopened>
+) -> Result<(Vec<Node>, Vec<Option<Tail>>), Unopened>
     requires { length disks.old ≡ shape.nodes }
     ensures untouched { AreUnmoved D.seen D.may_leave D.moment D.left_since disks.old disks.new }
     ensures why { IfErr result (IsWhy D.seen D.seals D.moment D.faults shape disks.old) }
@@ -209,7 +210,7 @@ fn put_on<D: Disk + Drop>(
     alloc: Global,
     disk: D,
     node: &Node,
-    area: Option<Place>,
+    area: Option<Tail>,
     saves: Saves,
 ) -> Result<Store<D>, Refusal>
     requires { HoldsNode D.seen D.may_leave disk node.now area }
@@ -234,7 +235,7 @@ fn put_all_on<D: Disk + Drop>(
     shape: Shape,
     mut disks: Vec<D>,
     nodes: &[Node],
-    areas: &[Option<Place>],
+    areas: &[Option<Tail>],
     saves: Saves,
 ) -> Result<Vec<Store<D>>, Unopened>
     requires on { AreOn D.seen D.may_leave shape disks.items nodes.now areas.now }

@@ -2,9 +2,11 @@
 //! world in which their wire was made.
 ghost use Rattle.ids.specs.Limits.{IsShape, Shaped};
 ghost use Rattle.model.specs.World.{new_world, World};
-ghost use Rattle.laws.specs.Statements.{BalancesAddUp, GarbageGoes, NodesAgree, OldGarbageGoes, ReachIsLive};
+ghost use Rattle.laws.specs.Statements.{BalancesAddUp, GarbageGoes, NodesAgree, OldGarbageGoes, ReachIsLive, ReachResolves};
 ghost use Rattle.cell.specs.Closing.{CellsAgree, CellsHaveNamed, ClosedIsLeft, ClosedIsReached};
 ghost use Rattle.cell.specs.Closing.{KilledIsLeft};
+ghost use Rattle.cell.specs.Copies.{CopiesAreReached};
+ghost use Rattle.cell.specs.Garbage.{CellsFreeGarbage};
 ghost use Rattle.cell.specs.Laws.{
   restarted,
   BlankIsNew,
@@ -47,8 +49,9 @@ use disk::Disk;
 /// `alike_reach`).
 ///
 /// Of a cell of [`open`](crate::open), its wire begins in the world of the nodes that were found. A
-/// run reaches that world if all disks were new (`fresh`), or if a space left them (`reopened`).
-/// What its events lead to is then reached too (`onward`).
+/// run reaches that world if all disks were new (`fresh`), or if a space left them (`reopened`), be
+/// it at different moments of one run (`copies`). What its events lead to is then reached too
+/// (`onward`).
 ///
 /// The function does nothing; its contract states the theorems.
 pub fn laws()
@@ -106,10 +109,13 @@ pub fn laws()
     // node in a later cycle count it so too.
     ensures agreement { OfEveryReached NodesAgree }
     // What was saved and reachable in no cut before a cycle began is gone once its node has swept
-    // that cycle.
+    // that cycle, unless a program resolved a reference that led to it.
     ensures old_garbage { OfEveryReached OldGarbageGoes }
     // So is what was only in the node's current state, as long as the node doesn't restart.
     ensures garbage_goes { OfEveryReached GarbageGoes }
+    // A node that resolves a reachable object of its own gets it, or is told to try again, which
+    // may be only while it marks.
+    ensures resolves { OfEveryReached ReachResolves }
     // Nodes in which a reached world begins are of one age. So no opening of new disks is refused
     // because of ages.
     ensures one_age { BeginOfOneAge }
@@ -119,6 +125,8 @@ pub fn laws()
     // If an opening of disks that a space left isn't refused because of ages, a run reaches the
     // world in which it begins.
     ensures reopened { ReopenedIsReached }
+    // The same if the disks are copies that were made at different moments of one run.
+    ensures copies { CopiesAreReached }
     // Programs can't see the collector: in each choice of current and saved states, what they were
     // told and received up to a reached world and after it is a run of a space without a collector.
     // That run ends with the same registers, letters, messages and reachable objects.
@@ -146,6 +154,9 @@ pub fn laws_at_once<D: Disk>()
     // If a register of the node of one of the cells refers to an object of another one's node, that
     // node has the object.
     ensures live { CellsHaveNamed D.may_leave }
+    // What was garbage at an earlier moment, when node 0 hadn't begun a cycle, is gone from a cell
+    // whose node has swept that cycle; from its disk too, once everything is saved.
+    ensures gone { CellsFreeGarbage D.may_leave }
     // The nodes that are read from the disks of all cells of a space, which were open, are those
     // that the space left in the world of that moment.
     ensures left { ClosedIsLeft D.may_leave }

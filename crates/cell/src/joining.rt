@@ -1,16 +1,18 @@
 //! Makes the cells of nodes that are in stores, and the wire between them. The caller names the
 //! world whose states the nodes are in; the theorems hold if a run reaches it.
-ghost use Rattle.std.specs.Prelude.{◌≡◌, ◌≢◌, ℕ, true, All, IfErr, IfOk, IsErrOf, MatchResult, OnOk, Some, length};
+ghost use Rattle.std.specs.Prelude.{◌≡◌, ◌≢◌, ℕ, true, All, IfErr, IfOk, IsErrOf, List, MatchResult, OnOk, Some, length};
 ghost use Rattle.std.specs.Prelude.{map, slice_get, vec_len};
 ghost use Rattle.ids.specs.declared.refusal.Refusal.TheVariants.{Memory};
 ghost use Rattle.disk.specs.Crashes.{LeavesOnly};
 ghost use Rattle.model.specs.World.{World};
+ghost use Rattle.model.specs.declared.step.Step.{Step};
 ghost use Rattle.node.specs.Keeping.{WholeNode};
 ghost use Rattle.wire.specs.Readers.{AreOpened, IsMade, opened_with};
 ghost use Rattle.wire.specs.Rule.{nodes_of};
 ghost use Rattle.wire.specs.OneAge.{AreOfOneAge};
 ghost use Rattle.cell.specs.Ages.{IfAges, IsWhy};
 ghost use Rattle.cell.specs.Cells.{IsNew};
+ghost use Rattle.cell.specs.Copies.{AreCopiesOn};
 ghost use Rattle.cell.specs.Closing.{AreOfOneKill, AreOfOneMoment, HaveBegun};
 ghost use Rattle.cell.specs.Reached.{IsReached};
 ghost use Rattle.cell.specs.Theorems.{AreFresh, AreHeldOn, AreLeftOn};
@@ -143,6 +145,8 @@ pub fn open<D: Disk + Drop>(
         → IfOk result (λ r. IsReached (opened_with r.0)) }
     ensures kept { (w : World) → AreLeftOn D.seen shape w disks.items
         → AreHeldOn D.seen shape w disks.items → IfErr result (IfAges (λ _ _. ⊥)) }
+    ensures copies { (steps : List Step) → AreCopiesOn D.seen shape steps disks.items
+        → IfOk result (λ r. IsReached (opened_with r.0)) }
     ensures begun { IfOk result (λ r. HaveBegun r.1.items) }
     ensures new { IfOk result (λ r. All IsNew r.1.items) }
     ensures made { IfOk result (λ r. IsMade

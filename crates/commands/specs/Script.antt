@@ -237,6 +237,7 @@ is_wide_line (line.Patch node object offset hex) = true
 is_wide_line (line.Bytes node object offset count) = true
 is_wide_line (line.Post node to label first count hex) = true
 is_wide_line (line.Fetch node object label offset count) = true
+is_wide_line (line.Resolve node register reference) = true
 is_wide_line (line.Letter node) = true
 is_wide_line (line.Reclaim node scope) = true
 is_wide_line l = false
@@ -261,6 +262,8 @@ TakesLine h (Some (line.Post node to label first count hex)) r later =
     later
 TakesLine h (Some (line.Fetch node object label offset count)) r later =
     TakesWide h (step.Act node (event.Fetch object label offset count)) r later
+TakesLine h (Some (line.Resolve node register reference)) r later =
+    TakesWide h (step.Act node (event.Resolve register reference)) r later
 TakesLine h (Some (line.Letter node)) r later = TakesRead h (λ w. letter_bytes_read w node) r later
 TakesLine h (Some (line.Reclaim node scope)) r later =
     TakesWide h (step.Act node (event.Reclaim scope)) r later

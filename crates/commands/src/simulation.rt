@@ -320,6 +320,7 @@ fn run_other<W: Write>(
         | Line::Bytes { .. }
         | Line::Post { .. }
         | Line::Fetch { .. }
+        | Line::Resolve { .. }
         | Line::Letter(_)
         | Line::Reclaim { .. } => only_wide(alloc, state, said),
         Line::State(node) => show_state(state, node),
@@ -379,6 +380,17 @@ fn only_wide(alloc: Global, state: &mut State, said: &Line) -> Reply
                 label,
                 offset,
                 count,
+            };
+            act_wide(state, node, &event)
+        }
+        Line::Resolve {
+            node,
+            register,
+            reference,
+        } => {
+            let event = Event::Resolve {
+                register,
+                reference,
             };
             act_wide(state, node, &event)
         }

@@ -1,3 +1,3 @@
-pub mod Shut
+pub mod Spelled
 pub mod Refusals
 pub mod Values

@@ -1,17 +1,22 @@
 -- Values that disks restore: each is what an image and the batches behind it lead to.
 use Rattle.std.proofs.Common.{◌≡◌, ℕ, Bool, true, false, List, [], ◌∷◌, ◌++◌}
 use Rattle.std.proofs.Common.{IfSome, Option, Some, None, inl, inr, ⊎_elim, refl, sym, ◌∙◌, subst, ap}
+use Rattle.std.proofs.Common.{◌+◌, cond, is_some, length}
+use Rattle.std.specs.Prelude.{◌||◌}
+use Rattle.std.proofs.lemmas.Bool.{false≢true}
 use Rattle.std.proofs.Math.Logic.{∥∥₁_elim}
 use Rattle.std.proofs.Props.{props}
 use Rattle.disk.specs.Areas.{Areas, part}
-use Rattle.disk_shelf.specs.Logs.{EndsAt, IsBehind, IsKept, IsLoggedIf, IsLoggedTo, LeadAll, OldOrWhole}
+use Rattle.disk_shelf.specs.Logs.{EndsAt, IsBehind, IsKept, IsLoggedIf, IsLoggedTo, IsPlain}
+use Rattle.disk_shelf.specs.Logs.{IsWholeOn, LeadAll, OldOrWhole, StaysPlain}
 use Rattle.disk_shelf.specs.Logs.{Opens, OpensIf, Restores}
 use Rattle.disk_shelf.specs.Shelf.{half, image_at, opened, recorded, side}
-use Rattle.disk.specs.Crashes.{LeavesOnly}
+use Rattle.disk.specs.Crashes.{LeavesOnly, Only}
 use Rattle.disk_shelf.proofs.Moments.{weaker}
 use Rattle.disk_shelf.proofs.Quiet.{same_some, some_no_none}
 use Rattle.disk_shelf.proofs.Logs.{one_meaning, selected_if}
 use Rattle.disk_shelf.proofs.Sides.{image_on}
+use Rattle.disk_shelf.proofs.Turns.{ends_first}
 use Rattle.disk_shelf.proofs.Values.{lead_more}
 use Rattle.disk_journal.specs.Journal.{RestoresEither}
 
@@ -35,6 +40,18 @@ one_image : (first second : Bool) {i j : List ℕ} {bs cs : List (List ℕ)} (d 
 one_image first second {i} {j} {bs} {cs} d a b =
     found_here {logged = first} b.in_b d b.selected
     (holds_image second j cs (part (half b.in_b) d) b.holds) a
+
+pub placed_opens : {logged : Bool} {image : List ℕ} {d : Areas} (in_b : Bool) →
+    side d.select ≡ Some in_b → IsLoggedIf logged image [] (part (half in_b) d) →
+    OpensIf logged image [] d
+placed_opens in_b selected holds = record { in_b = in_b; selected = selected; holds = holds }
+
+-- the image that counts
+pub opens_image : {logged : Bool} {image : List ℕ} {batches : List (List ℕ)} {d : Areas} →
+    OpensIf logged image batches d → opened d ≡ Some image
+opens_image {logged} {image} {batches} {d} found =
+    ap (λ (o : Option Bool). image_at o d) found.selected ∙ image_on found.in_b d
+    ∙ holds_image logged image batches (part (half found.in_b) d) found.holds
 
 same_batches : (logged : Bool) {image : List ℕ} {bs cs : List (List ℕ)} (d : Areas) →
     OpensIf logged image bs d → OpensIf logged image cs d → bs ≡ cs
@@ -101,10 +118,7 @@ module _ {V : Type 0} {logs : List ℕ → Bool} {reads : List ℕ → V → Typ
   -- a disk that restores a value opens to its image
   restores_opened : {v : V} {d : Areas} (r : Restores logs reads leads v d) →
       opened d ≡ Some r.image
-  restores_opened {d = d} r =
-      let found = r.found in
-      ap (λ (o : Option Bool). image_at o d) found.selected ∙ image_on found.in_b d
-      ∙ holds_image (logs r.image) r.image r.batches (part (half found.in_b) d) found.holds
+  restores_opened r = opens_image r.found
 
   pub restores_some : {v : V} {d : Areas} → Restores logs reads leads v d → opened d ≡ None → ⊥
   restores_some r none = some_no_none (restores_opened r) none
@@ -148,9 +162,9 @@ module _ {V : Type 0} {logs : List ℕ → Bool} {reads : List ℕ → V → Typ
   }
 
   -- the log stayed, or an image took its place
-  restores_turned : {image : List ℕ} {old new : V} {d c : Areas}
-      (r : Restores logs reads leads old d) → logs image ≡ true → reads image new →
-      OldOrWhole (logs r.image) r.image r.batches image c →
+  restores_turned : {logged : Bool} {image : List ℕ} {old new : V} {d c : Areas}
+      (r : Restores logs reads leads old d) → logs image ≡ logged → reads image new →
+      OldOrWhole (logs r.image) r.image r.batches logged image c →
       RestoresEither logs reads leads old new c
   restores_turned r logged read =
       ⊎_elim (λ stays. inl (restores_still r stays))
@@ -158,34 +172,43 @@ module _ {V : Type 0} {logs : List ℕ → Bool} {reads : List ℕ → V → Typ
 
   -- at any moment of that write, of an image that is spelled so
   pub turned_leaves : {D : Type 0} {moment : D → ℕ} {left_since : D → ℕ → Areas → Type 0}
-      {before after : D} {image spelled : List ℕ} {old new : V} {d : Areas} →
-      logs image ≡ true → reads image new → spelled ≡ image
+      {before after : D} {logged : Bool} {image spelled : List ℕ} {old new : V} {d : Areas} →
+      logs image ≡ logged → reads image new → spelled ≡ image
       → (r : Restores logs reads leads old d) →
       LeavesOnly moment left_since before after
-      (OldOrWhole (logs r.image) r.image r.batches spelled) →
+      (OldOrWhole (logs r.image) r.image r.batches logged spelled) →
       LeavesOnly moment left_since before after (RestoresEither logs reads leads old new)
-  turned_leaves {moment = moment} {left_since} {before} {after} logged read same r run =
+  turned_leaves {moment = moment} {left_since} {before} {after} {logged} says read same r run =
       weaker (subst (λ l. LeavesOnly moment left_since before after
-      (OldOrWhole (logs r.image) r.image r.batches l)) same run)
-      (λ c. restores_turned r logged read)
+      (OldOrWhole (logs r.image) r.image r.batches logged l)) same run)
+      (λ c. restores_turned r says read)
 
 -- ---- where the log of a journal ends
 
 module _ {D : Type 0} {seen : D → Areas} {may_leave : D → Areas → Type 0}
     {logs : List ℕ → Bool} where
-  -- an image was written, and a log follows it
-  pub kept_whole : {new : D} {image : List ℕ} {in_b : Bool} {end : ℕ} →
-      IsLoggedTo seen may_leave new in_b end → Opens image [] (seen new) → logs image ≡ true →
-      IsKept seen may_leave logs new in_b (Some end)
-  kept_whole {new} {in_b = in_b} logged opens follows = record {
-    only = logged.0;
-    selected = logged.1;
-    behind = λ e is. (
-      subst (λ n. ∥ EndsAt n (part (half in_b) (seen new)) ∥₁) (same_some is) logged.2,
-      λ i recorded. subst (λ x. logs x ≡ true)
-          (found_here {logged = true} in_b (seen new) logged.1 recorded opens) follows,
-    );
+  -- an image was written, which a log follows or not
+  pub kept_whole : {new : D} (image : List ℕ) {in_b logged : Bool} {end : Option ℕ} →
+      IsWholeOn seen may_leave new in_b logged image → logs image ≡ logged →
+      end ≡ cond logged (Some (8 + length image)) None →
+      IsKept seen may_leave logs new in_b end
+  kept_whole {new} image {in_b} {logged} {end} whole follows ends = record {
+    only = whole.0;
+    selected = whole.1;
+    holds = ap is_some (holds_image logged image [] held whole.2);
+    behind = by logged whole.2 follows ends;
   }
+    where
+      held : List ℕ
+      held = part (half in_b) (seen new)
+
+      by : (b : Bool) → IsLoggedIf b image [] held → logs image ≡ b →
+          end ≡ cond b (Some (8 + length image)) None → IsBehind logs end held
+      by true is follows ends e at = (
+        ∣ subst (λ n. EndsAt n held) (same_some (sym ends ∙ at)) (ends_first image held is) ∣₁,
+        λ i recorded. subst (λ x. logs x ≡ true) (same_some (sym is.0 ∙ recorded)) follows,
+      )
+      by false is follows ends e at = absurd (some_no_none at ends)
 
   -- a batch was added behind a gate
   pub kept_more : {new : D} {last : Option ℕ} {in_b : Bool} {end next : ℕ} {s : Areas}
@@ -197,6 +220,7 @@ module _ {D : Type 0} {seen : D → Areas} {may_leave : D → Areas → Type 0}
   kept_more {new} {in_b = in_b} {end} {s = s} batch selected behind ends logged added = record {
     only = logged.0;
     selected = logged.1;
+    holds = ∥∥₁_elim logged.2 (hlevel props) (λ found. ap is_some found.logged.0);
     behind = λ e is. (
       subst (λ n. ∥ EndsAt n (part (half in_b) (seen new)) ∥₁) (same_some is) logged.2,
       λ i recorded. ∥∥₁_elim (behind end ends).0 (hlevel props) (λ found.
@@ -220,6 +244,50 @@ kept_less {seen = seen} {may_leave} {logs} {disk} {in_b} {last = last}
     subst (λ b. IsKept seen may_leave logs disk b less) (sym same) (record {
       only = kept.only;
       selected = kept.selected;
+      holds = kept.holds;
       behind = λ end is.
           kept.behind end (subst (λ o. IfSome o (λ e. last ≡ Some e)) is some);
     })
+
+pub none_less : {last less : Option ℕ} → last ≡ None → IfSome less (λ end. last ≡ Some end) →
+    less ≡ None
+none_less {less = None} none some = refl
+none_less {less = Some end} none some = absurd (some_no_none some none)
+
+pub neither : (a b : Bool) → (a || b) ≡ false → (a ≡ false) × (b ≡ false)
+neither false b none = (refl, none)
+neither true b none = absurd (false≢true (sym none))
+
+pub is_none : {A : Type 0} (o : Option A) → is_some o ≡ false → o ≡ None
+is_none None none = refl
+is_none (Some x) none = absurd (false≢true (sym none))
+
+-- ---- a disk whose image no log follows
+
+module _ (logs : List ℕ → Bool) where
+  pub plain_opens : {logged : Bool} {image : List ℕ} {batches : List (List ℕ)} {c : Areas} →
+      logs image ≡ false → OpensIf logged image batches c → IsPlain logs c
+  plain_opens plain opens image is =
+      subst (λ x. logs x ≡ false) (same_some (sym (opens_image opens) ∙ is)) plain
+
+  pub plain_only : (here : Areas) (may_leave : Areas → Type 0) → Only here may_leave →
+      IsPlain logs here → StaysPlain logs may_leave
+  plain_only here may_leave only plain c left = subst (IsPlain logs) (sym (only c left)) plain
+
+  -- a new image is written in place of the old one; at that moment a crash may leave this
+  pub plain_turned : {D : Type 0} {seen : D → Areas} {may_leave : D → Areas → Type 0} {disk : D}
+      {in_b logged : Bool} {last : Option ℕ} {new : List ℕ} {c : Areas} →
+      IsKept seen may_leave logs disk in_b last → IsPlain logs (seen disk) → logs new ≡ false →
+      ((old : List ℕ) → OpensIf false old [] (seen disk) → OldOrWhole false old [] logged new c) →
+      IsPlain logs c
+  plain_turned {seen = seen} {disk = disk} {in_b} {c = c} kept plain follows leaves =
+      by (recorded (part (half in_b) (seen disk))) refl kept.holds
+    where
+      by : (o : Option (List ℕ)) → recorded (part (half in_b) (seen disk)) ≡ o →
+          is_some o ≡ true → IsPlain logs c
+      by None is some = absurd (false≢true some)
+      by (Some old) is some =
+          let opens : OpensIf false old [] (seen disk) =
+          record { in_b = in_b; selected = kept.selected; holds = (is, refl) } in
+          ⊎_elim (plain_opens (plain old (opens_image opens))) (plain_opens follows)
+          (leaves old opens)

@@ -1,23 +1,25 @@
-//! A crash-consistent store of one value, kept as an image and a log of what happened since. A
-//! batch of the log costs its own bytes and two syncs, however large the image of the value is. A
-//! crash leaves the value that was there or the new one.
-ghost use Rattle.std.specs.Prelude.{◌≡◌, ◌≢◌, ◌↔◌, ◌<◌, ◌≤◌, ◌+◌, ◌++◌, ◌-◌, List, ℕ, Bool, [], ◌∷◌};
-ghost use Rattle.std.specs.Prelude.{length, take, drop, IfErr, IfOk, IfSome, IsErr, IsErrOf, IsTrue};
+//! A crash-consistent store of one value, kept as an image, or as an image and a log of what came
+//! since. A batch of the log costs its own bytes and two syncs, however large the value's image
+//! is. A crash leaves the value that was there or the new one.
+ghost use Rattle.std.specs.Prelude.{◌≡◌, ◌≢◌, ◌↔◌, ◌<◌, ◌≤◌, ◌+◌, ◌++◌, List, ℕ, Bool, [], ◌∷◌};
+ghost use Rattle.std.specs.Prelude.{cond, is_some, length, ◌||◌, IfErr, IfOk, IfSome, IsErr, IsErrOf, IsTrue};
 ghost use Rattle.std.specs.Prelude.{MatchResult, None, OnOk, Some, true, false};
 ghost use Rattle.disk.specs.Areas.{Areas};
-ghost use Rattle.disk.specs.Crashes.{HasCause, LeavesOnly, OnlyRead, StaysBlank, Unmoved};
-ghost use Rattle.disk_shelf.specs.Logs.{IsKept, IsShut, OldOrNewLog, Opens, Restores};
+ghost use Rattle.disk.specs.Crashes.{HasCause, LeavesOnly, Only, OnlyRead, StaysBlank, Unmoved};
+ghost use Rattle.disk_shelf.specs.Logs.{IsKept, IsPlain, IsShut, IsSpelled, OldOrNewLog, Opens, Restores};
+ghost use Rattle.disk_shelf.specs.Logs.{StaysPlain};
 ghost use Rattle.disk_shelf.specs.Refusals.{AfterSave, IsHandedBack, IsUnread, IsUnwritten};
+ghost use Rattle.disk_shelf.specs.Seals.{IsIntact};
 ghost use Rattle.disk_shelf.specs.Shelf.{record_of};
 ghost use Rattle.disk_shelf.specs.declared.persist.TheConstants.{GREATEST_SAVED};
 ghost use Rattle.disk_journal.specs.Journal.{RestoresEither, RestoresNone};
-ghost use Rattle.disk_journal.specs.Tails.{place_for};
+ghost use Rattle.disk_journal.specs.Tails.{IsPlainAt, IsSamePlace, IsPlacedAt, place_for};
 
 use disk::{Disk, MemoryDisk, OverMemory, Plan};
 use disk_shelf::log::{begin, extend, replay_log, shut, turn};
 use disk_shelf::{
-    DIGEST, GREATEST_SAVED, HEAD, Persist, Replay, first_digest, log_sealed, next_digest,
-    recall_image, record, spelled,
+    DIGEST, GREATEST_SAVED, HEAD, Persist, first_digest, image_in, log_sealed, next_digest,
+    recall_image, record, sealed, spelled,
 };
 use ids::Refusal;
 use std::alloc::{AllocError, Global};
@@ -31,7 +33,7 @@ pub fn opens_once()
 {}
 
 /// A disk opens to at most one value. The function does nothing; its contract states the law.
-pub fn restores_once<P: Replay>()
+pub fn restores_once<P: Persist>()
     ensures { (v w : P.Value) (d : Areas) → Restores P.logs P.reads P.leads v d
         → Restores P.logs P.reads P.leads w d → v ≡ w }
 {}
@@ -51,14 +53,15 @@ pub struct Tail {
     end: Option<usize>,
     // The digest of the log, if all of it has seals, and a batch is to have one too.
     digest: Option<[u8; DIGEST]>,
+    // Whether a log is to follow the images that are saved.
+    logs: bool,
 }
 
 impl Tail {
     /// The same place. Batches that are added there get seals if this is the digest of the log
     /// there, as [`check_seals`](disk_shelf::check_seals) returned it.
     pub fn with_digest(self, digest: Option<[u8; DIGEST]>) -> Tail
-        ensures side { result.in_b ≡ self.in_b }
-        ensures end { result.end ≡ self.end }
+        ensures { IsSamePlace self result }
     {
         Tail { digest, ..self }
     }
@@ -67,6 +70,7 @@ impl Tail {
     fn renewed(self, renews: bool) -> Tail
         ensures side { result.in_b ≡ self.in_b }
         ensures end { IfSome result.end (λ end. self.end ≡ Some end) }
+        ensures logs { result.logs ≡ self.logs }
     {
         if !renews {
             return self;
@@ -92,16 +96,16 @@ impl Tail {
     }
 }
 
-/// A disk that holds a value: its image in the area that the selector selects, and behind the image
-/// a log of batches, which lead from what the image is read as to the value.
+/// A disk that holds a value: its image, in the area that is selected. If a log is to follow
+/// the image, there are batches behind it, which lead from what the image is read as to the value.
 ///
 /// A [`save`](Journal::save) adds a batch to the log, or else writes the image of the value, with
-/// an empty log, into the other area. If the disk [seals](Disk::seals), it adds a seal; an opening
-/// doesn't compare it, but [`check_seals`](disk_shelf::check_seals) does. A failure of the disk
-/// closes the journal, and so does a failed [`reopen`](Journal::reopen). Saves then fail with
-/// `Closed` until a `reopen` succeeds, which shows whether the disk has the old value or the new
-/// one.
-pub struct Journal<D: Disk, P: Replay> {
+/// nothing but the end of an empty log behind it, into the other area. If the disk
+/// [seals](Disk::seals), it adds a seal; an opening doesn't compare it, but
+/// [`check_seals`](disk_shelf::check_seals) does. A failure of the disk closes the journal, and so
+/// does a failed [`reopen`](Journal::reopen). Saves then fail with `Closed` until a `reopen`
+/// succeeds, which shows whether the disk has the old value or the new one.
+pub struct Journal<D: Disk, P: Persist> {
     alloc: Global,
     disk: D,
     // The place of the value, while the journal is open.
@@ -109,10 +113,11 @@ pub struct Journal<D: Disk, P: Replay> {
     ready: bool,
     kind: PhantomData<P>,
     ghost kept: { IsTrue ready → IsKept D.seen D.may_leave P.logs disk tail.in_b tail.end },
+    ghost plain: { IsPlainAt P.logs (D.may_leave disk) tail },
 }
 
 // Written out, so that the crates above need not prove again how each field is dropped.
-impl<D: Disk + Drop, P: Replay> Drop for Journal<D, P> {
+impl<D: Disk + Drop, P: Persist> Drop for Journal<D, P> {
     fn drop(self) {
         let Journal {
             alloc: _,
@@ -124,64 +129,110 @@ impl<D: Disk + Drop, P: Replay> Drop for Journal<D, P> {
     }
 }
 
-/// What is written for a value: the length of its image, the image, and the gate behind it. Fails
-/// as [`Persist::to_bytes`] does.
-fn spelled_shut<P: Persist>(alloc: Global, value: &P::Value) -> Result<Vec<u8>, Refusal>
-    ensures bytes { IfOk result (λ v. v.items ≡ record_of (P.image value.now) ++ 0 ∷ []) }
-    ensures readable { OnOk result (P.reads (P.image value.now) (P.saved value.now)) }
-    ensures fits { OnOk result (length (P.image value.now) ≤ GREATEST_SAVED) }
-    ensures within { OnOk result (P.too_large value.now → ⊥) }
-    ensures refused { IfErr result (IsUnwritten (P.too_large value.now)) }
-{
-    let bytes = spelled::<P>(alloc, value)?;
-    Ok(shut(bytes)?)
-}
-
-/// The image in what is written for it, up to the gate at this offset.
-fn image_before_gate(bytes: &[u8], gate: usize) -> &[u8]
-    requires behind { 8 ≤ gate }
-    requires inside { gate ≤ length bytes.now }
-
-    ensures { result.now ≡ take (gate - 8) (drop 8 bytes.now) }
-{
-    &bytes[HEAD..gate]
-}
-
-/// What is written for a value, with the gate behind its image, and what is behind the gate.
+/// What is written for a value.
 struct Spelled {
     bytes: Vec<u8>,
-    // The offset of the gate.
-    gate: usize,
-    // The digest of the log, which is empty, if its seal is behind the gate.
+    // The offset at which the image ends.
+    end: usize,
+    // The digest of the log, which is empty, if its seal is behind the image.
     digest: Option<[u8; DIGEST]>,
 }
 
-/// What is written for a value: the length of its image, the image, the gate behind it, and the
-/// seal of the log if `seals` is true. Fails as [`Persist::to_bytes`] does.
+/// What is written for a value that a log is to follow: the length of its image, the image, and the
+/// gate behind it. Fails as [`Persist::to_bytes`] does.
+fn spelled_shut<P: Persist>(alloc: Global, value: &P::Value) -> Result<Vec<u8>, Refusal>
+    ensures bytes { IfOk result (λ v. v.items ≡ record_of (P.image true value.now) ++ 0 ∷ []) }
+    ensures readable { OnOk result (P.reads (P.image true value.now) (P.saved value.now)) }
+    ensures fits { OnOk result (length (P.image true value.now) ≤ GREATEST_SAVED) }
+    ensures within { OnOk result (P.too_large value.now → ⊥) }
+    ensures refused { IfErr result (IsUnwritten (P.too_large value.now)) }
+{
+    let bytes = spelled::<P>(alloc, true, value)?;
+    Ok(shut(bytes)?)
+}
+
+/// What is written for a value that a log is to follow: its image's length, the image, the gate
+/// behind it, and the seal of the log if `seals` is true. Fails as [`Persist::to_bytes`] does.
 fn spelled_log<P: Persist>(alloc: Global, seals: bool, value: &P::Value) -> Result<Spelled, Refusal>
-    ensures bytes { IfOk result (λ s. IsShut (P.image value.now) s.bytes.items) }
-    ensures gate { IfOk result (λ s. s.gate ≡ 8 + length (P.image value.now)) }
-    ensures readable { OnOk result (P.reads (P.image value.now) (P.saved value.now)) }
-    ensures fits { OnOk result (length (P.image value.now) ≤ GREATEST_SAVED) }
+    ensures bytes { IfOk result (λ s. IsSpelled true seals (P.image true value.now) s.bytes.items) }
+    ensures end { IfOk result (λ s. s.end ≡ 8 + length (P.image true value.now)) }
+    ensures readable { OnOk result (P.reads (P.image true value.now) (P.saved value.now)) }
+    ensures fits { OnOk result (length (P.image true value.now) ≤ GREATEST_SAVED) }
     ensures within { OnOk result (P.too_large value.now → ⊥) }
     ensures refused { IfErr result (IsUnwritten (P.too_large value.now)) }
 {
     let bytes = spelled_shut::<P>(alloc, value)?;
-    let gate = bytes.len() - 1;
+    let end = bytes.len() - 1;
     if !seals {
         return Ok(Spelled {
             bytes,
-            gate,
+            end,
             digest: None,
         });
     }
-    let digest = first_digest(image_before_gate(&bytes, gate));
+    let digest = first_digest(image_in(&bytes, end));
     let bytes = log_sealed(bytes, &digest, &digest)?;
     Ok(Spelled {
         bytes,
-        gate,
+        end,
         digest: Some(digest),
     })
+}
+
+/// What is written for a value that no log is to follow: its image's length, the image, and its
+/// seal if `seals` is true. Fails as [`Persist::to_bytes`] does.
+fn spelled_alone<P: Persist>(
+    alloc: Global,
+    seals: bool,
+    value: &P::Value,
+) -> Result<Spelled, Refusal>
+    ensures bytes { IfOk result
+        (λ s. IsSpelled false seals (P.image false value.now) s.bytes.items) }
+    ensures end { IfOk result (λ s. s.end ≡ 8 + length (P.image false value.now)) }
+    ensures readable { OnOk result (P.reads (P.image false value.now) (P.saved value.now)) }
+    ensures fits { OnOk result (length (P.image false value.now) ≤ GREATEST_SAVED) }
+    ensures within { OnOk result (P.too_large value.now → ⊥) }
+    ensures refused { IfErr result (IsUnwritten (P.too_large value.now)) }
+{
+    let bytes = spelled::<P>(alloc, false, value)?;
+    let end = bytes.len();
+    let bytes = sealed(seals, bytes)?;
+    Ok(Spelled {
+        bytes,
+        end,
+        digest: None,
+    })
+}
+
+/// What is written for a value, which a log is to follow or not. Fails as [`Persist::to_bytes`]
+/// does.
+fn spelled_whole<P: Persist>(
+    alloc: Global,
+    logged: bool,
+    seals: bool,
+    value: &P::Value,
+) -> Result<Spelled, Refusal>
+    ensures bytes { IfOk result (λ s.
+        IsSpelled logged seals (P.image logged value.now) s.bytes.items) }
+    ensures end { IfOk result (λ s. s.end ≡ 8 + length (P.image logged value.now)) }
+    ensures readable { OnOk result (P.reads (P.image logged value.now) (P.saved value.now)) }
+    ensures fits { OnOk result (length (P.image logged value.now) ≤ GREATEST_SAVED) }
+    ensures within { OnOk result (P.too_large value.now → ⊥) }
+    ensures refused { IfErr result (IsUnwritten (P.too_large value.now)) }
+{
+    if logged {
+        spelled_log::<P>(alloc, seals, value)
+    } else {
+        spelled_alone::<P>(alloc, seals, value)
+    }
+}
+
+/// The offset of the gate behind an image that was just written, which ends there, if a log is to
+/// follow it.
+fn first_gate(logged: bool, end: usize) -> Option<usize>
+    ensures { result ≡ cond logged (Some end) None }
+{
+    logged.then_some(end)
 }
 
 /// What is written for a batch: its length, the batch, the gate behind it, and the seal of the log
@@ -203,19 +254,31 @@ fn spelled_batch(
     Ok((bytes, Some(now)))
 }
 
+/// Whether a log is to follow the images that are saved on a disk with this last gate of a log, if
+/// there is one.
+fn is_logged(logs: bool, end: Option<usize>) -> bool
+    ensures { result ≡ (logs || is_some end) }
+{
+    logs || end.is_some()
+}
+
 /// Syncs a disk on which something was created, and returns the value that it holds, with its
-/// place. It writes nothing. [`Journal::resume`] continues from there without reading again.
+/// place. It writes nothing. [`Journal::resume`] continues from there without reading again. If
+/// `logs` is true, or a log follows the image, one is to follow the images that are saved.
 ///
 /// Fails as [`Journal::open`] does. After `Ok` a crash leaves that value.
-pub fn read_logged<D: Disk, P: Replay>(
+pub fn read_logged<D: Disk, P: Persist>(
     alloc: Global,
     disk: &mut D,
+    logs: bool,
 ) -> Result<(Tail, P::Value), Refusal>
 where
     P::Value: Drop,
     ensures value { IfOk result (λ r. Restores P.logs P.reads P.leads r.1 (D.seen disk.old)) }
-    ensures kept { IfOk result (λ r.
-        IsKept D.seen D.may_leave P.logs disk.new r.0.in_b r.0.end) }
+    ensures lies { IfOk result (λ r. IsPlacedAt D.seen D.may_leave P.logs disk.new r.0) }
+    ensures logs { logs ≡ true → IfOk result (λ r. r.0.logs ≡ true) }
+    ensures plain { logs ≡ false → IsPlain P.logs (D.seen disk.old)
+        → IfOk result (λ r. r.0.logs ≡ false) }
     ensures refused { IfErr result (IsUnread (Restores P.logs P.reads P.leads) (D.seen disk.old)) }
     ensures quiet { Unmoved D.seen D.may_leave D.moment D.left_since disk.old disk.new }
     ensures cause { HasCause (D.faults disk.old) (D.faults disk.new) (IsErrOf result Refusal.Disk) }
@@ -229,16 +292,27 @@ where
         start,
         end,
         digest: None,
+        logs: is_logged(logs, end),
     };
     Ok((tail, value))
 }
 
-impl<D: Disk, P: Replay> Journal<D, P> {
-    /// Whether the journal is open.
+impl<D: Disk, P: Persist> Journal<D, P> {
+    /// Whether the journal is open. If it is, a crash leaves what a read gives.
     pub fn is_ready(&self) -> bool
-        ensures { result ≡ self.now.ready }
+        ensures ready { result ≡ self.now.ready }
+        ensures only { IsTrue result → Only (D.seen self.now.disk) (D.may_leave self.now.disk) }
     {
         self.ready
+    }
+
+    /// Whether a log is to follow the images that are saved. If not, none follows the image on the
+    /// disk, even after a crash.
+    pub fn logs(&self) -> bool
+        ensures value { result ≡ self.now.tail.logs }
+        ensures plain { result ≡ false → StaysPlain P.logs (D.may_leave self.now.disk) }
+    {
+        self.tail.logs
     }
 
     /// The disk, as the journal leaves it.
@@ -256,7 +330,7 @@ impl<D: Disk, P: Replay> Journal<D, P> {
     }
 
     /// Saves the first value on a disk on which nothing was ever created; see
-    /// [`is_blank`](disk_shelf::is_blank). The log is empty.
+    /// [`is_blank`](disk_shelf::is_blank). An empty log follows it if `logs` is true.
     ///
     /// A crash during the call leaves an empty selector or the value; after `Ok` it leaves the
     /// value. Fails as [`Persist::to_bytes`] does, with `Memory` or with `Disk`, and returns the
@@ -265,12 +339,15 @@ impl<D: Disk, P: Replay> Journal<D, P> {
         alloc: Global,
         mut disk: D,
         value: &P::Value,
+        logs: bool,
     ) -> Result<Journal<D, P>, (D, Refusal)>
         requires { StaysBlank (D.may_leave disk) }
 
         ensures created { IfOk result (λ j.
             Restores P.logs P.reads P.leads (P.saved value.now) (D.seen j.disk)) }
         ensures ready { IfOk result (λ j. j.ready ≡ true) }
+        ensures logs { IfOk result (λ j. j.tail.logs ≡ logs) }
+        ensures intact { logs ≡ false → IfOk result (λ j. IsIntact (D.seen j.disk)) }
         ensures any_moment { MatchResult result
             (λ j. LeavesOnly D.moment D.left_since disk j.disk
             (RestoresNone P.logs P.reads P.leads (P.saved value.now)))
@@ -280,15 +357,11 @@ impl<D: Disk, P: Replay> Journal<D, P> {
         ensures refused { IfErr result (IsHandedBack D.faults (P.too_large value.now) disk) }
     {
         let seals = disk.seals();
-        let Spelled {
-            bytes,
-            gate,
-            digest,
-        } = match spelled_log::<P>(alloc, seals, value) {
+        let Spelled { bytes, end, digest } = match spelled_whole::<P>(alloc, logs, seals, value) {
             Ok(spelled) => spelled,
             Err(refusal) => return Err((disk, refusal)),
         };
-        match begin(&mut disk, image_before_gate(&bytes, gate), &bytes, seals) {
+        match begin(&mut disk, logs, image_in(&bytes, end), &bytes, seals) {
             Ok(()) => {}
             Err(_) => return Err((disk, Refusal::Disk)),
         }
@@ -297,22 +370,28 @@ impl<D: Disk, P: Replay> Journal<D, P> {
             disk,
             tail: Tail {
                 in_b: false,
-                start: gate,
-                end: Some(gate),
+                start: end,
+                end: first_gate(logs, end),
                 digest,
+                logs,
             },
             ready: true,
             kind: PhantomData,
         })
     }
 
-    /// Syncs a disk, and returns the value that it holds with an open journal. It writes nothing.
-    /// After `Ok` a crash leaves that value.
+    /// Syncs a disk and returns the value that it holds with an open journal, whose images a log is
+    /// to follow if `logs` is true, or one is there. It writes nothing. After `Ok` a crash leaves
+    /// that value.
     ///
     /// Fails with `Disk` if the device failed, and with `BadImage` if the disk holds no value.
     /// Fails with `Memory` if the disk records a plausible length but there is no memory for what
     /// it holds. The disk is then dropped.
-    pub fn open(alloc: Global, mut disk: D) -> Result<(Journal<D, P>, P::Value), Refusal>
+    pub fn open(
+        alloc: Global,
+        mut disk: D,
+        logs: bool,
+    ) -> Result<(Journal<D, P>, P::Value), Refusal>
     where
         D: Drop,
         P::Value: Drop,
@@ -327,7 +406,7 @@ impl<D: Disk, P: Replay> Journal<D, P> {
         ensures given_up { IfErr result (λ e. (d : D) × OnlyRead D.seen D.may_leave D.moment
             D.left_since D.faults (e ≡ Refusal.Disk) disk d) }
     {
-        let (tail, value) = read_logged::<D, P>(alloc, &mut disk)?;
+        let (tail, value) = read_logged::<D, P>(alloc, &mut disk, logs)?;
         let journal = Journal {
             alloc,
             disk,
@@ -340,9 +419,10 @@ impl<D: Disk, P: Replay> Journal<D, P> {
 
     /// An open journal on a disk that [`read_logged`] read, and on which nothing was written since.
     pub fn resume(alloc: Global, disk: D, tail: Tail) -> Journal<D, P>
-        requires { IsKept D.seen D.may_leave P.logs disk tail.in_b tail.end }
+        requires { IsPlacedAt D.seen D.may_leave P.logs disk tail }
         ensures disk { result.disk ≡ disk }
         ensures ready { result.ready ≡ true }
+        ensures tail { result.tail ≡ tail }
     {
         Journal {
             alloc,
@@ -366,13 +446,14 @@ impl<D: Disk, P: Replay> Journal<D, P> {
             Restores P.logs P.reads P.leads v (D.seen self.old.disk)) }
         ensures ready { OnOk result (self.new.ready ≡ true) }
         ensures shut { IsErr result → self.new.ready ≡ false }
+        ensures logs { self.new.tail.logs ≡ self.old.tail.logs }
         ensures refused { IfErr result
             (IsUnread (Restores P.logs P.reads P.leads) (D.seen self.old.disk)) }
         ensures read { OnlyRead D.seen D.may_leave D.moment D.left_since D.faults
             (IsErrOf result Refusal.Disk) self.old.disk self.new.disk }
     {
         self.ready = false;
-        let (tail, value) = read_logged::<D, P>(self.alloc, &mut self.disk)?;
+        let (tail, value) = read_logged::<D, P>(self.alloc, &mut self.disk, self.tail.logs)?;
         let seals = self.disk.seals();
         self.tail = tail.renewed(seals);
         self.ready = true;
@@ -395,6 +476,7 @@ impl<D: Disk, P: Replay> Journal<D, P> {
         ensures after { AfterSave D.faults self.old.disk self.new.disk self.old.ready self.new.ready
             result }
         ensures not_large { IfErr result (λ e. e ≢ Refusal.ImageTooLarge) }
+        ensures logs { self.new.tail.logs ≡ self.old.tail.logs }
     {
         let Some(next) = end.checked_add(batch.len() + HEAD + 1) else {
             return Err(Refusal::Memory);
@@ -409,7 +491,7 @@ impl<D: Disk, P: Replay> Journal<D, P> {
         Ok(())
     }
 
-    // Saves a value whole, with an empty log. Fails as `Persist::to_bytes` does.
+    // Saves a value whole, with no batch behind it. Fails as `Persist::to_bytes` does.
     fn renew(&mut self, value: &P::Value) -> Result<(), Refusal>
         requires ready { IsTrue self.old.ready }
 
@@ -422,27 +504,29 @@ impl<D: Disk, P: Replay> Journal<D, P> {
         ensures after { AfterSave D.faults self.old.disk self.new.disk self.old.ready self.new.ready
             result }
         ensures too_large { IsErrOf result Refusal.ImageTooLarge ↔ P.too_large value.now }
+        ensures intact { self.old.tail.logs ≡ false
+            → OnOk result (IsIntact (D.seen self.new.disk)) }
+        ensures logs { self.new.tail.logs ≡ self.old.tail.logs }
     {
         let seals = self.disk.seals();
-        let Spelled {
-            bytes,
-            gate,
-            digest,
-        } = spelled_log::<P>(self.alloc, seals, value)?;
+        let logs = self.tail.logs;
+        let Spelled { bytes, end, digest } = spelled_whole::<P>(self.alloc, logs, seals, value)?;
         self.ready = false;
         let in_b = self.tail.in_b;
         turn(
             &mut self.disk,
             in_b,
-            image_before_gate(&bytes, gate),
+            logs,
+            image_in(&bytes, end),
             &bytes,
             seals,
         )?;
         self.tail = Tail {
             in_b: !in_b,
-            start: gate,
-            end: Some(gate),
+            start: end,
+            end: first_gate(logs, end),
             digest,
+            logs,
         };
         self.ready = true;
         Ok(())
@@ -472,6 +556,9 @@ impl<D: Disk, P: Replay> Journal<D, P> {
         ensures too_large { IsErrOf result Refusal.ImageTooLarge ↔ IsTrue self.old.ready
             × (IfSome batch.entry (λ b. place_for self.old.tail b.now ≡ None))
             × P.too_large value.now }
+        ensures intact { self.old.tail.logs ≡ false
+            → OnOk result (IsIntact (D.seen self.new.disk)) }
+        ensures logs { self.new.tail.logs ≡ self.old.tail.logs }
     {
         if !self.ready {
             return Err(Refusal::Closed);
@@ -486,10 +573,10 @@ impl<D: Disk, P: Replay> Journal<D, P> {
     }
 }
 
-impl<P: Replay> OverMemory for Journal<MemoryDisk, P> {
+impl<P: Persist> OverMemory for Journal<MemoryDisk, P> {
     ghost disk = { λ j. j.disk };
 
-    ghost same = { λ old new. new.ready ≡ old.ready };
+    ghost same = { λ old new. (new.ready ≡ old.ready) × (new.tail ≡ old.tail) };
 
     fn follow(&mut self, plan: Plan) {
         self.disk.follow(plan);

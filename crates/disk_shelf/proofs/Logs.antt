@@ -11,7 +11,7 @@ use Rattle.disk.specs.Areas.{Areas, part, Changes, Holds, Torn}
 use Rattle.std.proofs.Math.Logic.{∥∥₁_elim, ∥∥₁_map}
 use Rattle.std.proofs.Props.{props}
 use Rattle.disk.specs.Crashes.{Only}
-use Rattle.disk_shelf.specs.Logs.{EndsAt, HasLog, IsLogged, IsLoggedIf, IsLoggedTo, IsShut, log_length, OldOrNewLog}
+use Rattle.disk_shelf.specs.Logs.{EndsAt, HasLog, IsLogged, IsLoggedIf, IsShut, log_length, OldOrNewLog}
 use Rattle.disk_shelf.specs.Logs.{Opens, OpensIf}
 use Rattle.disk.specs.declared.device.Area.{Area}
 use Rattle.disk_shelf.specs.Shelf.{told, recorded, record_of, side, half}
@@ -455,13 +455,11 @@ module _ {in_b : Bool} {area : Area} {end : ℕ} {batch bytes : List ℕ} {s : A
             }),
       )
 
--- after a sync
-pub logged_by : {D T E : Type 0} (seen : D → Areas) (may_leave : D → Areas → Type 0) (in_b : Bool)
-    (end : ℕ) (new : D) (r : Result T E) → OnOk r (Only (seen new) (may_leave new)) →
-    OnOk r ((side (seen new).select ≡ Some in_b) × ∥ EndsAt end (part (half in_b) (seen new)) ∥₁) →
-    OnOk r (IsLoggedTo seen may_leave new in_b end)
-logged_by seen may_leave in_b end new (Ok done) only here = (only, here.0, here.1)
-logged_by seen may_leave in_b end new (Err e) only here = tt
+-- three facts of what succeeded
+pub all_ok : {T E : Type 0} (P Q R : Type 0) (r : Result T E) → OnOk r P → OnOk r (Q × R) →
+    OnOk r (P × Q × R)
+all_ok P Q R (Ok done) p both = (p, both.0, both.1)
+all_ok P Q R (Err e) p both = tt
 
 -- these batches were read, from the one offset to the other
 pub record Read (at end : ℕ) (batches : List (List ℕ)) (held : List ℕ) : Type 0 where

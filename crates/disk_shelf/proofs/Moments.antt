@@ -3,11 +3,8 @@ use Rattle.std.proofs.Common.{◌≡◌, Bool, length, List, Some, inl, inr, ⊎
 use Rattle.std.proofs.Common.{sym}
 use Rattle.disk.specs.Areas.{Areas, Changes, IsBlank, Torn, part}
 use Rattle.disk.specs.Crashes.{Elapses, Follows, LeavesOnly, Only}
-use Rattle.disk_shelf.specs.Shelf.{recorded, opened, NoneOrNew, OldOrNew}
 use Rattle.disk.specs.declared.device.Area.{Area}
-use Rattle.disk.specs.declared.device.Area.TheVariants.{Select}
 use Rattle.disk.proofs.Torn.{torn_same, unchanged}
-use Rattle.disk_shelf.proofs.Sides.{Aside, first_selector, torn_half, torn_choice}
 
 module _ {D : Type 0} {moment : D → ℕ} {left_since : D → ℕ → Areas → Type 0} where
   -- before the first call
@@ -66,23 +63,3 @@ module _ {D : Type 0} {moment : D → ℕ} {left_since : D → ℕ → Areas →
     before = λ t c le left. ⊎_elim (λ past. first.before t c le past) (λ p. inr p)
         (second.before t c (omega (arith, le, first.later)) left);
   }
-
-  -- both areas hold the image, and then the selector is written
-  pub laid : {old mid new : D} (s : Areas) (image : List ℕ) →
-      LeavesOnly moment left_since old mid IsBlank →
-      (recorded s.a ≡ Some image) × (recorded s.b ≡ Some image) →
-      LeavesOnly moment left_since mid new (Changes Select (Torn 0 1) s) →
-      LeavesOnly moment left_since old new (NoneOrNew image)
-  laid s image first held second =
-      joined (weaker first (λ c none. inl none))
-      (weaker second (λ c torn. first_selector s c image held.0 held.1 torn))
-
-  -- the image is written into the other area, and then the selector is written
-  pub swapped : {in_b : Bool} {area : Area} {image bytes : List ℕ} {s t : Areas} {old mid new : D} →
-      Aside in_b area image bytes s t →
-      LeavesOnly moment left_since old mid (Changes area (Torn 0 (length bytes)) s) →
-      LeavesOnly moment left_since mid new (Changes Select (Torn 0 1) t) →
-      LeavesOnly moment left_since old new (OldOrNew (opened s) image)
-  swapped aside first second =
-      joined (weaker first (λ c torn. inl (torn_half aside c torn)))
-      (weaker second (λ c torn. torn_choice aside c torn))

@@ -92,16 +92,6 @@ pub read_refused : {X : Type 0} (e : Refusal) → (e ≢ Memory → (e ≡ BadIm
 read_refused Memory refused = inl refl
 read_refused e refused = inr (inl (refused (λ is. absurd cc)).0)
 
--- what a disk says that holds no value says that it holds none of another kind either, if each of
--- these is one of those
-pub unread_as : {V : Type 0} {holds other : V → Areas → Type 0} {d : Areas} {e : Refusal} →
-    ((v : V) → other v d → holds v d) → IsUnread holds d e → IsUnread other d e
-unread_as each unread = record {
-  bad = λ is v held. unread.bad is v (each v held);
-  memory = unread.memory;
-  others = unread.others;
-}
-
 -- what a disk says if no image was found there
 pub unread_none : {T V : Type 0} {holds : V → Areas → Type 0} {d : Areas} {e : Refusal} →
     (IsErrOf {T = T} (Err e) BadImage → opened d ≡ None) →

@@ -9,7 +9,6 @@ use Rattle.std.proofs.lemmas.List.{drop-drop, length-take-le}
 use Rattle.std.proofs.lemmas.Bool.Decides.{leb_tells, nat_tests}
 use Rattle.disk_shelf.specs.declared.persist.TheConstants.{GREATEST_SAVED}
 use Rattle.disk.specs.Areas.{Holds, Reads}
-use Rattle.disk_shelf.specs.Seals.{behind}
 use Rattle.disk_shelf.specs.Shelf.{IsLength, IsWhole}
 use Rattle.disk_shelf.specs.Shelf.{told, recorded, record_of, TellsLength}
 
@@ -111,14 +110,6 @@ image_seen image rest end same is at here =
     here ∙ ap (λ l. take (end - 8) (drop 8 l)) (same ∙ is ∙ append_assoc head image rest)
     ∙ ap (take (end - 8)) (drop_at head (image ++ rest) 8 refl)
     ∙ take_at image rest (end - 8) (omega (arith, at))
-
-pub spelled_again : (seals : Bool) (image : List ℕ) (end : ℕ) {bytes text again part : List ℕ} →
-    again ≡ bytes → text ≡ bytes → bytes ≡ record_of image ++ behind seals image →
-    end ≡ 8 + length image → part ≡ take (end - 8) (drop 8 text) →
-    again ≡ record_of part ++ behind seals part
-spelled_again seals image end other same is at here =
-    other ∙ is ∙ ap (λ l. record_of l ++ behind seals l)
-    (sym (image_seen image (behind seals image) end same is at here))
 
 -- what was written is read, whatever follows it
 pub recorded_front : (image rest : List ℕ) → length image ≤ GREATEST_SAVED →

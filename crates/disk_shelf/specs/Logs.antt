@@ -1,11 +1,12 @@
 -- How a disk holds an image and the batches behind it: each batch behind a gate, and a gate behind
 -- the last one.
 use Rattle.std.specs.Prelude.{◌≡◌, ◌⊎◌, ℕ, ◌+◌, Bool, true, false, List, [], ◌∷◌, ◌++◌, length, drop}
-use Rattle.std.specs.Prelude.{Option, Some, None, Vec}
+use Rattle.std.specs.Prelude.{Option, Some, None, Vec, is_some}
 use Rattle.std.specs.declared.alloc.Global.{Global}
 use Rattle.disk.specs.Areas.{Areas, IsBlank, part}
 use Rattle.disk.specs.Crashes.{Only}
-use Rattle.disk_shelf.specs.Shelf.{half, record_of, recorded, side}
+use Rattle.disk_shelf.specs.Seals.{behind}
+use Rattle.disk_shelf.specs.Shelf.{half, opened, record_of, recorded, side}
 
 -- These batches follow one another, each behind an odd gate; an even gate ends them. What follows
 -- is ignored.
@@ -25,6 +26,11 @@ IsNext rest (Some batch) =
 -- what is written for an image or a batch: its record, an even gate, and what is ignored
 abbrev pub IsShut : List ℕ → List ℕ → Type 0
 IsShut image bytes = bytes ≡ record_of image ++ 0 ∷ drop (9 + length image) bytes
+
+-- what is written for an image that a log follows or not, with a seal or without
+abbrev pub IsSpelled : Bool → Bool → List ℕ → List ℕ → Type 0
+IsSpelled true seals image bytes = IsShut image bytes
+IsSpelled false seals image bytes = bytes ≡ record_of image ++ behind seals image
 
 -- an area holds this image, and these batches right behind it
 abbrev pub IsLogged : List ℕ → List (List ℕ) → List ℕ → Type 0
@@ -65,12 +71,12 @@ abbrev pub OldOrNewLog : List ℕ → List (List ℕ) → List ℕ → List (Lis
 OldOrNewLog old before new after c = Opens old before c ⊎ Opens new after c
 
 -- the disk opens to an old image and its batches, or to the new image and none
-abbrev pub OldOrWhole : Bool → List ℕ → List (List ℕ) → List ℕ → Areas → Type 0
-OldOrWhole logged old before new c = OpensIf logged old before c ⊎ Opens new [] c
+abbrev pub OldOrWhole : Bool → List ℕ → List (List ℕ) → Bool → List ℕ → Areas → Type 0
+OldOrWhole was old before logged new c = OpensIf was old before c ⊎ OpensIf logged new [] c
 
 -- the disk is blank, or opens to the new image, and no batch
-abbrev pub NoneOrLog : List ℕ → Areas → Type 0
-NoneOrLog new c = IsBlank c ⊎ Opens new [] c
+abbrev pub NoneOrWhole : Bool → List ℕ → Areas → Type 0
+NoneOrWhole logged new c = IsBlank c ⊎ OpensIf logged new [] c
 
 -- a crash leaves what a read gives, this side is selected, and the log of its area ends there
 abbrev pub IsLoggedTo : {D : Type 0} (seen : D → Areas) (may_leave : D → Areas → Type 0) →
@@ -79,6 +85,22 @@ IsLoggedTo seen may_leave disk in_b end =
     Only (seen disk) (may_leave disk)
     × (side (seen disk).select ≡ Some in_b)
     × ∥ EndsAt end (part (half in_b) (seen disk)) ∥₁
+
+-- a crash leaves what a read gives, and this side is selected, with this image and no batch
+abbrev pub IsWholeOn : {D : Type 0} (seen : D → Areas) (may_leave : D → Areas → Type 0) →
+    D → Bool → Bool → List ℕ → Type 0
+IsWholeOn seen may_leave disk in_b logged image =
+    Only (seen disk) (may_leave disk)
+    × (side (seen disk).select ≡ Some in_b)
+    × IsLoggedIf logged image [] (part (half in_b) (seen disk))
+
+-- no log follows the image that the disk opens to
+abbrev pub IsPlain : (List ℕ → Bool) → Areas → Type 0
+IsPlain logs c = (image : List ℕ) → opened c ≡ Some image → logs image ≡ false
+
+-- nor the image in what a crash leaves
+abbrev pub StaysPlain : (List ℕ → Bool) → (Areas → Type 0) → Type 0
+StaysPlain logs may_leave = (c : Areas) → may_leave c → IsPlain logs c
 
 -- ---- values
 
@@ -117,9 +139,10 @@ IsBehind logs last held =
     (end : ℕ) → last ≡ Some end → ∥ EndsAt end held ∥₁
     × ((image : List ℕ) → recorded held ≡ Some image → logs image ≡ true)
 
--- a crash leaves what a read gives, this side is selected, and there the log ends
+-- a crash leaves what a read gives, this side is selected, it holds an image, and there the log ends
 pub record IsKept {D : Type 0} (seen : D → Areas) (may_leave : D → Areas → Type 0)
     (logs : List ℕ → Bool) (disk : D) (in_b : Bool) (last : Option ℕ) : Type 0 where
   pub only : Only (seen disk) (may_leave disk)
   pub selected : side (seen disk).select ≡ Some in_b
+  pub holds : is_some (recorded (part (half in_b) (seen disk))) ≡ true
   pub behind : IsBehind logs last (part (half in_b) (seen disk))

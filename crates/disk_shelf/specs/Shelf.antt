@@ -74,19 +74,3 @@ OpensTo image d = opened d ≡ Some image
 -- the disk opens to an image that is read as this value
 abbrev pub OpensAs : {V : Type 0} → (List ℕ → V → Type 0) → V → Areas → Type 0
 OpensAs reads value d = (image : List ℕ) × OpensTo image d × reads image value
-
--- the disk opens to the old image or to the new one
-abbrev pub OldOrNew : Option (List ℕ) → List ℕ → Areas → Type 0
-OldOrNew old new c = (opened c ≡ old) ⊎ OpensTo new c
-
--- the disk is blank, or opens to the new image
-abbrev pub NoneOrNew : List ℕ → Areas → Type 0
-NoneOrNew new c = IsBlank c ⊎ OpensTo new c
-
--- a crash leaves what a read gives, this side is selected, and it holds an image
-abbrev pub IsSettled : {D : Type 0} (seen : D → Areas) (may_leave : D → Areas → Type 0) →
-    D → Bool → Type 0
-IsSettled seen may_leave disk in_b =
-    Only (seen disk) (may_leave disk)
-    × (side (seen disk).select ≡ Some in_b)
-    × (is_some (opened (seen disk)) ≡ true)

@@ -1,20 +1,20 @@
-//! The disk calls that keep batches behind an image, and find them again; the crate `disk_journal`
-//! makes them. The byte before a batch, its gate, makes it count; it is written only once the batch
-//! is synced.
+//! The disk calls that save an image, keep batches behind it, and find them again; the crate
+//! `disk_journal` makes them. The selector makes an image count, and the byte before a batch, its
+//! gate, makes the batch count; each is written only once what it selects is synced.
 ghost use Rattle.std.specs.Prelude.{◌≡◌, ◌+◌, ◌<◌, ◌≤◌, ◌^◌, ◌%◌, ◌==◌, ◌++◌, ◌⊎◌, List, ℕ, [], ◌∷◌, length, not};
-ghost use Rattle.std.specs.Prelude.{Bool, drop, IfErr, IfOk, IsErr, IsErrOf, OnOk, Some, false, true};
+ghost use Rattle.std.specs.Prelude.{Bool, drop, IfErr, IfOk, IsErr, IsErrOf, OnOk, Some, false, is_some, true};
 ghost use Rattle.disk.specs.Areas.{Areas, part};
 ghost use Rattle.disk.specs.Crashes.{HasCause, LeavesOnly, Only, StaysBlank, Unmoved};
 ghost use Rattle.disk_shelf.specs.Refusals.{IsReadRefusal};
-ghost use Rattle.disk_shelf.specs.Logs.{HasLog, IsKept, IsLoggedTo, IsNext, IsShut, LeadAll, NoneOrLog};
-ghost use Rattle.disk_shelf.specs.Logs.{OldOrNewLog, OldOrWhole, Opens, OpensIf, Reached, Restores};
-ghost use Rattle.disk_shelf.specs.Seals.{gate_of};
+ghost use Rattle.disk_shelf.specs.Logs.{HasLog, IsKept, IsLoggedTo, IsNext, IsShut, IsSpelled, IsWholeOn, LeadAll};
+ghost use Rattle.disk_shelf.specs.Logs.{NoneOrWhole, OldOrNewLog, OldOrWhole, Opens, OpensIf, Reached, Restores};
+ghost use Rattle.disk_shelf.specs.Seals.{gate_of, IsIntact};
 ghost use Rattle.disk_shelf.specs.declared.persist.TheConstants.{GREATEST_SAVED};
 ghost use Rattle.disk_shelf.specs.Shelf.{half as half_of, recorded, side};
 
 use crate::save::{half, load, parity, put, put_both};
-use crate::seal::{OPEN, OPEN_SEALED, SHUT, log_mark};
-use crate::{HEAD, Replay};
+use crate::seal::{OPEN, OPEN_SEALED, SHUT, mark};
+use crate::{HEAD, Persist};
 use disk::{Area, Disk, DiskFault};
 use ids::Refusal;
 use std::alloc::{AllocError, Global};
@@ -73,7 +73,8 @@ pub fn extend<D: Disk>(
 }
 
 /// Writes an image, as these bytes, into the area that isn't selected, and then selects that area.
-/// No batch is behind the image. If `seals` is true, the seal of a log is.
+/// `logged` says whether a log is to follow the image; its first gate ends it. If `seals` is true,
+/// a seal is behind that.
 ///
 /// A crash at any moment since the call began leaves the old image with its batches, or the new
 /// image; after `Ok` it leaves the new one. Fails if the device failed. Which of the two the disk
@@ -81,51 +82,54 @@ pub fn extend<D: Disk>(
 pub fn turn<D: Disk>(
     disk: &mut D,
     in_b: bool,
+    logged: bool,
     image: &[u8],
     bytes: &[u8],
     seals: bool,
 ) -> Result<(), DiskFault>
     requires durable { Only (D.seen disk.old) (D.may_leave disk.old) }
     requires selected { side (D.seen disk.old).select ≡ Some in_b }
-    requires spelled { IsShut image.now bytes.now }
+    requires spelled { IsSpelled logged seals image.now bytes.now }
     requires fits { length image.now ≤ GREATEST_SAVED }
 
-    ensures any_moment { (logged : Bool) (old : List ℕ) (batches : List (List ℕ))
-        → OpensIf logged old batches (D.seen disk.old)
+    ensures any_moment { (was : Bool) (old : List ℕ) (batches : List (List ℕ))
+        → OpensIf was old batches (D.seen disk.old)
         → LeavesOnly D.moment D.left_since disk.old disk.new
-        (OldOrWhole logged old batches image.now) }
-    ensures turned { OnOk result (Opens image.now [] (D.seen disk.new)) }
-    ensures logged { OnOk result
-        (IsLoggedTo D.seen D.may_leave disk.new (not in_b) (8 + length image.now)) }
+        (OldOrWhole was old batches logged image.now) }
+    ensures turned { OnOk result
+        (IsWholeOn D.seen D.may_leave disk.new (not in_b) logged image.now) }
+    ensures intact { logged ≡ false → OnOk result (IsIntact (D.seen disk.new)) }
     ensures cause { HasCause (D.faults disk.old) (D.faults disk.new) (IsErr result) }
 {
-    let choice = log_mark(seals, !in_b);
+    let choice = mark(logged, seals, !in_b);
     put(disk, half(!in_b), 0, bytes)?;
     put(disk, Area::Select, 0, &[choice])
 }
 
 /// Saves the first image of a disk, as these bytes: into both areas, so that a torn selector opens
-/// to it too. No batch is behind it. If `seals` is true, the seal of a log is.
+/// to it too. The rest is as for [`turn`].
 ///
 /// A crash at any moment since the call began leaves an empty selector or the image; after `Ok` it
 /// leaves the image. Fails if the device failed.
 pub fn begin<D: Disk>(
     disk: &mut D,
+    logged: bool,
     image: &[u8],
     bytes: &[u8],
     seals: bool,
 ) -> Result<(), DiskFault>
     requires blank { StaysBlank (D.may_leave disk.old) }
-    requires spelled { IsShut image.now bytes.now }
+    requires spelled { IsSpelled logged seals image.now bytes.now }
     requires fits { length image.now ≤ GREATEST_SAVED }
 
-    ensures any_moment { LeavesOnly D.moment D.left_since disk.old disk.new (NoneOrLog image.now) }
-    ensures begun { OnOk result (Opens image.now [] (D.seen disk.new)) }
-    ensures logged { OnOk result
-        (IsLoggedTo D.seen D.may_leave disk.new false (8 + length image.now)) }
+    ensures any_moment { LeavesOnly D.moment D.left_since disk.old disk.new
+        (NoneOrWhole logged image.now) }
+    ensures begun { OnOk result
+        (IsWholeOn D.seen D.may_leave disk.new false logged image.now) }
+    ensures intact { logged ≡ false → OnOk result (IsIntact (D.seen disk.new)) }
     ensures cause { HasCause (D.faults disk.old) (D.faults disk.new) (IsErr result) }
 {
-    let choice = log_mark(seals, false);
+    let choice = mark(logged, seals, false);
     put_both(disk, bytes)?;
     put(disk, Area::Select, 0, &[choice])
 }
@@ -162,7 +166,7 @@ fn next_batch<D: Disk>(
 /// Performs the batches from an offset of an area on, and returns the offset of the gate that ends
 /// them. Fails with `BadImage` if there are no batches and gates, or if a batch leads to no value,
 /// and with `Memory`. At any time it has one batch in memory.
-fn replay<D: Disk, P: Replay>(
+fn replay<D: Disk, P: Persist>(
     alloc: Global,
     disk: &mut D,
     area: Area,
@@ -197,7 +201,7 @@ fn replay<D: Disk, P: Replay>(
 ///
 /// Fails with `Disk` if the device failed, with `BadImage` if the disk holds no value, and with
 /// `Memory`. The value is then of no use, and the disk holds what it held, even after a crash.
-pub fn replay_log<D: Disk, P: Replay>(
+pub fn replay_log<D: Disk, P: Persist>(
     alloc: Global,
     disk: &mut D,
     in_b: bool,
@@ -211,6 +215,7 @@ pub fn replay_log<D: Disk, P: Replay>(
 
     ensures restored { OnOk result (Restores P.logs P.reads P.leads value.new (D.seen disk.old)) }
     ensures kept { IfOk result (λ end. IsKept D.seen D.may_leave P.logs disk.new in_b end) }
+    ensures logged { IfOk result (λ end. is_some end ≡ P.logs image.now) }
     ensures bad { IsErrOf result Refusal.BadImage → (v : P.Value)
         → Restores P.logs P.reads P.leads v (D.seen disk.old) → ⊥ }
     ensures quiet { Unmoved D.seen D.may_leave D.moment D.left_since disk.old disk.new }

@@ -1,5 +1,5 @@
-//! How a shelf keeps values: each as bytes, its image. A value that is read back may differ from
-//! the saved one in what its image doesn't hold.
+//! How values are kept on a disk: each as bytes, its image, and as batches of what happened to it
+//! since. A value that is read back may differ from the saved one in what its image doesn't hold.
 ghost use Rattle.std.specs.Prelude.{◌≡◌, ◌≢◌, ◌++◌, List, ℕ, replicate};
 ghost use Rattle.std.specs.Prelude.{Bool, IfErr, IfOk, OnOk, true};
 
@@ -13,16 +13,18 @@ pub const HEAD: usize = 8;
 /// still has a place in memory.
 pub const GREATEST_SAVED: u64 = 9_223_372_036_854_775_799;
 
-/// A way to save values as bytes, their images. It is a separate type from the values' own, so that
-/// their crate and this one don't depend on each other.
+/// A way to save values as bytes: a value as an image, and what happened to it since as a batch,
+/// which costs less than the image of what it has become. A log of batches follows an image or not,
+/// as the image says. The type is a separate one from the values' own, so that their crate and this
+/// one don't depend on each other.
 pub trait Persist {
     /// The type of what is saved.
     type Value;
 
-    /// The bytes that represent a value.
-    ghost image: { Self.Value → List ℕ };
+    /// The bytes that represent a value, if a log is to follow them, and if none is.
+    ghost image: { Bool → Self.Value → List ℕ };
 
-    /// These bytes are read as this value.
+    /// These bytes are read as this value, whether a log follows them or not.
     ghost reads: { List ℕ → Self.Value → Type 0 };
 
     /// The value that is read back after this one was saved.
@@ -31,13 +33,22 @@ pub trait Persist {
     /// This value is never saved: its image is longer than an image of its kind may be.
     ghost too_large: { Self.Value → Type 0 };
 
-    /// The value's image behind [`HEAD`] zeros, in whose place a shelf puts the image's length.
+    /// Whether a log of batches follows this image.
+    ghost logs: { List ℕ → Bool };
+
+    /// This batch leads from the one value to the other.
+    ghost leads: { List ℕ → Self.Value → Self.Value → Type 0 };
+
+    /// This value is as one that was read, to which batches may be applied.
+    ghost fresh: { Self.Value → Type 0 };
+
+    /// The value's image behind [`HEAD`] zeros, in whose place the image's length is put.
     /// [`from_bytes`](Persist::from_bytes) reads the image as the value once saved. Fails with
     /// `ImageTooLarge` if the value is too large, else with `Memory`.
-    fn to_bytes(alloc: Global, value: &Self::Value) -> Result<Vec<u8>, Refusal>
-        ensures bytes { IfOk result (λ v. v.items ≡ replicate HEAD 0 ++ image value.now) }
+    fn to_bytes(alloc: Global, logged: bool, value: &Self::Value) -> Result<Vec<u8>, Refusal>
+        ensures bytes { IfOk result (λ v. v.items ≡ replicate HEAD 0 ++ image logged value.now) }
         ensures within { OnOk result (too_large value.now → ⊥) }
-        ensures readable { OnOk result (reads (image value.now) (saved value.now)) }
+        ensures readable { OnOk result (reads (image logged value.now) (saved value.now)) }
         ensures refused { IfErr result (λ e. e ≢ Refusal.Memory
             → (e ≡ Refusal.ImageTooLarge) × too_large value.now) }
         ensures last { IfErr result (λ e. e ≡ Refusal.Memory → too_large value.now → ⊥) };
@@ -48,24 +59,11 @@ pub trait Persist {
         ensures value { IfOk result (λ v. reads bytes.now v) }
         ensures refused { IfErr result (λ e. e ≢ Refusal.Memory
             → (e ≡ Refusal.BadImage) × ((v : Self.Value) → reads bytes.now v → ⊥)) };
-}
 
-/// A way to save values by what happened to them. A batch of bytes says how the saved value became
-/// another one, and costs less than the image of that one.
-pub trait Replay: Persist {
-    /// Whether a log of batches follows this image.
-    ghost logs: { List ℕ → Bool };
-
-    /// This batch leads from the one value to the other.
-    ghost leads: { List ℕ → Self.Value → Self.Value → Type 0 };
-
-    /// This value is as one that was read, to which batches may be applied.
-    ghost fresh: { Self.Value → Type 0 };
-
-    /// Whether a log of batches follows this image. What follows an image without a log means
-    /// nothing.
-    fn has_log(image: &[u8]) -> bool
-        ensures { result ≡ logs image.now };
+    /// Whether a log of batches follows the image of these bytes. What follows an image without a
+    /// log means nothing.
+    fn has_log(bytes: &[u8]) -> bool
+        ensures { result ≡ logs bytes.now };
 
     /// Makes the value to which the batch leads from this one. Fails with `BadImage` if the batch
     /// leads from this value to none, and with `Memory`. The value is then of no use.
@@ -77,17 +75,17 @@ pub trait Replay: Persist {
             × ((last : Self.Value) → leads batch.now value.old last → ⊥)) };
 
     /// What an image is read as is fresh.
-    ghost read_fresh: { (bytes : List ℕ) (v : Self.Value) → Self.reads bytes v → fresh v };
+    ghost read_fresh: { (bytes : List ℕ) (v : Self.Value) → reads bytes v → fresh v };
 
     /// What a batch leads to is fresh.
     ghost led_fresh: { (batch : List ℕ) (v w : Self.Value) → leads batch v w → fresh w };
 
-    /// A log follows the image that is written of a value.
-    ghost followed: { (value : Self.Value) → logs (Self.image value) ≡ true };
+    /// The image of a value says whether a log is to follow it.
+    ghost followed: { (logged : Bool) (value : Self.Value) → logs (image logged value) ≡ logged };
 
     /// An image is read as one value.
     ghost one_value: { (bytes : List ℕ) (v w : Self.Value)
-        → Self.reads bytes v → Self.reads bytes w → v ≡ w };
+        → reads bytes v → reads bytes w → v ≡ w };
 
     /// A batch leads to one value.
     ghost one_end: { (batch : List ℕ) (first v w : Self.Value)

@@ -1,16 +1,14 @@
-//! The disk calls that save an image and find it again, without the value that it represents. Each
-//! function makes only a few calls, so that its contract says what a crash leaves after each.
+//! The disk calls of which saves and openings consist. Each function makes only a few calls, so that
+//! its contract says what a crash leaves after each.
 ghost use Rattle.std.specs.Prelude.{◌≡◌, ◌⊎◌, ◌++◌, ◌%◌, ◌==◌, ◌≤◌, ◌-◌, length, drop, take, IfErr, IfOk, IsErr};
 ghost use Rattle.std.specs.Prelude.{IsErrOf, IsTrue, OnOk, Some, None, false, not, ◌<◌, ◌^◌, ◌↔◌};
 ghost use Rattle.disk.specs.Areas.{Changes, Holds, IsBlank, part, Torn};
 ghost use Rattle.disk.specs.Crashes.{HasCause, LeavesOnly, Only, StaysBlank, Unmoved};
 ghost use Rattle.disk_shelf.specs.Refusals.{IsReadRefusal};
-ghost use Rattle.disk_shelf.specs.Seals.{behind, IsIntact};
-ghost use Rattle.disk_shelf.specs.Shelf.{IsSettled, IsWhole, NoneOrNew, OldOrNew, half as half_of, opened};
+ghost use Rattle.disk_shelf.specs.Shelf.{IsWhole, half as half_of};
 ghost use Rattle.disk_shelf.specs.Shelf.{IsLength, record_of, recorded, side, told, TellsLength};
 ghost use Rattle.disk_shelf.specs.declared.persist.TheConstants.{GREATEST_SAVED};
 
-use crate::seal::mark;
 use crate::{GREATEST_SAVED, HEAD};
 use disk::{Area, Disk, DiskFault};
 use ids::{GREATEST_IMAGE, Refusal};
@@ -46,7 +44,7 @@ pub(crate) fn put_length(bytes: &mut [u8])
 }
 
 /// The image in what is written for it, up to this offset.
-pub(crate) fn image_in(bytes: &[u8], end: usize) -> &[u8]
+pub fn image_in(bytes: &[u8], end: usize) -> &[u8]
     requires behind { HEAD ≤ end }
     requires inside { end ≤ length bytes.now }
 
@@ -102,54 +100,6 @@ pub(crate) fn put_both<D: Disk>(disk: &mut D, bytes: &[u8]) -> Result<(), DiskFa
 {
     write_both(disk, bytes)?;
     disk.sync()
-}
-
-/// Saves the first image of a disk, as these bytes: into both areas, so that a torn selector opens
-/// to it too. The bytes end with the image's seal if `seals` is true.
-pub(crate) fn lay<D: Disk>(
-    disk: &mut D,
-    seals: bool,
-    image: &[u8],
-    bytes: &[u8],
-) -> Result<(), DiskFault>
-    requires blank { StaysBlank (D.may_leave disk.old) }
-    requires spelled { bytes.now ≡ record_of image.now ++ behind seals image.now }
-    requires fits { length image.now ≤ GREATEST_SAVED }
-
-    ensures any_moment { LeavesOnly D.moment D.left_since disk.old disk.new (NoneOrNew image.now) }
-    ensures opened { OnOk result (opened (D.seen disk.new) ≡ Some image.now) }
-    ensures intact { OnOk result (IsIntact (D.seen disk.new)) }
-    ensures settled { OnOk result (IsSettled D.seen D.may_leave disk.new false) }
-    ensures cause { HasCause (D.faults disk.old) (D.faults disk.new) (IsErr result) }
-{
-    let choice = mark(seals, false);
-    put_both(disk, bytes)?;
-    put(disk, Area::Select, 0, &[choice])
-}
-
-/// Writes an image, as these bytes, into the area that isn't selected, and then selects that area.
-/// The bytes end with the image's seal if `seals` is true.
-pub(crate) fn swap<D: Disk>(
-    disk: &mut D,
-    in_b: bool,
-    seals: bool,
-    image: &[u8],
-    bytes: &[u8],
-) -> Result<(), DiskFault>
-    requires settled { IsSettled D.seen D.may_leave disk.old in_b }
-    requires spelled { bytes.now ≡ record_of image.now ++ behind seals image.now }
-    requires fits { length image.now ≤ GREATEST_SAVED }
-
-    ensures any_moment { LeavesOnly D.moment D.left_since disk.old disk.new
-        (OldOrNew (opened (D.seen disk.old)) image.now) }
-    ensures opened { OnOk result (opened (D.seen disk.new) ≡ Some image.now) }
-    ensures intact { OnOk result (IsIntact (D.seen disk.new)) }
-    ensures settled { OnOk result (IsSettled D.seen D.may_leave disk.new (not in_b)) }
-    ensures cause { HasCause (D.faults disk.old) (D.faults disk.new) (IsErr result) }
-{
-    let choice = mark(seals, !in_b);
-    put(disk, half(!in_b), 0, bytes)?;
-    put(disk, Area::Select, 0, &[choice])
 }
 
 /// Fills `into` from the offset `at` of an area on. Returns whether there are enough bytes.

@@ -5,7 +5,7 @@
 //! An image that no log follows has its digest behind it. A log has two digests behind its last
 //! gate, without its last batch and with it: so a seal that was written before the gate of its
 //! batch was opened shows whether the log before that batch has changed.
-ghost use Rattle.std.specs.Prelude.{◌≡◌, ◌↔◌, ◌++◌, ◌%◌, ◌==◌, ◌≤◌, List, ℕ, length, drop, option_map};
+ghost use Rattle.std.specs.Prelude.{◌≡◌, ◌↔◌, ◌++◌, ◌%◌, ◌==◌, ◌≤◌, List, ℕ, cond, length, drop, option_map};
 ghost use Rattle.std.specs.Prelude.{IfErr, IfOk, IsErr, IsErrOf, IsTrue, OnOk, Some};
 ghost use Rattle.md5.specs.Md5.{md5};
 ghost use Rattle.disk.specs.Areas.{part};
@@ -58,29 +58,18 @@ pub(crate) const OPEN: u8 = 1;
 
 pub(crate) const OPEN_SEALED: u8 = 0xFF;
 
-/// The selector's byte for a side whose image no log follows.
-pub(crate) fn mark(seals: bool, in_b: bool) -> u8
-    ensures value { result ≡ mark_of seals in_b }
+/// The selector's byte for a side, whose image a log follows or not.
+pub(crate) fn mark(logged: bool, seals: bool, in_b: bool) -> u8
+    ensures value { result ≡ cond logged (log_mark_of seals in_b) (mark_of seals in_b) }
     ensures side { (result % 2 == 1) ≡ in_b }
 {
-    match (seals, in_b) {
-        (false, false) => 0,
-        (false, true) => 1,
-        (true, false) => SEALED_A,
-        (true, true) => SEALED_B,
-    }
-}
-
-/// The selector's byte for a side with a log.
-pub(crate) fn log_mark(seals: bool, in_b: bool) -> u8
-    ensures value { result ≡ log_mark_of seals in_b }
-    ensures side { (result % 2 == 1) ≡ in_b }
-{
-    match (seals, in_b) {
-        (false, false) => 0,
-        (false, true) => 1,
-        (true, false) => SEALED_LOG_A,
-        (true, true) => SEALED_LOG_B,
+    match (seals, logged, in_b) {
+        (false, _, false) => 0,
+        (false, _, true) => 1,
+        (true, false, false) => SEALED_A,
+        (true, false, true) => SEALED_B,
+        (true, true, false) => SEALED_LOG_A,
+        (true, true, true) => SEALED_LOG_B,
     }
 }
 
@@ -135,7 +124,7 @@ pub fn next_digest(digest: &[u8; DIGEST], batch: &[u8]) -> [u8; DIGEST]
 
 /// What is written for an image that no log follows, with its seal behind it if `seals` is true.
 /// Fails if there is no memory for the seal; the bytes are then dropped.
-pub(crate) fn sealed(seals: bool, bytes: Vec<u8>) -> Result<Vec<u8>, AllocError>
+pub fn sealed(seals: bool, bytes: Vec<u8>) -> Result<Vec<u8>, AllocError>
     requires { HEAD ≤ length bytes.items }
 
     ensures { IfOk result (λ v. v.items ≡ bytes.items ++ behind seals (drop 8 bytes.items)) }

@@ -8,13 +8,13 @@ use Rattle.codec.proofs.Runs.{bytes4_sound}
 use Rattle.model.specs.declared.age.Scope.TheVariants as scope
 use Rattle.frames.specs.Formats.{sent, known}
 use Rattle.msg.specs.Frames.{Plain, data_frame, ack_frame}
-use Rattle.frames.proofs.Formats.{sent_sound, known_sound}
+use Rattle.frames.proofs.Formats.{reference_grows, sent_sound, known_sound}
 use Rattle.event_bytes.specs.Entries.{Entry, alloc, copy, dropped, load, store, clear, word, set_word}
-use Rattle.event_bytes.specs.Entries.{set_bytes, patch, give, accept, put, get, post, fetch, reclaim, begin, scan}
+use Rattle.event_bytes.specs.Entries.{set_bytes, patch, give, accept, put, get, post, fetch, resolve, reclaim, begin, scan}
 use Rattle.event_bytes.specs.Entries.{pass, sweep, next, received, acknowledged, one, two, placed, loaded}
-use Rattle.event_bytes.specs.Entries.{stored, worded, filled, patched, given, asked, posted, fetched, alloc_at}
+use Rattle.event_bytes.specs.Entries.{stored, worded, filled, patched, given, asked, posted, fetched, resolved, alloc_at}
 use Rattle.event_bytes.specs.Entries.{copy_at, load_at, store_at, clear_at, set_word_at}
-use Rattle.event_bytes.specs.Entries.{set_bytes_at, patch_at, give_at, put_at, get_at, post_at, fetch_at, received_at}
+use Rattle.event_bytes.specs.Entries.{set_bytes_at, patch_at, give_at, put_at, get_at, post_at, fetch_at, resolve_at, received_at}
 use Rattle.event_bytes.specs.Entries.{acknowledged_at, entries, entry}
 
 two_sound : IsSound two
@@ -50,10 +50,13 @@ posted_sound = byte_sound ⊗ number4_sound ⊗ number2_sound ⊗ byte_sound ⊗
 fetched_sound : IsSound fetched
 fetched_sound = number2_sound ⊗ number4_sound ⊗ number4_sound ⊗ number4_sound
 
+resolved_sound : IsSound resolved
+resolved_sound = number2_sound ⊗ reference_grows.second
+
 entry_again : (e : Entry) (rest : List ℕ) → Fits entry e →
     entry.read (entry.spell e ++ rest) ≡ Some (e, rest)
 unfolding entry alloc_at copy_at load_at store_at clear_at set_word_at set_bytes_at patch_at
-    give_at put_at get_at post_at fetch_at received_at acknowledged_at
+    give_at put_at get_at post_at fetch_at resolve_at received_at acknowledged_at
 entry_again (alloc r p) rest fits =
     made_again placed (λ x. alloc x.0 x.1) placed_sound (r, p) rest fits.wide fits.within
 entry_again (copy r s) rest fits =
@@ -94,6 +97,8 @@ entry_again (post t l r n b) rest fits =
 entry_again (fetch o l n k) rest fits =
     made_again fetched (λ x. fetch x.0 x.1.0 x.1.1.0 x.1.1.1) fetched_sound (o, (l, (n, k))) rest
     fits.wide fits.within
+entry_again (resolve k r) rest fits =
+    made_again resolved (λ x. resolve x.0 x.1) resolved_sound (k, r) rest fits.wide fits.within
 entry_again (reclaim scope.All) rest fits = refl
 entry_again (reclaim scope.Young) rest fits = refl
 entry_again begin rest fits = refl
@@ -112,7 +117,7 @@ entry_again (acknowledged f t n) rest fits =
 
 pub entry_sound : IsSound entry
 unfolding entry alloc_at copy_at load_at store_at clear_at set_word_at set_bytes_at patch_at
-    give_at put_at get_at post_at fetch_at received_at acknowledged_at
+    give_at put_at get_at post_at fetch_at resolve_at received_at acknowledged_at
 entry_sound = record {
   takes = tagged_takes entry entries (
       found placed entry 1 (λ x. alloc x.0 x.1) placed_sound (λ _. refl) (λ _ w. w) (λ _ w. w)
@@ -149,6 +154,8 @@ entry_sound = record {
       ⊕ found posted entry 22 (λ x. post x.0 x.1.0 x.1.1.0 x.1.1.1.0 x.1.1.1.1) posted_sound
       (λ _. refl) (λ _ w. w) (λ _ w. w)
       ⊕ found fetched entry 23 (λ x. fetch x.0 x.1.0 x.1.1.0 x.1.1.1) fetched_sound
+      (λ _. refl) (λ _ w. w) (λ _ w. w)
+      ⊕ found resolved entry 24 (λ x. resolve x.0 x.1) resolved_sound
       (λ _. refl) (λ _ w. w) (λ _ w. w)
       ⊕ found known entry 0x42 (λ x. acknowledged x.0 x.1.0 x.1.1) known_sound
       (λ _. refl) (λ _ w. w) (λ _ w. w)

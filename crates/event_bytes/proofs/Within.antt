@@ -7,7 +7,7 @@ use Rattle.msg.specs.declared.frame.Data.{Data}
 use Rattle.codec.specs.Formats.{Fits}
 use Rattle.codec.specs.Formats.{number2, number4, number8, bytes4}
 use Rattle.frames.specs.declared.version.Version.TheVariants.{Second}
-use Rattle.frames.specs.Formats.{sent, known, head}
+use Rattle.frames.specs.Formats.{reference, sent, known, head}
 use Rattle.frames.proofs.Written.{any_body, in_wide}
 use Rattle.model.specs.declared.age.Scope.TheVariants as scope
 use Rattle.model.specs.declared.event.Event.{Event}
@@ -17,7 +17,7 @@ use Rattle.event_bytes.specs.Events.{entry_of, received_of}
 
 -- what an event says is within the limits
 pub entry_within : (e : Event) → entry.IsWithin (entry_of e)
-unfolding entry sent known head number2 number4 number8 bytes4
+unfolding entry reference sent known head number2 number4 number8 bytes4
 entry_within (event.Data d) = (((tt, (tt, tt)), (tt, any_body true Second d.body (in_wide d.body))), d.fits)
 entry_within (event.Ack a) = ((tt, (tt, tt)), a.fits)
 entry_within (event.Alloc register places) = (tt, tt)
@@ -33,6 +33,7 @@ entry_within (event.Put object place register) = (tt, (tt, tt))
 entry_within (event.Get object place label) = (tt, (tt, tt))
 entry_within (event.Post to label first count bytes) = (tt, (tt, (tt, (tt, (tt, refl)))))
 entry_within (event.Fetch object label offset count) = (tt, (tt, (tt, tt)))
+entry_within (event.Resolve register reference) = (tt, (tt, (tt, tt)))
 entry_within (event.Reclaim scope.All) = tt
 entry_within (event.Reclaim scope.Young) = tt
 entry_within e = tt

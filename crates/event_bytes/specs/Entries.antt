@@ -2,10 +2,12 @@
 use Rattle.std.specs.Prelude.{ℕ, List, [], ◌∷◌}
 use Rattle.codec.specs.Formats.{Format, Reader, Behind, byte, number2, number4, number8, nothing}
 use Rattle.codec.specs.Formats.{bytes4, ◌&◌, tag, tagged, made_at}
+use Rattle.ids.specs.declared.names.Ref.{Ref}
 use Rattle.msg.specs.declared.body.Body.{Body}
 use Rattle.model.specs.declared.age.Scope.{Scope}
 use Rattle.model.specs.declared.age.Scope.TheVariants as scope
-use Rattle.frames.specs.Formats.{sent, known}
+use Rattle.frames.specs.declared.version.Version.TheVariants.{Second}
+use Rattle.frames.specs.Formats.{reference, sent, known}
 
 -- an event without the proof that its message is within the limits
 pub data Entry : Type 0 where
@@ -41,6 +43,8 @@ pub data Entry : Type 0 where
   post : ℕ → ℕ → ℕ → ℕ → List ℕ → Entry
   -- object, label, offset and count
   fetch : ℕ → ℕ → ℕ → ℕ → Entry
+  -- register and reference
+  resolve : ℕ → Ref → Entry
   -- scope
   reclaim : Scope → Entry
   begin : Entry
@@ -93,6 +97,9 @@ posted = byte & number4 & number2 & byte & bytes4
 abbrev pub fetched : Format (ℕ × (ℕ × (ℕ × ℕ)))
 fetched = number2 & number4 & number4 & number4
 
+abbrev pub resolved : Format (ℕ × Ref)
+resolved = number2 & reference Second
+
 abbrev pub entry_tag : Entry → Behind
 entry_tag (alloc register places) = tag 1 placed (register, places)
 entry_tag (copy register source) = tag 2 two (register, source)
@@ -113,6 +120,7 @@ entry_tag (reclaim scope.Young) = tag 21 nothing tt
 entry_tag (post to label first count bytes) =
     tag 22 posted (to, (label, (first, (count, bytes))))
 entry_tag (fetch object label offset count) = tag 23 fetched (object, (label, (offset, count)))
+entry_tag (resolve register r) = tag 24 resolved (register, r)
 entry_tag begin = tag 13 nothing tt
 entry_tag scan = tag 14 nothing tt
 entry_tag pass = tag 15 nothing tt
@@ -161,6 +169,9 @@ post_at bytes = made_at posted (λ x. post x.0 x.1.0 x.1.1.0 x.1.1.1.0 x.1.1.1.1
 unfoldable pub fetch_at : Reader Entry
 fetch_at bytes = made_at fetched (λ x. fetch x.0 x.1.0 x.1.1.0 x.1.1.1) bytes
 
+unfoldable pub resolve_at : Reader Entry
+resolve_at bytes = made_at resolved (λ x. resolve x.0 x.1) bytes
+
 unfoldable pub received_at : Reader Entry
 received_at bytes = made_at sent (λ x. received x.0.0 x.0.1.0 x.0.1.1 x.1.0 x.1.1) bytes
 
@@ -192,6 +203,7 @@ entries =
     ∷ (21, made_at nothing (λ _. reclaim scope.Young))
     ∷ (22, post_at)
     ∷ (23, fetch_at)
+    ∷ (24, resolve_at)
     ∷ (0x42, acknowledged_at)
     ∷ (0x45, received_at)
     ∷ []

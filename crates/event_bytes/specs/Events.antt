@@ -7,7 +7,7 @@ use Rattle.msg.specs.Limits.{is_post}
 use Rattle.model.specs.declared.event.Event.{Event}
 use Rattle.model.specs.declared.event.Event.TheVariants as event
 use Rattle.event_bytes.specs.Entries.{Entry, alloc, copy, dropped, load, store, clear, word, set_word}
-use Rattle.event_bytes.specs.Entries.{set_bytes, patch, give, accept, put, get, post, fetch, reclaim, begin, scan}
+use Rattle.event_bytes.specs.Entries.{set_bytes, patch, give, accept, put, get, post, fetch, resolve, reclaim, begin, scan}
 use Rattle.event_bytes.specs.Entries.{pass, sweep, next, received, acknowledged, entry, entry_tag}
 
 abbrev pub received_of : Data → Entry
@@ -34,6 +34,7 @@ entry_of (event.Get object place label) = get object place label
 entry_of (event.Reclaim scope) = reclaim scope
 entry_of (event.Post to label first count bytes) = post to label first count bytes.now
 entry_of (event.Fetch object label offset count) = fetch object label offset count
+entry_of (event.Resolve register reference) = resolve register reference
 entry_of event.Begin = begin
 entry_of event.Scan = scan
 entry_of event.Pass = pass

@@ -9,17 +9,17 @@ ghost use Rattle.codec.specs.Reading.{IsSound};
 ghost use Rattle.frames.specs.Formats.{head};
 ghost use Rattle.event_bytes.specs.Entries.{alloc_at, copy_at, load_at, store_at, clear_at};
 ghost use Rattle.event_bytes.specs.Entries.{set_word_at, set_bytes_at, patch_at, give_at, put_at};
-ghost use Rattle.event_bytes.specs.Entries.{get_at, post_at, fetch_at, received_at};
+ghost use Rattle.event_bytes.specs.Entries.{get_at, post_at, fetch_at, resolve_at, received_at};
 ghost use Rattle.event_bytes.specs.Entries.{acknowledged_at, entries, entry};
 ghost use Rattle.event_bytes.specs.Events.{acknowledged_of, entry_of, received_of};
 
 use crate::tags::{
     ACCEPT, ACK, ALLOC, BEGIN, CLEAR, COPY, DATA, DROP, FETCH, GET, GIVE, LOAD, NEXT, PASS, PATCH,
-    POST, PUT, RECLAIM, RECLAIM_YOUNG, SCAN, SET_BYTES, SET_WORD, STORE, SWEEP, WORD,
+    POST, PUT, RECLAIM, RECLAIM_YOUNG, RESOLVE, SCAN, SET_BYTES, SET_WORD, STORE, SWEEP, WORD,
 };
 use codec::Reader;
 use frames::Version;
-use frames::reading::read_wide_body;
+use frames::reading::{read_reference, read_wide_body};
 use ids::Refusal;
 use model::{Event, Scope};
 use msg::{Ack, Data};
@@ -195,6 +195,18 @@ fn read_fetch<'a>(reader: &mut Reader<'a>) -> Event<'a>
     }
 }
 
+#[tactic(auto, unfolding(crate::specs::Entries::resolve_at), using(crate::proofs::Joins::both_read, crate::proofs::Joins::made_of))]
+fn read_resolve<'a>(reader: &mut Reader<'a>) -> Event<'a>
+    ensures { Takes resolve_at reader.old reader.new (Some (entry_of result)) }
+{
+    let register = reader.u16();
+    let reference = read_reference(reader, Version::Second);
+    Event::Resolve {
+        register,
+        reference,
+    }
+}
+
 #[tactic(auto, unfolding(frames::specs::Formats::head), using(crate::proofs::Joins::both_read))]
 fn read_head(reader: &mut Reader) -> (u8, (u8, u64))
     ensures { Reads head reader.old reader.new result }
@@ -265,6 +277,7 @@ fn read_other<'a>(tag: u8, reader: &mut Reader<'a>) -> Option<Event<'a>>
         }),
         POST => Some(read_post(reader)),
         FETCH => Some(read_fetch(reader)),
+        RESOLVE => Some(read_resolve(reader)),
         ACK => match read_ack(reader) {
             Some(ack) => Some(Event::Ack(ack)),
             None => None,

@@ -46,6 +46,8 @@ pub(crate) const POST: u8 = 22;
 
 pub(crate) const FETCH: u8 = 23;
 
+pub(crate) const RESOLVE: u8 = 24;
+
 pub(crate) const ACK: u8 = 0x42;
 
 pub(crate) const DATA: u8 = 0x45;

@@ -9,18 +9,18 @@ ghost use Rattle.codec.specs.Pieces.{Adds, Gains};
 ghost use Rattle.codec.specs.declared.piece.TheConstants.{GREATEST_PIECE};
 ghost use Rattle.frames.specs.Formats.{head};
 ghost use Rattle.event_bytes.specs.Entries.{asked, entry, fetched, given, loaded, placed, stored};
-ghost use Rattle.event_bytes.specs.Entries.{two, worded};
+ghost use Rattle.event_bytes.specs.Entries.{resolved, two, worded};
 ghost use Rattle.event_bytes.specs.Events.{acknowledged_of, count_of, received_of, start_of};
 ghost use Rattle.event_bytes.specs.Events.{AddsStart, entry_of, is_letter, tail_of};
 ghost use Rattle.msg.specs.Limits.{is_post};
 
 use crate::tags::{
     ACCEPT, ACK, ALLOC, BEGIN, CLEAR, COPY, DATA, DROP, FETCH, GET, GIVE, LOAD, NEXT, PASS, PATCH,
-    POST, PUT, RECLAIM, RECLAIM_YOUNG, SCAN, SET_BYTES, SET_WORD, STORE, SWEEP, WORD,
+    POST, PUT, RECLAIM, RECLAIM_YOUNG, RESOLVE, SCAN, SET_BYTES, SET_WORD, STORE, SWEEP, WORD,
 };
 use codec::{Piece, Writer};
-use frames::writing::{add_body, put_body};
-use ids::Refusal;
+use frames::writing::{add_body, add_reference, put_body};
+use ids::{Ref, Refusal};
 use model::{Event, Scope};
 use msg::{Ack, Body, Data};
 use std::alloc::Global;
@@ -183,6 +183,19 @@ fn add_fetched(piece: &mut Piece, object: u16, label: u32, offset: u32, count: u
     piece.u32(count);
 }
 
+// ---- a reference that the program kept
+
+#[tactic(auto, using(crate::proofs::Joins::gained))]
+fn add_resolved(piece: &mut Piece, register: u16, reference: Ref)
+    requires { length piece.old + 48 ≤ GREATEST_PIECE }
+    ensures { Gains piece.old piece.new (24 ∷ resolved.spell (register, reference)) 48
+        (resolved.IsWide (register, reference)) }
+{
+    piece.u8(RESOLVE);
+    piece.u16(register);
+    add_reference(piece, reference);
+}
+
 // ---- messages and acknowledgements
 
 #[tactic(auto, unfolding(frames::specs::Formats::head), using(crate::proofs::Joins::gained))]
@@ -276,6 +289,10 @@ fn add_start(piece: &mut Piece, event: &Event)
             offset,
             count,
         } => add_fetched(piece, object, label, offset, count),
+        Event::Resolve {
+            register,
+            reference,
+        } => add_resolved(piece, register, reference),
         Event::Reclaim { scope: Scope::All } => piece.u8(RECLAIM),
         Event::Reclaim {
             scope: Scope::Young,

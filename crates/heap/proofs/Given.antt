@@ -1,8 +1,9 @@
 -- The heap of given parts, and the arena of its objects.
-use Rattle.std.proofs.Common.{◌≡◌, ℕ, ◌≤◌, List, map, get_or, arith}
+use Rattle.std.proofs.Common.{◌≡◌, ℕ, ◌<◌, ◌≤◌, List, map, get_or, Some, subst, arith}
 use Rattle.std.proofs.lemmas.List.{length-map}
 use Rattle.std.proofs.Math.ListN.{get_or-map}
 use Rattle.ids.specs.Limits.{Shaped}
+use Rattle.ids.specs.declared.names.Ref.{Ref}
 use Rattle.ids.specs.declared.limits.TheConstants.{GREATEST_SLOTS}
 use Rattle.arena.specs.Arena.{plain, IsSound}
 use Rattle.arena_slot.specs.Slot as entries
@@ -10,6 +11,8 @@ use Rattle.arena_slot.specs.declared.Slot as stored
 use Rattle.arena_slot.specs.declared.Slot.TheVariants.{Free, Occupied, Retired}
 use Rattle.model.specs.State.{Object, Slot, Heap, slot_at}
 use Rattle.model.specs.State as state
+use Rattle.model.specs.Heaps.{object_at}
+use Rattle.model.proofs.Slots.{found-object, occupied-within}
 use Rattle.heap.specs.Heap.{IsFree, IsBorn, IsSlotted, IsHeapFor, slot_of}
 
 slot_seen : (ss : List (stored.Slot Object)) (i : ℕ)
@@ -64,6 +67,17 @@ pub born : {h : Heap} {ss : List (stored.Slot Object)} {ks : List ℕ} {limit : 
     → IsSound (plain ss ks limit) → (i : ℕ) → IsBorn (slot_at h i)
 born {ss = ss} shows sound i =
     rw (slot_shown shows i) (born_seen (get_or ss i Retired) (sound.born i))
+
+-- a reference that names an object there is within the limits
+pub within-limits : {h : Heap} {ss : List (stored.Slot Object)} {ks : List ℕ} {limit : ℕ}
+    → Shows h ss ks → IsSound (plain ss ks limit) → (r : Ref) (o : Object)
+    → object_at h r ≡ Some o → (r.slot < limit) × (1 ≤ r.generation)
+within-limits {h} shows sound r o found =
+    let there = found-object h r o found in
+    let used = occupied-within h.slots r.slot r.generation o there in (
+      omega (arith, used, (slotted shows sound).within),
+      subst IsBorn there (born shows sound r.slot),
+    )
 
 -- and conversely
 pub sound_from : {h : Heap} {ss : List (stored.Slot Object)} {ks : List ℕ} {shape : Shaped}

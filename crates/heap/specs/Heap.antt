@@ -1,5 +1,6 @@
 -- The view of a `Heap` that contracts use.
-use Rattle.std.specs.Prelude.{◌≡◌, ℕ, ◌+◌, ◌≤◌, Bool, false, List, [], ◌∷◌, length, Option, Result, slice_index_or, slice_set, ⊤}
+use Rattle.std.specs.List.{list_all}
+use Rattle.std.specs.Prelude.{◌≡◌, ℕ, ◌+◌, ◌≤◌, ◌==◌, Bool, true, false, List, [], ◌∷◌, length, Option, Result, slice_index_or, slice_set, ⊤}
 pub use Rattle.arena.specs.Arena.{Has, Once}
 use Rattle.arena_slot.specs.declared.Slot as stored
 use Rattle.arena_slot.specs.declared.Slot.TheVariants as variant
@@ -8,7 +9,8 @@ use Rattle.ids.specs.declared.names.Ref.{Ref}
 use Rattle.ids.specs.declared.refusal.Refusal.{Refusal}
 use Rattle.model.specs.declared.age.Scope.{Scope}
 use Rattle.model.specs.State.{Object, Slot, Free, Occupied, Retired, Heap, slot_at}
-use Rattle.model.specs.Collecting.{Sweeping, free_some, sweep_some}
+use Rattle.model.specs.Collecting.{Sweeping, free_some, places_in, sweep_some}
+use Rattle.model.specs.Shading.{filled, is_calm, last_grey, make_all_grey, without_last_grey}
 use Rattle.model.specs.Checks.{guarded}
 use Rattle.model.specs.Reclaiming.{slot_aged, reclaim_tests, reclaiming, reclaimed}
 use Rattle.model.specs.Searching.{is_missed}
@@ -43,6 +45,26 @@ pub record Became (before after : HeapView) (h : Heap) (most : ℕ) : Type 0 whe
   pub limit : after.limit ≡ before.limit
   pub room : before.room ≤ after.room + most
   pub letter_room : after.letter_room ≡ before.letter_room
+
+-- what the places of the object hold that is scanned next
+abbrev pub next_held : Heap → List (Option Ref)
+next_held h = places_in (slot_at h (last_grey h))
+
+abbrev pub are_own : ℕ → List Ref → Bool
+are_own own rs = list_all (λ r. r.node == own) rs
+
+-- An object is to be scanned. It has at most two places, which name only objects of this node, and
+-- there is room for two that turn grey.
+pub record IsSimple (own : ℕ) (v : HeapView) : Type 0 where
+  pub grey : is_calm v.heap ≡ false
+  pub few : length (next_held v.heap) ≤ 2
+  pub named : are_own own (filled (next_held v.heap)) ≡ true
+  pub room : 2 ≤ v.room
+
+-- the heap after it was scanned
+abbrev pub scanned_own : ℕ → ℕ → Heap → Heap
+scanned_own own cycle h =
+    make_all_grey own cycle (without_last_grey h) (filled (next_held h))
 
 -- as how many a letter with these references waits
 abbrev pub entries : List (Option Ref) → ℕ

@@ -1,7 +1,7 @@
 -- The numbers, names and texts of the refusals.
 use Rattle.std.specs.Prelude.{ℕ, List, ◌++◌, codes, decimal}
 use Rattle.ids.specs.declared.refusal.Refusal.{Refusal}
-use Rattle.ids.specs.declared.refusal.Refusal.TheVariants.{Memory, ArenaFull, NoRegister, EmptyRegister, Remote, Local, NoNode, NoLetter, NoField, TooManyFields, SelfSend, LinkSpent, CyclesSpent, NotDirector, CycleRunning, NothingToDo, OutOfOrder, AckBeyond, BadFrame, WrongNode, BadImage, ImageTooLarge, Disk, Closed, TooManyBytes, NoBytes}
+use Rattle.ids.specs.declared.refusal.Refusal.TheVariants.{Memory, ArenaFull, NoRegister, EmptyRegister, Remote, Local, NoNode, NoLetter, NoField, TooManyFields, SelfSend, LinkSpent, CyclesSpent, NotDirector, CycleRunning, NothingToDo, OutOfOrder, AckBeyond, BadFrame, WrongNode, BadImage, ImageTooLarge, Disk, Closed, TooManyBytes, NoBytes, NotNow}
 
 -- the number of a refusal in texts
 abbrev pub number_of : Refusal → ℕ
@@ -31,6 +31,7 @@ number_of Disk = 23
 number_of Closed = 24
 number_of TooManyBytes = 25
 number_of NoBytes = 26
+number_of NotNow = 27
 
 -- the name of a refusal in texts
 abbrev pub name_of : Refusal → List ℕ
@@ -60,6 +61,7 @@ name_of Disk = codes "Disk"
 name_of Closed = codes "Closed"
 name_of TooManyBytes = codes "TooManyBytes"
 name_of NoBytes = codes "NoBytes"
+name_of NotNow = codes "NotNow"
 
 -- a refusal: its number and its name
 abbrev pub refusal_text : Refusal → List ℕ

@@ -63,10 +63,12 @@ pub enum Refusal {
     TooManyBytes,
     /// The object doesn't have all of these bytes.
     NoBytes,
+    /// The object isn't marked yet, and its node marks: try again once marking has ended.
+    NotNow,
 }
 
 impl Refusal {
-    /// The number of the refusal in printed texts, 1 to 26.
+    /// The number of the refusal in printed texts, 1 to 27.
     pub fn number(self) -> u8
         ensures { result ≡ number_of self }
     {
@@ -97,6 +99,7 @@ impl Refusal {
             Refusal::Closed => 24,
             Refusal::TooManyBytes => 25,
             Refusal::NoBytes => 26,
+            Refusal::NotNow => 27,
         }
     }
 
@@ -131,6 +134,7 @@ impl Refusal {
             Refusal::Closed => "Closed",
             Refusal::TooManyBytes => "TooManyBytes",
             Refusal::NoBytes => "NoBytes",
+            Refusal::NotNow => "NotNow",
         }
     }
 }

@@ -48,6 +48,8 @@ no-node-refuses (event.Ack a) own passed = absurd cc
 no-node-refuses (event.Alloc register places) own passed = nothing-below-zero register passed.0
 no-node-refuses (event.Copy register source) own passed = nothing-below-zero register passed.0
 no-node-refuses (event.Drop register) own passed = nothing-below-zero register passed.0
+no-node-refuses (event.Resolve register reference) own passed =
+    nothing-below-zero register passed.0
 no-node-refuses (event.Load register object place) own passed = nothing-below-zero register passed.0
 no-node-refuses (event.Store object place register) own passed = nothing-below-zero object passed.0
 no-node-refuses (event.Clear object place) own passed = nothing-below-zero object passed.0

@@ -169,7 +169,7 @@ module _ {shape : Shaped} {c d : Cut} (h : Beginning shape c d) where
       let at3b : c3 0 ≡ with_token (worked s w) (Some new_token) = at3 ∙ worked_is in
       let wide : w.local.shape.nodes ≡ shape.nodes =
       ap (λ (z : Shaped). z.nodes)
-      ((join-walks stands-walks.collects s.local coming (omega arith)).shape
+      ((join-walks stands-walks.moves.collects s.local coming (omega arith)).shape
       ∙ h.inv.base.shapes 0 begin-inside) in
       let to : ℕ = w.local.shape.nodes - 1 in
       let last : suc to ≡ shape.nodes = omega (arith, wide, h.several) in

@@ -1,5 +1,5 @@
 -- Each cut after a step is a cut before it, or one that a plain step followed.
-use Rattle.std.proofs.Common.{◌≡◌, ℕ, ◌≢◌, ◌+◌, ◌-◌, ◌<◌, Bool, true, false, cond, eqb, eq-eqb, ◌==◌, ne_eqb, ltb, lt-ltb, List, [], ◌∷◌, length, set, Option, Some, None, slice_get, Ok, refl, sym, ap, ◌∙◌, subst, ⊎_elim, get_or-set_same, get_or-set_other, arith, le_refl}
+use Rattle.std.proofs.Common.{◌≡◌, ℕ, ◌≢◌, ◌+◌, ◌-◌, ◌<◌, Bool, true, false, cond, eqb, eq-eqb, ◌==◌, ne_eqb, ltb, lt-ltb, List, [], ◌∷◌, length, set, Option, Some, None, slice_get, Result, Ok, refl, sym, ap, ◌∙◌, subst, ⊎_elim, get_or-set_same, get_or-set_other, arith, le_refl}
 use Rattle.std.proofs.lemmas.Bool.{cond_both, cond-true, cond-false, cases_Bool, cases_eq}
 use Rattle.std.proofs.lemmas.List.{set-get_or}
 use Rattle.std.proofs.Math.Path.{fun_ext}
@@ -7,28 +7,39 @@ use Rattle.msg.specs.declared.body.Message.{Message}
 use Rattle.model.specs.declared.event.Event.{Event}
 use Rattle.model.specs.declared.event.Answer.{Answer}
 use Rattle.model.specs.declared.step.Step.{Step}
+use Rattle.model.specs.declared.step.Outcome.{Outcome}
+use Rattle.ids.specs.declared.refusal.Refusal.{Refusal}
 use Rattle.model.specs.State.{NodeState, no_node, node_at, sent_to, got_from}
 use Rattle.model.specs.Steps.{act, receive}
-use Rattle.model.specs.World.{World, KeepsSent, released, numbered, new_world, happens, run}
+use Rattle.model.specs.World.{World, KeepsSent, released, numbered, new_world, happens, outcome_of, run, take_step}
 use Rattle.model.specs.Cuts.{Cut, cut, taken, IsInFlight, Becomes, PlainStep, acts, delivers, PlainRun, still, further}
-use Rattle.ids.specs.Limits.{Shaped, IsShape}
+use Rattle.ids.specs.Limits.{Shaped}
 use Rattle.model.specs.declared.step.Step.TheVariants as step
-use Rattle.laws.specs.Statements.{OfEveryRun, CutsExtend, StaysUp}
+use Rattle.laws.specs.Statements.{OfEveryRun, CutsExtend, StaysUp, IfDone, EachDone}
 use Rattle.laws.specs.Sights.{choosing}
 use Rattle.model.proofs.Lookups.{at_set_if}
 use Rattle.laws.proofs.Lookups.{Grows, grows-refl, slice_get-grows}
-use Rattle.laws.proofs.StepFacts.{Delivery, given_to, IsTurnOf, IsReleased, Acted, Delivered, Happening, nothing, acted, delivered, saved, restarted, happening, Receipt, repeated, next, receipt-cases}
+use Rattle.laws.proofs.StepFacts.{Delivery, given_to, IsTurnOf, IsReleased, Acted, Delivered, Happening, nothing, acted, delivered, saved, restarted, happening, acted-done, Receipt, repeated, next, receipt-cases}
 use Rattle.laws.proofs.KeepsSent.{keeps-sent, new-keeps-sent}
 
--- one plain run after another
-pub run-run : {c d e : Cut} → PlainRun c d → PlainRun d e → PlainRun c e
-run-run {c = c} {d = d} {e = e} p (still same) =
-    subst (λ (z : Cut). PlainRun c z) (sym (fun_ext same)) p
-run-run p (further q s) = further (run-run p q) s
+-- A plain run whose nodes' own events all have a property.
+abbrev pub HasEvent : (P : Event → Type 0) {c d : Cut} → PlainStep c d → Type 0
+HasEvent P (acts i e s a own answered becomes) = P e
+HasEvent P (delivers from to x s a flight answered becomes) = Unit {0}
 
--- one plain step
-one-step : {c d : Cut} → PlainStep c d → PlainRun c d
-one-step {c = c} s = further (still (λ i. refl)) s
+pub data RunOf (P : Event → Type 0) (c : Cut) : Cut → Type 0 where
+  rests : {d : Cut} → ((i : ℕ) → d i ≡ c i) → RunOf P c d
+  steps_on : {d e : Cut} → RunOf P c d → (s : PlainStep d e) → HasEvent P s → RunOf P c e
+
+pub plain-run : {P : Event → Type 0} {c d : Cut} → RunOf P c d → PlainRun c d
+plain-run (rests same) = still same
+plain-run (steps_on before s has) = further (plain-run before) s
+
+-- one run after another
+run-run : {P : Event → Type 0} {c d e : Cut} → RunOf P c d → RunOf P d e → RunOf P c e
+run-run {P = P} {c = c} {d = d} {e = e} p (rests same) =
+    subst (λ (z : Cut). RunOf P c z) (sym (fun_ext same)) p
+run-run p (steps_on q s has) = steps_on (run-run p q) s has
 
 -- the cut has the current state if that is chosen
 pub current-chosen : (w : World) (choice : ℕ → Bool) (i : ℕ) → choice i ≡ false
@@ -42,7 +53,7 @@ cut-sent w choice i j h =
     cond_both (choice i) (node_at w.saved i) (node_at w.current i)
     (λ z. Grows (sent_to (node_at w.saved i) j) (sent_to z j)) (λ _. grows-refl _) (λ _. h.sent i j)
 
-numbered-at : (sent : List Message) (k : ℕ) (x : Message) → numbered sent (k + 1) ≡ Some x
+pub numbered-at : (sent : List Message) (k : ℕ) (x : Message) → numbered sent (k + 1) ≡ Some x
     → slice_get sent k ≡ Some x
 numbered-at sent k x h =
     let back : k ≡ k + 1 - 1 = omega arith in
@@ -87,8 +98,8 @@ cut-in_flight w choice m h chosen there turn = record {
 }
 
 -- the cuts before and after
-abbrev Before : World → Cut → Type 0
-Before w d = (earlier : ℕ → Bool) × PlainRun (cut w earlier) d
+abbrev Before : (Event → Type 0) → World → Cut → Type 0
+Before P w d = (earlier : ℕ → Bool) × RunOf P (cut w earlier) d
 
 -- the current state of a node changes
 module _ (w : World) (i : ℕ) (t : NodeState) (choice : ℕ → Bool) where
@@ -114,55 +125,63 @@ module _ (w : World) (i : ℕ) (t : NodeState) (choice : ℕ → Bool) where
         (get_or-set_other w.current i j t no_node other);
   }
 
-  changed-by : i < length w.current
+  changed-by : (P : Event → Type 0) → i < length w.current
       → (choice i ≡ false → Becomes (cut w choice) after_change i t
-      → PlainStep (cut w choice) after_change) → Before w after_change
-  changed-by within step = (
+      → (s : PlainStep (cut w choice) after_change) × HasEvent P s) → Before P w after_change
+  changed-by P within step = (
     choice,
-    ⊎_elim {C = PlainRun (cut w choice) after_change}
-        (λ chosen. still (hidden chosen))
-        (λ chosen. one-step (step chosen (shown within chosen)))
+    ⊎_elim {C = RunOf P (cut w choice) after_change}
+        (λ chosen. rests (hidden chosen))
+        (λ chosen.
+        let x = step chosen (shown within chosen) in steps_on (rests (λ j. refl)) x.0 x.1)
         (cases_Bool (choice i)),
   )
 
   -- nothing changed
-  same-world : t ≡ node_at w.current i → PlainRun (cut w choice) after_change
-  same-world same =
+  same-world : (P : Event → Type 0) → t ≡ node_at w.current i
+      → RunOf P (cut w choice) after_change
+  same-world P same =
       let states : set w.current i t ≡ w.current =
       ap (λ (z : NodeState). set w.current i z) same ∙ set-get_or w.current i no_node in
       subst
-      (λ (z : List NodeState). PlainRun (cut w choice) (cut (record w { current = z }) choice))
-      (sym states) (still (λ j. refl))
+      (λ (z : List NodeState). RunOf P (cut w choice) (cut (record w { current = z }) choice))
+      (sym states) (rests (λ j. refl))
 
-cut-acted : {i : ℕ} {e : Event} {t : NodeState} {a : Answer} (w : World) (choice : ℕ → Bool)
-    → Acted w i e t a → Before w (after_change w i t choice)
-cut-acted {i = i} {e = e} {t = t} {a = a} w choice x =
-    changed-by w i t choice x.within
-    (λ chosen becomes.
-    acts i e t a x.own (subst (λ (z : NodeState). act z e ≡ Ok (t, a))
-    (sym (current-chosen w choice i chosen)) x.answered) becomes)
+cut-acted : (P : Event → Type 0) {i : ℕ} {e : Event} {t : NodeState} {a : Answer} (w : World)
+    (choice : ℕ → Bool) → Acted w i e t a → P e → Before P w (after_change w i t choice)
+cut-acted P {i = i} {e = e} {t = t} {a = a} w choice x has =
+    changed-by w i t choice P x.within
+    (λ chosen becomes. (
+      acts i e t a x.own (subst (λ (z : NodeState). act z e ≡ Ok (t, a))
+          (sym (current-chosen w choice i chosen)) x.answered) becomes,
+      has,
+    ))
 
-cut-received : {m : Delivery} {t : NodeState} {a : Answer} {d : Cut} (w : World) (choice : ℕ → Bool)
+cut-received : (P : Event → Type 0) {m : Delivery} {t : NodeState} {a : Answer} {d : Cut} (w : World)
+    (choice : ℕ → Bool)
     → KeepsSent w → Delivered w m t a → IsTurnOf (node_at w.current m.to) m → choice m.to ≡ false
-    → Becomes (cut w choice) d m.to t → PlainStep (cut w choice) d
-cut-received {m = m} {t = t} {a = a} w choice h x turn chosen becomes =
+    → Becomes (cut w choice) d m.to t → (s : PlainStep (cut w choice) d) × HasEvent P s
+cut-received P {m = m} {t = t} {a = a} w choice h x turn chosen becomes =
     let here : node_at w.current m.to ≡ cut w choice m.to =
-    sym (current-chosen w choice m.to chosen) in
-    delivers m.from m.to m.message t a (cut-in_flight w choice m h chosen x.there turn)
-    (subst (λ (k : ℕ).
-    receive (cut w choice m.to) m.from m.to k m.message.stamp m.message.body ≡ Ok (t, a))
-    (turn-number w choice m chosen turn)
-    (subst (λ (z : NodeState). given_to z m ≡ Ok (t, a)) here x.answered))
-    becomes
+    sym (current-chosen w choice m.to chosen) in (
+      delivers m.from m.to m.message t a (cut-in_flight w choice m h chosen x.there turn)
+          (subst (λ (k : ℕ).
+          receive (cut w choice m.to) m.from m.to k m.message.stamp m.message.body ≡ Ok (t, a))
+          (turn-number w choice m chosen turn)
+          (subst (λ (z : NodeState). given_to z m ≡ Ok (t, a)) here x.answered))
+          becomes,
+      tt,
+    )
 
-cut-delivered : {m : Delivery} {t : NodeState} {a : Answer} (w : World) (choice : ℕ → Bool)
+cut-delivered : (P : Event → Type 0) {m : Delivery} {t : NodeState} {a : Answer} (w : World)
+    (choice : ℕ → Bool)
     → KeepsSent w → Delivered w m t a → Receipt (node_at w.current m.to) m t a
-    → Before w (after_change w m.to t choice)
-cut-delivered {m = m} {t = t} w choice h x (repeated same says) =
-    (choice, same-world w m.to t choice same)
-cut-delivered {m = m} {t = t} w choice h x (next turn may found) =
-    changed-by w m.to t choice x.within
-    (λ chosen becomes. cut-received w choice h x turn chosen becomes)
+    → Before P w (after_change w m.to t choice)
+cut-delivered P {m = m} {t = t} w choice h x (repeated same says) =
+    (choice, same-world w m.to t choice P same)
+cut-delivered P {m = m} {t = t} w choice h x (next turn may found) =
+    changed-by w m.to t choice P x.within
+    (λ chosen becomes. cut-received P w choice h x turn chosen becomes)
 
 -- After a save or a restart a node's current and saved states are the same, one that it had before.
 either : (b : Bool) (x y : NodeState) → x ≡ y → cond b x y ≡ y
@@ -213,25 +232,29 @@ cut-restarted w i choice within j =
     ap (λ (z : NodeState). cond (choice j) (node_at w.saved j) z)
     (get_or-set_other w.current i j (node_at w.saved i) no_node other))
 
-cut-happening : {s : Step} (w v : World) (choice : ℕ → Bool) → Happening w s v → KeepsSent w
-    → Before w (cut v choice)
-cut-happening w v choice nothing h = (choice, still (λ j. refl))
-cut-happening w v choice (acted i e t a x) h = cut-acted w choice x
-cut-happening w v choice (delivered m t a x) h =
-    cut-delivered w choice h x (receipt-cases (node_at w.current m.to) m t a x.answered)
-cut-happening w v choice (saved i within) h =
+cut-happening : (P : Event → Type 0) {s : Step} (w v : World) (choice : ℕ → Bool)
+    → Happening w s v → IfDone P s (outcome_of (take_step w s)) → KeepsSent w
+    → Before P w (cut v choice)
+cut-happening P w v choice nothing done h = (choice, rests (λ j. refl))
+cut-happening P w v choice (acted i e t a is x) done h =
+    cut-acted P w choice x
+    (acted-done P x
+    (subst (λ (z : Step). IfDone P z (outcome_of (take_step w z))) is done))
+cut-happening P w v choice (delivered m t a x) done h =
+    cut-delivered P w choice h x (receipt-cases (node_at w.current m.to) m t a x.answered)
+cut-happening P w v choice (saved i within) done h =
     let inside : i < length w.saved = omega (arith, h.width) in
-    (choosing choice i false, still (cut-saved w i choice inside))
-cut-happening w v choice (restarted i is within) h =
-    (choosing choice i true, still (cut-restarted w i choice within))
+    (choosing choice i false, rests (cut-saved w i choice inside))
+cut-happening P w v choice (restarted i is within) done h =
+    (choosing choice i true, rests (cut-restarted w i choice within))
 
 -- the same for a list of steps
-cut-run : (w : World) (steps : List Step) (choice : ℕ → Bool) → KeepsSent w
-    → Before w (cut (run w steps) choice)
-cut-run w [] choice h = (choice, still (λ j. refl))
-cut-run w (s ∷ ss) choice h =
-    let later = cut-run (happens w s) ss choice (keeps-sent w s h) in
-    let first = cut-happening w (happens w s) later.0 (happening w s) h in
+cut-run : (P : Event → Type 0) (w : World) (steps : List Step) (choice : ℕ → Bool)
+    → EachDone P w steps → KeepsSent w → Before P w (cut (run w steps) choice)
+cut-run P w [] choice done h = (choice, rests (λ j. refl))
+cut-run P w (s ∷ ss) choice done h =
+    let later = cut-run P (happens w s) ss choice done.1 (keeps-sent w s h) in
+    let first = cut-happening P w (happens w s) later.0 (happening w s) done.0 h in
     (first.0, run-run first.1 later.1)
 
 pub run-keeps-sent : (w : World) (steps : List Step) → KeepsSent w → KeepsSent (run w steps)
@@ -239,45 +262,73 @@ run-keeps-sent w [] h = h
 run-keeps-sent w (s ∷ ss) h = run-keeps-sent (happens w s) ss (keeps-sent w s h)
 
 -- A node whose current state is chosen goes on from its current state, unless it restarts.
-kept-delivered : {m : Delivery} {t : NodeState} {a : Answer} (w : World) (choice : ℕ → Bool)
-    (h : KeepsSent w) (x : Delivered w m t a) (r : Receipt (node_at w.current m.to) m t a) (i : ℕ)
-    → (cut-delivered w choice h x r).0 i ≡ choice i
+kept-delivered : (P : Event → Type 0) {m : Delivery} {t : NodeState} {a : Answer} (w : World)
+    (choice : ℕ → Bool) (h : KeepsSent w) (x : Delivered w m t a)
+    (r : Receipt (node_at w.current m.to) m t a) (i : ℕ)
+    → (cut-delivered P w choice h x r).0 i ≡ choice i
 unfolding cut-delivered changed-by
-kept-delivered w choice h x (repeated same says) i = refl
-kept-delivered w choice h x (next turn may found) i = refl
+kept-delivered P w choice h x (repeated same says) i = refl
+kept-delivered P w choice h x (next turn may found) i = refl
 
-kept-happening : {s : Step} (w v : World) (choice : ℕ → Bool) (x : Happening w s v)
-    (h : KeepsSent w) (i : ℕ) → s ≢ step.Restart i → choice i ≡ false
-    → (cut-happening w v choice x h).0 i ≡ false
+kept-happening : (P : Event → Type 0) {s : Step} (w v : World) (choice : ℕ → Bool)
+    (x : Happening w s v) (done : IfDone P s (outcome_of (take_step w s))) (h : KeepsSent w) (i : ℕ)
+    → s ≢ step.Restart i → choice i ≡ false
+    → (cut-happening P w v choice x done h).0 i ≡ false
 unfolding cut-happening cut-acted changed-by
-kept-happening w v choice nothing h i other chosen = chosen
-kept-happening w v choice (acted j e t a x) h i other chosen = chosen
-kept-happening w v choice (delivered m t a x) h i other chosen =
-    kept-delivered w choice h x (receipt-cases (node_at w.current m.to) m t a x.answered) i ∙ chosen
-kept-happening w v choice (saved j within) h i other chosen =
+kept-happening P w v choice nothing done h i other chosen = chosen
+kept-happening P w v choice (acted j e t a is x) done h i other chosen = chosen
+kept-happening P w v choice (delivered m t a x) done h i other chosen =
+    kept-delivered P w choice h x (receipt-cases (node_at w.current m.to) m t a x.answered) i
+    ∙ chosen
+kept-happening P w v choice (saved j within) done h i other chosen =
     cond_both (eqb i j) false (choice i) (λ z. z ≡ false) (λ _. refl) (λ _. chosen)
-kept-happening w v choice (restarted j is within) h i other chosen =
+kept-happening P w v choice (restarted j is within) done h i other chosen =
     let apart : i ≢ j = λ e. other (is ∙ ap step.Restart (sym e)) in
     cond-false (eqb i j) true (choice i) (ne_eqb i j apart) ∙ chosen
 
-kept-run : (w : World) (steps : List Step) (choice : ℕ → Bool) (h : KeepsSent w) (i : ℕ)
-    → StaysUp i steps → choice i ≡ false → (cut-run w steps choice h).0 i ≡ false
+kept-run : (P : Event → Type 0) (w : World) (steps : List Step) (choice : ℕ → Bool)
+    (done : EachDone P w steps) (h : KeepsSent w) (i : ℕ)
+    → StaysUp i steps → choice i ≡ false → (cut-run P w steps choice done h).0 i ≡ false
 unfolding cut-run
-kept-run w [] choice h i stays chosen = chosen
-kept-run w (s ∷ ss) choice h i stays chosen =
-    let later = cut-run (happens w s) ss choice (keeps-sent w s h) in
-    kept-happening w (happens w s) later.0 (happening w s) h i stays.0
-    (kept-run (happens w s) ss choice (keeps-sent w s h) i stays.1 chosen)
+kept-run P w [] choice done h i stays chosen = chosen
+kept-run P w (s ∷ ss) choice done h i stays chosen =
+    let later = cut-run P (happens w s) ss choice done.1 (keeps-sent w s h) in
+    kept-happening P w (happens w s) later.0 (happening w s) done.0 h i stays.0
+    (kept-run P (happens w s) ss choice done.1 (keeps-sent w s h) i stays.1 chosen)
+
+-- Every event has the property that all have.
+abbrev AnyEvent : Event → Type 0
+AnyEvent e = Unit {0}
+
+any-done : (s : Step) (r : Result Outcome Refusal) → IfDone AnyEvent s r
+any-done (step.Act i e) (Ok o) = tt
+any-done s r = tt
+
+pub all-done : (w : World) (steps : List Step) → EachDone AnyEvent w steps
+all-done w [] = tt
+all-done w (s ∷ ss) = (any-done s (outcome_of (take_step w s)), all-done (happens w s) ss)
+
+-- The cut before some steps of a run from which the cut after them comes, and how.
+pub cut-before : (P : Event → Type 0) (shape : Shaped) (earlier later : List Step)
+    (choice : ℕ → Bool) → EachDone P (run (new_world shape) earlier) later
+    → (before : ℕ → Bool) × RunOf P (cut (run (new_world shape) earlier) before)
+    (cut (run (run (new_world shape) earlier) later) choice)
+cut-before P shape earlier later choice done =
+    cut-run P (run (new_world shape) earlier) later choice done
+    (run-keeps-sent (new_world shape) earlier (new-keeps-sent shape))
 
 pub cuts-extend : OfEveryRun CutsExtend
 cuts-extend shape within earlier later choice =
-    cut-run (run (new_world shape) earlier) later choice
-    (run-keeps-sent (new_world shape) earlier (new-keeps-sent shape))
+    let before =
+    cut-before AnyEvent shape earlier later choice
+    (all-done (run (new_world shape) earlier) later) in
+    (before.0, plain-run before.1)
 
-pub kept-current : (shape : Shaped) (limits : IsShape shape) (earlier later : List Step)
-    (choice : ℕ → Bool) (i : ℕ) → StaysUp i later → choice i ≡ false
-    → (cuts-extend shape limits earlier later choice).0 i ≡ false
-unfolding cuts-extend cut-run
-kept-current shape limits earlier later choice i stays chosen =
-    kept-run (run (new_world shape) earlier) later choice
+pub kept-current : (P : Event → Type 0) (shape : Shaped) (earlier later : List Step)
+    (choice : ℕ → Bool) (done : EachDone P (run (new_world shape) earlier) later) (i : ℕ)
+    → StaysUp i later → choice i ≡ false
+    → (cut-before P shape earlier later choice done).0 i ≡ false
+unfolding cut-before cut-run
+kept-current P shape earlier later choice done i stays chosen =
+    kept-run P (run (new_world shape) earlier) later choice done
     (run-keeps-sent (new_world shape) earlier (new-keeps-sent shape)) i stays chosen

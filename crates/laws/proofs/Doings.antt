@@ -25,6 +25,7 @@ use Rattle.laws.proofs.Slots.{object-where, object-placed}
 use Rattle.laws.proofs.Invariant.{FreeSlots}
 use Rattle.laws.proofs.Past.{PastAt, occupied-past, new-not_past}
 use Rattle.laws.proofs.GoodHeaps.{own_reference}
+use Rattle.laws.proofs.Resolving.{resolved-there}
 use Rattle.model.proofs.Naming.{same-is, is-same}
 use Rattle.laws.proofs.Things.{desk_of, Kept, kept-same, kept-desk, still-remembering, LivesIn, lives-rewritten, rewriting-back, posts, posts-append, IsQuiet, quiet-posts, quiet-append}
 use Rattle.laws.proofs.Unseen.{none-quiet, calm-collects, calm-shares}
@@ -362,6 +363,9 @@ own-does p counts (event.Copy register source) is d =
 own-does p counts (event.Drop register) is d =
     effects-desk _ (ap (λ (z : Heap). with_register z register None) d.here.desk) d.here.lives
     none-quiet
+own-does p counts (event.Resolve register reference) is d =
+    effects-desk _ (ap (λ (z : Heap). with_register z register (Some reference)) d.here.desk)
+    d.here.lives none-quiet
 own-does p counts (event.Load register object place) is d =
     own-loads p counts register object place d
 own-does {s = s} p counts (event.Store object place register) is d =
@@ -459,6 +463,14 @@ own-answers p counts (event.Post to label first count bytes) is d = (_, refl)
 own-answers p counts (event.Fetch object label offset count) is d = (_, refl)
 own-answers p counts (event.Put object place register) is d = (_, refl)
 own-answers p counts (event.Get object place label) is d = (_, refl)
+own-answers {s = s} p counts (event.Resolve register reference) is d =
+    let x = resolved-there p register reference d.passed in (
+      refl,
+      thing_of x.object,
+      subst (λ (z : ℕ).
+          s.objects (own_reference z reference.slot reference.generation) ≡ Some (thing_of x.object))
+          (sym x.own) (d.here.lives reference.slot reference.generation x.object x.there),
+    )
 own-answers p counts (event.Reclaim scope) never d = absurd cc
 own-answers p counts event.Begin never d = absurd cc
 own-answers p counts event.Scan never d = absurd cc

@@ -1,5 +1,5 @@
 -- What is good in a cut, and that each plain step keeps it.
-use Rattle.std.proofs.Common.{◌≡◌, ℕ, ◌+◌, ◌<◌, ◌≤◌, leb-true, true, List, [], length, map, refl, sym, ◌∙◌, subst, ⊎_elim, inl, arith}
+use Rattle.std.proofs.Common.{◌≡◌, ℕ, ◌+◌, ◌<◌, ◌≤◌, leb-true, true, List, [], length, map, refl, sym, ◌∙◌, subst, ⊎_elim, inl, inr, arith, Some}
 use Rattle.std.proofs.lemmas.Bool.{and_parts, or_cases}
 use Rattle.std.proofs.Math.Path.{fun_ext}
 use Rattle.ids.specs.Limits.{Shaped}
@@ -7,6 +7,7 @@ use Rattle.ids.specs.declared.names.Ref.{Ref}
 use Rattle.msg.specs.declared.body.Body.{Body}
 use Rattle.msg.specs.declared.body.Body.TheVariants as body
 use Rattle.msg.specs.declared.body.Message.{Message}
+use Rattle.model.specs.declared.event.Event.{Event}
 use Rattle.model.specs.Checks.{AllPass}
 use Rattle.model.specs.State.{LocalState, NodeState}
 use Rattle.model.specs.Heaps.{new_reference}
@@ -14,6 +15,8 @@ use Rattle.model.specs.Effects.{Effect}
 use Rattle.model.specs.Steps.{tests, made, may_reach, may_take, taken_in, is_addressed}
 use Rattle.model.specs.Cuts.{Cut, taken, IsInFlight, Becomes, PlainStep, acts, delivers}
 use Rattle.model.proofs.Leaving.{own-stands, taken-stands}
+use Rattle.laws.specs.Statements.{resolved}
+use Rattle.laws.proofs.Cuts.{HasEvent}
 use Rattle.laws.proofs.StepFacts.{act-ok, Receipt, repeated, next, receipt-cases}
 use Rattle.laws.proofs.Turns.{Turn, at_becomes, at_turn, flew}
 use Rattle.laws.proofs.Invariant.{phases_of, BodyFits, Inv}
@@ -115,9 +118,13 @@ module _ {shape : Shaped} {c : Cut} {from to : ℕ} {x : Message}
 
 -- ---- plain steps
 
+-- if what is resolved is good
+abbrev pub BringsGood : (Ref → Type 0) → Event → Type 0
+BringsGood G e = (r : Ref) → resolved e ≡ Some r → G r
+
 pub plain-good : {shape : Shaped} {G : Ref → Type 0} {since : ℕ} {c d : Cut} → Inv shape c
-    → PlainStep c d → GoodCut G since c → GoodCut G since d
-plain-good {c = c} {d = d} inv (acts i e s a own answered becomes) good =
+    → (s : PlainStep c d) → HasEvent (BringsGood G) s → GoodCut G since c → GoodCut G since d
+plain-good {c = c} {d = d} inv (acts i e s a own answered becomes) back good =
     let p : LocalState = (c i).local in
     let counts : List ℕ = map length (c i).sent in
     let x : Effect = made p counts e in
@@ -130,10 +137,10 @@ plain-good {c = c} {d = d} inv (acts i e s a own answered becomes) good =
     } in
     turn-good turn
     (own-good p counts e own found.passed (ready inv inside) (λ _. unmade-good inv inside good)
-    (good.part i))
+    (λ r is. inr (back r is)) (good.part i))
     (ages-own p counts e own (inv.tidy i).free) good
 plain-good {shape = shape} {G = G} {since = since} {c = c} {d = d} inv
-    (delivers from to x s a flight answered becomes) good =
+    (delivers from to x s a flight answered becomes) back good =
     by (receipt-cases (c to) (first_in_flight c from to x) s a answered)
   where
     by : Receipt (c to) (first_in_flight c from to x) s a → GoodCut G since d

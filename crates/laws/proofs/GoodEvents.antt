@@ -1,5 +1,5 @@
 -- A node's own events keep what is good, and so does a message that it receives.
-use Rattle.std.proofs.Common.{◌≡◌, ℕ, suc, ◌+◌, ◌-◌, ◌<◌, ◌≤◌, ◌==◌, ltb, ltb-true, true, false, not, cond, List, [], ◌∷◌, length, take, Option, None, Some, option_to_list, refl, sym, ap, ◌∙◌, subst, ⊎_elim, inl, inr, arith, le_refl}
+use Rattle.std.proofs.Common.{◌≡◌, ℕ, suc, ◌+◌, ◌-◌, ◌<◌, ◌≤◌, ◌⊎◌, ◌==◌, ltb, ltb-true, true, false, not, cond, List, [], ◌∷◌, length, take, Option, None, Some, option_to_list, refl, sym, ap, ◌∙◌, subst, ⊎_elim, inl, inr, arith, le_refl}
 use Rattle.std.proofs.lemmas.Bool.{cases_lt, cond_both, eqb-true, eq-eqb, not-true, not_from_true, and_parts}
 use Rattle.ids.specs.declared.names.Ref.{Ref}
 use Rattle.msg.specs.declared.body.Body.{Body}
@@ -26,11 +26,13 @@ use Rattle.model.proofs.Leaving.{stands-walks}
 use Rattle.model.proofs.Shading.{see_to-none}
 use Rattle.model.proofs.Joining.{join-phases}
 use Rattle.model.proofs.Walk.{joined-walks, carried-walks, taken-roots}
+use Rattle.laws.specs.Statements.{resolved}
+use Rattle.laws.proofs.Resolving.{resolved-there}
 use Rattle.laws.proofs.Lookups.{any-list, any-there, all-among}
 use Rattle.laws.proofs.Invariant.{Tidy}
 use Rattle.laws.proofs.Dressing.{option-holds}
 use Rattle.laws.proofs.Sweeps.{SweptHeap, swept-some, Lessens, swept-lessens, reclaimed-lessens}
-use Rattle.laws.proofs.GoodHeaps.{read-good, last-among, fewer-among, grey-good, heap-rooted, heap-registered, heap-fewer_grey, heap-rewritten, heap-placed, word-good, bytes-good, heap-object, heap-less}
+use Rattle.laws.proofs.GoodHeaps.{own_reference, read-good, last-among, fewer-among, grey-good, heap-rooted, heap-registered, heap-fewer_grey, heap-rewritten, heap-placed, word-good, bytes-good, heap-object, heap-less}
 use Rattle.laws.proofs.Good.{GoodPart, GoodMessage, GoodDone, done-quiet, done-through, part-with, part-ringed, idle-good, append-good, post-good, announce-good, join-good, see-good}
 use Rattle.model.proofs.References.{holds-filled, contents-any}
 use Rattle.laws.proofs.Acting.{all-from}
@@ -218,24 +220,36 @@ abbrev pub IsAlloc : Event → Type 0
 IsAlloc (event.Alloc register places) = Unit {0}
 IsAlloc e = ⊥
 
--- if the reference of an object that is made is good
+-- what a Resolve brings back is marked in the node's cycle
+resolved-good : {G : Ref → Type 0} {since : ℕ} (p : LocalState) (register : ℕ) (r : Ref)
+    → AllPass (tests p (event.Resolve register r)) → GoodPart G since p → since ≤ p.phases.cycle
+    → G r
+resolved-good {G = G} {since = since} p register r passes good there =
+    let x = resolved-there p register r passes in
+    subst (λ (z : ℕ). G (own_reference z r.slot r.generation)) (sym x.own)
+    (good.heap.marks r.slot r.generation x.object x.there
+    (let w = x.marked in omega (arith, w, there)))
+
+-- If the reference of an object that is made is good, and what is resolved before the cycle
+-- `since`.
 pub own-good : {G : Ref → Type 0} {since : ℕ} (p : LocalState) (counts : List ℕ) (e : Event)
     → is_own e ≡ true → AllPass (tests p e) → Ready p
-    → (IsAlloc e → G (new_reference p.own p.heap)) → GoodPart G since p
+    → (IsAlloc e → G (new_reference p.own p.heap))
+    → ((r : Ref) → resolved e ≡ Some r → (since ≤ p.phases.cycle) ⊎ G r) → GoodPart G since p
     → GoodDone G since (made p counts e).local (made p counts e).sends
 unfolding scanned
-own-good p counts (event.Alloc register places) own passes r new good =
+own-good p counts (event.Alloc register places) own passes r new back good =
     done-quiet (part-with _ good
     (heap-registered register (Some (new_reference p.own p.heap))
     (heap-object (not p.shape.wide) places r.tidy.free good.phase (new tt) good.heap)
     (new tt)))
-own-good p counts (event.Copy register source) own passes r new good =
+own-good p counts (event.Copy register source) own passes r new back good =
     done-quiet (part-with _ good
     (heap-registered register (register_at p.heap source) good.heap
     (good.heap.roots.registers source)))
-own-good p counts (event.Drop register) own passes r new good =
+own-good p counts (event.Drop register) own passes r new back good =
     done-quiet (part-with _ good (heap-registered register None good.heap tt))
-own-good {G = G} p counts (event.Load register object place) own passes r new good =
+own-good {G = G} p counts (event.Load register object place) own passes r new back good =
     let v : Option Ref = place_loaded p.heap object place in
     let is : IfAny G v =
     read-good (named p.heap object) place good.heap
@@ -245,40 +259,40 @@ own-good {G = G} p counts (event.Load register object place) own passes r new go
     let first = see-good true (option_to_list v) p good (λ _. option-good G v is) in
     done-through first
     (done-quiet (part-with _ first.part (heap-registered register v first.part.heap is)))
-own-good p counts (event.Store object place register) own passes r new good =
+own-good p counts (event.Store object place register) own passes r new back good =
     done-quiet (part-with _ good
     (heap-placed p.own (named p.heap object) place (register_at p.heap register)
     (good.heap.roots.registers register) good.heap))
-own-good p counts (event.Clear object place) own passes r new good =
+own-good p counts (event.Clear object place) own passes r new back good =
     done-quiet (part-with _ good
     (heap-placed p.own (named p.heap object) place None tt good.heap))
-own-good p counts (event.Word object) own passes r new good = done-quiet good
-own-good p counts (event.SetWord object word) own passes r new good =
+own-good p counts (event.Word object) own passes r new back good = done-quiet good
+own-good p counts (event.SetWord object word) own passes r new back good =
     done-quiet (part-with _ good
     (heap-rewritten (named p.heap object) _ (word-good word) good.heap))
-own-good p counts (event.SetBytes object bytes) own passes r new good =
+own-good p counts (event.SetBytes object bytes) own passes r new back good =
     done-quiet (part-with _ good
     (heap-rewritten (named p.heap object) _ (bytes-good (λ _. bytes.now)) good.heap))
-own-good p counts (event.Patch object offset bytes) own passes r new good =
+own-good p counts (event.Patch object offset bytes) own passes r new back good =
     done-quiet (part-with _ good
     (heap-rewritten (named p.heap object) _
     (bytes-good (λ old. overwritten old offset bytes.now)) good.heap))
-own-good p counts (event.Give to label register) own passes r new good =
+own-good p counts (event.Give to label register) own passes r new back good =
     post-good to (body.Give label (register_at p.heap register)) p
     (give-good p.phases.cycle label (register_at p.heap register)
     (good.heap.roots.registers register)) good
-own-good {G = G} p counts (event.Post to label first count bytes) own passes r new good =
+own-good {G = G} p counts (event.Post to label first count bytes) own passes r new back good =
     let rs : List (Option Ref) = contents p.heap first count in
     let known : AllByRecursion G (filled rs) =
     holds-filled G rs (contents-any G p.heap first count good.heap.roots.registers) in
     post-good to (body.Post label rs bytes.now) p
     (post-is-good p.phases.cycle label rs bytes.now (λ r a. all-among G (filled rs) known r a)) good
-own-good {G = G} p counts (event.Fetch object label offset count) own passes r new good =
+own-good {G = G} p counts (event.Fetch object label offset count) own passes r new back good =
     post-good (named p.heap object).node (body.Fetch (named p.heap object) label offset count) p
     (fetch-good p.phases.cycle (named p.heap object) label offset count
     (any-there G (register_at p.heap object) no_reference passes.1.0
     (good.heap.roots.registers object))) good
-own-good {G = G} p counts (event.Accept register) own passes r new good =
+own-good {G = G} p counts (event.Accept register) own passes r new back good =
     let n : ℕ = suc (oldest_letter p.heap).more in
     let same = taken-roots n p.heap register in
     done-quiet (part-with _ good
@@ -286,28 +300,34 @@ own-good {G = G} p counts (event.Accept register) own passes r new good =
     (ap (λ (z : Heap). z.slots) same) (ap (λ (z : Heap). z.grey) same)
     (roots-taken G n p.heap register good.heap.roots)
     good.heap))
-own-good {G = G} p counts (event.Put object place register) own passes r new good =
+own-good {G = G} p counts (event.Put object place register) own passes r new back good =
     post-good (named p.heap object).node
     (body.Put (named p.heap object) place (register_at p.heap register)) p
     (put-good p.phases.cycle (named p.heap object) place (register_at p.heap register)
     (any-there G (register_at p.heap object) no_reference passes.1.1.0
     (good.heap.roots.registers object))
     (good.heap.roots.registers register)) good
-own-good {G = G} p counts (event.Get object place label) own passes r new good =
+own-good {G = G} p counts (event.Get object place label) own passes r new back good =
     post-good (named p.heap object).node (body.Get (named p.heap object) place label) p
     (get-good p.phases.cycle (named p.heap object) place label
     (any-there G (register_at p.heap object) no_reference passes.1.0
     (good.heap.roots.registers object))) good
-own-good p counts event.Begin own passes r new good =
+own-good {G = G} p counts (event.Resolve register reference) own passes r new back good =
+    done-quiet (part-with _ good
+    (heap-registered register (Some reference) good.heap
+    (⊎_elim {C = G reference}
+    (λ there. resolved-good p register reference passes good there) (λ is. is)
+    (back reference refl))))
+own-good p counts event.Begin own passes r new back good =
     let swept : p.phases.swept ≡ p.phases.cycle =
     eqb-true p.phases.swept p.phases.cycle
     (and_parts (p.phases.swept == p.phases.cycle) _ passes.1.0).0 in
     begun-good p (swept-calm p r.tidy r.swept r.ended (omega (arith, swept))) good
-own-good p counts event.Scan own passes r new good = scan-good p (not-true _ passes.0) good
-own-good p counts event.Pass own passes r new good = passed-good p good
-own-good p counts (event.Sweep count) own passes r new good =
+own-good p counts event.Scan own passes r new back good = scan-good p (not-true _ passes.0) good
+own-good p counts event.Pass own passes r new back good = passed-good p good
+own-good p counts (event.Sweep count) own passes r new back good =
     swept-good p count (ltb-true p.phases.swept p.phases.ended passes.0) r good
-own-good p counts (event.Reclaim scope) own passes r new good =
+own-good p counts (event.Reclaim scope) own passes r new back good =
     done-quiet (part-with (reclaimed scope p.own p.heap) good
     (heap-less p.phases.swept less kept good.heap))
   where
@@ -319,9 +339,9 @@ own-good p counts (event.Reclaim scope) own passes r new good =
     kept k e y there =
         let x = less.left k e y there in
         subst (λ (z : Object). p.phases.swept ≤ z.mark) (sym x.2) (good.heap.kept k e x.0 x.1)
-own-good p counts (event.Next from) own passes r new good = done-quiet good
-own-good p counts (event.Data d) own passes r new good = absurd cc
-own-good p counts (event.Ack a) own passes r new good = absurd cc
+own-good p counts (event.Next from) own passes r new back good = done-quiet good
+own-good p counts (event.Data d) own passes r new back good = absurd cc
+own-good p counts (event.Ack a) own passes r new back good = absurd cc
 
 -- ---- a message is received
 
@@ -443,6 +463,6 @@ taken-good {G = G} {since = since} p from number x r =
         (sym (see_to-none (ltb x.stamp q.phases.cycle) q)) (joined-cycle p x.stamp h)
     fits (body.Get target place label) h =
         let q : LocalState = (joined p x.stamp).local in
-        h ∙ sym (joined-walks stands-walks.collects p x.stamp).own
-        ∙ sym (carried-walks stands-walks.collects x.stamp (body.Get target place label) q).own
+        h ∙ sym (joined-walks stands-walks.moves.collects p x.stamp).own
+        ∙ sym (carried-walks stands-walks.moves.collects x.stamp (body.Get target place label) q).own
     fits b h = tt

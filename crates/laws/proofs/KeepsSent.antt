@@ -26,7 +26,7 @@ sent-onward = record {
 -- there are as many nodes as before
 count-stays : {s : Step} (w v : World) → Happening w s v → length v.current ≡ length w.current
 count-stays w v nothing = refl
-count-stays w v (acted i e t a x) = length-set w.current i t
+count-stays w v (acted i e t a is x) = length-set w.current i t
 count-stays w v (delivered m t a x) = length-set w.current m.to t
 count-stays w v (saved i within) = refl
 count-stays w v (restarted i is within) = length-set w.current i (node_at w.saved i)
@@ -45,7 +45,7 @@ node-count shape steps =
 width-stays : {s : Step} (w v : World) → Happening w s v → length w.saved ≡ length w.current
     → length v.saved ≡ length v.current
 width-stays w v nothing h = h
-width-stays w v (acted i e t a x) h = h ∙ sym (length-set w.current i t)
+width-stays w v (acted i e t a is x) h = h ∙ sym (length-set w.current i t)
 width-stays w v (delivered m t a x) h = h ∙ sym (length-set w.current m.to t)
 width-stays w v (saved i within) h = length-set w.saved i (node_at w.current i) ∙ h
 width-stays w v (restarted i is within) h = h ∙ sym (length-set w.current i (node_at w.saved i))

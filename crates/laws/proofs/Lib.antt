@@ -8,6 +8,7 @@ pub mod Turns
 pub mod Sums
 pub mod Safra
 pub mod Invariant
+pub mod Lasting
 pub mod Letters
 pub mod Base
 pub mod Placed
@@ -48,6 +49,10 @@ pub mod Live
 pub mod Reclaims
 pub mod Privacy
 pub mod Deliveries
+pub mod Mixes
+pub mod Copies
+pub mod Carried
+pub mod Carrying
 pub mod Past
 pub mod Shown
 pub mod GoodHeaps
@@ -55,10 +60,14 @@ pub mod Good
 pub mod GoodEvents
 pub mod GoodCuts
 pub mod OldGarbage
+pub mod Resolving
+pub mod Resolves
 pub mod Things
 pub mod Unseen
 pub mod Doings
 pub mod Telling
 pub mod Seeing
 pub mod Transparent
+pub mod Told
 mod rows
+pub mod Freeing

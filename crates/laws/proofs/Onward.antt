@@ -62,7 +62,7 @@ behind-restarted {R = R} f w i h k =
 behind-happening : {R : NodeState → NodeState → Type 0} → {s : Step} → Onward R → (w v : World)
     → Happening w s v → Behind R w → Behind R v
 behind-happening f w v nothing h = h
-behind-happening f w v (acted i e t a x) h =
+behind-happening f w v (acted i e t a is x) h =
     behind-changed f.order w i t h (f.acts (node_at w.current i) e t a x.own x.answered)
 behind-happening f w v (delivered m t a x) h =
     behind-changed f.order w m.to t h (f.receives (node_at w.current m.to) m t a x.answered)
@@ -83,7 +83,7 @@ run-behind f w (s ∷ ss) h = run-behind f (happens w s) ss (step-behind f w s h
 saved-happening : {R : NodeState → NodeState → Type 0} → {s : Step} → Onward R → (w v : World)
     → Happening w s v → Behind R w → (k : ℕ) → R (node_at w.saved k) (node_at v.saved k)
 saved-happening f w v nothing h k = f.order.same _
-saved-happening f w v (acted i e t a x) h k = f.order.same _
+saved-happening f w v (acted i e t a is x) h k = f.order.same _
 saved-happening f w v (delivered m t a x) h k = f.order.same _
 saved-happening {R = R} f w v (saved i within) h k =
     at_set_if (R (node_at w.saved k)) w.saved i k (node_at w.current i) no_node

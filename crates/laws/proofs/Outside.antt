@@ -240,7 +240,8 @@ own-outside {c} {d} {i} counts e own passed ready t out =
     ⊎_elim {C = Outside d} allocates
     (λ other.
     done-outside t
-    (own-good p counts e own passed ready (λ is. absurd (other is)) (out.part i)) out)
+    (own-good p counts e own passed ready (λ is. absurd (other is)) (λ r _. inl (omega arith))
+    (out.part i)) out)
     (is-alloc e)
   where
     p : LocalState
@@ -260,7 +261,7 @@ own-outside {c} {d} {i} counts e own passed ready t out =
     allocates : IsAlloc e → Outside d
     allocates is =
         turn-outside t
-        (own-good p counts e own passed ready new
+        (own-good p counts e own passed ready new (λ r _. inl (omega arith))
         (part-map (Near c i) (Near d i) (near-later t i) p (out.part i))).part
         (λ to x a.
         absurd (subst (λ (z : List (ℕ × Message)). Among (to, x) z) (alloc-silent p counts e is) a))

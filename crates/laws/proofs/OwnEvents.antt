@@ -25,6 +25,7 @@ use Rattle.model.proofs.Walk.{work_in, taken-roots}
 use Rattle.laws.proofs.Lookups.{any-map, any-some, any-list, any-there}
 use Rattle.laws.proofs.Invariant.{cycle_of, Resting, Safe, Holds, holds_marked, holds_asked, RootsAll, Inv}
 use Rattle.laws.proofs.Inner.{Known, known-roots, resting-joined, occupied-inside}
+use Rattle.laws.proofs.Resolving.{resolved-there}
 use Rattle.laws.proofs.Acting.{with_heap, put, put-here, becomes-put, onward}
 use Rattle.laws.proofs.Slots.{object-placed}
 use Rattle.laws.proofs.HeapSteps.{re_rooted, roots-inner, Rewriting, rewrite-inner, object-inner}
@@ -275,6 +276,19 @@ program-moves {c = c} i counts (event.Copy register source) plain step =
     ((known-roots i step.inv).registers source)) step.inv
 program-moves {c = c} i counts (event.Drop register) plain step =
     roots-moves _ _ step.inside step.becomes (register-known register None step.inv tt) step.inv
+program-moves {c = c} i counts (event.Resolve register reference) plain step =
+    let x = resolved-there (c i).local register reference step.passed in
+    let here : reference.node ≡ i = x.own ∙ step.inv.base.own i step.inside in
+    let known : Known c i reference = record {
+      safe = record {
+        object = x.object;
+        there = ap (λ (z : ℕ). slot_at (c z).local.heap reference.slot) here ∙ x.there;
+        marked = λ rest. x.marked ∙ resting-joined step.inv rest step.inside;
+      };
+      held = λ _. holds_marked x.object x.own x.there x.marked;
+    } in
+    roots-moves _ _ step.inside step.becomes
+    (register-known register (Some reference) step.inv known) step.inv
 program-moves {shape = shape} {c = c} {d = d} i counts (event.Load register object place) plain
     step =
     let s : NodeState = c i in

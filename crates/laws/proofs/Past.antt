@@ -1,25 +1,22 @@
 -- A generation that was given out stays so. No event of a node and no message takes a generation
 -- back or lowers the node's cycle.
-use Rattle.std.proofs.Common.{◌≡◌, ℕ, ◌+◌, ◌<◌, ◌≤◌, ◌==◌, cond, List, [], ◌∷◌, ◌++◌, length, length-set, length-append, get_or, set, sym, subst, ⊎_elim, arith, le_refl, le_trans, refl, true}
+use Rattle.std.proofs.Common.{◌≡◌, ℕ, ◌+◌, ◌<◌, ◌≤◌, ◌==◌, List, [], ◌∷◌, length, get_or, sym, subst, arith, le_refl, le_trans, true}
 use Rattle.std.proofs.lemmas.Bool.{cond_both}
-use Rattle.std.proofs.lemmas.List.{get_or_append_left, length-map}
 use Rattle.ids.specs.declared.limits.TheConstants.{GREATEST_GENERATION}
 use Rattle.ids.specs.declared.names.Ref.{Ref}
 use Rattle.msg.specs.declared.body.Body.{Body}
 use Rattle.model.specs.declared.event.Event.{Event}
 use Rattle.model.specs.State.{Object, Slot, Free, Occupied, Retired, Heap, LocalState, slot_at}
-use Rattle.model.specs.Heaps.{rewritten, with_rewritten, slots_with, next_slot, next_generation, generation_for, object_at, sharing}
+use Rattle.model.specs.Heaps.{rewritten, with_rewritten, next_slot, next_generation, generation_for, sharing}
 use Rattle.model.specs.Counting.{append, announce}
-use Rattle.model.specs.Shading.{is_open, is_unmarked, with_mark, make_grey, make_all_grey, enter, see_to}
-use Rattle.model.specs.Collecting.{is_garbage, vacated_slot, looked_at}
-use Rattle.model.specs.Reclaiming.{slot_aged, aged, freed_within}
+use Rattle.model.specs.Shading.{enter, see_to}
+use Rattle.model.specs.Collecting.{vacated_slot}
+use Rattle.model.specs.Reclaiming.{slot_aged}
 use Rattle.model.specs.Steps.{is_own, made, taken_in, settled, count_in}
-use Rattle.model.proofs.Lookups.{at_set_if}
 use Rattle.model.proofs.Slots.{occupied-within}
-use Rattle.model.proofs.Ages.{aged-at}
-use Rattle.model.proofs.Freeing.{garbage-test, Freed, freed-some, freed-reclaiming}
 use Rattle.model.proofs.Walk.{Collects, Walks, own-walks, taken-walks, place-walks, post-walks}
 use Rattle.laws.proofs.Invariant.{IsFree, FreeSlots}
+use Rattle.laws.proofs.Lasting.{IsKept, IsKeptFreed, Keeps, keeps-rewritten, keeps-moves, keeps-frees}
 
 -- the slot has given this generation out, and won't do so again
 abbrev pub PastSlot : Slot → ℕ → Type 0
@@ -60,23 +57,7 @@ ages-through a b = record {
   past = λ k g x. b.past k g (a.past k g x);
 }
 
--- ---- heaps
-
-abbrev Later : Heap → Heap → Type 0
-Later h g = (k generation : ℕ) → PastAt h k generation → PastAt g k generation
-
-later-set : (h : Heap) (i : ℕ) (s : Slot)
-    → ((generation : ℕ) → PastSlot (slot_at h i) generation → PastSlot s generation)
-    → Later h (record h { slots = set h.slots i s })
-later-set h i s kept k generation x = record {
-  used = (let w = x.used in
-      let e : length (set h.slots i s) ≡ length h.slots = length-set h.slots i s in
-      omega (arith, w, e));
-  past = at_set_if (λ z. PastSlot z generation) h.slots i k s Retired
-      (λ (e : i ≡ k).
-      kept generation (subst (λ (n : ℕ). PastSlot (slot_at h n) generation) (sym e) x.past))
-      x.past;
-}
+-- ---- what keeps it
 
 past-rewritten : (f : Object → Object) (g : ℕ) (s : Slot) (generation : ℕ) → PastSlot s generation
     → PastSlot (rewritten f g s) generation
@@ -84,52 +65,11 @@ past-rewritten f g (Free n) generation h = h
 past-rewritten f g (Occupied n o) generation h = h
 past-rewritten f g Retired generation h = h
 
-later-rewritten : (h : Heap) (r : Ref) (f : Object → Object) → Later h (with_rewritten h r f)
-later-rewritten h r f =
-    later-set h r.slot (rewritten f r.generation (slot_at h r.slot))
-    (past-rewritten f r.generation (slot_at h r.slot))
-
-later-grey : (cycle : ℕ) (h : Heap) (r : Ref) → Later h (make_grey cycle h r)
-unfolding make_grey
-later-grey cycle h r =
-    cond_both (is_unmarked cycle (object_at h r))
-    (record (with_rewritten h r (with_mark cycle)) { grey = h.grey ++ r.slot ∷ [] }) h (Later h)
-    (λ _ k g x.
-    (let y = later-rewritten h r (with_mark cycle) k g x in
-    record { used = y.used; past = y.past }))
-    (λ _ k g x. x)
-
-later-all_grey : (own cycle : ℕ) (h : Heap) (rs : List Ref) → Later h (make_all_grey own cycle h rs)
-later-all_grey own cycle h [] k g x = x
-later-all_grey own cycle h (r ∷ rs) k g x =
-    later-all_grey own cycle (cond (r.node == own) (make_grey cycle h r) h) rs k g
-    (cond_both (r.node == own) (make_grey cycle h r) h (λ z. PastAt z k g)
-    (λ _. later-grey cycle h r k g x) (λ _. x))
-
 past-free : (s : Slot) (generation : ℕ) → IsFree s → PastSlot s generation
     → generation ≤ next_generation s
 past-free (Free n) generation free h = omega (arith, h)
 past-free (Occupied n o) generation free h = absurd cc
 past-free Retired generation free h = absurd cc
-
-later-object : (named : List ℕ) (slots : List Slot) (o : Object) → FreeSlots slots named
-    → (k generation : ℕ) → k < length slots → PastSlot (get_or slots k Retired) generation
-    → (k < length (slots_with named slots o))
-    × PastSlot (get_or (slots_with named slots o) k Retired) generation
-later-object [] slots o f k generation used past = (
-  (let e = length-append slots (Occupied 1 o ∷ []) in omega (arith, used, e)),
-  subst (λ (z : Slot). PastSlot z generation)
-      (sym (get_or_append_left slots (Occupied 1 o ∷ []) Retired k used)) past,
-)
-later-object (j ∷ js) slots o f k generation used past =
-    let s : Slot = Occupied (next_generation (get_or slots j Retired)) o in (
-      (let e = length-set slots j s in omega (arith, used, e)),
-      at_set_if (λ z. PastSlot z generation) slots j k s Retired
-          (λ (e : j ≡ k).
-          past-free (get_or slots j Retired) generation f.free.0
-          (subst (λ (n : ℕ). PastSlot (get_or slots n Retired) generation) (sym e) past))
-          past,
-    )
 
 past-vacated : (g generation : ℕ) → generation ≤ g → PastSlot (vacated_slot g) generation
 past-vacated g generation h =
@@ -142,92 +82,80 @@ past-aged (Free n) generation h = h
 past-aged (Occupied n o) generation h = h
 past-aged Retired generation h = h
 
-later-aged : (h : Heap) → Later h (aged h)
-later-aged h k generation x = record {
-  used = (let w = x.used in let e = length-map h.slots slot_aged in omega (arith, w, e));
-  past = subst (λ (z : Slot). PastSlot z generation) (sym (aged-at h k))
-      (past-aged (slot_at h k) generation x.past);
+pub past-kept : IsKept PastSlot
+past-kept = record {
+  rewritten = past-rewritten;
+  made = λ s o e. past-free s e;
 }
 
-later-freed : {h g : Heap} → Freed h g → Later h g
-later-freed {h = h} {g = g} f k generation x = record {
-  used = (let w = x.used in let e = f.width in omega (arith, w, e));
-  past = ⊎_elim {C = PastSlot (slot_at g k) generation}
-      (λ same. subst (λ (z : Slot). PastSlot z generation) (sym same) x.past)
-      (λ v.
-      subst (λ (z : Slot). PastSlot z generation) (sym v.is)
-      (past-vacated v.generation generation
-      (subst (λ (z : Slot). PastSlot z generation) v.was x.past)))
-      (f.each k);
-}
+pub past-freed : IsKeptFreed PastSlot
+past-freed = record { vacated = λ g o. past-vacated g; aged = past-aged }
 
 -- ---- nodes
+
+later : {h g : Heap} → Keeps PastSlot h g → (k generation : ℕ) → PastAt h k generation
+    → PastAt g k generation
+later keeps k generation x =
+    let y = keeps k generation (record { used = x.used; holds = x.past }) in
+    record { used = y.used; past = y.holds }
 
 -- slots and cycle stay
 pub ages-same : (p : LocalState) → Ages p p
 ages-same p = record { cycle = le_refl _; past = λ k g x. x }
 
--- registers, letters and the grey list aren't read
-moved : {h g : Heap} → g.slots ≡ h.slots → Later h g
-moved {h = h} {g = g} same k generation x =
-    let y : (k < length g.slots) × PastSlot (get_or g.slots k Retired) generation =
-    subst (λ (z : List Slot). (k < length z) × PastSlot (get_or z k Retired) generation) (sym same)
-    (x.used, x.past) in
-    record { used = y.0; past = y.1 }
+-- what a move of a node that keeps its cycle does
+ages-by : (p : LocalState) (h : Heap) → Keeps PastSlot p.heap h
+    → Ages p (record p { heap = h })
+ages-by p h keeps = record { cycle = le_refl _; past = later keeps }
 
 pub ages-collects : Collects (λ p w. Ages p w.local)
 unfolding see_to enter append announce
-ages-collects = record {
-  rest = ages-same;
-  both = λ p w f first second. ages-through first second;
-  sees = λ due rs p. record {
-    cycle = le_refl _;
-    past = later-all_grey p.own p.phases.cycle p.heap (cond (is_open p) rs []);
-  };
-  enters = λ p cycle later. record { cycle = omega (arith, later); past = moved refl };
-  rings = λ p r. record { cycle = le_refl _; past = moved refl };
-  ends = λ p. record { cycle = le_refl _; past = moved refl };
-  hears = λ p reports. record { cycle = le_refl _; past = moved refl };
-  scans = λ p. record { cycle = le_refl _; past = moved refl };
-  sends = λ to b p quiet. record { cycle = le_refl _; past = moved refl };
-  tells = λ b p quiet. record { cycle = le_refl _; past = moved refl };
-}
+ages-collects =
+    let c = (keeps-moves past-kept).collects in
+    record {
+      rest = ages-same;
+      both = λ p w f first second. ages-through first second;
+      sees = λ due rs p. record { cycle = le_refl _; past = later (c.sees due rs p) };
+      enters = λ p cycle more. record {
+        cycle = omega (arith, more);
+        past = later (c.enters p cycle more);
+      };
+      rings = λ p r. record { cycle = le_refl _; past = λ k g x. x };
+      ends = λ p. record { cycle = le_refl _; past = λ k g x. x };
+      hears = λ p reports. record { cycle = le_refl _; past = λ k g x. x };
+      scans = λ p. record { cycle = le_refl _; past = later (c.scans p) };
+      sends = λ to b p quiet. record { cycle = le_refl _; past = λ k g x. x };
+      tells = λ b p quiet. record { cycle = le_refl _; past = λ k g x. x };
+    }
 
 pub ages-rewritten : (p : LocalState) (r : Ref) (f : Object → Object)
     → Ages p (record p { heap = with_rewritten p.heap r f })
-ages-rewritten p r f = record { cycle = le_refl _; past = later-rewritten p.heap r f }
+ages-rewritten p r f = ages-by p _ (keeps-rewritten past-kept p.heap r f)
 
 -- if the free list names free slots, when an object is made
 pub ages-walks : Walks (λ p. FreeSlots p.heap.slots p.heap.free) (λ p w. Ages p w.local)
 unfolding append
-ages-walks = record {
-  collects = ages-collects;
-  roots = λ p registers letters. record { cycle = le_refl _; past = moved refl };
-  rewrites = λ p r f quiet. ages-rewritten p r f;
-  places = place-walks ages-collects (λ p r f shared. ages-rewritten p r f);
-  makes = λ p register places f. record {
-    cycle = le_refl _;
-    past = λ k g x.
-        (let y = later-object p.heap.free p.heap.slots _ f k g x.used x.past in
-        record { used = y.0; past = y.1 });
-  };
-  gives = λ to b p carries.
-      post-walks ages-collects
-      (λ q r. ages-rewritten q r sharing) to b p
-      (record { cycle = le_refl _; past = moved refl });
-  sweeps = λ p count. record {
-    cycle = le_refl _;
-    past = later-freed (freed-some (λ _. is_garbage p.phases.cycle) (garbage-test p.phases.cycle)
-        p.phases.cursor (looked_at p count) (record { heap = p.heap; freed = 0 }));
-  };
-  reclaims = λ p scope. record {
-    cycle = le_refl _;
-    past = λ k g x.
-        (let y = later-freed (freed-reclaiming scope p.own p.heap) k g x in
-        later-aged (freed_within scope p.own p.heap) k g
-        (record { used = y.used; past = y.past }));
-  };
-}
+ages-walks =
+    let m = keeps-moves past-kept in
+    record {
+      moves = record {
+        collects = ages-collects;
+        roots = λ p registers letters. ages-by p _ (m.roots p registers letters);
+        rewrites = λ p r f quiet. ages-rewritten p r f;
+        places = place-walks ages-collects (λ p r f shared. ages-rewritten p r f);
+        makes = λ p register places f. ages-by p _ (m.makes p register places f);
+        gives = λ to b p carries.
+            post-walks ages-collects (λ q r. ages-rewritten q r sharing) to b p
+            (record { cycle = le_refl _; past = λ k g x. x });
+      };
+      frees = record {
+        sweeps = λ p count. record {
+          cycle = le_refl _;
+          past = later ((keeps-frees past-freed).sweeps p count);
+        };
+        reclaims = λ p scope. ages-by p _ ((keeps-frees past-freed).reclaims p scope);
+      };
+    }
 
 pub ages-own : (p : LocalState) (counts : List ℕ) (e : Event) → is_own e ≡ true
     → FreeSlots p.heap.slots p.heap.free → Ages p (made p counts e).local

@@ -351,21 +351,25 @@ keeps-rewritten p r f keeps all = recalls-remembers (recalls-rewritten p.heap r 
 keeps-walks : Walks (λ p. FreeSlots p.heap.slots p.heap.free × NamesPast p.own p.heap) Keeps
 unfolding append
 keeps-walks = record {
-  collects = keeps-collects;
-  roots = λ p registers letters all. remembers-same refl all;
-  rewrites = λ p r f quiet. keeps-rewritten p r f (age-kept quiet.places quiet.age);
-  places = λ p r place v. remembers-placed p.own p.heap r place v;
-  makes = λ p register places ready all.
-      remembers-same refl
-      (remembers-object p.own (not p.shape.wide) p.phases.cycle places p.heap ready all);
-  gives = λ to b p carries.
-      post-walks keeps-collects
-      (λ q r. keeps-rewritten q r sharing (age-kept (λ o. refl) (λ o. refl))) to b p (λ all. all);
-  sweeps = λ p count all.
-      recalls-remembers
-      (recalls-freed (freed-some (λ _. is_garbage p.phases.cycle) (garbage-test p.phases.cycle)
-      p.phases.cursor (looked_at p count) (record { heap = p.heap; freed = 0 }))) all;
-  reclaims = λ p scope all. remembers-aged p.own (freed_within scope p.own p.heap);
+  moves = record {
+    collects = keeps-collects;
+    roots = λ p registers letters all. remembers-same refl all;
+    rewrites = λ p r f quiet. keeps-rewritten p r f (age-kept quiet.places quiet.age);
+    places = λ p r place v. remembers-placed p.own p.heap r place v;
+    makes = λ p register places ready all.
+        remembers-same refl
+        (remembers-object p.own (not p.shape.wide) p.phases.cycle places p.heap ready all);
+    gives = λ to b p carries.
+        post-walks keeps-collects
+        (λ q r. keeps-rewritten q r sharing (age-kept (λ o. refl) (λ o. refl))) to b p (λ all. all);
+  };
+  frees = record {
+    sweeps = λ p count all.
+        recalls-remembers
+        (recalls-freed (freed-some (λ _. is_garbage p.phases.cycle) (garbage-test p.phases.cycle)
+        p.phases.cursor (looked_at p count) (record { heap = p.heap; freed = 0 }))) all;
+    reclaims = λ p scope all. remembers-aged p.own (freed_within scope p.own p.heap);
+  };
 }
 
 -- ---- cuts

@@ -292,43 +292,47 @@ tells-rewritten p r f keeps =
 
 pub tells-walks : Walks (λ p. FreeSlots p.heap.slots p.heap.free) Tells
 tells-walks = record {
-  collects = tells-collects;
-  roots = λ p registers letters.
-      tells-quiet p _ refl (ages-walks.roots p registers letters) refl (λ k g past shown. shown);
-  rewrites = λ p r f quiet. tells-rewritten p r f (quiet-shared quiet);
-  places = place-walks tells-collects tells-rewritten;
-  makes = λ p register places free.
-      tells-quiet p _ refl (ages-walks.makes p register places free) refl
-      (shown-object p.heap (new_object (not p.shape.wide) p.phases.cycle places) free);
-  gives = λ to b p carries.
-      post-walks tells-collects
-      (λ q r. tells-rewritten q r sharing (λ o is. refl)) to b p
-      (tells-append to b (share (carried b) p).local
-      (λ r mention here.
-      all-shared p.own p.heap (carried b) r
-      (subst (Among r) (reference-mentions b carries) mention) here));
-  sweeps = λ p count. record {
-    own = refl;
-    ages = ages-walks.sweeps p count;
-    shown = λ k g past.
-        shown-freed (freed-some (λ _. is_garbage p.phases.cycle) (garbage-test p.phases.cycle)
-        p.phases.cursor (looked_at p count) (record { heap = p.heap; freed = 0 })) k g;
-    asks = λ r a. inl a;
-    says = λ to x.
-        cond_both (reports_sweep p count) ((0, stamped p body.Swept) ∷ []) []
-        (λ z. Among (to, x) z → (r : Ref) → Among r (mentioned x.body) → r.node ≡ p.own
-        → PastAt p.heap r.slot r.generation
-        → IsShownAt (after_sweep p count).heap r.slot r.generation)
-        (λ _ a r mention here past.
-        says-one p (after_sweep p count).heap 0 (stamped p body.Swept)
-        (λ s never. absurd never) to x a r mention here past)
-        (λ _ never. absurd never);
+  moves = record {
+    collects = tells-collects;
+    roots = λ p registers letters.
+        tells-quiet p _ refl (ages-walks.moves.roots p registers letters) refl (λ k g past shown. shown);
+    rewrites = λ p r f quiet. tells-rewritten p r f (quiet-shared quiet);
+    places = place-walks tells-collects tells-rewritten;
+    makes = λ p register places free.
+        tells-quiet p _ refl (ages-walks.moves.makes p register places free) refl
+        (shown-object p.heap (new_object (not p.shape.wide) p.phases.cycle places) free);
+    gives = λ to b p carries.
+        post-walks tells-collects
+        (λ q r. tells-rewritten q r sharing (λ o is. refl)) to b p
+        (tells-append to b (share (carried b) p).local
+        (λ r mention here.
+        all-shared p.own p.heap (carried b) r
+        (subst (Among r) (reference-mentions b carries) mention) here));
   };
-  reclaims = λ p scope.
-      tells-quiet p _ refl (ages-walks.reclaims p scope) refl
-      (λ k g past shown.
-      shown-aged (freed_within scope p.own p.heap) k g
-      (shown-freed (freed-reclaiming scope p.own p.heap) k g shown));
+  frees = record {
+    sweeps = λ p count. record {
+      own = refl;
+      ages = ages-walks.frees.sweeps p count;
+      shown = λ k g past.
+          shown-freed (freed-some (λ _. is_garbage p.phases.cycle) (garbage-test p.phases.cycle)
+          p.phases.cursor (looked_at p count) (record { heap = p.heap; freed = 0 })) k g;
+      asks = λ r a. inl a;
+      says = λ to x.
+          cond_both (reports_sweep p count) ((0, stamped p body.Swept) ∷ []) []
+          (λ z. Among (to, x) z → (r : Ref) → Among r (mentioned x.body) → r.node ≡ p.own
+          → PastAt p.heap r.slot r.generation
+          → IsShownAt (after_sweep p count).heap r.slot r.generation)
+          (λ _ a r mention here past.
+          says-one p (after_sweep p count).heap 0 (stamped p body.Swept)
+          (λ s never. absurd never) to x a r mention here past)
+          (λ _ never. absurd never);
+    };
+    reclaims = λ p scope.
+        tells-quiet p _ refl (ages-walks.frees.reclaims p scope) refl
+        (λ k g past shown.
+        shown-aged (freed_within scope p.own p.heap) k g
+        (shown-freed (freed-reclaiming scope p.own p.heap) k g shown));
+  };
 }
 
 pub own-tells : (p : LocalState) (counts : List ℕ) (e : Event) → is_own e ≡ true

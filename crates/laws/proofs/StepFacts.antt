@@ -1,6 +1,6 @@
 -- An answered event, and a step of a space, taken apart once for all proofs.
 use Rattle.std.proofs.Common.{◌≡◌, ℕ, ◌<◌, Bool, true, false, ◌==◌, ◌&&◌, ◌||◌, ltb-true, List, [], ◌∷◌, ◌++◌, length, map, get_or, set, Option, None, Some, Result, Ok, Err, refl, sym, ap, ◌∙◌, ◌+◌, subst, leb, leb-false, inl, inr, ◌⊎◌, ◌≤◌, length-set, arith}
-use Rattle.std.proofs.lemmas.Bool.{cond_both, and_parts, cases_Bool, cond-true, cond-false, ltb-false}
+use Rattle.std.proofs.lemmas.Bool.{cond_both, and_parts, cases_Bool, cond-true, cond-false, lt-ltb, ltb-false}
 use Rattle.ids.specs.declared.limits.TheConstants.{WINDOW}
 use Rattle.ids.specs.declared.refusal.Refusal.{Refusal}
 use Rattle.ids.specs.declared.refusal.Refusal.TheVariants.{LinkSpent, NoNode, OutOfOrder, AckBeyond, WrongNode}
@@ -19,6 +19,7 @@ use Rattle.model.specs.Steps.{tests, made, receipt_tests, receipt, is_addressed,
 use Rattle.model.specs.World.{World, released, acknowledged, release_count, moved, delivery, is_node, take_step, outcome_of, world_after, happens}
 use Rattle.model.proofs.Checks.{guarded-ok, guarded-passes, passed-parts}
 use Rattle.model.proofs.Lookups.{at_set_if}
+use Rattle.laws.specs.Statements.{IfDone}
 use Rattle.laws.proofs.Lookups.{Grows, grows-refl, grows-trans}
 
 -- An answered event: the node afterwards and the answer; all tests passed, and all its messages got
@@ -174,6 +175,18 @@ pub record Acted (w : World) (i : ℕ) (e : Event) (t : NodeState) (a : Answer) 
   pub own : is_own e ≡ true
   pub answered : act (node_at w.current i) e ≡ Ok (t, a)
 
+-- so the event wasn't refused
+pub acted-done : (P : Event → Type 0) {w : World} {i : ℕ} {e : Event} {t : NodeState} {a : Answer}
+    → Acted w i e t a → IfDone P (step.Act i e) (outcome_of (take_step w (step.Act i e))) → P e
+unfolding take_step
+acted-done P {w = w} {i = i} {e = e} {t = t} {a = a} x done =
+    subst (λ (r : Result Outcome Refusal). IfDone P (step.Act i e) r)
+    (ap (λ (r : Result (World × Outcome) Refusal). outcome_of r)
+    (cond-true (is_node w i) _ _ (lt-ltb i (length w.current) x.within)
+    ∙ cond-true (is_own e) _ _ x.own
+    ∙ ap (λ (r : Result (NodeState × Answer) Refusal). moved w i r) x.answered))
+    done
+
 -- a released message was given to its receiver, and answered
 pub record Delivered (w : World) (m : Delivery) (t : NodeState) (a : Answer) : Type 0 where
   pub within : m.to < length w.current
@@ -183,7 +196,7 @@ pub record Delivered (w : World) (m : Delivery) (t : NodeState) (a : Answer) : T
 -- what a step of a space does to it
 pub data Happening (w : World) (s : Step) : World → Type 0 where
   nothing : Happening w s w
-  acted : (i : ℕ) (e : Event) (t : NodeState) (a : Answer) → Acted w i e t a
+  acted : (i : ℕ) (e : Event) (t : NodeState) (a : Answer) → s ≡ step.Act i e → Acted w i e t a
       → Happening w s (record w { current = set w.current i t })
   delivered : (m : Delivery) (t : NodeState) (a : Answer) → Delivered w m t a
       → Happening w s (record w { current = set w.current m.to t })
@@ -223,7 +236,7 @@ happening w (step.Act i e) =
     (λ within. cond_both (is_own e) _ _ (λ r. Happening w s (world_after w r))
     (λ own.
     moved-happening w s i (act (node_at w.current i) e)
-    (λ t a h. acted i e t a (record { within = ltb-true _ _ within; own = own; answered = h })))
+    (λ t a h. acted i e t a refl (record { within = ltb-true _ _ within; own = own; answered = h })))
     (λ _. nothing))
     (λ _. nothing)
 happening w (step.Save i) =

@@ -1,14 +1,15 @@
 -- What a program is told about its events, it may also be told in a space without a collector: the
 -- tests are the same, since the objects that registers name exist.
 use Rattle.std.proofs.Common.{◌≡◌, ℕ, Bool, true, false, ◌==◌, ◌⊎◌, List, [], ◌∷◌, ◌++◌, length, map, take, drop, Option, None, Some, Ok, Err, refl, sym, ap, ◌∙◌, subst, ⊎_elim, inl, inr}
-use Rattle.std.specs.Prelude.{◌&&◌, is_some, not, nat_lt, nat_le, option_map}
+use Rattle.std.specs.Prelude.{◌&&◌, ◌||◌, is_some, not, nat_lt, nat_le, option_map}
 use Rattle.ids.specs.declared.refusal.Refusal.{Refusal}
-use Rattle.ids.specs.declared.refusal.Refusal.TheVariants.{ArenaFull, EmptyRegister, NoField, NoNode, NoRegister, Remote, SelfSend, TooManyFields, LinkSpent, TooManyBytes, NoBytes}
+use Rattle.ids.specs.declared.refusal.Refusal.TheVariants.{ArenaFull, EmptyRegister, NoField, NoNode, NoRegister, Remote, SelfSend, TooManyFields, LinkSpent, TooManyBytes, NoBytes, NotNow}
 use Rattle.model.specs.declared.event.Event.{Event}
 use Rattle.model.specs.declared.event.Event.TheVariants as event
 use Rattle.model.specs.Checks.{guarded, AllPass}
 use Rattle.model.specs.State.{Object, Heap, LocalState, NodeState}
-use Rattle.model.specs.Heaps.{is_register, is_filled, is_local, has_slot, has_place, named, object_at, own_tests, copy_tests, drop_tests, word_tests, register_tests, put_tests, get_tests, accept_tests, bytes_of, has_range, heap_bytes, post_tests, fetch_tests}
+use Rattle.model.specs.Heaps.{is_register, is_filled, is_local, has_slot, has_place, named, object_at, own_tests, copy_tests, drop_tests, word_tests, register_tests, put_tests, get_tests, accept_tests, bytes_of, has_range, heap_bytes, post_tests, fetch_tests, is_marked_object}
+use Rattle.model.specs.Shading.{is_open}
 use Rattle.model.specs.Steps.{tests, made, fits, all_tests, checked, act}
 use Rattle.laws.specs.Objects.{Thing, Space, object_in, has_that, bytes_in, bytes_told, is_program, checks, IsLimit, MayBeTold}
 use Rattle.laws.specs.Sights.{thing_of}
@@ -155,21 +156,30 @@ abbrev tested : LocalState → Event → List (Bool × Refusal)
 tested p (event.Alloc register places) =
     (is_register p.heap register, NoRegister)
     ∷ (nat_le places p.shape.places, TooManyFields) ∷ []
+tested p (event.Resolve register reference) =
+    (is_register p.heap register, NoRegister) ∷ (reference.node == p.own, Remote) ∷ []
 tested p e = tests p e
 
 abbrev limits : LocalState → List ℕ → Event → List (Bool × Refusal)
 limits p counts (event.Alloc register places) =
     (has_slot p.shape.slots p.heap, ArenaFull)
     ∷ (fits counts (made p counts (event.Alloc register places)).sends, LinkSpent) ∷ []
+limits p counts (event.Resolve register reference) =
+    (is_some (object_at p.heap reference), NoField)
+    ∷ (is_marked_object p.phases.cycle (object_at p.heap reference) || is_open p, NoField)
+    ∷ (is_marked_object p.phases.cycle (object_at p.heap reference), NotNow)
+    ∷ (true, LinkSpent) ∷ []
 limits p counts e = (fits counts (made p counts e).sends, LinkSpent) ∷ []
 
 tested-parts : (p : LocalState) (counts : List ℕ) (e : Event)
     → all_tests (tests p e) counts (made p counts e) ≡ tested p e ++ limits p counts e
 tested-parts p counts (event.Alloc register places) = refl
+tested-parts p counts (event.Resolve register reference) = refl
 tested-parts p counts e = refl
 
 tested-pass : (p : LocalState) (e : Event) → AllPass (tests p e) → AllPass (tested p e)
 tested-pass p (event.Alloc register places) passed = (passed.0, (passed.1.0, tt))
+tested-pass p (event.Resolve register reference) passed = (passed.0, (passed.1.0, tt))
 tested-pass p e passed = passed
 
 tests-alike : {s : Space} (p : LocalState) (e : Event) → is_program e ≡ true → Ready s p
@@ -182,6 +192,10 @@ tests-alike p (event.Copy register source) is x =
     ap (λ (z : Heap). guarded {A = Unit {0}} (copy_tests z register source) tt) (sym x.here.desk)
 tests-alike p (event.Drop register) is x =
     ap (λ (z : Heap). guarded {A = Unit {0}} (drop_tests z register) tt) (sym x.here.desk)
+tests-alike p (event.Resolve register reference) is x =
+    ap (λ (z : Heap). guarded {A = Unit {0}}
+    ((is_register z register, NoRegister) ∷ (reference.node == p.own, Remote) ∷ []) tt)
+    (sym x.here.desk)
 tests-alike {s = s} p (event.Load register object place) is x =
     let b : Bool = has_that (object_in s p.own object) place in
     alike-last
@@ -266,6 +280,14 @@ slot-refused : {A : Type 0} (b : Bool) (x : A) (r : Refusal)
 slot-refused true x r h = absurd cc
 slot-refused false x r h = let same : ArenaFull ≡ r = cc in sym same
 
+resolve-refused : {A : Type 0} (b m n : Bool) (x : A) (r : Refusal)
+    → guarded ((b, NoField) ∷ (m || n, NoField) ∷ (m, NotNow) ∷ (true, LinkSpent) ∷ []) x ≡ Err r
+    → (r ≡ NoField) ⊎ (r ≡ NotNow)
+resolve-refused false m n x r h = let same : NoField ≡ r = cc in inl (sym same)
+resolve-refused true true n x r h = absurd cc
+resolve-refused true false false x r h = let same : NoField ≡ r = cc in inl (sym same)
+resolve-refused true false true x r h = let same : NotNow ≡ r = cc in inr (sym same)
+
 limit-refused : (p : LocalState) (counts : List ℕ) (e : Event) (r : Refusal) → is_program e ≡ true
     → guarded (limits p counts e) (made p counts e) ≡ Err r → IsLimit e r
 limit-refused p counts (event.Alloc register places) r is h = slot-refused _ _ r h
@@ -281,6 +303,10 @@ limit-refused p counts (event.Put object place register) r is h =
     sym (last-refusal [] (fits counts _, LinkSpent) _ r tt h)
 limit-refused p counts (event.Get object place label) r is h =
     sym (last-refusal [] (fits counts _, LinkSpent) _ r tt h)
+limit-refused p counts (event.Resolve register reference) r is h =
+    let o : Option Object = object_at p.heap reference in
+    resolve-refused (is_some o) (is_marked_object p.phases.cycle o) (is_open p)
+    (made p counts (event.Resolve register reference)) r h
 limit-refused p counts (event.Reclaim scope) r never h = absurd cc
 limit-refused p counts event.Begin r never h = absurd cc
 limit-refused p counts event.Scan r never h = absurd cc

@@ -5,3 +5,6 @@ pub mod Sights
 pub mod Strategy
 pub mod Bounds
 pub mod Progress
+pub mod Copies
+pub mod Freeing
+pub mod Carried

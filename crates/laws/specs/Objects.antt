@@ -6,7 +6,7 @@ use Rattle.std.specs.Int.{w64, to_be_bytes}
 use Rattle.ids.specs.Limits.{Shaped}
 use Rattle.ids.specs.declared.names.Ref.{Ref}
 use Rattle.ids.specs.declared.refusal.Refusal.{Refusal}
-use Rattle.ids.specs.declared.refusal.Refusal.TheVariants.{ArenaFull, NoRegister, EmptyRegister, Remote, NoNode, NoField, TooManyFields, SelfSend, LinkSpent, TooManyBytes, NoBytes}
+use Rattle.ids.specs.declared.refusal.Refusal.TheVariants.{ArenaFull, NoRegister, EmptyRegister, Remote, NoNode, NoField, TooManyFields, SelfSend, LinkSpent, TooManyBytes, NoBytes, NotNow}
 use Rattle.msg.specs.declared.body.Body.{Body}
 use Rattle.msg.specs.declared.body.Body.TheVariants as body
 use Rattle.model.specs.declared.event.Event.{Event}
@@ -115,7 +115,8 @@ is_program (event.Ack a) = false
 is_program e = true
 
 -- Limits of the nodes, which this space doesn't have. An Alloc may find no slot. There may be no
--- number for a message that an event sends, or that is sent when a Load shades what it reads.
+-- number for a message that an event sends, or that is sent when a Load shades what it reads. The
+-- object that a Resolve is about may be freed, or not marked yet.
 abbrev pub IsLimit : Event → Refusal → Type 0
 IsLimit (event.Alloc register places) e = e ≡ ArenaFull
 IsLimit (event.Load register object place) e = e ≡ LinkSpent
@@ -124,6 +125,7 @@ IsLimit (event.Post to label first count bytes) e = e ≡ LinkSpent
 IsLimit (event.Fetch object label offset count) e = e ≡ LinkSpent
 IsLimit (event.Put object place register) e = e ≡ LinkSpent
 IsLimit (event.Get object place label) e = e ≡ LinkSpent
+IsLimit (event.Resolve register reference) e = (e ≡ NoField) ⊎ (e ≡ NotNow)
 IsLimit event e = ⊥
 
 -- the new object's reference, in an answer
@@ -189,10 +191,13 @@ module _ (s : Space) (i : ℕ) where
       get_tests shape.places i (s.desk i) object place
   checks shape (event.Fetch object label offset count) =
       fetch_tests shape i (s.desk i) object count
+  checks shape (event.Resolve register reference) =
+      (is_register (s.desk i) register, NoRegister) ∷ (reference.node == i, Remote) ∷ []
   checks shape e = []
 
   -- The answers that an event may get if it passes these tests. A new object gets any reference of
-  -- its node under which no object was made. The number of a message may be any.
+  -- its node under which no object was made. The number of a message may be any. What is resolved
+  -- is a reference under which an object was made.
   abbrev pub IsAnswer : Event → Answer → Type 0
   IsAnswer (event.Alloc register places) a =
       (r : Ref) × (a ≡ answer.New r) × (r.node ≡ i) × (s.objects r ≡ None)
@@ -205,6 +210,8 @@ module _ (s : Space) (i : ℕ) where
   IsAnswer (event.Put object place register) a = (number : ℕ) × (a ≡ answer.Sent number)
   IsAnswer (event.Get object place label) a = (number : ℕ) × (a ≡ answer.Sent number)
   IsAnswer (event.Fetch object label offset count) a = (number : ℕ) × (a ≡ answer.Sent number)
+  IsAnswer (event.Resolve register reference) a =
+      (a ≡ answer.Done) × (o : Thing) × (s.objects reference ≡ Some o)
   IsAnswer e a = a ≡ answer.Done
 
   -- what the program may be told about an event: an answer if every test passes, the refusal of the
@@ -246,6 +253,8 @@ module _ (s : Space) (i : ℕ) where
       posted s i (named_by object).node (body.Get (named_by object) place label)
   does (event.Fetch object label offset count) a =
       posted s i (named_by object).node (body.Fetch (named_by object) label offset count)
+  does (event.Resolve register reference) a =
+      with_desk s i (with_register (s.desk i) register (Some reference))
   does e a = s
 
 -- ---- what arrives

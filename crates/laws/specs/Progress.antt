@@ -73,8 +73,8 @@ EndIsFoundSoon n w =
     Terminated n (current_cycle w) (now w) → HasRoom (soon_room n (now w)) (now w)
     → Comes n (soon_moves n (now w)) w (λ v. HasEnded (current_cycle w) (now v))
 
--- A Reclaim of either scope adds nothing to what bounds are made of, and takes no number. Nor does
--- it undo that marking has terminated.
+-- A Reclaim of either scope, or a Resolve, adds nothing to what bounds are made of, and takes no
+-- number. Nor does it undo that marking has terminated.
 pub record AddsNoWork (n : ℕ) (c d : Cut) : Type 0 where
   pub flight : flight n d ≤ flight n c
   pub left : work_left n d ≤ work_left n c
@@ -87,3 +87,8 @@ abbrev pub ReclaimsAddNoWork : ℕ → World → Type 0
 ReclaimsAddNoWork n w =
     (i : ℕ) (scope : Scope)
     → AddsNoWork n (now w) (now (happens w (step.Act i (event.Reclaim scope))))
+
+abbrev pub ResolvesAddNoWork : ℕ → World → Type 0
+ResolvesAddNoWork n w =
+    (i register : ℕ) (r : Ref)
+    → AddsNoWork n (now w) (now (happens w (step.Act i (event.Resolve register r))))

@@ -4,27 +4,30 @@
 --
 -- A cut is one choice of a state of each node, the current or the saved one. It is what the nodes
 -- go on from if those nodes restart whose saved state is chosen.
-use Rattle.std.specs.Prelude.{◌≡◌, ◌≢◌, ℕ, ◌+◌, ◌<◌, ◌≤◌, Bool, false, List, length, Some, Ok, Err, ◌⊎◌}
+use Rattle.std.specs.Prelude.{◌≡◌, ◌≢◌, ℕ, ◌+◌, ◌<◌, ◌≤◌, Bool, true, false, List, [], ◌∷◌, length, Option, Some, None, Result, Ok, Err, slice_index_or, ◌⊎◌}
 use Rattle.std.specs.List.{AllByRecursion}
 use Rattle.ids.specs.Limits.{Shaped, IsShape}
 use Rattle.ids.specs.declared.limits.TheConstants.{WINDOW}
 use Rattle.ids.specs.declared.names.Ref.{Ref}
 use Rattle.ids.specs.declared.refusal.Refusal.{Refusal}
-use Rattle.ids.specs.declared.refusal.Refusal.TheVariants.{LinkSpent, OutOfOrder}
+use Rattle.ids.specs.declared.refusal.Refusal.TheVariants.{LinkSpent, NotNow, OutOfOrder}
 use Rattle.msg.specs.Frames.{Plain, data_frame, ack_frame, plain_ack}
 use Rattle.msg.specs.declared.body.Body.{Body}
 use Rattle.msg.specs.declared.body.Message.{Message}
 use Rattle.msg.specs.declared.frame.Ack.{Ack}
+use Rattle.model.specs.declared.event.Event.{Event}
 use Rattle.model.specs.declared.event.Event.TheVariants as event
 use Rattle.model.specs.declared.event.Answer.TheVariants as answer
 use Rattle.model.specs.declared.step.Step.{Step}
 use Rattle.model.specs.declared.step.Step.TheVariants as step
+use Rattle.model.specs.declared.step.Outcome.{Outcome}
 use Rattle.model.specs.declared.step.Outcome.TheVariants as outcome
 use Rattle.model.specs.declared.event.Answer.{Answer}
 use Rattle.model.specs.State.{Heap, Object, Occupied, LocalState, NodeState, got_from, node_at, slot_at}
+use Rattle.model.specs.Shading.{is_open}
 use Rattle.model.specs.Steps.{target_of, act, receive}
 use Rattle.model.specs.World.{World, new_world, run, happens, released, acknowledged, release_count, take_step, outcome_of, is_event, IsInNet}
-use Rattle.model.specs.Cuts.{cut, IsLive, Reachable, PlainRun}
+use Rattle.model.specs.Cuts.{Cut, cut, IsLive, Reachable, PlainRun}
 use Rattle.model.specs.Agreement.{total, flow, is_counted, balance, EndsAlike, OldGarbage}
 
 -- The property holds of every space after any list of steps. It may speak of the number of nodes.
@@ -101,14 +104,44 @@ SweepsFreeNoneReachable w =
     → act (node_at w.current i) (event.Sweep count) ≡ Ok (s, a)
     → KeepsReachable (λ o. o) w i (node_at w.current i).local.heap s.local.heap
 
+-- One reference leads to another: they are the same, or a place of its object leads there.
+pub data Leads (c : Cut) (r : Ref) : Ref → Type 0 where
+  is_it : Leads c r r
+  over_place : {q : Ref} (owner : Ref) (o : Object) (k : ℕ)
+      → slot_at (c owner.node).local.heap owner.slot ≡ Occupied owner.generation o
+      → slice_index_or o.places k None ≡ Some q → Leads c r q → Leads c r owner
+
+-- Each of these steps that is a node's own event, and isn't refused, has the property.
+abbrev pub IfDone : (Event → Type 0) → Step → Result Outcome Refusal → Type 0
+IfDone P (step.Act i e) (Ok o) = P e
+IfDone P s r = Unit {0}
+
+abbrev pub EachDone : (Event → Type 0) → World → List Step → Type 0
+EachDone P w [] = Unit {0}
+EachDone P w (s ∷ ss) = IfDone P s (outcome_of (take_step w s)) × EachDone P (happens w s) ss
+
+-- the reference that a Resolve brings back
+abbrev pub resolved : Event → Option Ref
+resolved (event.Resolve register reference) = Some reference
+resolved e = None
+
+-- The event resolves no reference that leads to this one now, in any cut.
+abbrev pub LeavesAlone : World → Ref → Event → Type 0
+LeavesAlone w r e =
+    (q : Ref) → resolved e ≡ Some q → (choice : ℕ → Bool) → Leads (cut w choice) r q → ⊥
+
+-- So does each of these later steps.
+abbrev pub IsLeftAlone : World → Ref → List Step → Type 0
+IsLeftAlone w r later = EachDone (LeavesAlone w r) w later
+
 -- Old garbage goes, rings of objects across nodes included. Take a cycle that node 0 hasn't begun
 -- yet. Take an object that its owner's saved state holds, and that is reachable in no cut. Once its
 -- owner has swept that cycle or a later one, it no longer has the object, in any cut of any later
--- time.
+-- time, unless a program resolved a reference that led to it.
 abbrev pub OldGarbageGoes : World → Type 0
 OldGarbageGoes w =
     (later : List Step) (choice : ℕ → Bool) (cycle : ℕ) (r : Ref)
-    → (node_at w.current 0).local.phases.cycle < cycle → OldGarbage w r
+    → (node_at w.current 0).local.phases.cycle < cycle → OldGarbage w r → IsLeftAlone w r later
     → cycle ≤ (cut (run w later) choice r.node).local.phases.swept
     → IsLive (cut (run w later) choice) r → ⊥
 
@@ -128,10 +161,24 @@ pub record Garbage (w : World) (r : Ref) : Type 0 where
 abbrev pub GarbageGoes : World → Type 0
 GarbageGoes w =
     (later : List Step) (choice : ℕ → Bool) (cycle : ℕ) (r : Ref)
-    → (node_at w.current 0).local.phases.cycle < cycle → Garbage w r
+    → (node_at w.current 0).local.phases.cycle < cycle → Garbage w r → IsLeftAlone w r later
     → StaysUp r.node later → choice r.node ≡ false
     → cycle ≤ (cut (run w later) choice r.node).local.phases.swept
     → IsLive (cut (run w later) choice) r → ⊥
+
+-- A node that resolves a reachable object of its own gets it, or is told to try again, which may be
+-- while it marks. It is never told that there is no such object.
+abbrev pub GetsBack : LocalState → Result (NodeState × Answer) Refusal → Type 0
+GetsBack p (Ok x) = x.1 ≡ answer.Done
+GetsBack p (Err e) = (e ≡ NotNow) × (is_open p ≡ true)
+
+abbrev pub ReachResolves : World → Type 0
+ReachResolves w =
+    (choice : ℕ → Bool) (i register : ℕ) (r : Ref) → choice i ≡ false
+    → Reachable (cut w choice) r → r.node ≡ i
+    → register < length (node_at w.current i).local.heap.registers
+    → GetsBack (node_at w.current i).local
+    (act (node_at w.current i) (event.Resolve register r))
 
 -- Whatever was released stays released, messages and acknowledgements alike, whatever is saved and
 -- restarted meanwhile. So a frame may be given to its receiver at any later time.

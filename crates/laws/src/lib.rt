@@ -6,7 +6,8 @@
 //! says that programs can't see the collector, by comparison with a space without one
 //! (`specs/Objects`). `specs/Privacy` says that a node frees its private garbage alone, all of it
 //! or only what it made since it last did that. `specs/Progress` says that collection never gets
-//! stuck (`progress.rt`). `proofs/rows` has worked examples of the rules.
+//! stuck (`progress.rt`). `specs/Copies` says that saved states of different moments go together.
+//! `proofs/rows` has worked examples of the rules.
 //!
 //! # The ideas of the proofs
 //!
@@ -28,6 +29,13 @@
 //! generations that it has given out never go back by an event or a receipt. So a saved state is
 //! never ahead of the current one. The statements about the net and acknowledgements follow from
 //! that (`Net`, `Deliveries`).
+//!
+//! States saved at different moments (`Mixes`, `Copies`): a mix of a run has for each node a state
+//! that it had saved so far, or its current one. If no node has received more of another than that
+//! one has sent, the mix comes about by events and receipts. For a node that is in the state that a
+//! step made, take the one before it: what the others have received of this node, it had sent and
+//! saved already. So each such step of the run is also one of the mix. Saves and restarts make no
+//! new mixes.
 //!
 //! A fixed set of good references (`Good`, `GoodCuts`): suppose that a node's roots are good, that
 //! good objects hold only good references, and that the node receives only good references. Then

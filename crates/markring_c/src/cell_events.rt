@@ -1,11 +1,12 @@
 //! The events of a cell's node.
 ghost use Rattle.model.specs.declared.age.Scope.TheVariants as scope;
 ghost use Rattle.model.specs.declared.event.Event.TheVariants as event;
+ghost use Rattle.c_values.specs.Fields.{reference_of};
 ghost use Rattle.c_handles.specs.Work.{CellWorks, WorksIf};
 ghost use Rattle.markring_c.specs.Calls.{CellCalled, Finishes};
 
 use c_handles::CellHandle;
-use c_values::{CAnswer, CWork, answered, status};
+use c_values::{CAnswer, CRef, CWork, answered, status};
 use model::{Event, Scope};
 use std::alloc::Global;
 
@@ -276,6 +277,31 @@ pub extern "C" fn markring_cell_get(
                 object,
                 place,
                 label,
+            },
+        ),
+        answer,
+    )
+}
+
+/// Puts a reference that the program kept into the register, if its object is live and marked.
+#[unsafe(no_mangle)]
+pub extern "C" fn markring_cell_resolve(
+    alloc: Global,
+    cell: &mut CellHandle,
+    register: u16,
+    reference: &CRef,
+    answer: &mut CAnswer,
+) -> i32
+    ensures { CellCalled (event.Resolve register (reference_of reference.now)) cell.old.held
+        cell.new.held result answer.old answer.new }
+{
+    let reference = reference.reference();
+    answered(
+        cell.act(
+            alloc,
+            Event::Resolve {
+                register,
+                reference,
             },
         ),
         answer,

@@ -1,13 +1,14 @@
 //! What the C library exports: for each function of `include/markring.h` one that calls the method
-//! of its handle and writes what it returns to the places that C passed; what the methods do is in
-//! the crate `c_handles`. No export has a `requires`; what a C caller owes is at the head of the
-//! header.
+//! of its handle (or `collect`, for several) and writes what it returns to the places that C passed.
+//! What the methods do is in the crate `c_handles`. No export has a `requires`; what a C caller owes
+//! is at the head of the header.
 //!
 //! A `Global` takes no bytes, so C passes nothing for it.
 #![tactic(auto)]
 
 mod cell_events;
 mod cells;
+mod freed;
 mod letters;
 mod node_events;
 mod nodes;

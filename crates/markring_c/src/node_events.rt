@@ -1,18 +1,22 @@
 //! The events of a node.
 ghost use Rattle.model.specs.declared.age.Scope.TheVariants as scope;
+ghost use Rattle.std.specs.Prelude.{◌≡◌, false};
+ghost use Rattle.model.specs.Steps.{frees};
 ghost use Rattle.model.specs.declared.event.Event.TheVariants as event;
+ghost use Rattle.c_values.specs.Fields.{reference_of};
 ghost use Rattle.c_handles.specs.Work.{NodeWorks, WorksIf};
 ghost use Rattle.markring_c.specs.Calls.{Finishes, NodeCalled};
 
 use c_handles::NodeHandle;
-use c_values::{CAnswer, CWork, answered, status};
+use c_values::{CAnswer, CRef, CWork, answered, status};
 use model::{Event, Scope};
 use std::alloc::Global;
 
-// Gives the node an event. `Next` of a node that keeps a log isn't inlined, so that the events and
-// answers of other calls need not go through memory.
+// Gives the node an event that frees nothing. `Next` of a node that keeps a log isn't inlined, so
+// that the events and answers of other calls need not go through memory.
 #[inline(always)]
 pub(crate) fn act(alloc: Global, node: &mut NodeHandle, event: Event, answer: &mut CAnswer) -> i32
+    requires { frees event ≡ false }
     ensures { NodeCalled event.entry node.old.held node.new.held result answer.old answer.new }
 {
     if let Some(from) = node.noted_turn(alloc, &event) {
@@ -20,6 +24,19 @@ pub(crate) fn act(alloc: Global, node: &mut NodeHandle, event: Event, answer: &m
         return next_noting(alloc, node, from, answer);
     }
     answered(node.act_plain(alloc, event), answer)
+}
+
+// Gives the node any event.
+#[inline(never)]
+pub(crate) fn act_any(
+    alloc: Global,
+    node: &mut NodeHandle,
+    event: Event,
+    answer: &mut CAnswer,
+) -> i32
+    ensures { NodeCalled event.entry node.old.held node.new.held result answer.old answer.new }
+{
+    answered(node.act(alloc, event), answer)
 }
 
 #[inline(never)]
@@ -297,6 +314,30 @@ pub extern "C" fn markring_node_get(
     )
 }
 
+/// Puts a reference that the program kept into the register, if its object is live and marked.
+#[unsafe(no_mangle)]
+pub extern "C" fn markring_node_resolve(
+    alloc: Global,
+    node: &mut NodeHandle,
+    register: u16,
+    reference: &CRef,
+    answer: &mut CAnswer,
+) -> i32
+    ensures { NodeCalled (event.Resolve register (reference_of reference.now)) node.old.held
+        node.new.held result answer.old answer.new }
+{
+    let reference = reference.reference();
+    act(
+        alloc,
+        node,
+        Event::Resolve {
+            register,
+            reference,
+        },
+        answer,
+    )
+}
+
 /// Frees each private object that nothing needs any more.
 #[unsafe(no_mangle)]
 pub extern "C" fn markring_node_reclaim(
@@ -307,7 +348,7 @@ pub extern "C" fn markring_node_reclaim(
     ensures { NodeCalled (event.Reclaim scope.All) node.old.held node.new.held result
         answer.old answer.new }
 {
-    act(alloc, node, Event::Reclaim { scope: Scope::All }, answer)
+    act_any(alloc, node, Event::Reclaim { scope: Scope::All }, answer)
 }
 
 /// Frees those of them that were made since the last reclaim.
@@ -320,7 +361,7 @@ pub extern "C" fn markring_node_reclaim_young(
     ensures { NodeCalled (event.Reclaim scope.Young) node.old.held node.new.held result
         answer.old answer.new }
 {
-    act(
+    act_any(
         alloc,
         node,
         Event::Reclaim {
@@ -377,7 +418,7 @@ pub extern "C" fn markring_node_sweep(
     ensures { NodeCalled (event.Sweep count) node.old.held node.new.held result answer.old
         answer.new }
 {
-    act(alloc, node, Event::Sweep { count }, answer)
+    act_any(alloc, node, Event::Sweep { count }, answer)
 }
 
 /// Receives the message that waits from another node.

@@ -13,7 +13,7 @@ ghost use Rattle.c_handles.specs.Images.{HandleImaged, Kept, Logs, Released, Siz
 ghost use Rattle.c_handles.specs.Reads.{link_of, object_bytes, object_len, register_of, waiting_number};
 ghost use Rattle.markring_c.specs.Calls.{Answered, Finished, Finishes, NodeActed, Numbered, Reads};
 
-use crate::node_events::act;
+use crate::node_events::act_any;
 use c_handles::NodeHandle;
 use c_values::{
     CAnswer, CEvent, CLink, CRef, CShape, CState, Fault, OK, answered, flagged, status, written,
@@ -73,7 +73,7 @@ pub extern "C" fn markring_node_act(
         answer.new }
 {
     match event.event() {
-        Some(it) => act(alloc, node, it, answer),
+        Some(it) => act_any(alloc, node, it, answer),
         None => Fault::BadArgument.status(),
     }
 }

@@ -5,10 +5,12 @@ ghost use Rattle.c_values.specs.Fields.{described};
 ghost use Rattle.ids.specs.Limits.{plain_shape};
 ghost use Rattle.c_handles.specs.Spaces.{Given, Made, Moved, Opens, TakesCell, TakesWatch};
 ghost use Rattle.c_handles.specs.Watches.{Looks};
-ghost use Rattle.markring_c.specs.Calls.{Finished, Finishes, Numbered, OpenedOr};
+ghost use Rattle.c_handles.specs.Collecting.{helds};
+ghost use Rattle.c_handles.specs.Garbage.{Collected};
+ghost use Rattle.markring_c.specs.Calls.{Finished, Finishes, Flagged, Numbered, OpenedOr};
 
-use c_handles::{CellHandle, SpaceHandle, WatchHandle};
-use c_values::{CShape, Fault, OK, status, written};
+use c_handles::{CellHandle, SpaceHandle, WatchHandle, collect};
+use c_values::{CShape, Fault, OK, flagged, status, written};
 use std::alloc::Global;
 
 /// Makes a plain space that isn't open yet.
@@ -135,4 +137,18 @@ pub extern "C" fn markring_watch_free(alloc: Global, watch: &mut WatchHandle) ->
     ensures { Finished Freed watch.old.held watch.new.held result }
 {
     status(watch.free(alloc))
+}
+
+/// Collects until cells have to be saved, or each node has swept the cycle.
+#[unsafe(no_mangle)]
+pub extern "C" fn markring_space_collect(
+    alloc: Global,
+    cells: &mut [CellHandle],
+    cycle: u64,
+    done: &mut u8,
+) -> i32
+    ensures { Flagged (Collected cycle (helds cells.old) (helds cells.new)) result done.old
+        done.new }
+{
+    flagged(collect(alloc, cells, cycle), done)
 }

@@ -51,25 +51,29 @@ stays shape own got = record { shape = shape; own = own; got = got }
 pub stands-walks : Walks (λ _. Unit {0}) (λ p w. Stands p w.local)
 unfolding see_to enter append announce
 stands-walks = record {
-  collects = record {
-    rest = λ p. stays refl refl refl;
-    both = λ p w f first second. stands-through first second;
-    sees = λ due rs p. stays refl refl refl;
-    enters = λ p cycle later. stays refl refl refl;
-    rings = λ p r. stays refl refl refl;
-    ends = λ p. stays refl refl refl;
-    hears = λ p reports. stays refl refl refl;
-    scans = λ p. stays refl refl refl;
-    sends = λ to b p quiet. stays refl refl refl;
-    tells = λ b p quiet. stays refl refl refl;
+  moves = record {
+    collects = record {
+      rest = λ p. stays refl refl refl;
+      both = λ p w f first second. stands-through first second;
+      sees = λ due rs p. stays refl refl refl;
+      enters = λ p cycle later. stays refl refl refl;
+      rings = λ p r. stays refl refl refl;
+      ends = λ p. stays refl refl refl;
+      hears = λ p reports. stays refl refl refl;
+      scans = λ p. stays refl refl refl;
+      sends = λ to b p quiet. stays refl refl refl;
+      tells = λ b p quiet. stays refl refl refl;
+    };
+    roots = λ p registers letters. stays refl refl refl;
+    rewrites = λ p r f quiet. stays refl refl refl;
+    places = λ p r place v. stays refl refl refl;
+    makes = λ p register places ready. stays refl refl refl;
+    gives = λ to b p carries. stays refl refl refl;
   };
-  roots = λ p registers letters. stays refl refl refl;
-  rewrites = λ p r f quiet. stays refl refl refl;
-  places = λ p r place v. stays refl refl refl;
-  makes = λ p register places ready. stays refl refl refl;
-  gives = λ to b p carries. stays refl refl refl;
-  sweeps = λ p count. stays refl refl refl;
-  reclaims = λ p scope. stays refl refl refl;
+  frees = record {
+    sweeps = λ p count. stays refl refl refl;
+    reclaims = λ p scope. stays refl refl refl;
+  };
 }
 
 pub own-stands : (p : LocalState) (counts : List ℕ) (e : Event) → is_own e ≡ true

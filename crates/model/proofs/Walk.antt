@@ -19,7 +19,7 @@ use Rattle.model.specs.Counting.{is_reference, is_idle, append, announce}
 use Rattle.model.specs.Shading.{filled, roots, see_to, enter, join, joined, last_grey, without_last_grey}
 use Rattle.model.specs.Collecting.{whitened, without_token, new_token, forwarded, is_concluded, probe, begun, places_in, scan, scanned, conclude, judged, handed_on, passed, sweep, swept_slots}
 use Rattle.model.specs.Reclaiming.{reclaimed}
-use Rattle.model.specs.Steps.{share, post, is_own, made, carried, take_carried, take_body, with_loaded, Write, Sets, Accepts, Rewrites, Places, Makes, Reclaims, Deed, Reads, Writes, Loads, Sends, Takes, written, carry, rule}
+use Rattle.model.specs.Steps.{share, post, is_own, made, carried, take_carried, take_body, with_loaded, Write, Sets, Accepts, Rewrites, Places, Makes, Reclaims, Deed, Reads, Writes, Loads, Sends, Takes, written, carry, rule, frees}
 
 -- the work of an effect, without its answer
 abbrev pub work_in : Effect → Work
@@ -69,10 +69,10 @@ pub record IsQuiet (f : Object → Object) : Type 0 where
 pub quiet-shared : {f : Object → Object} → IsQuiet f → KeepsShared f
 quiet-shared quiet o is = quiet.shared o ∙ is
 
--- The program's moves as well, and how objects are freed. Registers and letters change. A live
--- object is rewritten, except for its places, or a place of it is. A new object is made, if P holds
--- of the node. A message that may carry references is sent to one node.
-pub record Walks (P : LocalState → Type 0) (R : Steps) : Type 0 where
+-- The program's moves as well. Registers and letters change. A live object is rewritten, except for
+-- its places, or a place of it is. A new object is made, if P holds of the node. A message that may
+-- carry references is sent to one node.
+pub record Moves (P : LocalState → Type 0) (R : Steps) : Type 0 where
   pub collects : Collects R
   pub roots : (p : LocalState) (registers : List (Option Ref)) (letters : List Letter)
       → R p (at_rest (record p {
@@ -87,9 +87,17 @@ pub record Walks (P : LocalState → Type 0) (R : Steps) : Type 0 where
         heap = alloc_heap p.own (not p.shape.wide) p.phases.cycle p.heap register places;
       }))
   pub gives : (to : ℕ) (b : Body) (p : LocalState) → is_reference b ≡ true → R p (post to b p)
+
+-- how objects are freed
+pub record Frees (R : Steps) : Type 0 where
   pub sweeps : (p : LocalState) (count : ℕ) → R p (sweep p count)
   pub reclaims : (p : LocalState) (scope : Scope)
       → R p (at_rest (record p { heap = reclaimed scope p.own p.heap }))
+
+-- both
+pub record Walks (P : LocalState → Type 0) (R : Steps) : Type 0 where
+  pub moves : Moves P R
+  pub frees : Frees R
 
 -- ---- the collector
 
@@ -178,7 +186,7 @@ taken-roots (suc n) h register = taken-roots n (letter_taken h register) (suc re
 
 -- ---- every event of the node's own, and every message before it counts
 
-module _ {P : LocalState → Type 0} {R : Steps} (s : Walks P R) where
+module _ {P : LocalState → Type 0} {R : Steps} (s : Moves P R) where
   body-walks : (from stamp : ℕ) (b : Body) (p : LocalState) → R p (take_body from stamp b p)
   unfolding take_body
   body-walks from stamp (body.Give label reference) p = s.roots p _ _
@@ -191,9 +199,9 @@ module _ {P : LocalState → Type 0} {R : Steps} (s : Walks P R) where
   body-walks from stamp (body.Fetch target label offset count) p = s.gives from _ p refl
   body-walks from stamp b p = quiet-walks s.collects from stamp b p refl
 
-  pub taken-walks : (p : LocalState) (from stamp : ℕ) (b : Body)
+  pub taken-moves : (p : LocalState) (from stamp : ℕ) (b : Body)
       → R p (then (joined p stamp) (λ q. then (take_carried stamp b q) (take_body from stamp b)))
-  taken-walks p from stamp b =
+  taken-moves p from stamp b =
       let q : LocalState = (joined p stamp).local in
       s.collects.both p (joined p stamp)
       (λ z. then (take_carried stamp b z) (take_body from stamp b))
@@ -202,9 +210,11 @@ module _ {P : LocalState → Type 0} {R : Steps} (s : Walks P R) where
       (carried-walks s.collects stamp b q)
       (body-walks from stamp b (take_carried stamp b q).local))
 
-  -- what is taken from the event: the collector's work, what it rewrites and what it sends
+  -- what is taken from the event: the collector's work, what it rewrites, what it sends, and how
+  -- it frees
   abbrev IsWritten : Write → Type 0
   IsWritten (Rewrites r f) = IsQuiet f
+  IsWritten (Reclaims scope) = Frees R
   IsWritten w = Unit {0}
 
   abbrev IsWalked : LocalState → Deed → Type 0
@@ -223,7 +233,7 @@ module _ {P : LocalState → Type 0} {R : Steps} (s : Walks P R) where
   written-walks p (Rewrites r f) taken ready = s.rewrites p r f taken
   written-walks p (Places r place v) taken ready = s.places p r place v
   written-walks p (Makes register places) taken ready = s.makes p register places ready
-  written-walks p (Reclaims scope) taken ready = s.reclaims p scope
+  written-walks p (Reclaims scope) taken ready = taken.reclaims p scope
 
   deed-walks : (p : LocalState) (counts : List ℕ) (d : Deed) → IsWalked p d → P p
       → R p (work_in (carry p counts d))
@@ -236,35 +246,47 @@ module _ {P : LocalState → Type 0} {R : Steps} (s : Walks P R) where
   deed-walks p counts (Sends to b) taken ready = s.gives to b p taken
   deed-walks p counts (Takes x) taken ready = taken
 
-  pub own-walks : (p : LocalState) (counts : List ℕ) (e : Event) → is_own e ≡ true → P p
-      → R p (work_in (made p counts e))
+  pub own-moves : (p : LocalState) (counts : List ℕ) (e : Event) → is_own e ≡ true
+      → (frees e ≡ true → Frees R) → P p → R p (work_in (made p counts e))
   unfolding swept_slots
-  own-walks p counts event.Begin own ready = begun-walks s.collects p
-  own-walks p counts event.Scan own ready = scanned-walks s.collects p
-  own-walks p counts event.Pass own ready = passed-walks s.collects p
-  own-walks p counts (event.Sweep count) own ready = s.sweeps p count
-  own-walks p counts (event.Data d) own ready = absurd cc
-  own-walks p counts (event.Ack a) own ready = absurd cc
-  own-walks p counts (event.SetWord object word) own ready =
+  own-moves p counts event.Begin own may ready = begun-walks s.collects p
+  own-moves p counts event.Scan own may ready = scanned-walks s.collects p
+  own-moves p counts event.Pass own may ready = passed-walks s.collects p
+  own-moves p counts (event.Sweep count) own may ready = (may refl).sweeps p count
+  own-moves p counts (event.Data d) own may ready = absurd cc
+  own-moves p counts (event.Ack a) own may ready = absurd cc
+  own-moves p counts (event.SetWord object word) own may ready =
       deed-walks p counts (rule p (event.SetWord object word)).deed
       (record { places = λ o. refl; shared = λ o. refl; age = λ o. refl }) ready
-  own-walks p counts (event.SetBytes object bytes) own ready =
+  own-moves p counts (event.SetBytes object bytes) own may ready =
       deed-walks p counts (rule p (event.SetBytes object bytes)).deed
       (record { places = λ o. refl; shared = λ o. refl; age = λ o. refl }) ready
-  own-walks p counts (event.Patch object offset bytes) own ready =
+  own-moves p counts (event.Patch object offset bytes) own may ready =
       deed-walks p counts (rule p (event.Patch object offset bytes)).deed
       (record { places = λ o. refl; shared = λ o. refl; age = λ o. refl }) ready
-  own-walks p counts (event.Give to label register) own ready =
+  own-moves p counts (event.Give to label register) own may ready =
       deed-walks p counts (rule p (event.Give to label register)).deed refl ready
-  own-walks p counts (event.Post to label first count bytes) own ready =
+  own-moves p counts (event.Post to label first count bytes) own may ready =
       deed-walks p counts (rule p (event.Post to label first count bytes)).deed refl ready
-  own-walks p counts (event.Fetch object label offset count) own ready =
+  own-moves p counts (event.Fetch object label offset count) own may ready =
       deed-walks p counts (rule p (event.Fetch object label offset count)).deed refl ready
-  own-walks p counts (event.Put object place register) own ready =
+  own-moves p counts (event.Put object place register) own may ready =
       deed-walks p counts (rule p (event.Put object place register)).deed refl ready
-  own-walks p counts (event.Get object place label) own ready =
+  own-moves p counts (event.Get object place label) own may ready =
       deed-walks p counts (rule p (event.Get object place label)).deed refl ready
-  own-walks p counts e own ready = deed-walks p counts (rule p e).deed tt ready
+  own-moves p counts (event.Reclaim scope) own may ready =
+      deed-walks p counts (rule p (event.Reclaim scope)).deed (may refl) ready
+  own-moves p counts e own may ready = deed-walks p counts (rule p e).deed tt ready
+
+-- the same, however objects are freed
+module _ {P : LocalState → Type 0} {R : Steps} (s : Walks P R) where
+  pub own-walks : (p : LocalState) (counts : List ℕ) (e : Event) → is_own e ≡ true → P p
+      → R p (work_in (made p counts e))
+  own-walks p counts e own ready = own-moves s.moves p counts e own (λ _. s.frees) ready
+
+  pub taken-walks : (p : LocalState) (from stamp : ℕ) (b : Body)
+      → R p (then (joined p stamp) (λ q. then (take_carried stamp b q) (take_body from stamp b)))
+  taken-walks p from stamp b = taken-moves s.moves p from stamp b
 
 -- ---- a place is written
 

@@ -7,7 +7,7 @@ use Rattle.ids.specs.declared.limits.TheConstants.{GREATEST_LETTER}
 use Rattle.ids.specs.declared.names.Ref.{Ref}
 use Rattle.msg.specs.Limits.{fetch_fits}
 use Rattle.ids.specs.declared.refusal.Refusal.{Refusal}
-use Rattle.ids.specs.declared.refusal.Refusal.TheVariants.{ArenaFull, NoRegister, EmptyRegister, Remote, Local, NoLetter, NoField, TooManyFields, TooManyBytes, NoBytes}
+use Rattle.ids.specs.declared.refusal.Refusal.TheVariants.{ArenaFull, NoRegister, EmptyRegister, Remote, Local, NoLetter, NoField, TooManyFields, TooManyBytes, NoBytes, NotNow}
 use Rattle.model.specs.declared.age.Age.{Age}
 use Rattle.model.specs.declared.age.Age.TheVariants.{Young, Remembered, Old}
 use Rattle.model.specs.declared.event.Accepted.{Accepted}
@@ -287,6 +287,23 @@ get_tests most own h object place =
     ∷ (is_filled h object, EmptyRegister)
     ∷ (not (is_local own h object), Local)
     ∷ (nat_lt place most, NoField)
+    ∷ []
+
+-- The object isn't garbage of this cycle: the cycle has marked it, or it was made since.
+abbrev pub is_marked_object : ℕ → Option Object → Bool
+is_marked_object cycle None = false
+is_marked_object cycle (Some o) = o.mark == cycle
+
+-- Putting a reference that no register or letter brought into a register, on a node in this cycle,
+-- which marks or doesn't. The object is the node's own, and marked. An object that isn't may become
+-- so while the node marks. If it doesn't, the sweep frees it.
+abbrev pub resolve_tests : ℕ → ℕ → Bool → Heap → ℕ → Ref → List (Bool × Refusal)
+resolve_tests own cycle marks h register r =
+    (is_register h register, NoRegister)
+    ∷ (r.node == own, Remote)
+    ∷ (is_some (object_at h r), NoField)
+    ∷ (is_marked_object cycle (object_at h r) || marks, NoField)
+    ∷ (is_marked_object cycle (object_at h r), NotNow)
     ∷ []
 
 -- ---- letters: a letter with several references waits as several, one for each

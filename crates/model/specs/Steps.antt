@@ -19,7 +19,7 @@ use Rattle.model.specs.declared.event.Answer.{Answer}
 use Rattle.model.specs.declared.event.Answer.TheVariants as answer
 use Rattle.model.specs.Checks.{guarded}
 use Rattle.model.specs.State.{LocalState, NodeState, register_at, got_from, Object, Heap}
-use Rattle.model.specs.Heaps.{with_register, with_place, new_reference, named, object_at, word_of, oldest_letter, with_letter, with_letters, simple_letter, letters_of, told_of, contents, fetched, post_tests, fetch_tests, alloc_heap, place_of, place_loaded, accepting, alloc_tests, copy_tests, drop_tests, load_tests, store_tests, clear_tests, word_tests, put_tests, get_tests, accept_tests, register_tests, set_bytes_tests, patch_tests, wording, filling, patching, with_rewritten, share_all}
+use Rattle.model.specs.Heaps.{with_register, with_place, new_reference, named, object_at, word_of, oldest_letter, with_letter, with_letters, simple_letter, letters_of, told_of, contents, fetched, post_tests, fetch_tests, alloc_heap, place_of, place_loaded, accepting, alloc_tests, copy_tests, drop_tests, load_tests, store_tests, clear_tests, word_tests, put_tests, get_tests, accept_tests, register_tests, set_bytes_tests, patch_tests, resolve_tests, wording, filling, patching, with_rewritten, share_all}
 use Rattle.model.specs.Reclaiming.{reclaim_tests, reclaiming, reclaimed}
 use Rattle.model.specs.Effects.{Work, at_rest, then, Effect, answers, becomes, unchanged}
 use Rattle.model.specs.Counting.{balance_of, counted_down, append}
@@ -314,6 +314,10 @@ rule p (event.Fetch object label offset count) = record {
   tests = fetch_tests p.shape p.own p.heap object count;
   deed = Sends (named p.heap object).node (body.Fetch (named p.heap object) label offset count);
 }
+rule p (event.Resolve register reference) = record {
+  tests = resolve_tests p.own p.phases.cycle (is_open p) p.heap register reference;
+  deed = Writes (Sets register (Some reference)) answer.Done;
+}
 rule p (event.Reclaim scope) = record {
   tests = reclaim_tests scope p.heap;
   deed = Writes (Reclaims scope) (answer.Reclaimed (reclaiming scope p.own p.heap).freed);
@@ -433,6 +437,12 @@ is_shading event.Scan = true
 is_shading (event.Data d) = true
 is_shading e = false
 
+-- an event that frees objects
+abbrev pub frees : Event → Bool
+frees (event.Sweep count) = true
+frees (event.Reclaim scope) = true
+frees e = false
+
 -- An event that never fails for lack of memory. A message may allocate only in its turn, or if it
 -- is a letter with references and bytes that comes early; and a sweep only to report that it is
 -- done.
@@ -445,6 +455,7 @@ is_memory_free p (event.Word object) = true
 is_memory_free p (event.SetWord object word) = true
 is_memory_free p (event.Patch object offset bytes) = true
 is_memory_free p (event.Accept register) = true
+is_memory_free p (event.Resolve register reference) = true
 is_memory_free p (event.Sweep count) = not (reports_sweep p count)
 is_memory_free p (event.Next from) = true
 is_memory_free p (event.Data d) =

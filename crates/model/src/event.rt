@@ -131,6 +131,13 @@ pub enum Event<'a> {
         offset: u32,
         count: u32,
     },
+    /// Puts this reference to an object of the node itself into the register, if the object is
+    /// live and marked in the node's cycle. So it leads back from a weak reference, which the
+    /// program keeps outside of the space, to the object, as long as that isn't to be freed.
+    Resolve {
+        register: u16,
+        reference: Ref,
+    },
     /// Frees each private object within the scope that neither a root of this node nor an object
     /// which other nodes may know leads to. It needs no other node.
     Reclaim {

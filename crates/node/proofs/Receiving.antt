@@ -335,7 +335,7 @@ module _ (from stamp : ℕ) (p : LocalState) where
       same =
           let due : Bool = nat_lt stamp q.phases.cycle in
           let here : (target.node == q.own) ≡ true =
-          ap (λ (k : ℕ). target.node == k) (joined-walks stands-walks.collects p stamp).own
+          ap (λ (k : ℕ). target.node == k) (joined-walks stands-walks.moves.collects p stamp).own
           ∙ own in
           let w : Work = see_to due (target ∷ []) q in
           let there : place_of (object_at w.local.heap target) place ≡ v =

@@ -89,7 +89,7 @@ module _ (cycle : ℕ) (due : Bool) (rs : List Ref) (x : Extra) (p : LocalState)
   errand-stands : Stands p (errand cycle due rs x p).local
   unfolding errand errand_here see_to
   errand-stands =
-      stands-through (joined-walks stands-walks.collects p cycle)
+      stands-through (joined-walks stands-walks.moves.collects p cycle)
       (record { shape = refl; own = refl; got = refl })
 
   pub errand-phases : (errand cycle due rs x p).local.phases ≡ (joined p cycle).local.phases

@@ -8,14 +8,14 @@ use Rattle.ids.specs.declared.names.Ref.{Ref}
 use Rattle.ids.specs.declared.refusal.Refusal.{Refusal}
 use Rattle.msg.specs.declared.body.Body.TheVariants as body
 use Rattle.msg.specs.declared.body.Message.{Message}
-use Rattle.model.specs.State.{Heap, Ring, Phases, LocalState}
+use Rattle.model.specs.State.{Heap, Ring, Phases, LocalState, slot_at}
 use Rattle.heap.specs.Heap.{entries}
 use Rattle.model.specs.Heaps.{with_letter, with_letters, simple_letter, letters_of}
 use Rattle.model.specs.Effects.{Work, then}
-use Rattle.model.specs.Collecting.{new_token, whitened}
+use Rattle.model.specs.Collecting.{new_token, places_in, whitened}
 use Rattle.model.specs.Counting.{balance_of, counted_up}
 use Rattle.model.specs.References.{IfAny, IsWithin}
-use Rattle.model.specs.Shading.{filled, joined, see_to, without_last_grey}
+use Rattle.model.specs.Shading.{filled, joined, last_grey, see_to, without_last_grey}
 use Rattle.model.specs.Steps.{fits}
 use Rattle.model.specs.View.{NodeView, append_to, used}
 use Rattle.model.specs.WellFormed.{IsOther}
@@ -104,6 +104,12 @@ errand_here due rs x p = then (see_to due rs (unlisted x p)) (extra_work x)
 
 unfoldable pub errand : ℕ → Bool → List Ref → Extra → LocalState → Work
 errand cycle due rs x p = then (joined p cycle) (errand_here due rs x)
+
+-- the errand of a scan
+abbrev pub scan_errand : LocalState → Work
+scan_errand p =
+    let held = filled (places_in (slot_at p.heap (last_grey p.heap))) in
+    errand p.phases.cycle true held extra.Scanned p
 
 -- ---- what is required
 

@@ -101,15 +101,20 @@
 //! young frees less: only what was made since the last Reclaim. It needn't follow the places of old
 //! objects, since each young object that one of these names is shared or remembered.
 //!
+//! 10. A Resolve changes nothing. The object that it brings back is the node's own, and marked.
+//! While the node marks, it holds such an object anyway (2). Once marking has ended, that object
+//! refers only to marked ones (7).
+//!
 //! That garbage is freed is another theorem (`old_garbage`). Take any time before the cycle.
 //! Whatever a node still has after its sweep was reachable in some cut of that time, or was made
-//! since, or wasn't saved by its owner then.
+//! since, or wasn't saved by its owner then, or a program resolved what led to it.
 //!
 //! Programs see nothing of all this (`transparent`). Compare each cut with a space in which no
 //! object is ever freed, and whose programs do the same. The two stay alike: the registers, the
 //! letters and the messages of programs are the same, and every object that a node still has holds
 //! the same word and places. A program that asks about an object has a reference to it, so the
 //! object is reachable and hence live: both spaces make the same tests and give the same answer.
+//! Only a Resolve may ask about an object that is gone, or refuse it for now.
 
 mod letters;
 mod node;

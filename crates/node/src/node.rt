@@ -1,11 +1,12 @@
 //! A node together with its early messages. These are kept apart from what is saved, and are in no
 //! state. So each clause about the core is about the event that reaches the core.
-ghost use Rattle.std.specs.Prelude.{◌≡◌, ◌≢◌, ℕ, ◌<◌, ◌≤◌, IsTrue, Ok, Err, Some, true, option_copied, IfOk, IfErr, OnOk, OnErr};
+ghost use Rattle.std.specs.Prelude.{◌≡◌, ◌≢◌, ℕ, ◌<◌, ◌≤◌, IsTrue, Ok, Err, Some, true, false, option_copied, IfOk, IfErr, OnOk, OnErr};
 ghost use Rattle.std.specs.Option.{option_map};
 ghost use Rattle.ids.specs.declared.refusal.Refusal.TheVariants.{Memory, NoNode};
 ghost use Rattle.msg.specs.Frames.{plain_ref};
 ghost use Rattle.msg.specs.Limits.{is_post};
 ghost use Rattle.msg.specs.declared.frame.Data.{Data};
+ghost use Rattle.model.specs.Collecting.{scanned_reference};
 ghost use Rattle.model.specs.Heaps.{heap_bytes, heap_bytes_len};
 ghost use Rattle.model.specs.State.{NodeState};
 ghost use Rattle.model.specs.Steps.{act, is_memory_free, is_shading};
@@ -98,10 +99,10 @@ impl Node {
     /// the core as it was.
     ///
     /// These never fail with `Memory`: `Copy`, `Drop`, `Store`, `Clear`, `Word`, `SetWord`,
-    /// `Patch`, `Accept`, `Ack`, a `Sweep` that leaves slots or is node 0's, and a `Next` for which
-    /// no message waits. Nor does a message that isn't the next one, unless it is early and a
-    /// letter with references and bytes. `Word`, a repeated message and an early one also leave the
-    /// core as it was.
+    /// `Patch`, `Accept`, `Resolve`, `Ack`, a `Sweep` that leaves slots or is node 0's, and a `Next`
+    /// for which no message waits. Nor does a message that isn't the next one, unless it is early
+    /// and a letter with references and bytes. `Word`, a repeated message and an early one also
+    /// leave the core as it was.
     ///
     /// An early message is kept, unless its place is taken already. `Next` receives the message
     /// that waits, as if it arrived now, and fails with `NothingToDo` if none does. If that message
@@ -179,6 +180,18 @@ impl Node {
                 Err(refusal)
             }
         }
+    }
+
+    /// Performs [`Event::Scan`] if the object that is scanned next has at most two places, which name
+    /// objects of this node alone, marking hasn't ended, and no memory is needed. Returns whether
+    /// that is so; otherwise nothing changes. It takes less time than [`Node::act`].
+    #[inline(always)]
+    pub fn scan_own(&mut self) -> bool
+        ensures done { let p = self.old.core.local in IsTrue result
+            → Handled self.old self.new event.Scan (Ok (answer.Scanned (scanned_reference p))) }
+        ensures unchanged { result ≡ false → self.new ≡ self.old }
+    {
+        self.core.scan_own()
     }
 
     /// The frame from that node that waits for [`Event::Next`], if there is one.

@@ -160,6 +160,10 @@ impl Core {
                 offset,
                 count,
             } => self.fetch(object, label, offset, count),
+            Event::Resolve {
+                register,
+                reference,
+            } => self.resolve(register, reference),
             Event::Reclaim { scope } => self.reclaim(scope),
             Event::Begin => self.begin(),
             Event::Scan => self.scan(),

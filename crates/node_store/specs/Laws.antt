@@ -13,18 +13,23 @@ use Rattle.model.specs.Effects.{unchanged}
 use Rattle.model.specs.Steps.{checked, is_addressed, lent, receipt, receipt_tests}
 use Rattle.model.specs.View.{NodeView, link_to, no_link, trimmed, used, view_act, view_after, kept_view}
 use Rattle.event_bytes.specs.Entries.{Entry, alloc, copy, dropped, load, store, clear, word, set_word}
-use Rattle.event_bytes.specs.Entries.{set_bytes, patch, give, post, accept, put, get, fetch, reclaim}
-use Rattle.event_bytes.specs.Entries.{begin, scan, pass}
+use Rattle.event_bytes.specs.Entries.{set_bytes, patch, give, post, accept, put, get, fetch, resolve}
+use Rattle.event_bytes.specs.Entries.{reclaim, begin, scan, pass}
 use Rattle.event_bytes.specs.Entries.{sweep, next, received, acknowledged, entry}
 use Rattle.event_bytes.specs.Events.{entry_of}
 use Rattle.event_bytes.proofs.Sound.{entry_sound}
 use Rattle.node_store.specs.Logs.{AreDone, IsDone, Leads, Logged, spelled}
 use Rattle.node.specs.Keeping.{WholeNode, alone}
+use Rattle.image_parts.specs.Grammar.{Stored, spelling, image_format, start_format, layout_format}
+use Rattle.image_parts.specs.Layouts.{layout_for}
 use Rattle.image_parts.specs.Logs.{begins_logged}
+use Rattle.image_parts.specs.declared.layout.Layout.{Layout}
+use Rattle.image_parts.specs.declared.layout.Layout.TheVariants as layout
+use Rattle.image.specs.Images.{stored_by}
 use Rattle.image.specs.Logged.{IsAnyWholeOf, IsEither}
 use Rattle.image.proofs.Logged.{logged_begins, logged_of_one}
 use Rattle.image.proofs.Spelled.{image_of_one}
-use Rattle.node_store.specs.Values.{IsAlone, LeadsWhole, logged_whole}
+use Rattle.node_store.specs.Values.{IsAlone, LeadsWhole, whole_image_by}
 
 -- ---- an event is what it says
 
@@ -47,6 +52,7 @@ acts n (accept register) = view_act n (event.Accept register)
 acts n (put object place register) = view_act n (event.Put object place register)
 acts n (get object place label) = view_act n (event.Get object place label)
 acts n (fetch object label offset count) = view_act n (event.Fetch object label offset count)
+acts n (resolve register reference) = view_act n (event.Resolve register reference)
 acts n (reclaim scope) = view_act n (event.Reclaim scope)
 acts n begin = view_act n event.Begin
 acts n scan = view_act n event.Scan
@@ -137,8 +143,16 @@ read_alone bytes n is = is.1
 pub led_alone : (batch : List ℕ) (n m : WholeNode) → LeadsWhole batch n m → IsAlone m
 led_alone batch n m led = led.1
 
-pub followed : (n : WholeNode) → begins_logged (logged_whole n) ≡ true
-followed n = logged_begins n.core
+-- no log follows what is spelled in one of these layouts
+pub plain_spelling : (l : Layout) (s : Stored) → begins_logged (spelling l s) ≡ false
+unfolding spelling image_format start_format layout_format
+plain_spelling layout.First s = refl
+plain_spelling layout.Second s = refl
+plain_spelling (layout.Wide places bytes) s = refl
+
+pub followed : (logged : Bool) (n : WholeNode) → begins_logged (whole_image_by logged n) ≡ logged
+followed true n = logged_begins n.core
+followed false n = plain_spelling (layout_for n.core.local.shape) (stored_by n.core)
 
 either_one : (logged : Bool) (bytes : List ℕ) (m n : NodeView) → IsEither logged bytes m
     → IsEither logged bytes n → m ≡ n

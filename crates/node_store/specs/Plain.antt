@@ -24,10 +24,6 @@ KeepsNone new c = IsBlank c ⊎ Keeps new c
 abbrev pub IsPlain : Areas → Type 0
 IsPlain c = (image : List ℕ) → opened c ≡ Some image → begins_logged image ≡ false
 
--- the disk opens to this node, and no log follows its image
-abbrev pub KeepsPlain : WholeNode → Areas → Type 0
-KeepsPlain n c = IsPlain c × Keeps n c
-
 -- nor the image in what a crash leaves
 abbrev pub StaysPlain : (Areas → Type 0) → Type 0
 StaysPlain may_leave = (c : Areas) → may_leave c → IsPlain c

@@ -1,5 +1,5 @@
-//! A store keeps a node on a shelf, each time as its image, or in a journal, as its events since
-//! the last save. Which of the two it is was chosen when the node was found or created.
+//! A store keeps a node in a journal: each time as its image, or as its events since the last save.
+//! Which of the two it is was chosen when the node was found or created.
 ghost use Rattle.std.specs.Prelude.{◌≡◌, ◌≢◌, ◌↔◌, ◌≤◌, true, false};
 ghost use Rattle.std.specs.Prelude.{IfErr, IfOk, IsErr, IsErrOf, IsTrue, MatchResult, OnOk};
 ghost use Rattle.ids.specs.declared.refusal.Refusal.TheVariants as refusal;
@@ -11,12 +11,10 @@ ghost use Rattle.node.specs.Keeping.{WholeNode};
 ghost use Rattle.image.specs.Wholes.{IsWholeTooLarge, saved_whole};
 ghost use Rattle.node_store.specs.Noted.{IsLogged};
 ghost use Rattle.node_store.specs.Plain.{IsPlain, Keeps, KeepsEither, KeepsNone, StaysPlain};
-ghost use Rattle.node_store.specs.Stores.{disk_of, is_logged_at, is_ready_in, LiesAt, logs_in};
+ghost use Rattle.node_store.specs.Stores.{disk_of, is_ready_in, LiesAt, logs_in};
 ghost use Rattle.node_store.specs.Stores.{WritesAll};
 
-use crate::place::Place;
-use crate::plain::{PlainShelf, read_plain};
-use crate::redoing::LoggedImages;
+use crate::images::Images;
 use disk::{Disk, MemoryDisk, OverMemory, Plan};
 use disk_journal::{Journal, Tail, read_logged};
 use ids::{Refusal, Saves};
@@ -28,42 +26,33 @@ use std::alloc::Global;
 ///
 /// A failure of the disk closes the store, and so does a failed [`reopen`](Store::reopen). Saves
 /// then fail with `Closed` until a `reopen` succeeds.
-pub enum Store<D: Disk> {
-    /// On a shelf: each save writes the image of the node. No log follows it.
-    Whole(PlainShelf<D>),
-    /// In a journal: a save adds the events since the last one, or writes the image.
-    Logged(Journal<D, LoggedImages>),
+pub struct Store<D: Disk> {
+    journal: Journal<D, Images>,
 }
 
 // Written out, so that the crates above need not prove again how each field is dropped.
 impl<D: Disk + Drop> Drop for Store<D> {
     fn drop(self) {
-        match self {
-            Store::Whole(_) => {}
-            Store::Logged(_) => {}
-        }
+        let Store { journal: _ } = self;
     }
 }
 
-// Syncs a disk on which something was created, and returns the node that it holds and its place in
-// a journal. It writes nothing.
-fn read_in_journal<D: Disk>(alloc: Global, disk: &mut D) -> Result<(Place, Node), Refusal>
-    ensures value { IfOk result (λ r. Keeps r.1 (D.seen disk.old)) }
-    ensures lies { IfOk result (λ r. LiesAt D.seen D.may_leave disk.new r.0) }
-    ensures logged { IfOk result (λ r. is_logged_at r.0 ≡ true) }
-    ensures refused { IfErr result (IsUnread Keeps (D.seen disk.old)) }
-    ensures quiet { Unmoved D.seen D.may_leave D.moment D.left_since disk.old disk.new }
-    ensures cause { HasCause (D.faults disk.old) (D.faults disk.new) (IsErrOf result refusal.Disk) }
+// Whether a log of events is to follow the images that are saved.
+fn adds_events(saves: Saves) -> bool
+    ensures events { saves ≡ way.Events → result ≡ true }
+    ensures images { saves ≡ way.Images → result ≡ false }
 {
-    let (tail, node) = read_logged::<D, LoggedImages>(alloc, disk)?;
-    Ok((Place::Logged(tail), node))
+    match saves {
+        Saves::Events => true,
+        Saves::Images => false,
+    }
 }
 
 /// Syncs a disk on which something was created, and returns the node that it holds, with its place.
 /// It writes nothing. [`Store::resume`] continues from there without reading again.
 ///
-/// If events are to be saved, or if the disk has a log, the place is in a journal. A disk without a
-/// log gets one at its first save there.
+/// If events are to be saved, or if the disk has a log, a log is to follow the images that are saved
+/// there. A disk without one gets it at its first save.
 ///
 /// Fails with `Disk` if the device failed, with `BadImage` if the disk holds no node, and with
 /// `Memory`. After `Ok` a crash leaves that node.
@@ -71,24 +60,17 @@ pub fn read_node<D: Disk>(
     alloc: Global,
     disk: &mut D,
     saves: Saves,
-) -> Result<(Place, Node), Refusal>
+) -> Result<(Tail, Node), Refusal>
     ensures value { IfOk result (λ r. Keeps r.1 (D.seen disk.old)) }
     ensures lies { IfOk result (λ r. LiesAt D.seen D.may_leave disk.new r.0) }
-    ensures events { saves ≡ way.Events → IfOk result (λ r. is_logged_at r.0 ≡ true) }
+    ensures events { saves ≡ way.Events → IfOk result (λ r. r.0.logs ≡ true) }
     ensures images { saves ≡ way.Images → IsPlain (D.seen disk.old)
-        → IfOk result (λ r. is_logged_at r.0 ≡ false) }
+        → IfOk result (λ r. r.0.logs ≡ false) }
     ensures refused { IfErr result (IsUnread Keeps (D.seen disk.old)) }
     ensures quiet { Unmoved D.seen D.may_leave D.moment D.left_since disk.old disk.new }
     ensures cause { HasCause (D.faults disk.old) (D.faults disk.new) (IsErrOf result refusal.Disk) }
 {
-    match saves {
-        Saves::Events => read_in_journal(alloc, disk),
-        Saves::Images => match read_plain(alloc, disk) {
-            Ok((selected, node)) => Ok((Place::Whole(selected), node)),
-            Err(Refusal::BadImage) => read_in_journal(alloc, disk),
-            Err(refusal) => Err(refusal),
-        },
-    }
+    read_logged::<D, Images>(alloc, disk, adds_events(saves))
 }
 
 impl<D: Disk> Store<D> {
@@ -98,10 +80,7 @@ impl<D: Disk> Store<D> {
         ensures only { IsTrue result
             → Only (D.seen (disk_of self.now)) (D.may_leave (disk_of self.now)) }
     {
-        match self {
-            Store::Whole(plain) => plain.is_ready(),
-            Store::Logged(journal) => journal.is_ready(),
-        }
+        self.journal.is_ready()
     }
 
     /// Whether a save may add events to a log. If not, no log follows the image on the disk, even
@@ -110,24 +89,15 @@ impl<D: Disk> Store<D> {
         ensures value { result ≡ logs_in self.now }
         ensures plain { result ≡ false → StaysPlain (D.may_leave (disk_of self.now)) }
     {
-        match self {
-            Store::Whole(plain) => {
-                // Called for its contract.
-                let _ready = plain.is_ready();
-                false
-            }
-            Store::Logged(_) => true,
-        }
+        self.journal.logs()
     }
 
     /// The disk, as the store leaves it.
     pub fn into_disk(self) -> D
         ensures { result ≡ disk_of self }
     {
-        match self {
-            Store::Whole(plain) => plain.into_disk(),
-            Store::Logged(journal) => journal.into_disk(),
-        }
+        let Store { journal } = self;
+        journal.into_disk()
     }
 
     /// Saves the first node on a disk on which nothing was ever created; see
@@ -158,28 +128,21 @@ impl<D: Disk> Store<D> {
             (λ e. LeavesOnly D.moment D.left_since disk e.0
             (KeepsNone (saved_whole node.now))) }
     {
-        match saves {
-            Saves::Images => match PlainShelf::create(alloc, disk, node) {
-                Ok(plain) => Ok(Store::Whole(plain)),
-                Err(refused) => Err(refused),
-            },
-            Saves::Events => match Journal::create(alloc, disk, node) {
-                Ok(journal) => Ok(Store::Logged(journal)),
-                Err(refused) => Err(refused),
-            },
+        match Journal::create(alloc, disk, node, adds_events(saves)) {
+            Ok(journal) => Ok(Store { journal }),
+            Err(refused) => Err(refused),
         }
     }
 
     /// An open store on a disk that [`read_node`] read, and on which nothing was written since.
-    pub fn resume(alloc: Global, disk: D, place: Place) -> Store<D>
+    pub fn resume(alloc: Global, disk: D, place: Tail) -> Store<D>
         requires { LiesAt D.seen D.may_leave disk place }
         ensures disk { disk_of result ≡ disk }
         ensures ready { is_ready_in result ≡ true }
-        ensures logs { logs_in result ≡ is_logged_at place }
+        ensures logs { logs_in result ≡ place.logs }
     {
-        match place {
-            Place::Whole(selected) => Store::Whole(PlainShelf::resume(alloc, disk, selected)),
-            Place::Logged(tail) => Store::Logged(Journal::resume(alloc, disk, tail)),
+        Store {
+            journal: Journal::resume(alloc, disk, place),
         }
     }
 
@@ -199,21 +162,12 @@ impl<D: Disk> Store<D> {
         ensures read { OnlyRead D.seen D.may_leave D.moment D.left_since D.faults
             (IsErrOf result refusal.Disk) (disk_of self.old) (disk_of self.new) }
     {
-        match self {
-            Store::Whole(plain) => match plain.reopen() {
-                Ok(node) => Ok(node),
-                Err(refusal) => Err(refusal),
-            },
-            Store::Logged(journal) => match journal.reopen() {
-                Ok(node) => Ok(node),
-                Err(refusal) => Err(refusal),
-            },
-        }
+        self.journal.reopen()
     }
 
     /// Saves a node. The log must lead from the node that the disk holds to this one, unless it is
-    /// lost. A journal then gets the log, unless it would become too long; otherwise the image of
-    /// the node is written. A crash at any moment since the call began leaves the old node, or this
+    /// lost. It is added to the log on the disk. If the disk has no log, or it would become too
+    /// long, the image of the node is written instead. A crash at any moment since the call began leaves the old node, or this
     /// one as it is once saved; after `Ok` it leaves this one.
     ///
     /// Fails with `Closed` exactly if the store is closed, with `ImageTooLarge` if the image is to
@@ -244,15 +198,9 @@ impl<D: Disk> Store<D> {
         ensures wide { node.now.core.local.shape.wide ≡ true →
             IfErr result (λ e. e ≢ refusal.ImageTooLarge) }
     {
-        match self {
-            Store::Whole(plain) => match plain.save(node) {
-                Ok(()) => Ok(()),
-                Err(refusal) => Err(refusal),
-            },
-            Store::Logged(journal) => match journal.save(node, log.bytes()) {
-                Ok(()) => Ok(()),
-                Err(refusal) => Err(refusal),
-            },
+        match self.journal.save(node, log.bytes()) {
+            Ok(()) => Ok(()),
+            Err(refusal) => Err(refusal),
         }
     }
 }
@@ -264,16 +212,10 @@ impl OverMemory for Store<MemoryDisk> {
         (is_ready_in new ≡ is_ready_in old) × (logs_in new ≡ logs_in old) };
 
     fn follow(&mut self, plan: Plan) {
-        match self {
-            Store::Whole(plain) => plain.shelf.follow(plan),
-            Store::Logged(journal) => journal.follow(plan),
-        }
+        self.journal.follow(plan);
     }
 
     fn after_crash(&self, fill: u8) -> Result<MemoryDisk, Refusal> {
-        match self {
-            Store::Whole(plain) => plain.shelf.after_crash(fill),
-            Store::Logged(journal) => journal.after_crash(fill),
-        }
+        self.journal.after_crash(fill)
     }
 }

@@ -1,6 +1,7 @@
 -- No line asks for an event that comes from another node.
 use Rattle.std.proofs.Common.{◌≡◌, ℕ, Bool, true, false, cond, List, [], ◌∷◌, Option, Some, None, IfSome, refl, subst, sym, ◌∙◌}
 use Rattle.std.specs.Option.{option_and_then, option_map}
+use Rattle.ids.specs.declared.names.Ref.{Ref}
 use Rattle.model.specs.declared.age.Scope.TheVariants as scope
 use Rattle.model.specs.declared.event.Event.{Event}
 use Rattle.model.specs.declared.event.Event.TheVariants as event
@@ -11,7 +12,7 @@ use Rattle.model.specs.World.{is_own_step}
 use Rattle.script.specs.declared.line.Line.{Line}
 use Rattle.script.specs.declared.line.Line.TheVariants as line
 use Rattle.script.specs.Operands.{read}
-use Rattle.script.specs.Grammar.{Number, acted, alone, by_operands, command_of, delivery_of, hand_of, is_own_line, line_of, node_line_of, plain, numbered_of, only_wide, reclaim_of, set_bytes_of, patch_of, bytes_of, post_of, fetch_of, letter_of, either_of, of_three, of_two, report_of, space_of, stepped, u16_of, u32_of, u64_of, u8_of, wide_of, with_none, with_one, with_three, with_two}
+use Rattle.script.specs.Grammar.{Number, acted, alone, by_operands, command_of, delivery_of, hand_of, is_own_line, line_of, node_line_of, plain, numbered_of, only_wide, reclaim_of, set_bytes_of, patch_of, bytes_of, post_of, fetch_of, letter_of, either_of, of_three, of_two, reference_of, report_of, resolve_of, space_of, stepped, u16_of, u32_of, u64_of, u8_of, wide_of, with_none, with_one, with_three, with_two}
 
 -- the value, if there is one, passes the test
 record Passes {X : Type 0} (test : X → Bool) (o : Option X) : Type 0 where
@@ -164,6 +165,24 @@ own-fetch node (a ∷ b ∷ c ∷ d ∷ []) =
     ]
 own-fetch node (a ∷ b ∷ c ∷ d ∷ e ∷ words) = none
 
+own-reference : (node register : ℕ) (r : Option Ref)
+    → Passes is_own_line (option_map (λ reference. line.Resolve node register reference) r)
+own-reference node register None = none
+own-reference node register (Some r) = some refl
+
+own-resolve : (node : ℕ) (words : List (List ℕ)) → Passes is_own_line (resolve_of node words)
+unfolding resolve_of
+own-resolve node [] = none
+own-resolve node (a ∷ []) = none
+own-resolve node (a ∷ b ∷ []) =
+    elim (u16_of a)
+    as (λ o. Passes is_own_line (option_and_then (λ register.
+    option_map (λ reference. line.Resolve node register reference) (reference_of b)) o)) [
+      | None ↦ none
+      | Some register ↦ own-reference node register (reference_of b)
+    ]
+own-resolve node (a ∷ b ∷ c ∷ words) = none
+
 own-letter : (node : ℕ) (words : List (List ℕ)) → Passes is_own_line (letter_of node words)
 unfolding letter_of
 own-letter node [] = some refl
@@ -184,7 +203,8 @@ own-only_wide node (verb ∷ words) =
     (either _ (own-bytes node words)
     (either _ (own-post node words)
     (either _ (own-fetch node words)
-    (either _ (own-letter node words) (either _ (own-reclaim node words) none))))))
+    (either _ (own-resolve node words)
+    (either _ (own-letter node words) (either _ (own-reclaim node words) none)))))))
 
 own-either : (o p : Option Line) → Passes is_own_line o → Passes is_own_line p
     → Passes is_own_line (either_of o p)
@@ -290,6 +310,7 @@ own-plain (line.Patch node object offset hex) = refl
 own-plain (line.Bytes node object offset count) = refl
 own-plain (line.Post node to label first count hex) = refl
 own-plain (line.Fetch node object label offset count) = refl
+own-plain (line.Resolve node register reference) = refl
 own-plain (line.Letter node) = refl
 own-plain (line.Reclaim node scope) = refl
 own-plain (line.State node) = refl

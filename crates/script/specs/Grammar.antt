@@ -1,9 +1,10 @@
 -- The grammar of a script's lines.
 use Rattle.std.specs.Prelude.{ℕ, ◌+◌, ◌-◌, ◌*◌, ◌^◌, Bool, true, ◌&&◌, nat_lt, nat_le, cond, ◌==◌, List, [], ◌∷◌, length, filter, Option, Some, None, codes, option_map, option_and_then}
 use Rattle.std.specs.Char.{is_ascii_digit}
-use Rattle.std.specs.List.{slice_split, list_all, starts_with}
+use Rattle.std.specs.List.{slice_split, list_all, starts_with, before_first, after_first}
 use Rattle.std.specs.Str.{bytes_eq}
 use Rattle.std.specs.Str.Parse.{digits_value}
+use Rattle.ids.specs.declared.names.Ref.{Ref}
 use Rattle.script.specs.declared.line.Line.{Line}
 use Rattle.script.specs.declared.line.Line.TheVariants as line
 use Rattle.script.specs.declared.line.TheConstants.{MOST_DIGITS}
@@ -159,6 +160,25 @@ fetch_of node (a ∷ b ∷ c ∷ d ∷ []) =
     (λ label offset count. line.Fetch node object label offset count) b c d) (u16_of a)
 fetch_of node words = None
 
+-- the reference that a word spells: its node, slot and generation, separated by dots
+abbrev pub is_dot : ℕ → Bool
+is_dot byte = byte == 46
+
+unfoldable pub reference_of : List ℕ → Option Ref
+reference_of word =
+    of_three u8_of u32_of u64_of
+    (λ node slot generation. record { node = node; slot = slot; generation = generation })
+    (before_first is_dot word)
+    (before_first is_dot (after_first is_dot word))
+    (after_first is_dot (after_first is_dot word))
+
+-- the words after `resolve`
+unfoldable pub resolve_of : ℕ → List (List ℕ) → Option Line
+resolve_of node (a ∷ b ∷ []) =
+    option_and_then (λ register.
+    option_map (λ reference. line.Resolve node register reference) (reference_of b)) (u16_of a)
+resolve_of node words = None
+
 -- nothing after `letter`
 unfoldable pub letter_of : ℕ → List (List ℕ) → Option Line
 letter_of node [] = Some (line.Letter node)
@@ -171,8 +191,9 @@ reclaim_of node (a ∷ []) =
     cond (bytes_eq a (codes "young")) (Some (line.Reclaim node scope.Young)) None
 reclaim_of node words = None
 
--- The words after a node's number, if they are about what only wide spaces have: bytes of objects
--- and of letters, letters with several references, and private objects.
+-- The words after a node's number, if they are about what only the scripts of wide spaces have:
+-- bytes of objects and of letters, letters with several references, spelled references, and private
+-- objects.
 unfoldable pub only_wide : ℕ → List (List ℕ) → Option Line
 only_wide node [] = None
 only_wide node (verb ∷ words) =
@@ -181,8 +202,9 @@ only_wide node (verb ∷ words) =
     (cond (bytes_eq verb (codes "bytes")) (bytes_of node words)
     (cond (bytes_eq verb (codes "post")) (post_of node words)
     (cond (bytes_eq verb (codes "fetch")) (fetch_of node words)
+    (cond (bytes_eq verb (codes "resolve")) (resolve_of node words)
     (cond (bytes_eq verb (codes "letter")) (letter_of node words)
-    (cond (bytes_eq verb (codes "reclaim")) (reclaim_of node words) None))))))
+    (cond (bytes_eq verb (codes "reclaim")) (reclaim_of node words) None)))))))
 
 abbrev pub either_of : Option Line → Option Line → Option Line
 either_of (Some l) other = Some l
@@ -265,6 +287,7 @@ is_own_line (line.Patch node object offset hex) = true
 is_own_line (line.Bytes node object offset count) = true
 is_own_line (line.Post node to label first count hex) = true
 is_own_line (line.Fetch node object label offset count) = true
+is_own_line (line.Resolve node register reference) = true
 is_own_line (line.Letter node) = true
 is_own_line (line.Reclaim node scope) = true
 is_own_line (line.State node) = true

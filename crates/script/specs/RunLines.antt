@@ -31,6 +31,8 @@ step_said s = None
 abbrev pub wide_event_said : Line → Option RunLine
 wide_event_said (line.Fetch node object label offset count) =
     Some (said.Act node (event.Fetch object label offset count))
+wide_event_said (line.Resolve node register reference) =
+    Some (said.Act node (event.Resolve register reference))
 wide_event_said (line.Reclaim node scope) = Some (said.Act node (event.Reclaim scope))
 wide_event_said l = None
 

@@ -1,7 +1,9 @@
 //! One line of a script. Its words are read one after another; anything outside the grammar is
 //! rejected.
 ghost use Rattle.std.specs.Prelude.{◌≡◌, false, Some, IfSome, IsTrue, option_and_then, option_map};
-ghost use Rattle.script.specs.Grammar.{command_of, delivery_of, hand_of, is_own_line, line_of, node_line_of, numbered_of, only_wide, reclaim_of, set_bytes_of, patch_of, bytes_of, post_of, fetch_of, letter_of, plain, report_of, space_of, stepped, u8_of, u16_of, u32_of, wide_of, words_of};
+ghost use Rattle.std.specs.List.{after_first, before_first};
+ghost use Rattle.script.specs.Grammar.{command_of, delivery_of, hand_of, is_own_line, line_of, node_line_of, numbered_of, only_wide, reclaim_of, set_bytes_of, patch_of, bytes_of, post_of, fetch_of, letter_of, plain, reference_of, report_of, resolve_of, space_of, stepped, u8_of, u16_of, u32_of, wide_of, words_of};
+ghost use Rattle.script.specs.Grammar.{is_dot};
 ghost use Rattle.script.specs.Operands.{read, spelled};
 ghost use Rattle.script.specs.declared.line.Line.TheVariants as said;
 ghost use Rattle.script.specs.Words.{IsTrimmed, behind, starts_number, word_of};
@@ -11,6 +13,7 @@ use crate::front::{
     behind_word, first_number, first_word, is_word, next_word, past_spaces, read_u64,
 };
 use crate::operands::{Operands, to_u8, to_u16, to_u32};
+use ids::Ref;
 use model::{Scope, Step};
 
 /// The most digits that a number has, including leading zeros.
@@ -76,6 +79,12 @@ pub enum Line<'a> {
         label: u32,
         offset: u32,
         count: u32,
+    },
+    /// Puts a reference that the script spells into a node's register.
+    Resolve {
+        node: u8,
+        register: u16,
+        reference: Ref,
     },
     /// Asks for the bytes of the oldest letter that waits.
     Letter(u8),
@@ -205,6 +214,7 @@ fn only_wide<'a>(line: &mut Line<'a>, node: u8, text: &'a str) -> Option<()>
         "bytes" => bytes(line, node, text),
         "post" => post(line, node, text),
         "fetch" => fetch(line, node, text),
+        "resolve" => resolve(line, node, text),
         "letter" => letter(line, node, text),
         "reclaim" => reclaim(line, node, text),
         _ => None,
@@ -338,6 +348,27 @@ fn fetch(line: &mut Line, node: u8, text: &str) -> Option<()>
             label,
             offset,
             count,
+        },
+    )
+}
+
+#[tactic(auto, unfolding(crate::specs::Grammar::resolve_of))]
+fn resolve(line: &mut Line, node: u8, text: &str) -> Option<()>
+    requires { IsTrimmed text.now }
+    ensures { read result line.new ≡ resolve_of node (words_of text.now) }
+{
+    let (register, text) = next_word(text)?;
+    let (reference, text) = next_word(text)?;
+    if next_word(text).is_some() {
+        return None;
+    }
+    let (register, reference) = (read_u16(register)?, read_reference(reference)?);
+    say(
+        line,
+        Line::Resolve {
+            node,
+            register,
+            reference,
         },
     )
 }
@@ -489,4 +520,31 @@ fn read_u32(word: &str) -> Option<u32>
     ensures { result ≡ u32_of word.now }
 {
     u32::try_from(read_u64(word)?).ok()
+}
+
+/// The reference that the word spells: its node, slot and generation, separated by dots.
+#[tactic(auto, unfolding(crate::specs::Grammar::reference_of))]
+fn read_reference(word: &str) -> Option<Ref>
+    ensures { result ≡ reference_of word.now }
+{
+    let (node, rest) = at_dot(word);
+    let (slot, generation) = at_dot(rest);
+    let (node, slot) = (read_u8(node)?, read_u32(slot)?);
+    let generation = read_u64(generation)?;
+    Some(Ref {
+        node,
+        slot,
+        generation,
+    })
+}
+
+/// What precedes the first dot of the text, and what follows it; all and nothing if it has no dot.
+fn at_dot(text: &str) -> (&str, &str)
+    ensures before { result.0.now ≡ before_first is_dot text.now }
+    ensures after { result.1.now ≡ after_first is_dot text.now }
+{
+    match text.split_once('.') {
+        Some(parts) => parts,
+        None => (text, ""),
+    }
 }

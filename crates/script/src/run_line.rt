@@ -166,6 +166,17 @@ fn wide_event(line: &Line) -> Option<RunLine<'static>>
             };
             Some(RunLine::Act(node, event))
         }
+        Line::Resolve {
+            node,
+            register,
+            reference,
+        } => {
+            let event = Event::Resolve {
+                register,
+                reference,
+            };
+            Some(RunLine::Act(node, event))
+        }
         Line::Reclaim { node, scope } => Some(RunLine::Act(node, Event::Reclaim { scope })),
         _ => None,
     }

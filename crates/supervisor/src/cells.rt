@@ -1,16 +1,18 @@
 //! The cells of a space, shared by its threads. Each is under a lock of its own, and all share one
 //! wire.
 ghost use Rattle.std.specs.Prelude.{◌≡◌, ◌≢◌, All, IfErr, IfOk, IsErrOf, IsTrue, MatchResult, OnOk};
-ghost use Rattle.std.specs.Prelude.{length, map, vec_len};
+ghost use Rattle.std.specs.Prelude.{List, length, map, vec_len};
 ghost use Rattle.std.specs.Arc.{arc_value};
 ghost use Rattle.ids.specs.declared.refusal.Refusal.TheVariants.{Memory};
 ghost use Rattle.model.specs.World.{World};
+ghost use Rattle.model.specs.declared.step.Step.{Step};
 ghost use Rattle.disk.specs.Crashes.{LeavesOnly};
 ghost use Rattle.wire.specs.Readers.{IsMade, IsSeatOf, opened_with};
 ghost use Rattle.wire.specs.Rule.{nodes_of};
 ghost use Rattle.wire.specs.OneAge.{AreOfOneAge};
 ghost use Rattle.cell.specs.Ages.{AreRead, IfAges, IsWhy as IsWhyUnopened};
 ghost use Rattle.cell.specs.Cells.{desk_of, IsNew};
+ghost use Rattle.cell.specs.Copies.{AreCopiesOn};
 ghost use Rattle.cell.specs.Closing.{AreOfOneKill, AreOfOneMoment, HasBegun, HaveBegun};
 ghost use Rattle.cell.specs.Looking.{AreIntact};
 ghost use Rattle.cell.specs.Names.{name_of, IsNamed};
@@ -116,6 +118,8 @@ pub(crate) fn open_alone<D: Disk + Drop>(
     ensures kept { (w : World) → AreLeftOn D.seen shape w disks.items
         → AreHeldOn D.seen shape w disks.items
         → IfErr result (IfUnopened (IfAges (λ _ _. ⊥))) }
+    ensures copies { (steps : List Step) → AreCopiesOn D.seen shape steps disks.items
+        → IfOk result (λ r. IsReached (opened_with r.0)) }
     ensures begun { IfOk result (λ r. HaveBegun r.1.items) }
     ensures read { IfOk result (λ r. AreBeside (λ k d n. IsReadFrom shape k (D.seen d) n)
         disks.items (map (λ c. c.node) r.1.items)) }

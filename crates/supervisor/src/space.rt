@@ -2,7 +2,7 @@
 //! concurrently with the worker. When a space is dropped, it asks its workers to stop.
 ghost use Rattle.std.specs.Prelude.{◌≡◌, ◌≤◌, ◌<◌, ◌≢◌, ◌↔◌, ◌⊎◌, ◌+◌, ◌∷◌, ◌++◌, false, true, Some, IfErr, IfNone};
 ghost use Rattle.std.specs.Prelude.{IfOk, IfSome, IsErrOf, IsSome, IsTrue, MatchResult, OnErr, OnOk, is_some, length, map};
-ghost use Rattle.std.specs.Prelude.{[], All, max, option_to_list, slice_get, vec_len};
+ghost use Rattle.std.specs.Prelude.{[], All, List, max, option_to_list, slice_get, vec_len};
 ghost use Rattle.std.specs.Arc.{arc_value};
 ghost use Rattle.std.specs.List.{range_with_len};
 ghost use Rattle.std.specs.Option.{ForSome};
@@ -10,6 +10,7 @@ ghost use Rattle.std.specs.List.Sorted.{IsNonDecreasingBy, IsPermutation};
 ghost use Rattle.ids.specs.declared.refusal.Refusal.TheVariants as refusal;
 ghost use Rattle.wire.specs.Plays.{HasEnded, WasEnded};
 ghost use Rattle.model.specs.World.{World};
+ghost use Rattle.model.specs.declared.step.Step.{Step};
 ghost use Rattle.model.specs.declared.event.Event.TheVariants as event;
 ghost use Rattle.wire.specs.Readers.{heard, loaded, loads_of, opened_with, watch_opening};
 ghost use Rattle.wire.specs.Readers.{IsMade, IsSameWatch, IsWatchOf};
@@ -18,6 +19,7 @@ ghost use Rattle.wire.specs.Rule.{nodes_of};
 ghost use Rattle.wire.specs.OneAge.{AreOfOneAge};
 ghost use Rattle.cell.specs.Ages.{AreRead, IfAges, IsWhy as IsWhyUnopened};
 ghost use Rattle.cell.specs.Cells.{desk_of, IsNew};
+ghost use Rattle.cell.specs.Copies.{AreCopiesOn};
 ghost use Rattle.cell.specs.Closing.{AreOfOneKill, AreOfOneMoment, HaveBegun};
 ghost use Rattle.cell.specs.Locked.{WasAnswered};
 ghost use Rattle.cell.specs.Looking.{AreIntact};
@@ -106,6 +108,9 @@ impl<D: Disk + Drop> Opened<D> {
         ensures kept { (w : World) → AreLeftOn D.seen config.now.shape w disks.items
             → AreHeldOn D.seen config.now.shape w disks.items
             → IfErr result (IfUnopened (IfAges (λ _ _. ⊥))) }
+        ensures copies { (steps : List Step)
+            → AreCopiesOn D.seen config.now.shape steps disks.items
+            → IfOk result (λ s. IsReached (opened_with s.wire)) }
         ensures read { IfOk result (λ s. AreBeside
             (λ k d n. IsReadFrom config.now.shape k (D.seen d) n) disks.items
             (map (λ c. c.node) s.cells.items)) }
@@ -225,8 +230,9 @@ impl<D: Disk + Drop> SpaceOn<D, Unnamed> {
     /// Opens a space of this configuration on these disks, the first for node 0. If nothing was
     /// ever created on a disk, its node is new; otherwise it continues from its last saved state.
     /// No node was given an event since.
-    /// Disks that hold nodes have to be those of one space that was closed or stopped earlier. If
-    /// they are of one moment ([`Closed`]), a run reaches the world in which the space begins.
+    /// Disks that hold nodes have to be those of one space, or copies of them that were made at any
+    /// moments of one run. If they are, a run reaches the world in which the space begins, unless
+    /// the opening fails.
     ///
     /// `Disks` exactly if the number of disks isn't the number of nodes. `Another` if the disk of
     /// this node holds a node of another shape or number. `Ages` exactly if all nodes are found and
@@ -261,6 +267,9 @@ impl<D: Disk + Drop> SpaceOn<D, Unnamed> {
         ensures kept { (w : World) → AreLeftOn D.seen config.now.shape w disks.items
             → AreHeldOn D.seen config.now.shape w disks.items
             → IfErr result (IfUnopened (IfAges (λ _ _. ⊥))) }
+        ensures copies { (steps : List Step)
+            → AreCopiesOn D.seen config.now.shape steps disks.items
+            → IfOk result (λ s. IsReached (opened_with (arc_value s.wire))) }
         ensures intact { OnOk result (AreIntact D.seen D.seals disks.items) }
         ensures begins { IfOk result (λ s. AreRead D.seen config.now.shape disks.items (λ ns.
             opened_with (arc_value s.wire) ≡ world_of (cores ns))) }

@@ -48,7 +48,7 @@ impl<R: Wait> Subject for Openings<'_, R> {
                 self.saves = case.saves();
                 case.text("ok");
             }
-            "fail" | "fail-once" | "crash" | "crashes" | "shelf" | "journal" => {
+            "fail" | "fail-once" | "crash" | "crashes" | "journal" => {
                 change(self.alloc, &mut self.disks, case);
             }
             "keep" => self.keep(case),
@@ -107,7 +107,7 @@ fn change(alloc: Global, disks: &mut [MemoryDisk], case: &mut Case) {
     };
     match case.verb() {
         "crashes" => put_crashes(alloc, disk, case),
-        "shelf" | "journal" => put_read(alloc, disk, case),
+        "journal" => put_read(alloc, disk, case),
         "crash" => {
             let left = disk.after_crash(case.number(2));
             replace(disk, left, case);

@@ -27,25 +27,29 @@ then-older p q r f g h =
 older-walks : Walks (λ _. Unit {0}) (λ p w. Older p w.local)
 unfolding see_to enter append announce
 older-walks = record {
-  collects = record {
-    rest = still;
-    both = λ p w f first second. then-older p w.local (f w.local).local first second;
-    sees = λ due rs p. still p;
-    enters = λ p cycle later h. (le_refl _, omega (arith, h, later));
-    rings = λ p r. still p;
-    ends = λ p h. (h, le_refl _);
-    hears = λ p reports. still p;
-    scans = λ p. still p;
-    sends = λ to b p quiet. still p;
-    tells = λ b p quiet. still p;
+  moves = record {
+    collects = record {
+      rest = still;
+      both = λ p w f first second. then-older p w.local (f w.local).local first second;
+      sees = λ due rs p. still p;
+      enters = λ p cycle later h. (le_refl _, omega (arith, h, later));
+      rings = λ p r. still p;
+      ends = λ p h. (h, le_refl _);
+      hears = λ p reports. still p;
+      scans = λ p. still p;
+      sends = λ to b p quiet. still p;
+      tells = λ b p quiet. still p;
+    };
+    roots = λ p registers letters. still p;
+    rewrites = λ p r f quiet. still p;
+    places = λ p r place v. still p;
+    makes = λ p register places ready. still p;
+    gives = λ to b p carries. still p;
   };
-  roots = λ p registers letters. still p;
-  rewrites = λ p r f quiet. still p;
-  places = λ p r place v. still p;
-  makes = λ p register places ready. still p;
-  gives = λ to b p carries. still p;
-  sweeps = λ p count. still p;
-  reclaims = λ p scope. still p;
+  frees = record {
+    sweeps = λ p count. still p;
+    reclaims = λ p scope. still p;
+  };
 }
 
 taken-older : (p : LocalState) (from number stamp : ℕ) (b : Body)

@@ -1,7 +1,8 @@
 -- Two lists of events lead to the same for a seat. So does each list between them.
-use Rattle.std.proofs.Common.{◌≡◌, ◌≢◌, ℕ, ◌==◌, cond, eq-eqb, ne_eqb, Bool, true, false, List, [], ◌∷◌, ◌++◌, length, length-append, append-nil, set, Option, None, Some, Result, Ok, Err, refl, sym, ap, ◌∙◌, subst, arith, get_or-set_other}
+use Rattle.std.proofs.Common.{◌≡◌, ◌≢◌, ℕ, ◌<◌, ◌==◌, cond, eq-eqb, ne_eqb, Bool, true, false, List, [], ◌∷◌, ◌++◌, length, length-append, append-nil, set, Option, None, Some, Result, Ok, Err, refl, sym, ap, ◌∙◌, subst, arith, get_or-set_other}
 use Rattle.std.specs.Prelude.{◌&&◌, nat_le}
-use Rattle.std.proofs.lemmas.Bool.{cond-true, cond-false, cond_both}
+use Rattle.std.specs.List.{AllByRecursion}
+use Rattle.std.proofs.lemmas.Bool.{cond-true, cond-false, cond_both, false≢true, ltb-true}
 use native.Mathlib.Decide.{ℕ_discrete}
 use mathlib.Core.Logic.{dite}
 use Rattle.ids.specs.declared.refusal.Refusal.{Refusal}
@@ -15,8 +16,9 @@ use Rattle.model.specs.declared.step.Outcome.TheVariants as outcome
 use Rattle.model.specs.Checks.{guarded}
 use Rattle.model.specs.State.{NodeState, no_node, node_at}
 use Rattle.model.specs.Steps.{act, is_addressed, is_own, receive}
-use Rattle.model.specs.World.{World, acknowledged, delivery, handing, happens, is_node, moved, release_count, released, run, take_step, world_after, IsInNet}
+use Rattle.model.specs.World.{World, acknowledged, delivery, handing, happens, is_event, is_eventful, is_node, moved, outcome_of, release_count, released, run, take_step, world_after, IsInNet}
 use Rattle.model.proofs.Runs.{run-append}
+use Rattle.laws.proofs.KeepsSent.{run-count}
 use Rattle.wire.specs.Lists.{Continues}
 use Rattle.wire.specs.Views.{Known, pair_at}
 use Rattle.wire.specs.Rule.{IsOpening, node_of, events_of, AreEvents}
@@ -114,7 +116,7 @@ cond-append : (b : Bool) (s : Step) (xs ys zs : List Step) → zs ≡ xs ++ ys
 cond-append true s xs ys zs same = ap (λ (l : List Step). s ∷ l) same
 cond-append false s xs ys zs same = same
 
-events-append : (i : ℕ) (xs ys : List Step)
+pub events-append : (i : ℕ) (xs ys : List Step)
     → events_of i (xs ++ ys) ≡ events_of i xs ++ events_of i ys
 events-append i [] ys = refl
 events-append i (s ∷ ss) ys =
@@ -123,6 +125,11 @@ events-append i (s ∷ ss) ys =
 events-front : (w : World) (xs ys : List Step) → AreEvents w (xs ++ ys) → AreEvents w xs
 events-front w [] ys are = tt
 events-front w (s ∷ ss) ys are = (are.0, events-front (happens w s) ss ys are.1)
+
+pub events-back : (w : World) (xs ys : List Step) → AreEvents w (xs ++ ys)
+    → AreEvents (run w xs) ys
+events-back w [] ys are = are
+events-back w (s ∷ ss) ys are = events-back (happens w s) ss ys are.1
 
 none-long : (xs : List Step) → length xs ≡ 0 → xs ≡ []
 none-long [] long = refl
@@ -162,3 +169,55 @@ between {v} {first} {middle} opens early late begins ends =
           subst (λ (l : List Step). IsInNet (run v.opening l) f) (sym begins.1)
           (net-more v.opening first opens begins.0 f (early.net k f there));
     }
+
+-- ---- All nodes
+
+answered : (b : Bool) (r : Result (World × Outcome) Refusal)
+    → is_eventful (outcome_of (cond b r (Err NoNode))) ≡ true → b ≡ true
+answered true r is = refl
+answered false r is = absurd (false≢true is)
+
+both-first : (a b : Bool) → (a && b) ≡ true → a ≡ true
+both-first true b is = refl
+both-first false b is = absurd (false≢true is)
+
+both-second : (a b : Bool) → (a && b) ≡ true → b ≡ true
+both-second true b is = is
+both-second false b is = absurd (false≢true is)
+
+-- an event is one of a node of the space
+event-inside : (w : World) (s : Step) → is_event w s ≡ true → node_of s < length w.current
+unfolding take_step
+event-inside w (step.Act i e) is = ltb-true i (length w.current) (answered (is_node w i) _ is)
+event-inside w (step.Save i) is = ltb-true i (length w.current) (answered (is_node w i) _ is)
+event-inside w (step.Restart i) is = ltb-true i (length w.current) (answered (is_node w i) _ is)
+event-inside w (step.Deliver from to number) is =
+    ltb-true to (length w.current)
+    (both-second (is_node w from) (is_node w to) (answered (is_node w from && is_node w to) _ is))
+event-inside w (step.Hand from to) is =
+    ltb-true from (length w.current)
+    (both-first (is_node w from) (is_node w to) (answered (is_node w from && is_node w to) _ is))
+
+module _ (P : Step → Type 0) where
+  own-first : (b : Bool) (s : Step) (ss : List Step) → b ≡ true
+      → AllByRecursion P (cond b (s ∷ ss) ss) → P s
+  own-first true s ss is all = all.0
+  own-first false s ss is all = absurd (false≢true is)
+
+  later-ones : (b : Bool) (s : Step) (ss : List Step) → AllByRecursion P (cond b (s ∷ ss) ss)
+      → AllByRecursion P ss
+  later-ones true s ss all = all.1
+  later-ones false s ss all = all
+
+  -- what holds of the events of each node holds of all events
+  pub all-events : (w : World) (log : List Step) → AreEvents w log
+      → ((i : ℕ) → i < length w.current → AllByRecursion P (events_of i log))
+      → AllByRecursion P log
+  all-events w [] are each = tt
+  all-events w (s ∷ ss) are each = (
+    own-first (node_of s == node_of s) s (events_of (node_of s) ss) (eq-eqb (node_of s) _ refl)
+        (each (node_of s) (event-inside w s are.0)),
+    all-events (happens w s) ss are.1 (λ i inside.
+        later-ones (node_of s == i) s (events_of i ss)
+        (each i (subst (λ n. i < n) (run-count w (s ∷ [])) inside))),
+  )

@@ -1,5 +1,5 @@
 -- Playing the collector's strategy, move by move.
-use Rattle.std.proofs.Common.{◌≡◌, ◌≢◌, ℕ, zero, suc, ◌+◌, ◌<◌, ◌≤◌, inl, inr, true, false, Bool, List, [], ◌∷◌, ◌++◌, length, take, drop, Result, Ok, Err, IsOk, refl, ap, sym, ◌∙◌, subst, arith, ⊎_elim, append-nil, take-append-drop, get_or}
+use Rattle.std.proofs.Common.{◌≡◌, ◌≢◌, ℕ, zero, suc, ◌+◌, ◌<◌, ◌≤◌, inl, inr, true, false, Bool, List, [], ◌∷◌, ◌++◌, length, take, drop, cond, nat_lt, Result, Ok, Err, IsOk, refl, ap, sym, ◌∙◌, subst, arith, ⊎_elim, append-nil, take-append-drop, get_or}
 use Rattle.std.specs.Prelude.{◌↔◌, IfOk, IfErr}
 use Rattle.std.specs.List.{AllByRecursion}
 use Rattle.std.proofs.lemmas.Bool.{cases_Bool, cases_eq, cases_lt, false≢true}
@@ -9,12 +9,16 @@ use Rattle.ids.specs.Limits.{Shaped, IsShape}
 use Rattle.ids.specs.declared.refusal.Refusal.{Refusal}
 use Rattle.ids.specs.declared.refusal.Refusal.TheVariants.{Memory, ImageTooLarge}
 use Rattle.ids.specs.declared.limits.TheConstants.{GREATEST_NUMBER}
+use Rattle.model.specs.declared.event.Event.TheVariants as event
 use Rattle.model.specs.declared.step.Step.{Step}
 use Rattle.model.specs.declared.step.Step.TheVariants as step
 use Rattle.model.specs.declared.step.Outcome.{Outcome}
 use Rattle.model.specs.State.{LocalState, new_node}
+use Rattle.model.specs.Cuts.{Cut}
+use Rattle.model.specs.Shading.{is_open}
+use Rattle.model.proofs.References.{all-append}
 use Rattle.model.specs.World.{World, new_world, FollowsStep, take_step, outcome_of, world_after, run, outcomes}
-use Rattle.laws.specs.Strategy.{now, is_collectors, next_steps, played, play}
+use Rattle.laws.specs.Strategy.{now, least, is_collectors, is_grey, is_unswept, has_token, has_waiting, Move, Do, bring_move, mark_move, sweep_move, own_move, next_move, next_steps, steps_of, played, play}
 use Rattle.laws.specs.Progress.{IsSwept, Comes, current_cycle}
 use Rattle.laws.specs.Bounds.{cycle_moves}
 use Rattle.laws.proofs.progress.Theorems.{cycle-can-end, garbage-can-go, gone, played-stays}
@@ -372,6 +376,37 @@ finishes (Err e) new plays shape limits steps shown room =
     (plays w shown) in
     (tt, code-fails h c (omega (arith, room 0 0, limits.least_nodes)) c.holds)
 
+-- ---- the strategy's steps are the collector's
+
+abbrev AreCollectors : List Step → Type 0
+AreCollectors steps = AllByRecursion (λ s. is_collectors s ≡ true) steps
+
+either-collects : (c : Cut) (b : Bool) (x y : Move) → AreCollectors (steps_of c x)
+    → AreCollectors (steps_of c y) → AreCollectors (steps_of c (cond b x y))
+either-collects c true x y first second = first
+either-collects c false x y first second = second
+
+move-collects : (n : ℕ) (c : Cut) → AreCollectors (steps_of c (next_move n c))
+move-collects n c =
+    let from = least n (has_waiting n c) in
+    let grey = least n (is_grey c) in
+    let unswept = least n (is_unswept c) in
+    let slots = length (c unswept).local.heap.slots in
+    either-collects c (nat_lt from n) (bring_move n c from) (own_move n c)
+    (refl, (refl, (refl, (refl, tt))))
+    (either-collects c (is_open (c 0).local) (mark_move n c grey) (sweep_move n c unswept)
+    (either-collects c (nat_lt grey n) (Do grey event.Scan) (Do (least n (has_token c)) event.Pass)
+    (refl, tt) (refl, tt))
+    (either-collects c (nat_lt unswept n) (Do unswept (event.Sweep slots)) (Do 0 event.Begin)
+    (refl, tt) (refl, tt)))
+
+played-collects : (n k : ℕ) (w : World) → AreCollectors (played n k w)
+played-collects n zero w = tt
+played-collects n (suc k) w =
+    all-append (λ s. is_collectors s ≡ true) (next_steps n w)
+    (played n k (run w (next_steps n w)))
+    (move-collects n (now w)) (played-collects n k (run w (next_steps n w)))
+
 pub collects : {old : SpaceView} (result : Result ℕ Refusal) (new : SpaceView)
     → PlaysTo result old new (λ w. current_cycle w + 1) → (shape : Shaped) → IsShape shape
     → (steps : List Step) → ShowsSpace old (run (new_world shape) steps)
@@ -387,7 +422,7 @@ collects (Ok k) new plays shape limits steps shown can =
       record {
         few = few-moves h c c.holds.0;
         gone = gone shape limits steps (played shape.nodes k w) (current_cycle w + 1)
-            (omega arith) h.swept (played-stays shape.nodes k w);
+            (omega arith) h.swept (played-stays shape.nodes k w) (played-collects shape.nodes k w);
       },
       tt,
     )

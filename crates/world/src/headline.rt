@@ -1,9 +1,11 @@
 //! The theorems over all runs, as the contract of one function that does nothing. The statements
 //! are in `laws/specs`, and docs/PROOF.md explains their terms.
+ghost use Rattle.laws.specs.Copies.{CopiesGoTogether};
+ghost use Rattle.laws.specs.Freeing.{GoneForGood, OthersLoseNothing};
 ghost use Rattle.laws.specs.Sights.{CollectorIsUnseen};
-ghost use Rattle.laws.specs.Statements.{OfEveryRun, OfSpaces, OnlyEventsChange, CutsExtend, ReachIsLive, SweepsFreeNoneReachable, NodesAgree, BalancesAddUp, GarbageGoes, OldGarbageGoes, TargetsAreLive, NetGrows, NoneRefusedInTurn, NoneBeyond, AcknowledgementsGoThrough, HandsGoThrough, AcknowledgedIsTakenIn};
+ghost use Rattle.laws.specs.Statements.{OfEveryRun, OfSpaces, OnlyEventsChange, CutsExtend, ReachIsLive, SweepsFreeNoneReachable, NodesAgree, BalancesAddUp, GarbageGoes, OldGarbageGoes, ReachResolves, TargetsAreLive, NetGrows, NoneRefusedInTurn, NoneBeyond, AcknowledgementsGoThrough, HandsGoThrough, AcknowledgedIsTakenIn};
 ghost use Rattle.laws.specs.Privacy.{PrivateGarbageGoes, PrivateIsUnknown, ReclaimsFreeNoneReachable, YoungGarbageGoes};
-ghost use Rattle.laws.specs.Progress.{MarkingCanEnd, CycleCanEnd, GarbageCanGo, EndIsFoundSoon, ReclaimsAddNoWork};
+ghost use Rattle.laws.specs.Progress.{MarkingCanEnd, CycleCanEnd, GarbageCanGo, EndIsFoundSoon, ReclaimsAddNoWork, ResolvesAddNoWork};
 ghost use Rattle.world.specs.Answered.{AnswersAreUnseen};
 ghost use Rattle.world.specs.Played.{PlayedIsAnswered};
 
@@ -36,8 +38,9 @@ ghost use Rattle.world.specs.Played.{PlayedIsAnswered};
 /// is never refused as one that doesn't fit. This holds however late or often it comes, and
 /// whatever was saved and restarted meanwhile (`net`, `in_turn`; for acknowledgements `within`,
 /// `acknowledgements`, `hands`, `taken_in`). Restarts need no further care, since any cut after one
-/// could also have come about without it (`cuts_extend`). A step that isn't an event changes
-/// nothing (`events`).
+/// could also have come about without it (`cuts_extend`). Nor does it matter from which saves of
+/// one run the nodes go on, if none has received more than was sent (`copies`). A step that isn't
+/// an event changes nothing (`events`).
 ///
 /// Collection never gets stuck. From every space that a run reaches, the collector alone ends the
 /// cycle's marking (`marking`), has each node sweep the cycle (`cycle`), and frees what was garbage
@@ -64,6 +67,10 @@ pub fn laws()
     // A cut is a choice of a state of each node, the current or the saved one. Each cut of any
     // later moment of a run is a cut of this moment, followed by steps without saves and restarts.
     ensures cuts_extend { OfEveryRun CutsExtend }
+    // Take for each node a state that was its saved one at some moment of one run. If none has
+    // received more messages of another than that one has sent to it, a run reaches the space whose
+    // current and saved states these are.
+    ensures copies { CopiesGoTogether }
     // In each cut, every reference that is reachable from a register, a letter or a message in
     // flight names an object that its owner still has.
     ensures live { OfEveryRun ReachIsLive }
@@ -78,11 +85,20 @@ pub fn laws()
     // counts.
     ensures balances { OfEveryRun BalancesAddUp }
     // Take an object that a node had saved before a cycle began, and that was reachable in no cut
-    // then. In any later cut in which the node has swept that cycle, it no longer has the object.
+    // then. In any later cut in which the node has swept that cycle, it no longer has the object,
+    // unless a program resolved a reference that led to it.
     ensures old_garbage { OfEveryRun OldGarbageGoes }
     // The same of an object that the node's current state had, saved or not, as long as the node
     // doesn't restart.
     ensures garbage_goes { OfEveryRun GarbageGoes }
+    // A node that resolves a reachable object of its own gets it, or is told to try again, which
+    // may be only while it marks.
+    ensures resolves { OfEveryRun ReachResolves }
+    // Only a Sweep and a Reclaim free objects, and only a restart loses others. No other step does.
+    ensures loses { OfEveryRun OthersLoseNothing }
+    // What was freed doesn't come back, and its reference is given to no other object, as long as
+    // its node doesn't restart.
+    ensures gone_for_good { OfEveryRun GoneForGood }
     // In each cut, no other node has a reference to a private object, and no message mentions one,
     // neither in flight, nor received, nor released.
     ensures private { OfEveryRun PrivateIsUnknown }
@@ -128,6 +144,8 @@ pub fn laws()
     ensures soon { OfSpaces EndIsFoundSoon }
     // A Reclaim between any two of these moves adds nothing to the bounds on what remains.
     ensures reclaims { OfSpaces ReclaimsAddNoWork }
+    // The same of a node that resolves a reference.
+    ensures resolves_quietly { OfSpaces ResolvesAddNoWork }
     // The calls of `Sim::step` for these moves all succeed, unless one fails with `Memory` or
     // `ImageTooLarge`. The space then shows what the moves lead to.
     ensures played { PlayedIsAnswered }

@@ -142,6 +142,7 @@ fn letter_of(outcome: Outcome) -> Result<Came> {
         Outcome::Letter(letter, bytes) => Ok(Some((letter, bytes))),
         Outcome::Refused(Refusal::NoLetter) => Ok(None),
         Outcome::Refused(refusal) => Err(refusal.into()),
+        Outcome::Apart => Err(Failure::Apart),
         Outcome::Done(_) | Outcome::NotDone => Err(Failure::Confused),
     }
 }

@@ -193,6 +193,8 @@ impl<'r> Lisp<'r> {
             ("cons", [car, cdr]) => self.pair(car, cdr),
             ("car", [pair]) => self.load(pair, CAR),
             ("cdr", [pair]) => self.load(pair, CDR),
+            ("weak-cons", [car, cdr]) => self.weak_pair(car, cdr),
+            ("weak-car", [pair]) => self.weak_car(pair),
             ("set-car", [pair, value]) => self.store(pair, CAR, value),
             ("set-cdr", [pair, value]) => self.store(pair, CDR, value),
             ("list", _) => given.iter().rev().try_fold(None, |list, value| self.pair(value, &list)),

@@ -13,7 +13,7 @@ mod eval;
 mod read;
 pub mod run;
 
-use markring::{Events, Node, Refusal, Root, Roots};
+use markring::{Events, Node, Ref, Refusal, Root, Roots};
 use run::{Machine, NAMES};
 use std::collections::VecDeque;
 
@@ -48,10 +48,22 @@ enum Tag {
     Closure,
     Binding,
     Frame,
+    // A pair whose first part is a weak reference: the payload is its slot and generation.
+    Weak,
 }
 
-const TAGS: [Tag; 7] =
-    [Tag::Pair, Tag::Number, Tag::Symbol, Tag::String, Tag::Closure, Tag::Binding, Tag::Frame];
+const TAGS: [Tag; 8] = [
+    Tag::Pair,
+    Tag::Number,
+    Tag::Symbol,
+    Tag::String,
+    Tag::Closure,
+    Tag::Binding,
+    Tag::Frame,
+    Tag::Weak,
+];
+// The bits of a slot in a weak pair.
+const SLOT_BITS: u32 = 24;
 const TAG_BITS: u32 = 3;
 const GREATEST: i64 = (1 << 60) - 1;
 const CAR: u8 = 0;
@@ -148,6 +160,37 @@ impl<'r> Lisp<'r> {
 
     fn pair(&mut self, car: &Value<'r>, cdr: &Value<'r>) -> Result<Value<'r>> {
         self.make(Tag::Pair, 0, &[car, cdr])
+    }
+
+    // A pair that doesn't keep its first part alive, which has to be an object of this node.
+    fn weak_pair(&mut self, car: &Value<'r>, cdr: &Value<'r>) -> Result<Value<'r>> {
+        let Some(object) = car else { return fault("() isn't an object") };
+        let reference = object.reference();
+        if reference.node != self.machine.own() {
+            return fault("the object is another node's");
+        }
+        let payload = (reference.generation << SLOT_BITS) as i64 | i64::from(reference.slot);
+        self.make(Tag::Weak, payload, &[&None, cdr])
+    }
+
+    // The first part of a weak pair; () if it is gone. If the collector hasn't reached it yet, it
+    // has to wait for the end of marking.
+    fn weak_car(&mut self, pair: &Value<'r>) -> Result<Value<'r>> {
+        let Some((Tag::Weak, payload)) = self.word(pair)? else {
+            return fault("the value isn't a weak pair");
+        };
+        let node = pair.as_ref().map_or(0, |pair| pair.reference().node);
+        let slot = (payload & ((1 << SLOT_BITS) - 1)) as u32;
+        let reference = Ref { node, slot, generation: (payload >> SLOT_BITS) as u64 };
+        loop {
+            match self.roots.resolve(reference) {
+                Ok(root) => return Ok(Some(root)),
+                Err(Refusal::NoField) => return Ok(None),
+                Err(Refusal::NotNow) => self.wait_turn()?,
+                Err(Refusal::Remote) => return fault("the weak pair is another node's"),
+                Err(refusal) => return Err(refusal.into()),
+            }
+        }
     }
 
     // The tag and the payload, unless the value is ().
@@ -352,6 +395,7 @@ impl<'r> Lisp<'r> {
             Some((Tag::Number, number)) => number.to_string(),
             Some((Tag::Symbol, name)) => self.machine.name(name),
             Some((Tag::String, _)) => read::quoted(&self.text_of(value)?),
+            Some((Tag::Weak, _)) => "a weak pair".into(),
             Some(_) => "a closure".into(),
         })
     }

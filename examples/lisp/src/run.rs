@@ -25,7 +25,8 @@ const PAUSE: Duration = Duration::from_millis(1);
 /// position here.
 pub(crate) const NAMES: &str =
     "quote lambda define if + - * < eq null cons car cdr set-car set-cdr \
-    list send receive string? string-length string-append string=? number->string";
+    list send receive string? string-length string-append string=? number->string \
+    weak-cons weak-car";
 
 // What the interpreters of a space share.
 struct Shared {
@@ -58,6 +59,11 @@ pub struct Machine<'s> {
 }
 
 impl Machine<'_> {
+    /// The number of the node.
+    pub fn own(&self) -> u8 {
+        self.own
+    }
+
     /// One turn: receives, collects and sends. It returns whether anything happened. The node is
     /// never saved, since a program that ends starts again from its text.
     pub fn turn(&self) -> Result<bool> {

@@ -212,3 +212,26 @@ fn a_ring_over_two_nodes_is_freed() {
     let outcome = on_two(first, second);
     assert_eq!(outcome.values, ["t", "2"]);
 }
+
+// Makes garbage until cycles have freed what nothing keeps.
+const LOSE: &str =
+    "(define lose (lambda (n) (if (< n 1) () ((lambda (x) (lose (- n 1))) (list n n)))))";
+
+#[test]
+fn weak_pairs_keep_nothing_alive() {
+    let lost = format!(
+        "{LOSE} (define p (weak-cons (list 1 2) 'x)) (lose 3000) (list (weak-car p) (cdr p))"
+    );
+    assert_eq!(on_one(&lost), "(() x)");
+    let kept = format!("{LOSE} (define l (list 1 2)) (define p (weak-cons l 'x)) (lose 3000) (list (weak-car p) (eq l (weak-car p)))");
+    assert_eq!(on_one(&kept), "((1 2) t)");
+    have_values(&[
+        ("(weak-car (weak-cons 7 ()))", "7"),
+        ("(weak-car (list 1))", "error: the value isn't a weak pair"),
+        ("(weak-cons () 1)", "error: () isn't an object"),
+    ]);
+    let outcome = on_two("(send 1 (list 1)) 'sent", "(weak-cons (receive) ())");
+    assert_eq!(outcome.values, ["sent", "error: the object is another node's"]);
+    let outcome = on_two("(send 1 (weak-cons (list 5) ()))", "(weak-car (receive))");
+    assert_eq!(outcome.values[1], "error: the weak pair is another node's");
+}

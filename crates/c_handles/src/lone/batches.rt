@@ -57,6 +57,7 @@ impl LoneNode {
         self.is_changed = false;
         self.log.clear();
         self.is_kept = false;
+        self.gone.cover();
         Ok(self.mark)
     }
 }

@@ -13,7 +13,7 @@ use c_values::{Fault, put};
 use disk_shelf::{HEAD, Persist};
 use ids::Refusal;
 use node::{Core, Node};
-use node_store::{Images, LoggedImages};
+use node_store::Images;
 use std::alloc::Global;
 
 /// What an image holds of the links between its node and one node.
@@ -61,11 +61,7 @@ impl LoneNode {
             → (e ≡ ImageTooLarge) × IsTooLarge self.now.node.core) }
         ensures last { IfErr result (λ e. e ≡ Memory → IsTooLarge self.now.node.core → ⊥) }
     {
-        if self.logs {
-            LoggedImages::to_bytes(alloc, &self.node)
-        } else {
-            Images::to_bytes(alloc, &self.node)
-        }
+        Images::to_bytes(alloc, self.logs, &self.node)
     }
 
     /// The number of bytes of the node's image. Fails with `ImageTooLarge`, and with `Memory`.
@@ -91,6 +87,7 @@ impl LoneNode {
         self.is_changed = false;
         self.log.begin(self.logs);
         self.is_kept = false;
+        self.gone.cover();
         Ok(self.mark)
     }
 
@@ -108,6 +105,7 @@ impl LoneNode {
         keep(&mut self.node, counts);
         self.is_unsaved = self.is_changed;
         self.is_kept = true;
+        self.gone.kept();
         Ok(())
     }
 
@@ -120,5 +118,6 @@ impl LoneNode {
         self.is_changed = false;
         self.is_unsaved = false;
         self.log.lose();
+        self.gone.settle();
     }
 }

@@ -1,8 +1,9 @@
 //! The log of a node's events since its last image or batch.
-ghost use Rattle.std.specs.Prelude.{◌≡◌, false};
+ghost use Rattle.std.specs.Prelude.{◌≡◌, ◌&&◌, false};
 ghost use Rattle.model.specs.declared.event.Event.TheVariants as events;
 ghost use Rattle.node.specs.Keeping.{met};
 ghost use Rattle.node_log.specs.Noted.{Noted};
+ghost use Rattle.model.specs.Steps.{frees};
 ghost use Rattle.c_handles.specs.Logs.{logging};
 ghost use Rattle.c_handles.specs.Lone.{Acknowledged, Given};
 
@@ -40,6 +41,7 @@ impl LoneNode {
     // is `Next`.
     #[inline(never)]
     pub(super) fn perform_noting(&mut self, event: Event) -> Result<Answer, Fault>
+        requires { (frees event && self.old.gone.tracks) ≡ false }
         ensures { Given false self.old self.new event.entry result }
     {
         match turned(&self.node, &event) {
@@ -50,7 +52,8 @@ impl LoneNode {
 
     // The same, with what the event means.
     fn perform_meaning(&mut self, event: &Event, meant: &Event) -> Result<Answer, Fault>
-        requires { meant.now ≡ met self.old.node.early event.now }
+        requires meant { meant.now ≡ met self.old.node.early event.now }
+        requires unlisted { (frees event.now && self.old.gone.tracks) ≡ false }
         ensures { Given false self.old self.new event.now result }
     {
         let answer = self.node.act(event)?;
@@ -66,6 +69,7 @@ impl LoneNode {
     // the node.
     #[inline(never)]
     fn perform_losing(&mut self, event: &Event) -> Result<Answer, Fault>
+        requires { (frees event.now && self.old.gone.tracks) ≡ false }
         ensures { Given false self.old self.new event.now result }
     {
         let answer = self.node.act(event)?;

@@ -8,10 +8,10 @@ ghost use Rattle.c_handles.specs.Batches.{IsStored, LogLeads, Reopened};
 
 use super::LoneNode;
 use c_values::Fault;
-use disk_shelf::{GREATEST_SAVED, HEAD, Persist, Replay};
+use disk_shelf::{GREATEST_SAVED, HEAD, Persist};
 use ids::Refusal;
 use node::Node;
-use node_store::LoggedImages;
+use node_store::Images;
 use std::alloc::Global;
 
 /// An image and batches are those of at most one node. The function does nothing; its contract
@@ -35,7 +35,7 @@ impl LoneNode {
         let node = stored(alloc, image, batches)?;
         let mut lone = LoneNode::of(alloc, node, limit);
         lone.logs = true;
-        lone.is_kept = LoggedImages::has_log(image);
+        lone.is_kept = Images::has_log(image);
         Ok(lone)
     }
 }
@@ -46,11 +46,11 @@ fn stored(alloc: Global, image: &[u8], batches: &[u8]) -> Result<Node, Refusal>
     ensures refused { IfErr result (λ e. e ≢ Refusal.Memory → (e ≡ Refusal.BadImage)
         × ((n : WholeNode) → IsStored image.now batches.now n → ⊥)) }
 {
-    let mut node = LoggedImages::from_bytes(alloc, image)?;
+    let mut node = Images::from_bytes(alloc, image)?;
     if batches.len() == 0 {
         return Ok(node);
     }
-    if !LoggedImages::has_log(image) {
+    if !Images::has_log(image) {
         return Err(Refusal::BadImage);
     }
     redo_all(&mut node, batches)?;
@@ -69,7 +69,7 @@ fn redo_all(node: &mut Node, batches: &[u8]) -> Result<(), Refusal>
         let Some(batch) = first_batch(rest) else {
             return Err(Refusal::BadImage);
         };
-        LoggedImages::redo(node, batch)?;
+        Images::redo(node, batch)?;
         rest = behind(rest, HEAD + batch.len());
     }
     Ok(())

@@ -1,31 +1,56 @@
 //! The collector's share of a node's turn.
 ghost use Rattle.std.specs.Prelude.{◌≡◌, ◌<◌, ◌≤◌, ◌+◌, ◌*◌, ◌^◌};
 ghost use Rattle.ids.specs.declared.limits.TheConstants.{WINDOW};
-ghost use Rattle.c_handles.specs.Work.{NodeDoes, NodeWorks, Plays, Repeats, at, collects};
-ghost use Rattle.c_handles.specs.Work.{node_plan, node_turns, tried, turn_of};
+ghost use Rattle.c_handles.specs.Work.{NodeDoes, NodeWorks, Plays, Scans, at, node_plan};
+ghost use Rattle.c_handles.specs.Work.{node_turns, tried, turn_of};
 
 use super::LoneNode;
-use crate::working::{Task, ending, is_left};
+use crate::working::{Task, Worked, collect, is_left, repeat};
 use c_values::{CWork, Fault};
 use ids::WINDOW;
+use model::{Answer, Event};
 use node::Summary;
 
-impl LoneNode {
-    // Tries a task until it fails, at most this often, and counts how often it was done.
+impl Worked for LoneNode {
+    ghost does = { NodeDoes };
+
     #[inline(always)]
-    fn repeat(&mut self, task: Task, most: u32, work: &mut CWork) -> Result<(), Fault>
-        requires { tried work.old + most < 2 ^ 64 }
-        ensures done { Repeats NodeDoes task most (at self.old work.old) (at self.new work.new)
-            result }
-        ensures few { tried work.new ≤ tried work.old + most }
+    fn attempt(&mut self, task: Task) -> Result<Answer, Fault> {
+        self.perform(task.event())
+    }
+
+    #[inline(always)]
+    fn scan(&mut self) -> Result<(), Fault> {
+        self.scan_one()
+    }
+}
+
+impl LoneNode {
+    // Scans an object. For most objects no answer is made.
+    #[inline(always)]
+    fn scan_one(&mut self) -> Result<(), Fault>
+        ensures { Scans NodeDoes self.old self.new result }
     {
-        for _ in 0..most {
-            match self.perform(task.event()) {
-                Ok(answer) => task.count(answer, work),
-                Err(fault) => return ending(fault),
-            }
+        if !self.node.scan_own() {
+            return self.scan_any();
+        }
+        self.is_changed = true;
+        self.is_unsaved = true;
+        if self.logs {
+            self.note(Event::Scan);
         }
         Ok(())
+    }
+
+    // The same, whatever the object.
+    #[inline(never)]
+    fn scan_any(&mut self) -> Result<(), Fault>
+        ensures { Scans NodeDoes self.old self.new result }
+    {
+        match self.perform(Event::Scan) {
+            Ok(_) => Ok(()),
+            Err(fault) => Err(fault),
+        }
     }
 
     // Receives the early messages from another node whose turn has come.
@@ -38,7 +63,7 @@ impl LoneNode {
         if from == own {
             return Ok(());
         }
-        self.repeat(Task::Receive { from }, u32::from(WINDOW), work)
+        repeat(self, Task::Receive { from }, u32::from(WINDOW), work)
     }
 
     // The same from each other node, ascending.
@@ -55,17 +80,6 @@ impl LoneNode {
         Ok(())
     }
 
-    // Scans, passes the token, and sweeps.
-    fn collect(&mut self, scans: u32, slots: u32, work: &mut CWork) -> Result<(), Fault>
-        requires { tried work.old < 2 ^ 33 }
-        ensures { Plays NodeDoes (collects scans slots) (at self.old work.old)
-            (at self.new work.new) result }
-    {
-        self.repeat(Task::Scan, scans, work)?;
-        self.repeat(Task::Pass, 1, work)?;
-        self.repeat(Task::Sweep { slots }, slots.min(1), work)
-    }
-
     // Receives early messages, and then collects.
     fn work_through(&mut self, scans: u32, slots: u32, work: &mut CWork) -> Result<(), Fault>
         requires { tried work.old < 2 ^ 32 }
@@ -73,7 +87,7 @@ impl LoneNode {
             (at self.new work.new) result }
     {
         self.receive_early(work)?;
-        self.collect(scans, slots, work)
+        collect(self, scans, slots, work)
     }
 
     /// Does the collector's share of a turn, and says what it did. It receives the early messages

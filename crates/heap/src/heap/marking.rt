@@ -1,7 +1,8 @@
 //! Marking: the room that it needs, shading, the roots, and the grey objects. Making room can fail
 //! and comes first; after that, marking can't fail.
-ghost use Rattle.std.specs.Prelude.{◌≡◌, ℕ, ◌+◌, ◌^◌, ◌<◌, ◌≤◌, length, slice_index_or};
-ghost use Rattle.std.specs.Prelude.{None, is_none, option_to_list, IsOk, IfSome, IfErr, OnOk};
+ghost use Rattle.std.specs.Prelude.{◌≡◌, ℕ, ◌+◌, ◌^◌, ◌<◌, ◌≤◌, ◌↔◌, length, slice_index_or};
+ghost use Rattle.std.specs.Prelude.{None, false, is_none, option_to_list, IsOk, IsSome, IsTrue};
+ghost use Rattle.std.specs.Prelude.{IfSome, IfErr, OnOk};
 ghost use Rattle.std.specs.List.{list_any};
 ghost use Rattle.ids.specs.declared.limits.TheConstants.{GREATEST_PLACES};
 ghost use Rattle.ids.specs.declared.refusal.Refusal.TheVariants.{Memory};
@@ -13,6 +14,7 @@ ghost use Rattle.model.specs.Shading.{last_grey, without_last_grey};
 ghost use Rattle.model.specs.Collecting.{places_in};
 ghost use Rattle.model.specs.Reclaiming.{reference_in};
 ghost use Rattle.heap.specs.Heap.{Holds, HasRoom, KeepsRoom, Became};
+ghost use Rattle.heap.specs.Heap.{IsSimple, are_own, next_held, scanned_own};
 
 use super::Heap;
 use super::objects::key;
@@ -133,6 +135,46 @@ impl Heap {
         self.grey.pop();
     }
 
+    /// Scans the object that turned grey last: it leaves the list of grey ones, and what its places
+    /// name is shaded. That is done only if the object has at most two places, they name no object
+    /// of another node, and there is room for two grey objects. Returns whether it was done;
+    /// otherwise nothing changes. `own` is the node's number. It allocates nothing.
+    #[inline(always)]
+    pub fn scan_own(&mut self, own: u8, cycle: u64) -> bool
+        ensures can { IsTrue result ↔ IsSimple own self.old }
+        ensures done { IsTrue result
+            → Became self.old self.new (scanned_own own cycle self.old.heap) 2 }
+        ensures unchanged { result ≡ false → self.new ≡ self.old }
+    {
+        let Some(held) = self.simple_held(own) else {
+            return false;
+        };
+        self.pop_grey();
+        self.shade_one(own, cycle, held[0]);
+        self.shade_one(own, cycle, held[1]);
+        true
+    }
+
+    // What the places of the object hold that is scanned next, if `scan_own` may scan it.
+    #[inline(always)]
+    fn simple_held(&self, own: u8) -> Option<[Option<Ref>; 2]>
+        ensures can { IsSome result ↔ IsSimple own self.now }
+        ensures held { IfSome result (λ held. filled held ≡ filled (next_held self.now.heap)) }
+    {
+        let Some(slot) = self.last_grey() else {
+            return None;
+        };
+        let Some(held) = pair_of(self.places(slot)) else {
+            return None;
+        };
+        let is_own = is_own(own, held[0]) && is_own(own, held[1]);
+        if is_own && self.grey.capacity() - self.grey.len() >= 2 {
+            Some(held)
+        } else {
+            None
+        }
+    }
+
     /// The reference to what is in a slot, by the generation that the slot has. This is the
     /// generation of its object, or of the next one if the slot is free, or 0 if it is retired or
     /// was never used. `own` is the node's number.
@@ -158,6 +200,7 @@ impl Heap {
     }
 
     // Shades the object of this reference, if there is one and it is this node's.
+    #[inline(always)]
     fn shade_one(&mut self, own: u8, cycle: u64, reference: Option<Ref>)
         requires { 0 < self.old.room }
         ensures { Became self.old self.new
@@ -171,6 +214,7 @@ impl Heap {
     }
 
     // Marks an object of this heap, if it is there and isn't marked yet.
+    #[inline(always)]
     fn make_grey(&mut self, cycle: u64, object: Ref)
         requires { 0 < self.old.room }
         ensures { Became self.old self.new (make_grey cycle self.old.heap object) 1 }
@@ -203,5 +247,30 @@ impl Heap {
             Some(object) => !object.is_marked(cycle),
             None => false,
         }
+    }
+}
+
+// What two places hold. If there are fewer, others that are empty follow. `None` if there are more.
+#[inline(always)]
+fn pair_of(places: &[Option<Ref>]) -> Option<[Option<Ref>; 2]>
+    ensures few { IsSome result ↔ length places.now ≤ 2 }
+    ensures held { IfSome result (λ held. filled held ≡ filled places.now) }
+{
+    match places {
+        [] => Some([None, None]),
+        [one] => Some([*one, None]),
+        [one, two] => Some([*one, *two]),
+        _ => None,
+    }
+}
+
+// Whether the reference, if there is one, is to an object of this node.
+#[inline(always)]
+fn is_own(own: u8, reference: Option<Ref>) -> bool
+    ensures { result ≡ are_own own (option_to_list reference) }
+{
+    match reference {
+        Some(reference) => reference.node == own,
+        None => true,
     }
 }

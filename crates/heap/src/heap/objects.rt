@@ -2,7 +2,7 @@
 //! object in its slot, nothing is found.
 ghost use Rattle.std.specs.Prelude.{◌≡◌, ℕ, ◌<◌, ◌≤◌, length, count_by, is_some, IsTrue, option_copied};
 ghost use Rattle.std.specs.Prelude.{true, false, cond, [], take, drop};
-ghost use Rattle.std.specs.Prelude.{Ok, Err, OnOk, OnErr, IfOk, IfErr};
+ghost use Rattle.std.specs.Prelude.{Ok, Err, OnOk, OnErr, IfOk, IfErr, IfSome};
 ghost use Rattle.ids.specs.Limits.{reference_fits};
 ghost use Rattle.ids.specs.declared.limits.TheConstants.{GREATEST_BYTES, GREATEST_NODES};
 ghost use Rattle.ids.specs.declared.refusal.Refusal.TheVariants.{Memory};
@@ -11,7 +11,8 @@ ghost use Rattle.model.specs.Heaps.{object_at, place_of, with_place, with_word, 
 ghost use Rattle.model.specs.Heaps.{load_tests, place_loaded, fetched, has_range};
 ghost use Rattle.model.specs.Heaps.{heap_store, heap_clear, heap_word, heap_set_word};
 ghost use Rattle.model.specs.Heaps.{heap_bytes, heap_bytes_len, heap_set_bytes, heap_patch};
-ghost use Rattle.model.specs.Heaps.{filling, named, patching, placing, with_rewritten};
+ghost use Rattle.model.specs.Heaps.{filling, is_marked_object, named, patching, placing};
+ghost use Rattle.model.specs.Heaps.{with_rewritten};
 ghost use Rattle.model.specs.State.{register_at, slot_at};
 ghost use Rattle.model.specs.Reclaiming.{is_occupied};
 ghost use Rattle.heap.specs.Heap.{KeepsRoom, IsSlotted, IsBorn};
@@ -322,6 +323,23 @@ impl Heap {
         ensures { result ≡ is_some (object_at self.now.heap object) }
     {
         self.object(object).is_some()
+    }
+
+    /// Whether the cycle has marked the object of this reference. `None` if the object isn't there.
+    /// The reference's node isn't checked.
+    pub fn is_marked(&self, cycle: u64, object: Ref) -> Option<bool>
+        ensures there { is_some result ≡ is_some (object_at self.now.heap object) }
+        ensures marked { IfSome result
+            (λ marked. marked ≡ is_marked_object cycle (object_at self.now.heap object)) }
+        ensures within { IfSome result
+            (λ _. (object.slot < self.now.limit) × (1 ≤ object.generation)) }
+    {
+        // (The clause `within` needs what holds of every arena, which this call states.)
+        self.objects.len();
+        match self.object(object) {
+            Some(object) => Some(object.is_marked(cycle)),
+            None => None,
+        }
     }
 
     /// What is in a place of an object of this heap. `None` if the place is empty, or there is no

@@ -39,10 +39,10 @@ impl Heap {
         }
     }
 
-    // The first slot from `slot` on whose block may have an object that the search goes through, or
-    // `end`.
+    /// The first slot from `slot` on whose block may have an object that a search of this scope goes
+    /// through, or `end`.
     #[inline(always)]
-    pub(super) fn next_sought(&self, scope: Scope, slot: u32, end: u32) -> u32
+    pub fn next_sought(&self, scope: Scope, slot: u32, end: u32) -> u32
         requires { slot ≤ end }
         ensures bounds { (slot ≤ result) × (result ≤ end) }
         ensures skips { (k : ℕ) → slot ≤ k → k < result

@@ -331,7 +331,7 @@ joins-pays from number stamp b p own ahead =
     let first = join-pays stamp p (λ e. omega (arith, e, ahead)) in
     let later = settled-pays stamp from number stamp b w.local
     (subst (λ (z : ℕ). IfAny (λ (r : Ref). r.node ≡ z) (target_of b))
-    (sym (join-walks stands-walks.collects p stamp ahead).own) own)
+    (sym (join-walks stands-walks.moves.collects p stamp ahead).own) own)
     (λ _. ap (λ (z : Phases). z.cycle) (join-phases p stamp)) in
     let s = cost-append w.sends (settled from number stamp b w.local).sends in
     let c = paid b in

@@ -80,9 +80,9 @@ taken-others p from number stamp b other =
     cond_both (ltb p.phases.cycle stamp) (join p stamp) (at_rest p)
     (λ (w : Work). Others p.own w.sends) (λ _. join-others p stamp) (λ _. tt) in
     let w : Work = joined p stamp in
-    let same : w.local.own ≡ p.own = (joined-walks stands-walks.collects p stamp).own in
+    let same : w.local.own ≡ p.own = (joined-walks stands-walks.moves.collects p stamp).own in
     let k : LocalState = (take_carried stamp b w.local).local in
-    let kept : k.own ≡ w.local.own = (carried-walks stands-walks.collects stamp b w.local).own in
+    let kept : k.own ≡ w.local.own = (carried-walks stands-walks.moves.collects stamp b w.local).own in
     others-both p.own w (λ q. then (take_carried stamp b q) (take_body from stamp b)) same first
     (others-both w.local.own (take_carried stamp b w.local) (take_body from stamp b) kept
     (sees-others (ltb stamp w.local.phases.cycle) (carried b) w.local)
@@ -112,7 +112,7 @@ begun-others : (p : LocalState) → p.own ≡ 0 → 2 ≤ p.shape.nodes → Othe
 unfolding begun probe append announce
 begun-others p here several =
     let w : Work = join p (p.phases.cycle + 1) in
-    let stands = join-walks stands-walks.collects p (p.phases.cycle + 1) (omega arith) in
+    let stands = join-walks stands-walks.moves.collects p (p.phases.cycle + 1) (omega arith) in
     let o = stands.own in
     let second : Others p.own (then w probe).sends =
     others-both p.own w probe o (join-others p (p.phases.cycle + 1))
@@ -190,26 +190,30 @@ rewritten-placed p r f h =
 placed-walks : Walks (λ _. Unit {0}) KeepsPlaced
 unfolding append
 placed-walks = record {
-  collects = placed-collects;
-  roots = λ p registers letters h. h;
-  rewrites = λ p r f quiet. rewritten-placed p r f;
-  places = place-walks placed-collects (λ p r f shared. rewritten-placed p r f);
-  makes = λ p register places ready h.
-      (let o : Object = new_object (not p.shape.wide) p.phases.cycle places in
-      omega (arith, object-wider p.heap.free p.heap.slots o, h));
-  gives = λ to b p carries.
-      post-walks placed-collects (λ q r. rewritten-placed q r sharing) to b p (λ h. h);
-  sweeps = λ p count h.
-      (let wide : length (sweeping p count).heap.slots ≡ length p.heap.slots =
-      (swept-some p.phases.cycle p.phases.cursor (looked_at p count)
-      (record { heap = p.heap; freed = 0 })).width in
-      cond_both (sweeps_last p count) 0 (p.phases.cursor + looked_at p count)
-      (λ z. z ≤ length (sweeping p count).heap.slots)
-      (λ _. omega arith) (λ _. omega (arith, wide, h)));
-  reclaims = λ p scope h.
-      (let e = (freed-reclaiming scope p.own p.heap).width in
-      let f = length-map (reclaiming scope p.own p.heap).heap.slots slot_aged in
-      omega (arith, e, f, h));
+  moves = record {
+    collects = placed-collects;
+    roots = λ p registers letters h. h;
+    rewrites = λ p r f quiet. rewritten-placed p r f;
+    places = place-walks placed-collects (λ p r f shared. rewritten-placed p r f);
+    makes = λ p register places ready h.
+        (let o : Object = new_object (not p.shape.wide) p.phases.cycle places in
+        omega (arith, object-wider p.heap.free p.heap.slots o, h));
+    gives = λ to b p carries.
+        post-walks placed-collects (λ q r. rewritten-placed q r sharing) to b p (λ h. h);
+  };
+  frees = record {
+    sweeps = λ p count h.
+        (let wide : length (sweeping p count).heap.slots ≡ length p.heap.slots =
+        (swept-some p.phases.cycle p.phases.cursor (looked_at p count)
+        (record { heap = p.heap; freed = 0 })).width in
+        cond_both (sweeps_last p count) 0 (p.phases.cursor + looked_at p count)
+        (λ z. z ≤ length (sweeping p count).heap.slots)
+        (λ _. omega arith) (λ _. omega (arith, wide, h)));
+    reclaims = λ p scope h.
+        (let e = (freed-reclaiming scope p.own p.heap).width in
+        let f = length-map (reclaiming scope p.own p.heap).heap.slots slot_aged in
+        omega (arith, e, f, h));
+  };
 }
 
 pub own-placed : (p : LocalState) (counts : List ℕ) (e : Event) → is_own e ≡ true → IsPlaced p

@@ -1,6 +1,6 @@
 -- The next cycle, and the theorems.
-use Rattle.std.proofs.Common.{false, ◌≡◌, ℕ, ◌+◌, ◌-◌, ◌*◌, ◌<◌, ◌≤◌, ◌==◌, lt-ltb, List, [], ◌∷◌, ◌++◌, length, map, refl, ap, ◌∙◌, arith, eq-eqb, length-append, ◌≢◌, zero, suc, Bool, set, sym, subst, ⊎_elim, length-set, eqb}
-use Rattle.std.specs.List.{sum_by, range_with_len}
+use Rattle.std.proofs.Common.{false, ◌≡◌, ℕ, ◌+◌, ◌-◌, ◌*◌, ◌<◌, ◌≤◌, ◌==◌, lt-ltb, List, [], ◌∷◌, ◌++◌, length, map, refl, ap, ◌∙◌, arith, eq-eqb, length-append, ◌≢◌, zero, suc, Bool, true, Result, Ok, set, sym, subst, ⊎_elim, length-set, eqb}
+use Rattle.std.specs.List.{AllByRecursion, sum_by, range_with_len}
 use Rattle.std.proofs.lemmas.Bool.{cond_both, cases_eq, cond-true, cond-false, ne_eqb}
 use Rattle.std.proofs.lemmas.List.Sums.{sum_by-cons}
 use Rattle.ids.specs.Limits.{Shaped, IsShape}
@@ -13,15 +13,15 @@ use Rattle.model.specs.Effects.{Work}
 use Rattle.model.specs.Counting.{append, announce, stamped, to_others}
 use Rattle.model.specs.Shading.{join}
 use Rattle.model.specs.Collecting.{probe, begun, new_token}
-use Rattle.model.specs.World.{World, run, new_world, world_after}
+use Rattle.model.specs.World.{World, happens, outcome_of, run, new_world, take_step, world_after}
 use Rattle.model.specs.Cuts.{Cut, cut, IsLive}
 use Rattle.model.proofs.Leaving.{own-stands, stands-walks}
 use Rattle.laws.proofs.Flights.{load_sent}
 use Rattle.model.proofs.Joining.{join-phases}
 use Rattle.model.proofs.Walk.{join-walks}
 use Rattle.laws.proofs.Invariant.{cycle_of, Inv}
-use Rattle.laws.specs.Statements.{OfSpaces, Garbage, StaysUp}
-use Rattle.laws.specs.Strategy.{now, next_move, next_steps, played, steps_of, Move, Bring, Do}
+use Rattle.laws.specs.Statements.{OfSpaces, Garbage, StaysUp, LeavesAlone, IfDone, EachDone}
+use Rattle.laws.specs.Strategy.{is_collectors, now, next_move, next_steps, played, steps_of, Move, Bring, Do}
 use Rattle.laws.specs.Bounds.{sum_to, weight, scan_work, slot_work, held_work, grey_work, heap_work, root_work, node_work, whole_node_work, work_left, whole_work, HasRoom, flight, rounds, marking_moves, cycle_moves, next_work, both_moves, marking_room}
 use Rattle.laws.proofs.progress.Flights.{sum-le, sum-at, sum-add, sum-const, flight-sends, room-after, room-less, numbers-fit}
 use Rattle.laws.proofs.progress.Paths.{Goes, run-append, Reaches, more, reaches-later, reaches-then, reaches-as, comes}
@@ -32,6 +32,8 @@ use Rattle.laws.proofs.progress.Ends.{Aim, marking-ends, marks, Known, Over}
 use Rattle.laws.proofs.progress.Sweeping.{Cleared, cleared_aim, clearing-ends}
 use Rattle.ids.specs.declared.names.Ref.{Ref}
 use Rattle.model.specs.declared.step.Step.{Step}
+use Rattle.model.specs.declared.step.Outcome.{Outcome}
+use Rattle.ids.specs.declared.refusal.Refusal.{Refusal}
 use Rattle.laws.proofs.Inner.{occupied-inside}
 use Rattle.laws.proofs.Live.{all-inv}
 use Rattle.laws.specs.Sights.{choosing}
@@ -83,7 +85,7 @@ begun-costs p =
     let w : Work = join p cycle in
     let q : LocalState = (begun p).local in
     let nodes = ap (λ (z : Shaped). z.nodes)
-    (join-walks stands-walks.collects p cycle (omega arith)).shape in
+    (join-walks stands-walks.moves.collects p cycle (omega arith)).shape in
     let pays = (join-pays cycle p (λ e. omega (arith, e))).0 in
     let token : List (ℕ × Message) =
     (w.local.shape.nodes - 1, stamped w.local (body.Token new_token)) ∷ [] in
@@ -321,13 +323,36 @@ played-stays n (suc k) w i =
     all-append (λ s. s ≢ step.Restart i) (next_steps n w) (played n k (run w (next_steps n w)))
     (steps-stay (now w) (next_move n (now w)) i) (played-stays n k (run w (next_steps n w)) i)
 
+-- no step of the collector resolves a reference
+collector-leaves : (w : World) (r : Ref) (s : Step) (o : Result Outcome Refusal)
+    → is_collectors s ≡ true → IfDone (LeavesAlone w r) s o
+collector-leaves w r (step.Act i event.Begin) (Ok o) is = λ q never. absurd cc
+collector-leaves w r (step.Act i event.Scan) (Ok o) is = λ q never. absurd cc
+collector-leaves w r (step.Act i event.Pass) (Ok o) is = λ q never. absurd cc
+collector-leaves w r (step.Act i (event.Sweep count)) (Ok o) is = λ q never. absurd cc
+collector-leaves w r (step.Act i e) (Ok o) never = absurd cc
+collector-leaves w r s o is = tt
+
+collectors-leave : (w : World) (r : Ref) (v : World) (later : List Step)
+    → AllByRecursion (λ s. is_collectors s ≡ true) later → EachDone (LeavesAlone w r) v later
+collectors-leave w r v [] all = tt
+collectors-leave w r v (s ∷ ss) all = (
+  collector-leaves w r s (outcome_of (take_step v s)) all.0,
+  collectors-leave w r (happens v s) ss all.1,
+)
+
+saves-collect : (is : List ℕ) → AllByRecursion (λ s. is_collectors s ≡ true) (map step.Save is)
+saves-collect [] = tt
+saves-collect (i ∷ is) = (refl, saves-collect is)
+
 pub gone : (shape : Shaped) (limits : IsShape shape) (steps later : List Step) (cycle : ℕ)
     → current_cycle (run (new_world shape) steps) < cycle
     → IsSwept shape.nodes cycle (now (run (run (new_world shape) steps) later))
-    → ((i : ℕ) → StaysUp i later) → (r : Ref)
+    → ((i : ℕ) → StaysUp i later)
+    → AllByRecursion (λ s. is_collectors s ≡ true) later → (r : Ref)
     → IsGone (run (new_world shape) steps)
     (run (run (run (new_world shape) steps) later) (saves shape.nodes)) r
-gone shape limits steps later cycle before swept stays r dead choice live =
+gone shape limits steps later cycle before swept stays collects r dead choice live =
     let n : ℕ = shape.nodes in
     let w : World = run (new_world shape) steps in
     let v : World = run w later in
@@ -353,11 +378,15 @@ gone shape limits steps later cycle before swept stays r dead choice live =
     ⊎_elim {C = ⊥}
     (λ (old : OldGarbage w r).
     old-garbage-goes shape limits steps (later ++ saves n) choice cycle r before old
+    (collectors-leave w r w (later ++ saves n)
+    (all-append (λ s. is_collectors s ≡ true) later (saves n) collects
+    (saves-collect (range_with_len 0 n))))
     (subst (λ (z : World). cycle ≤ (cut z choice r.node).local.phases.swept) (sym same)
     (omega (arith, done)))
     (subst (λ (z : World). IsLive (cut z choice) r) (sym same) live))
     (λ (fresh : Garbage w r).
-    garbage-goes shape limits steps later saved.other cycle r before fresh (stays r.node) chosen
+    garbage-goes shape limits steps later saved.other cycle r before fresh
+    (collectors-leave w r w later collects) (stays r.node) chosen
     (omega (arith, now_swept))
     (record {
       object = live.object;
@@ -381,7 +410,7 @@ garbage-can-go shape limits steps below room =
       holds = (
         c.holds,
         gone shape limits steps (played n c.moves w) (current_cycle w + 1) (omega arith) c.holds
-            (played-stays n c.moves w),
+            (played-stays n c.moves w) c.played.collectors,
       );
     }
 

@@ -1,16 +1,17 @@
 //! A node's own steps of a collection cycle. Each may be requested at any time and in any order,
 //! and is refused if there is nothing to do.
-ghost use Rattle.std.specs.Prelude.{◌≡◌, ◌≢◌, ◌<◌, ◌≤◌, ◌↔◌, [], true, false, not, take, length, map, IsTrue, IsSome, IfSome, IfErr, None, OnOk, OnErr};
+ghost use Rattle.std.specs.Prelude.{◌≡◌, ◌≢◌, ◌<◌, ◌≤◌, ◌↔◌, [], true, false, not, take, length, map, IsTrue, Ok, IsSome, IfSome, IfErr, None, OnOk, OnErr};
 ghost use Rattle.ids.specs.declared.limits.TheConstants.{PLAIN_PLACES};
 ghost use Rattle.ids.specs.declared.refusal.Refusal.TheVariants.{LinkSpent, Memory};
-ghost use Rattle.model.specs.Collecting.{handed_on, judged, places_in, reports_sweep};
-ghost use Rattle.model.specs.Shading.{is_calm, filled};
+ghost use Rattle.model.specs.Collecting.{handed_on, judged, places_in, reports_sweep, scanned_reference};
+ghost use Rattle.model.specs.Shading.{is_calm, filled, last_grey};
 ghost use Rattle.model.specs.State.{slot_at};
 ghost use Rattle.model.specs.Steps.{fits};
 ghost use Rattle.model.specs.View.{Performed, append_to, used, view_act, view_done};
+ghost use Rattle.model.specs.declared.event.Answer.TheVariants as answer;
 ghost use Rattle.model.specs.declared.event.Event.TheVariants as event;
 ghost use Rattle.node.specs.Cycles.{reports};
-ghost use Rattle.node.specs.Errands.{Runs, errand};
+ghost use Rattle.node.specs.Errands.{Runs, errand, scan_errand};
 ghost use Rattle.node.specs.declared.node_core.errands.Extra.TheVariants.{Scanned};
 
 use super::Core;
@@ -51,13 +52,44 @@ impl Core {
             return Err(Refusal::NothingToDo);
         };
         let scanned = self.heap.reference_at(self.own, slot);
+        if self.scan_own() {
+            return Ok(Answer::Scanned(scanned));
+        }
+        self.scan_any(slot)?;
+        Ok(Answer::Scanned(scanned))
+    }
+
+    /// Scans the object that turned grey last, if it has at most two places, which name objects of
+    /// this node alone, marking hasn't ended, and no memory is needed. Returns whether it was done;
+    /// otherwise nothing changes.
+    #[inline(always)]
+    pub(crate) fn scan_own(&mut self) -> bool
+        ensures done { let scanned = answer.Scanned (scanned_reference self.old.local) in
+            IsTrue result
+            → Performed true (Ok scanned) self.old self.new (view_act self.old event.Scan) }
+        ensures unchanged { result ≡ false → self.new ≡ self.old }
+    {
+        let own = self.own;
+        let cycle = self.cycle();
+        if self.phases.ended() == cycle {
+            return false;
+        }
+        self.heap.scan_own(own, cycle)
+    }
+
+    /// Scans the object in this slot, which turned grey last. It fails as [`Core::scan`] does after
+    /// its test.
+    #[inline(never)]
+    fn scan_any(&mut self, slot: u32) -> Result<(), Refusal>
+        requires { slot ≡ last_grey self.old.local.heap }
+        ensures { Runs result (scan_errand self.old.local) self.old self.new }
+    {
         let cycle = self.cycle();
         let mut places = [None; PLACES];
         match copy_places(&self.heap, slot, &mut places) {
-            Some(count) => self.run(cycle, true, &places[..count], Extra::Scanned)?,
-            None => self.scan_many(slot, cycle)?,
+            Some(count) => self.run(cycle, true, &places[..count], Extra::Scanned),
+            None => self.scan_many(slot, cycle),
         }
-        Ok(Answer::Scanned(scanned))
     }
 
     /// Scans the object in this slot, however many places it has. It fails as [`Core::scan`] does

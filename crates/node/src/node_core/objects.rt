@@ -9,7 +9,7 @@ ghost use Rattle.model.specs.declared.event.Event.TheVariants as event;
 
 use super::Core;
 use super::errands::Extra;
-use ids::Refusal;
+use ids::{Ref, Refusal};
 use model::Answer;
 
 impl Core {
@@ -134,5 +134,33 @@ impl Core {
     {
         let letter = self.heap.take_letter(register)?;
         Ok(Answer::Letter(letter))
+    }
+
+    /// The object is marked, so nothing needs to be shaded.
+    #[inline(never)]
+    #[tactic(auto, unfolding(model::specs::View::view_act))]
+    pub(crate) fn resolve(&mut self, register: u16, reference: Ref) -> Result<Answer, Refusal>
+        ensures performed { Performed false result self.old self.new
+            (view_act self.old (event.Resolve register reference)) }
+        ensures memory_free { IfErr result (λ e. e ≢ Memory) }
+    {
+        if usize::from(register) >= self.heap.registers().len() {
+            return Err(Refusal::NoRegister);
+        }
+        if reference.node != self.own {
+            return Err(Refusal::Remote);
+        }
+        let cycle = self.phases.cycle();
+        let Some(marked) = self.heap.is_marked(cycle, reference) else {
+            return Err(Refusal::NoField);
+        };
+        if !marked && self.phases.ended() == cycle {
+            return Err(Refusal::NoField);
+        }
+        if !marked {
+            return Err(Refusal::NotNow);
+        }
+        self.set_register(register, Some(reference));
+        Ok(Answer::Done)
     }
 }

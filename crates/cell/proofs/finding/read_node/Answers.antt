@@ -1,8 +1,8 @@
-use Rattle.std.proofs.Common.{Err, ap, refl, subst, sym}
+use Rattle.std.proofs.Common.{◌∙◌, Err, ap, refl, subst, sym}
 use Rattle.ids.specs.declared.refusal.Refusal.TheVariants.{BadImage}
 use Rattle.cell.specs.Disks.{OpensToNode}
 use Rattle.cell.specs.Opened.{IsCause, IsWhyNot, unsealed}
-use Rattle.node_store.proofs.Stores.{same_lies, same_logged}
+use Rattle.node_store.proofs.Stores.{same_lies}
 use Rattle.cell.proofs.Causes.{by-cause, by-refusal}
 use Rattle.cell.proofs.Opening.{core-found}
 use Rattle.cell.proofs.finding.read_node.Goals as goal
@@ -40,12 +40,10 @@ returns-else-is_node_of-clause-why g c = (
 
 pub returns-then-is_node_of-clause-chosen : goal.returns-then-is_node_of-clause-chosen
 returns-then-is_node_of-clause-chosen g c =
-    let place = c.in-Ok.found.0 in
-    let other = c.with_digest.result in
+    let same = c.with_digest.ensures in
     record {
-      events = λ is. same_logged place other c.with_digest.ensures (c.in-Ok.ensures.events is);
-      images = λ is plain.
-          same_logged place other c.with_digest.ensures (c.in-Ok.ensures.images is plain);
+      events = λ is. same.logs ∙ c.in-Ok.ensures.events is;
+      images = λ is plain. same.logs ∙ c.in-Ok.ensures.images is plain;
     }
 
 pub returns-then-is_node_of-clause-holds : goal.returns-then-is_node_of-clause-holds

@@ -1,8 +1,9 @@
 use Rattle.cell.proofs.Blank.{blank-new}
 use Rattle.cell.proofs.AlikeCuts.{alike-reach}
-use Rattle.cell.proofs.Applied.{balances-add-up, nodes-agree, garbage-goes, old-garbage-goes, reach-is-live}
+use Rattle.cell.proofs.Applied.{balances-add-up, nodes-agree, garbage-goes, old-garbage-goes, reach-is-live, reach-resolves}
 use Rattle.cell.proofs.Composed.{cells-free-none-reachable, cells-reclaim-garbage, cells-reclaim-none-reachable, cells-reclaim-young, cells-refuse-none-in-turn, private-is-hidden}
 use Rattle.cell.proofs.Acks.{cells-refuse-no-ack}
+use Rattle.cell.proofs.Copies.{copies-are-reached}
 use Rattle.cell.proofs.Dues.{next-taken-in}
 use Rattle.cell.proofs.Left.{left-opened, restarted-reached}
 use Rattle.cell.proofs.OneAge.{begin-of-one-age, left-is-of-one-age, reopened-is-reached}
@@ -76,6 +77,9 @@ returns-clause-old_garbage c = old-garbage-goes
 pub returns-clause-garbage_goes : goal.returns-clause-garbage_goes
 returns-clause-garbage_goes c = garbage-goes
 
+pub returns-clause-resolves : goal.returns-clause-resolves
+returns-clause-resolves c = reach-resolves
+
 pub returns-clause-one_age : goal.returns-clause-one_age
 returns-clause-one_age c = begin-of-one-age
 
@@ -84,6 +88,9 @@ returns-clause-left_of_one_age c = left-is-of-one-age
 
 pub returns-clause-reopened : goal.returns-clause-reopened
 returns-clause-reopened c = reopened-is-reached
+
+pub returns-clause-copies : goal.returns-clause-copies
+returns-clause-copies c = copies-are-reached
 
 pub returns-clause-transparent : goal.returns-clause-transparent
 returns-clause-transparent c = reached-is-unseen

@@ -1,6 +1,6 @@
 use Rattle.cell.proofs.Closed.{closed-is-left, closed-is-reached}
 use Rattle.cell.proofs.Killed.{killed-is-left}
-use Rattle.cell.proofs.Together.{cells-agree, cells-have-named}
+use Rattle.cell.proofs.Together.{cells-agree, cells-have-named, cells-free-garbage}
 use Rattle.cell.proofs.headline.laws_at_once.Goals as goal
 
 pub returns-clause-agreement : goal.returns-clause-agreement
@@ -8,6 +8,9 @@ returns-clause-agreement g c = cells-agree g.D.Disk.may_leave
 
 pub returns-clause-live : goal.returns-clause-live
 returns-clause-live g c = cells-have-named g.D.Disk.may_leave
+
+pub returns-clause-gone : goal.returns-clause-gone
+returns-clause-gone g c = cells-free-garbage g.D.Disk.may_leave
 
 pub returns-clause-left : goal.returns-clause-left
 returns-clause-left g c = closed-is-left g.D.Disk.may_leave

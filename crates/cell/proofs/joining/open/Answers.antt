@@ -19,7 +19,7 @@ use Rattle.cell.proofs.Killed.{killed-begins}
 use Rattle.cell.proofs.OnShelves.{found-kept}
 use Rattle.wire.proofs.Places.{mapped-there, some_at}
 use Rattle.cell.proofs.Ready.{opened}
-use Rattle.cell.proofs.Starting.{ages-never, fresh-begins, left-ages, left-begins, never-apart}
+use Rattle.cell.proofs.Starting.{ages-never, copies-begin, fresh-begins, left-ages, left-begins, never-apart}
 use Rattle.cell.proofs.Underway.{beside-image, beside-of}
 use Rattle.cell.proofs.joining.open.Goals as goal
 
@@ -64,6 +64,7 @@ returns-in_err-nodes g c =
           never-apart g.D.Disk.seen c.args.shape c.args.disks.items (left-ages g.D.Disk.seen
           c.args.shape c.args.disks.items w on held) g.D.Disk.seals g.D.Disk.moment g.D.Disk.faults
           _ c.in_err-nodes.ensures.why;
+      copies = λ steps on. tt;
       begun = tt;
       new = tt;
       made = tt;
@@ -130,6 +131,10 @@ returns-in-Ok g c =
           (left-begins g.D.Disk.seen c.args.shape c.args.disks.items w on nodes read.count read.read
           read.are).0;
       kept = λ w on held. tt;
+      copies = λ steps on.
+          subst IsReached (sym made.opening)
+          (copies-begin g.D.Disk.seen c.args.shape c.args.disks.items
+          c.in_ok-nodes.ensures.limits on nodes read.count read.read read.are).0;
       begun = new-begun _ c.in-Ok.ensures.new one_age
           (λ k d there.
           (let seat = made.each_seat k d.seat (mapped-there (λ x. x.seat) _ k d there) in (

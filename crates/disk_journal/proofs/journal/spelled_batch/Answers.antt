@@ -1,5 +1,5 @@
 use Rattle.std.proofs.Common.{◌∙◌, ◌++◌, ◌∷◌, [], ap}
-use Rattle.disk_journal.proofs.Shut.{shut_alone, shut_more}
+use Rattle.disk_journal.proofs.Spelled.{shut_alone, shut_more}
 use Rattle.disk_journal.proofs.journal.spelled_batch.Goals as goal
 
 pub returns-in_default : goal.returns-in_default

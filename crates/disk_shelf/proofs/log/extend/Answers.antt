@@ -5,7 +5,7 @@ use Rattle.std.proofs.lemmas.Bool.{false≢true}
 use Rattle.std.proofs.lemmas.Result.{on_ok_weaker}
 use Rattle.disk.specs.Areas.{part}
 use Rattle.disk_shelf.proofs.Logs.{Adding, batch_added, end_found, end_moved, first_torn, second_torn}
-use Rattle.disk_shelf.proofs.Logs.{logged_by}
+use Rattle.disk_shelf.proofs.Logs.{all_ok}
 use Rattle.disk_shelf.proofs.Moments.{joined, weaker}
 use Rattle.disk.proofs.Causes.{err_cause, later_cause}
 use Rattle.disk_shelf.proofs.log.extend.Given as given
@@ -58,8 +58,7 @@ returns-clause-added g c =
 pub returns-clause-logged : goal.returns-clause-logged
 returns-clause-logged g c =
     let at = (goal.at.returns-clause-logged g c).After-half-area in
-    logged_by g.D.Disk.seen g.D.Disk.may_leave c.args.in_b _ c.put-2.new.disk c.put-2.result
-    c.put-2.ensures.durable
+    all_ok _ _ _ c.put-2.result c.put-2.ensures.durable
     (on_ok_weaker c.put-2.result (λ set. end_moved (adding g at)
     (g.D.Disk.seen c.put.new.disk) c.in_ok-put.ensures.written c.open_gate-gate.result
     c.open_gate-gate.ensures.odd (g.D.Disk.seen c.put-2.new.disk) set) c.put-2.ensures.written)

@@ -24,7 +24,7 @@ found g c =
 pub redo-requires : goal.redo-requires
 redo-requires g c =
     let now = c.loop-batch in
-    fresh_led g.P.Replay.leads g.P.Replay.fresh g.met.P.Replay.led_fresh now.invariant.0.batches
+    fresh_led g.P.Persist.leads g.P.Persist.fresh g.met.P.Persist.led_fresh now.invariant.0.batches
     c.args.value.now now.value c.requires now.invariant.0.led
 
 pub returns-in_err-batch : goal.returns-in_err-batch
@@ -65,9 +65,9 @@ returns-in_err-redo g c =
     rw (p.1, p.2) (record {
       led = tt;
       bad = λ bad all last log led.
-          let led_on = next_led g.met.P.Replay.one_end now.invariant.0 batch next all last log led in
+          let led_on = next_led g.met.P.Persist.one_end now.invariant.0 batch next all last log led in
           (refused (bad_no_memory (same_err bad))).1 led_on.0
-          (subst (λ l. g.P.Replay.leads l now.value led_on.0) (sym c.deref.ensures.value) led_on.1);
+          (subst (λ l. g.P.Persist.leads l now.value led_on.0) (sym c.deref.ensures.value) led_on.1);
       quiet = both_unmoved now.invariant.1 c.next_batch.ensures.quiet;
       cause = no_cause (c.in_ok-batch.ensures.cause.fine ok_no_err ∙ now.invariant.2)
           (read_no_disk refused);
@@ -80,7 +80,7 @@ loop-batch-preserved g c =
     let batch = c.in-Some.batch in
     let next = found g (goal.at.loop-batch-preserved g c).In-Some in
     let count : c.len.result ≡ length batch.items = c.len.ensures ∙ batch.ok.0 in
-    let led = subst (λ l. g.P.Replay.leads l now.value c.redo.new.value) c.deref.ensures.value
+    let led = subst (λ l. g.P.Persist.leads l now.value c.redo.new.value) c.deref.ensures.value
     c.in_ok-redo.ensures.led in (
       performed_more now.invariant.0 batch next led
           (omega (arith, c.in-Some-checked_add.ensures.1, count)),

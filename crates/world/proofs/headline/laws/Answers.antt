@@ -1,14 +1,17 @@
 use Rattle.laws.proofs.NoEvent.{only-events-change}
+use Rattle.laws.proofs.Copies.{copies-go-together}
 use Rattle.laws.proofs.Cuts.{cuts-extend}
 use Rattle.laws.proofs.Live.{reach-is-live, sweeps-free-none-reachable, nodes-agree, balances-add-up}
 use Rattle.laws.proofs.OldGarbage.{garbage-goes, old-garbage-goes}
+use Rattle.laws.proofs.Freeing.{others-lose-nothing, gone-for-good}
+use Rattle.laws.proofs.Resolves.{reach-resolves}
 use Rattle.laws.proofs.Privacy.{private-is-unknown, reclaims-free-none-reachable}
 use Rattle.laws.proofs.Reclaims.{private-garbage-goes, young-garbage-goes}
 use Rattle.laws.proofs.Deliveries.{targets-are-live, none-refused-in-turn}
 use Rattle.laws.proofs.Net.{net-grows, none-beyond, acknowledgements-go-through, hands-go-through, acknowledged-is-taken-in}
 use Rattle.laws.proofs.Transparent.{collector-is-unseen}
 use Rattle.laws.proofs.progress.Theorems.{marking-can-end, cycle-can-end, garbage-can-go, end-is-found-soon}
-use Rattle.laws.proofs.progress.LocalWork.{reclaims-add-no-work}
+use Rattle.laws.proofs.progress.LocalWork.{reclaims-add-no-work, resolves-add-no-work}
 use Rattle.world.proofs.Answers.{answers-are-unseen}
 use Rattle.world.proofs.Plays.{played-is-answered}
 use Rattle.world.proofs.headline.laws.Goals as goal
@@ -24,6 +27,9 @@ returns-clause-events c = only-events-change
 
 pub returns-clause-cuts_extend : goal.returns-clause-cuts_extend
 returns-clause-cuts_extend c = cuts-extend
+
+pub returns-clause-copies : goal.returns-clause-copies
+returns-clause-copies c = copies-go-together
 
 pub returns-clause-live : goal.returns-clause-live
 returns-clause-live c = reach-is-live
@@ -42,6 +48,15 @@ returns-clause-old_garbage c = old-garbage-goes
 
 pub returns-clause-garbage_goes : goal.returns-clause-garbage_goes
 returns-clause-garbage_goes c = garbage-goes
+
+pub returns-clause-resolves : goal.returns-clause-resolves
+returns-clause-resolves c = reach-resolves
+
+pub returns-clause-loses : goal.returns-clause-loses
+returns-clause-loses c = others-lose-nothing
+
+pub returns-clause-gone_for_good : goal.returns-clause-gone_for_good
+returns-clause-gone_for_good c = gone-for-good
 
 pub returns-clause-private : goal.returns-clause-private
 returns-clause-private c = private-is-unknown
@@ -93,3 +108,6 @@ returns-clause-played c = played-is-answered
 
 pub returns-clause-reclaims : goal.returns-clause-reclaims
 returns-clause-reclaims c = reclaims-add-no-work
+
+pub returns-clause-resolves_quietly : goal.returns-clause-resolves_quietly
+returns-clause-resolves_quietly c = resolves-add-no-work

@@ -4,6 +4,7 @@ use Rattle.std.specs.Prelude.{◌==◌}
 use Rattle.std.proofs.lemmas.Bool.{eq-eqb}
 use Rattle.node.specs.Keeping.{WholeNode}
 use Rattle.c_handles.specs.declared.lone.images.Counts.{Counts}
+use Rattle.c_handles.specs.Gone.{GoneView}
 use Rattle.c_handles.specs.Images.{after_kept, kept_result, keeps}
 use Rattle.c_handles.specs.Logs.{KeepsLog}
 use Rattle.c_handles.proofs.Logs.{kept_logs}
@@ -19,8 +20,20 @@ returns c =
       node = c.keep.new.node;
       is_unsaved = old.is_changed;
       is_kept = true;
+      gone = c.kept.new.self;
     } ≡ after_kept old.counts (c.args.mark == old.mark) old =
-    ap (λ (n : WholeNode). record old { node = n; is_unsaved = old.is_changed; is_kept = true }) node
+    ap (λ (n : WholeNode). record old {
+      node = n;
+      is_unsaved = old.is_changed;
+      is_kept = true;
+      gone = c.kept.new.self;
+    }) node
+    ∙ ap (λ (g : GoneView). record old {
+      node = keeps c.in-Some.counts.items old.node;
+      is_unsaved = old.is_changed;
+      is_kept = true;
+      gone = g;
+    }) c.kept.ensures
     ∙ sym (ap (λ (o : Option (Vec Counts)). after_kept o (c.args.mark == old.mark) old) c.in-Some.is
     ∙ ap (λ (b : Bool). after_kept (Some c.in-Some.counts) b old) same) in (
       now,

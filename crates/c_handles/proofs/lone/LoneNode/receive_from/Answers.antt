@@ -12,7 +12,7 @@ returns-clause-done c =
     ne_eqb c.args.from c.args.own c.if-from-own.false in
     let part : Part = record { task = task.Receive c.args.from; most = WINDOW } in
     let old = at c.args.self.now c.args.work.now in
-    let new = at c.repeat.new.self c.repeat.new.work in
+    let new = at c.repeat.new.on c.repeat.new.work in
     subst (λ (b : Bool). Plays NodeDoes (cond b [] (part ∷ [])) old new c.repeat.result)
     (sym other) (last_part NodeDoes part old new c.repeat.result
     (subst (λ n. Repeats NodeDoes part.task n old new c.repeat.result) c.from.ensures

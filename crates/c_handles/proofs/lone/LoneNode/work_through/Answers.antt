@@ -17,5 +17,5 @@ returns c =
     let old = c.args.self.now in
     led_on NodeDoes (node_turns old) (collects c.args.scans c.args.slots)
     (at old c.args.work.now) (at c.receive_early.new.self c.receive_early.new.work)
-    c.in_ok-receive_early.ensures.done (at c.collect.new.self c.collect.new.work) c.collect.result
+    c.in_ok-receive_early.ensures.done (at c.collect.new.on c.collect.new.work) c.collect.result
     c.collect.ensures

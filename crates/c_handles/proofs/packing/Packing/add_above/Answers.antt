@@ -1,7 +1,7 @@
 use Rattle.std.proofs.Common.{length, subst}
 use Rattle.msg.specs.Frames.{plain_ref}
 use Rattle.c_handles.specs.Frames.{Holds, Packed}
-use Rattle.c_handles.proofs.Logs.{on_ok}
+use Rattle.std.proofs.lemmas.Result.{on_ok_weaker}
 use Rattle.c_handles.proofs.Packs.{above_next, above_skipped, more}
 use Rattle.c_handles.proofs.packing.Packing.add_above.Goals as goal
 
@@ -19,7 +19,7 @@ returns-then-after-number_of c =
     let f = plain_ref c.in-Some.frame in
     let did = c.add_frame.ensures in
     rw c.in-Some.is (record {
-      added = on_ok c.add_frame.result
+      added = on_ok_weaker c.add_frame.result
           (λ adds whole p h.
           subst (λ (q : Packed). Holds whole q c.add_frame.new.self c.add_frame.new.buffer)
           (above_next (length whole) c.args.after c.number_of.result p f c.number_of.ensures

@@ -1,4 +1,4 @@
-use Rattle.std.proofs.Common.{ap, refl, subst, sym, ◌∙◌}
+use Rattle.std.proofs.Common.{ap, inl, refl, subst, sym, ◌∙◌}
 use Rattle.std.specs.Arc.{arc_value}
 use Rattle.std.proofs.lemmas.Bool.{false≢true}
 use Rattle.std.proofs.lemmas.Result.{err_from_is_err_and}
@@ -7,7 +7,7 @@ use Rattle.wire.specs.Readers.{IsSeatOf}
 use Rattle.wire.specs.declared.seats.Wire.{Wire}
 use Rattle.wire.proofs.Same.{still-of}
 use Rattle.cell.specs.Cells.{CellView}
-use Rattle.c_handles.proofs.Seats.{acted_by}
+use Rattle.c_handles.proofs.Seats.{acted_by, acted_plain}
 use Rattle.c_handles.proofs.Staying.{in-both}
 use Rattle.c_handles.proofs.seated.SeatedCell.act.Goals as goal
 
@@ -47,11 +47,13 @@ pub returns-in_err-answer : goal.returns-in_err-answer
 returns-in_err-answer c =
     let p = err_from_is_err_and c.from_residual.result c.from_residual.ensures.1 in
     let h = c.in_err-answer.ensures in
-    rw (p.1, p.2) (acted_by (record { wire = refl; mark = refl; imaged = refl })
-    h.given h.memory_free h.closed h.shut h.goes_on h.traced refl)
+    rw (p.1, p.2)
+    (inl (acted_by (record { wire = refl; mark = refl; imaged = refl; gone = refl })
+    h.given h.memory_free h.closed h.shut h.goes_on h.traced refl))
 
 pub returns : goal.returns
 returns c =
     let h = c.in_ok-answer.ensures in
-    acted_by (record { wire = refl; mark = refl; imaged = refl })
-    h.given h.memory_free h.closed h.shut h.goes_on h.traced refl
+    acted_plain {old = c.args.self.now} (sym c.lists.ensures ∙ c.if-lists.false)
+    (acted_by (record { wire = refl; mark = refl; imaged = refl; gone = refl })
+    h.given h.memory_free h.closed h.shut h.goes_on h.traced refl)

@@ -15,19 +15,19 @@ pub returns-in_err-pump_in : goal.returns-in_err-pump_in
 returns-in_err-pump_in c =
     let p = err_from_is_err_and c.from_residual.result c.from_residual.ensures.1 in
     let h = c.in_err-pump_in.ensures in
-    rw (p.1, p.2) (pumped_by (record { wire = refl; mark = refl; imaged = refl })
+    rw (p.1, p.2) (pumped_by (record { wire = refl; mark = refl; imaged = refl; gone = refl })
     h.pumped h.closed h.shut h.no_node h.goes_on refl)
 
 pub returns-in-Empty : goal.returns-in-Empty
 returns-in-Empty c =
     let h = rw c.in-Empty.is at c.in_ok-pump_in.ensures in
-    pumped_by (record { wire = refl; mark = refl; imaged = refl })
+    pumped_by (record { wire = refl; mark = refl; imaged = refl; gone = refl })
     h.pumped h.closed h.shut h.no_node h.goes_on refl
 
 pub returns-in-Event : goal.returns-in-Event
 returns-in-Event c =
     let h = rw c.in-Event.is at c.in_ok-pump_in.ensures in
-    pumped_by (record { wire = refl; mark = refl; imaged = refl })
+    pumped_by (record { wire = refl; mark = refl; imaged = refl; gone = refl })
     h.pumped h.closed h.shut h.no_node h.goes_on refl
 
 pub pump_in-requires : goal.pump_in-requires

@@ -22,6 +22,6 @@ returns c =
       same = said.same;
       refused = said.refused;
       others = said.others;
-      keeps = record { wire = refl; mark = refl; imaged = refl };
+      keeps = record { wire = refl; mark = refl; imaged = refl; gone = c.empty.ensures };
       fresh = refl;
     }

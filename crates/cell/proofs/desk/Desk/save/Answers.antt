@@ -7,7 +7,8 @@ use Rattle.msg.specs.Frames.{Plain}
 use Rattle.node.specs.Keeping.{WholeNode}
 use Rattle.cell.specs.Desks.{AreTaken, IsSavedNode, StandsAt}
 use Rattle.cell.specs.Events.{both_states}
-use Rattle.cell.proofs.Found.{found-read, shows-kept}
+use Rattle.cell.proofs.Found.{found-read}
+use Rattle.laws.proofs.Carrying.{shows-kept}
 use Rattle.node_store.proofs.Stores.{kept_twice}
 use Rattle.node_store.specs.Noted.{IsLogged}
 use Rattle.node_store.proofs.Ends.{begun_log}

@@ -3,6 +3,7 @@ use Rattle.std.proofs.lemmas.Result.{err_from_is_err_and}
 use Rattle.disk.specs.Crashes.{LeavesOnly}
 use Rattle.disk_shelf.specs.Logs.{IsLoggedTo, OldOrNewLog, Opens}
 use Rattle.disk_shelf.proofs.Moments.{started}
+use Rattle.disk_shelf.proofs.Quiet.{some_no_none}
 use Rattle.disk_shelf.proofs.Saves.{done_save, failed_save, unwritten_save}
 use Rattle.disk_journal.proofs.Refusals.{disk_no_large, memory_no_large}
 use Rattle.disk_journal.proofs.Values.{kept_more}
@@ -31,7 +32,14 @@ invariant_of-self-2 g c =
       kept = λ _. kept_more c.args.batch.now kept.selected kept.behind c.requires.end
           (subst (IsLoggedTo g.D.Disk.seen g.D.Disk.may_leave c.extend.new.disk in_b) next
           c.in_ok-extend.ensures.logged) c.in_ok-extend.ensures.added;
+      plain = λ plain. absurd (some_no_none c.requires.end (c.args.self.now.plain plain).0);
     }
+
+pub invariant_of-self : goal.invariant_of-self
+invariant_of-self g c = record {
+  kept = λ ready. absurd cc;
+  plain = λ plain. absurd (some_no_none c.requires.end (c.args.self.now.plain plain).0);
+}
 
 pub returns-in_default : goal.returns-in_default
 returns-in_default g c = record {
@@ -39,6 +47,7 @@ returns-in_default g c = record {
   any_moment = unwritten g (goal.at.returns-in_default g c).After-checked_add;
   after = unwritten_save c.requires.ready (inl refl);
   not_large = memory_no_large;
+  logs = refl;
 }
 
 pub returns-in_err-bytes : goal.returns-in_err-bytes
@@ -49,6 +58,7 @@ returns-in_err-bytes g c =
       any_moment = unwritten g (goal.at.returns-in_err-bytes g c).After-checked_add;
       after = unwritten_save c.requires.ready (inl refl);
       not_large = memory_no_large;
+      logs = refl;
     })
 
 pub returns-in_err-extend : goal.returns-in_err-extend
@@ -60,6 +70,7 @@ returns-in_err-extend g c =
       any_moment = c.extend.ensures.any_moment;
       after = failed_save c.requires.ready (c.in_err-extend.ensures.cause.failed refl) refl;
       not_large = disk_no_large;
+      logs = refl;
     })
 
 pub returns : goal.returns
@@ -68,4 +79,5 @@ returns g c = record {
   any_moment = c.extend.ensures.any_moment;
   after = done_save c.requires.ready refl;
   not_large = tt;
+  logs = refl;
 }

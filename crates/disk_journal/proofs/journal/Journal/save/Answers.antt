@@ -1,4 +1,4 @@
-use Rattle.std.proofs.Common.{◌∙◌, ⊎_elim, IfSome, inl, inr, subst, sym}
+use Rattle.std.proofs.Common.{◌∙◌, ⊎_elim, IfSome, inl, inr, refl, subst, sym}
 use Rattle.std.proofs.lemmas.Bool.{false≢true}
 use Rattle.std.proofs.lemmas.Result.{on_ok_weaker}
 use Rattle.disk_shelf.specs.Logs.{OpensIf}
@@ -18,6 +18,8 @@ returns-then-not-self g c = record {
     λ is. absurd (closed_not_large is),
     λ all. absurd (false≢true (sym c.if-not-self.true ∙ all.0)),
   );
+  intact = λ _. tt;
+  logs = refl;
 }
 
 pub returns-in_default : goal.returns-in_default
@@ -31,6 +33,8 @@ returns-in_default g c =
         λ is. (c.if-not-self.false, rw c.in_default.is tt, said.too_large.0 is),
         λ all. said.too_large.1 all.2,
       );
+      intact = said.intact;
+      logs = said.logs;
     }
 
 pub returns-in_default-place_for : goal.returns-in_default-place_for
@@ -49,6 +53,8 @@ returns-in_default-place_for g c =
         ),
         λ all. said.too_large.1 all.2,
       );
+      intact = said.intact;
+      logs = said.logs;
     }
 
 pub returns : goal.returns
@@ -61,7 +67,7 @@ returns g c =
       saved = on_ok_weaker c.append.result (λ added old r led.
           let log = found_log kept.selected kept.behind c.in-Some-place_for.ensures.here r in
           restores_more r log.0
-          (subst (λ o. IfSome o (λ b. g.P.Replay.leads b.now old saved)) c.in-Some.is led)
+          (subst (λ o. IfSome o (λ b. g.P.Persist.leads b.now old saved)) c.in-Some.is led)
           (added r.image r.batches log.1)) said.added;
       any_moment = λ is old r led.
           let log = found_log kept.selected kept.behind c.in-Some-place_for.ensures.here r in
@@ -70,11 +76,13 @@ returns g c =
           (λ still. inl (restores_still r
           (subst (λ b. OpensIf b r.image r.batches x) (sym log.0) still)))
           (λ more. inr (restores_more r log.0
-          (subst (λ o. IfSome o (λ b. g.P.Replay.leads b.now old saved)) c.in-Some.is led) more)));
+          (subst (λ o. IfSome o (λ b. g.P.Persist.leads b.now old saved)) c.in-Some.is led) more)));
       after = said.after;
       too_large = (
         λ is. absurd (not_refused said.not_large is),
         λ all. absurd (some_no_none (sym c.place_for.ensures.value ∙ c.in-Some-place_for.is)
             (rw c.in-Some.is at all.1)),
       );
+      intact = λ plain. absurd (some_no_none c.in-Some-place_for.ensures.here (was.plain plain).0);
+      logs = said.logs;
     }

@@ -32,6 +32,11 @@ returns-in-Ok-clause-left g c = λ w on.
     subst (λ (x : Wire). IsReached (opened_with x)) (sym c.in-Ok.ensures.wire)
     (c.in_ok-opened.ensures.left w on)
 
+pub returns-in-Ok-clause-copies : goal.returns-in-Ok-clause-copies
+returns-in-Ok-clause-copies g c = λ steps on.
+    subst (λ (x : Wire). IsReached (opened_with x)) (sym c.in-Ok.ensures.wire)
+    (c.in_ok-opened.ensures.copies steps on)
+
 pub returns-in-Ok-clause-begins : goal.returns-in-Ok-clause-begins
 returns-in-Ok-clause-begins g c =
     let opened = c.in_ok-opened.ensures in

@@ -1,0 +1,23 @@
+use Rattle.std.proofs.Common.{arith, subst, sym}
+use Rattle.c_handles.specs.declared.working.Task.TheVariants as task
+use Rattle.c_handles.specs.Work.{Repeats, at}
+use Rattle.c_handles.proofs.Tries.{led_all, led_done, led_failed}
+use Rattle.c_handles.proofs.working.scan.Goals as goal
+
+pub returns-in-Err-clause-done : goal.returns-in-Err-clause-done
+returns-in-Err-clause-done g c =
+    subst (Repeats g.W.Worked.does task.Scan c.args.most (at c.args.on.now c.args.work.now)
+    (at c.scan.new.self c.loop.work)) (sym c.ending.ensures)
+    (led_failed c.loop.invariant.led (omega (arith, c.loop-test.true, c.loop.auto.counter-end))
+    c.scan.new.self c.in-Err.fault c.in-Err.ensures)
+
+pub loop-preserved : goal.loop-preserved
+loop-preserved g c = record {
+  led = led_done c.loop.invariant.led (omega (arith, c.loop-test.true, c.loop.auto.counter-end))
+      c.scan.new.self c.in-Ok.ensures.0 c.in-Ok.ensures.1;
+  few = omega (arith, c.loop.invariant.few);
+}
+
+pub returns-clause-done : goal.returns-clause-done
+returns-clause-done g c =
+    led_all c.loop.invariant.led (omega (arith, c.loop-test.false, c.loop.auto.counter-end))
