@@ -11,7 +11,7 @@
 // some of it. Entries go once, with their words, as the node hands out what it freed, or as a walk
 // misses it. At checkpoints, just what the model reaches is left.
 //
-//     sim SEEDS [FIRST [STEPS]]
+//     sim SEEDS [FIRST [STEPS [CHECKPOINTS]]]
 #include "../inside.h"
 #include "disk.h"
 #include "rows.h"
@@ -2557,7 +2557,21 @@ static void forget_all(void)
     object_count = letter_count = 0;
 }
 
-static void run(unsigned long steps)
+// All processes end, others go on, and all that is under way is done.
+static void restart_all(void)
+{
+    is_calm = is_still = true;
+    for (uint8_t node = 0; node < nodes; node++) {
+        if (stations[node].host != NULL) {
+            stop(&stations[node], false);
+        }
+    }
+    settle();
+    is_calm = is_still = false;
+}
+
+// (Without checkpoints, nothing is compared at rest.)
+static void run(unsigned long steps, unsigned long rests)
 {
     nodes = (uint8_t)(2 + below(MOST - 1));
     limit = below(2) == 0 ? 0 : 8 + below(60);
@@ -2593,13 +2607,13 @@ static void run(unsigned long steps)
         if (below(600) == 0) {
             mix_up((uint8_t)below(nodes), (mixing)below(3));
         }
-        if (i % (steps / CHECKPOINTS + 1) == 0 || i == steps) {
+        if (rests > 0 && (i % (steps / rests + 1) == 0 || i == steps)) {
             checkpoint();
             try_at_rest();
         }
     }
     if (failures == 0) {
-        drop_all();
+        rests > 0 ? drop_all() : restart_all();
     }
     for (uint8_t node = 0; node < nodes; node++) {
         failed_calls += stations[node].disk.failed;
@@ -2612,11 +2626,12 @@ int main(int count, char **given)
     unsigned long seeds = count > 1 ? strtoul(given[1], NULL, 10) : 40;
     unsigned long first = count > 2 ? strtoul(given[2], NULL, 10) : 1;
     unsigned long steps = count > 3 ? strtoul(given[3], NULL, 10) : 4000;
+    unsigned long rests = count > 4 ? strtoul(given[4], NULL, 10) : CHECKPOINTS;
     for (run_seed = first; run_seed < first + seeds && failures == 0; run_seed++) {
         seed = run_seed * UINT64_C(0x9E3779B97F4A7C15) | 1;
         is_wide = run_seed % 3 == 0;
         is_kept_in_database = run_seed % 4 == 2;
-        run(steps);
+        run(steps, rests);
     }
     printf("%lu seeds: %lu requests, %lu answers, %lu crashes, %lu of them with the machine, %lu "
            "failed saves, %lu failed calls, %lu refused allocations, %lu packets lost, %lu cycles "
