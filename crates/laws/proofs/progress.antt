@@ -15,3 +15,6 @@ pub mod LocalWork
 pub mod Theorems
 mod TokenMoves
 mod Soon
+mod Turning
+mod Widths
+mod Idling

@@ -38,6 +38,7 @@ use Rattle.laws.proofs.progress.Stages.{Stage, stage-same, SameRing, ring-turn, 
 pub record Idles (n : ℕ) (c d : Cut) (i : ℕ) (q : LocalState) (ms : List (ℕ × Message)) : Type 0
   where
     pub turn : Turn c d i q ms
+    pub heap : q.heap ≡ (c i).local.heap
     pub cycle : (j : ℕ) → cycle_of d j ≡ cycle_of c j
     pub grey : (j : ℕ) → (d j).local.heap.grey ≡ (c j).local.heap.grey
     pub work : work_left n d ≤ work_left n c + load_sent weight ms
@@ -69,6 +70,7 @@ idles-by {c = c} {i = i} {q = q} turn change cycle heap uncounted =
     ap (λ (z : Heap). whole_node_work (record p { heap = z })) heap in
     record {
       turn = turn;
+      heap = heap;
       cycle = at_turn (λ j s. s.local.phases.cycle ≡ cycle_of c j) turn cycle (λ j _. refl);
       grey = at_turn (λ j s. s.local.heap.grey ≡ (c j).local.heap.grey) turn
           (ap (λ z. z.grey) heap) (λ j _. refl);
