@@ -18,3 +18,5 @@ mod Soon
 mod Turning
 mod Widths
 mod Idling
+mod Listed
+mod Resting

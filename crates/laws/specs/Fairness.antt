@@ -1,7 +1,7 @@
 -- Collection never gets stuck, in whatever order the collector's steps are done ("Progress" in
 -- docs/PROOF.md). `Progress` has one order that leads to the end. Here all do that are fair: in each
 -- round every node has a turn, and messages come in on every link.
-use Rattle.std.specs.Prelude.{◌≡◌, ◌≢◌, ℕ, ◌+◌, ◌*◌, ◌<◌, ◌≤◌, Bool, true, false, List, [], ◌∷◌, ◌++◌, length, Err}
+use Rattle.std.specs.Prelude.{◌≡◌, ◌≢◌, ℕ, ◌+◌, ◌*◌, ◌<◌, ◌≤◌, Bool, true, false, nat_lt, List, [], ◌∷◌, ◌++◌, length, Err}
 use Rattle.std.specs.List.{AllByRecursion}
 use Rattle.ids.specs.declared.limits.TheConstants.{GREATEST_CYCLE}
 use Rattle.ids.specs.declared.names.Ref.{Ref}
@@ -18,9 +18,11 @@ use Rattle.laws.specs.Progress.{current_cycle, HasEnded, IsSwept, IsGone, saves}
 
 -- ---- rounds
 
--- a step of the collector within a cycle, a save, a delivery or an acknowledgement
+-- A step of the collector within a cycle, a save, a delivery or an acknowledgement. A sweep looks at
+-- some slots.
 abbrev pub is_turns : Step → Bool
 is_turns (step.Act i event.Begin) = false
+is_turns (step.Act i (event.Sweep count)) = nat_lt 0 count
 is_turns s = is_collectors s
 
 -- A node has its turn: it tries to scan, to pass the token, and to sweep some slots. If there is
@@ -29,7 +31,6 @@ pub record HasTurn (i : ℕ) (ss : List Step) : Type 0 where
   pub scan : Among (step.Act i event.Scan) ss
   pub pass : Among (step.Act i event.Pass) ss
   pub count : ℕ
-  pub some : 0 < count
   pub sweep : Among (step.Act i (event.Sweep count)) ss
 
 -- Of the messages that are in flight on a link at first, two are received, or all if there are

@@ -9,6 +9,7 @@ use Rattle.msg.specs.declared.body.Token.{Token}
 use Rattle.msg.specs.declared.body.Message.{Message}
 use Rattle.model.specs.declared.event.Event.TheVariants as event
 use Rattle.model.specs.declared.step.Step.{Step}
+use Rattle.model.specs.declared.step.Step.TheVariants as step
 use Rattle.model.specs.State.{Heap, LocalState}
 use Rattle.model.specs.Shading.{see_to}
 use Rattle.model.specs.Collecting.{scan, scanned, whitened, without_token}
@@ -26,7 +27,7 @@ use Rattle.laws.proofs.progress.Costs.{is_token, token-there}
 use Rattle.laws.proofs.progress.Hearing.{Took, after_it, stamp-latest, took-joins, took-cycle, first-ended}
 use Rattle.laws.proofs.progress.Falls.{Falls, nodes-turn, took-falls, scan-falls}
 use Rattle.laws.proofs.progress.TokenMoves.{Idles, holding, token-idles, Passes, PassMove, goes_on, concluded, pass-move}
-use Rattle.laws.proofs.progress.Turning.{Excuse, Did, rests, takes, scans, passes, sweeps}
+use Rattle.laws.proofs.progress.Turning.{Excuse, is_act, Did, rests, takes, scans, passes, sweeps}
 use Rattle.laws.proofs.progress.Widths.{taken-width, scanned-width}
 
 -- ---- what no step adds to
@@ -79,10 +80,10 @@ keeps-by {n = n} {c = c} {d = d} inside turn cycle ended width =
 pub data IdleStep (shape : Shaped) (c d : Cut) (s : Step) : Type 0 where
   nothing : d ≡ c → Excuse c s → IdleStep shape c d s
   token_in : (from to : ℕ) (x : Message) (t : Token) → Took shape c d from to x
-      → x.body ≡ body.Token t → x.stamp ≤ cycle_of c to → IdleStep shape c d s
+      → x.body ≡ body.Token t → x.stamp ≤ cycle_of c to → is_act s ≡ false → IdleStep shape c d s
   token_on : (i : ℕ) (q : LocalState) (ms : List (ℕ × Message)) → Passes shape c d i
       → Idles shape.nodes c d i q ms → AllByRecursion (λ m. is_token m.1.body ≡ true) ms
-      → IdleStep shape c d s
+      → s ≡ step.Act i event.Pass → IdleStep shape c d s
 
 -- nothing is grey, and nothing but tokens is in flight
 pub record Quiet (n : ℕ) (c : Cut) : Type 0 where
@@ -93,9 +94,9 @@ pub record Quiet (n : ℕ) (c : Cut) : Type 0 where
 pub idle-grey : {shape : Shaped} {c d : Cut} {s : Step} → IdleStep shape c d s → (j : ℕ)
     → is_grey d j ≡ is_grey c j
 idle-grey (nothing same excuse) j = ap (λ (z : Cut). is_grey z j) same
-idle-grey (token_in from to x t took is here) j =
+idle-grey (token_in from to x t took is here other) j =
     ap (λ (z : List ℕ). not (length z == 0)) ((token-idles took t is here).grey j)
-idle-grey (token_on i q ms pass idle tokens) j =
+idle-grey (token_on i q ms pass idle tokens step_is) j =
     ap (λ (z : List ℕ). not (length z == 0)) (idle.grey j)
 
 idle-tokens : {shape : Shaped} {c d : Cut} {s : Step} → IdleStep shape c d s
@@ -103,10 +104,10 @@ idle-tokens : {shape : Shaped} {c d : Cut} {s : Step} → IdleStep shape c d s
     → (from to place : ℕ) (x : Message) → IsInFlight d from to place x → is_token x.body ≡ true
 idle-tokens (nothing same excuse) all from to place x flight =
     all from to place x (subst (λ (z : Cut). IsInFlight z from to place x) same flight)
-idle-tokens (token_in f g y t took is here) all from to place x flight =
+idle-tokens (token_in f g y t took is here other) all from to place x flight =
     ⊎_elim {C = is_token x.body ≡ true} (λ before. all from to place x before)
     (λ new. absurd new.1) (flew (token-idles took t is here).turn from to place x flight)
-idle-tokens (token_on i q ms pass idle tokens) all from to place x flight =
+idle-tokens (token_on i q ms pass idle tokens step_is) all from to place x flight =
     ⊎_elim {C = is_token x.body ≡ true} (λ before. all from to place x before)
     (λ new. all-among (λ m. is_token m.1.body ≡ true) ms tokens (to, x) new.1)
     (flew idle.turn from to place x flight)
@@ -194,8 +195,9 @@ module _ {shape : Shaped} {c d : Cut} (s : Step) (limits : IsShape shape) (whole
       ))
       (took-joins took)
 
-  take-step : (from to : ℕ) (x : Message) → Took shape c d from to x → MarkStep shape c d s
-  take-step from to x took =
+  take-step : (from to : ℕ) (x : Message) → Took shape c d from to x → is_act s ≡ false
+      → MarkStep shape c d s
+  take-step from to x took act =
       let keeps = taken-keeps took in
       ⊎_elim {C = MarkStep shape c d s}
       (λ (ahead : cycle_of c to < x.stamp).
@@ -206,7 +208,7 @@ module _ {shape : Shaped} {c d : Cut} (s : Step) (limits : IsShape shape) (whole
       let t = token-there x.body token in
       let idle = token-idles took t.0 t.1 here in
       let work = idle.work in
-      idles (token_in from to x t.0 took t.1 here) keeps.0 (omega (arith, work)))
+      idles (token_in from to x t.0 took t.1 here act) keeps.0 (omega (arith, work)))
       (λ other.
       let work = (took-falls took (inl other)).work in
       falls keeps.0 (omega (arith, work))
@@ -228,15 +230,15 @@ module _ {shape : Shaped} {c d : Cut} (s : Step) (limits : IsShape shape) (whole
       (scanned-width (c i).local)) (omega (arith, work))
       (λ quiet. absurd (both_ways _ (quiet.calm i inside) grey))
 
-  pass-step : (i : ℕ) → Passes shape c d i → MarkStep shape c d s
-  pass-step i h = by (pass-move h)
+  pass-step : (i : ℕ) → Passes shape c d i → s ≡ step.Act i event.Pass → MarkStep shape c d s
+  pass-step i h step_is = by (pass-move h)
     where
       by : PassMove shape.nodes c d i → MarkStep shape c d s
       by (goes_on t u why idle) =
           let work = idle.work in
           idles
           (token_on i (record (c i).local { ring = whitened (without_token (c i).local.ring) }) _ h
-          idle (refl, tt))
+          idle (refl, tt) step_is)
           (keeps-by h.inside idle.turn refl refl refl) (omega (arith, work))
       by (concluded ms idle few load ended) =
           let work = idle.work in
@@ -248,10 +250,11 @@ module _ {shape : Shaped} {c d : Cut} (s : Step) (limits : IsShape shape) (whole
   mark-step (rests same excuse) =
       subst (λ (z : Cut). MarkStep shape c z s) (sym same)
       (idles (nothing refl excuse) (keeps-all shape.nodes c) (omega arith))
-  mark-step (takes from to x took) = take-step from to x took
+  mark-step (takes from to x took act) = take-step from to x took act
   mark-step (scans i inside grey turn) = scan-step i inside grey turn
-  mark-step (passes i inside has calm turn) =
+  mark-step (passes i inside has calm step_is turn) =
       pass-step i
       (record { limits = limits; whole = whole; inside = inside; has = has; turn = turn })
+      step_is
   mark-step (sweeps i count inside ready is turn) =
       absurd (let none = none-sweeps whole.inv marking i inside in omega (arith, ready, none))

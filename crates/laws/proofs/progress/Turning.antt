@@ -39,13 +39,19 @@ Excuse c (step.Act i event.Pass) = (has_token c i ≡ true) → is_grey c i ≡ 
 Excuse c (step.Act i (event.Sweep count)) = (phases_of c i).ended ≤ (phases_of c i).swept
 Excuse c s = Unit {0}
 
+abbrev pub is_act : Step → Bool
+is_act (step.Act i e) = true
+is_act s = false
+
 -- Nothing changes; or a message is received; or a node scans, passes the token, or sweeps.
 pub data Did (shape : Shaped) (c d : Cut) (s : Step) : Type 0 where
   rests : d ≡ c → Excuse c s → Did shape c d s
-  takes : (from to : ℕ) (x : Message) → Took shape c d from to x → Did shape c d s
+  takes : (from to : ℕ) (x : Message) → Took shape c d from to x → is_act s ≡ false
+      → Did shape c d s
   scans : (i : ℕ) → i < shape.nodes → is_grey c i ≡ true
       → Turn c d i (scanned (c i).local).local (scanned (c i).local).sends → Did shape c d s
   passes : (i : ℕ) → i < shape.nodes → has_token c i ≡ true → is_grey c i ≡ false
+      → s ≡ step.Act i event.Pass
       → Turn c d i (passed (c i).local).local (passed (c i).local).sends → Did shape c d s
   sweeps : (i count : ℕ) → i < shape.nodes → (phases_of c i).swept < (phases_of c i).ended
       → s ≡ step.Act i (event.Sweep count)
@@ -148,7 +154,7 @@ module _ {shape : Shaped} {w : World} (r : Reached shape w) where
       (fails-second (now w i) event.Pass _ _ _ _ _ refl has (not-true _ grey)) (λ _. grey))
       (λ calm.
       let done = acts-on w i event.Pass r refl (has, (not-false _ calm, tt)) numbered in
-      passes i done.0 has calm done.1)
+      passes i done.0 has calm refl done.1)
       (cases_Bool (is_grey (now w) i)))
       (λ none.
       refused i event.Pass NothingToDo refl (fails-first (now w i) event.Pass _ _ _ refl none)
@@ -178,9 +184,9 @@ module _ {shape : Shaped} {w : World} (r : Reached shape w) where
       (run-keeps-sent (new_world shape) r.steps (new-keeps-sent shape))
 
   did-deliver : (s : Step) (m : Delivery) (t : NodeState) (a : Answer) → Delivered w m t a
-      → ((c : Cut) → Excuse c s)
+      → is_act s ≡ false → ((c : Cut) → Excuse c s)
       → Did shape (now w) (now (record w { current = set w.current m.to t })) s
-  did-deliver s m t a x free = by (receipt-cases (node_at w.current m.to) m t a x.answered)
+  did-deliver s m t a x other free = by (receipt-cases (node_at w.current m.to) m t a x.answered)
     where
       v : World
       v = record w { current = set w.current m.to t }
@@ -192,7 +198,7 @@ module _ {shape : Shaped} {w : World} (r : Reached shape w) where
           ∙ set-get_or w.current m.to no_node)) (free (now w))
       by (next turn may found) = ⊎_elim {C = Did shape (now w) (now v) s}
           (λ same. rests same (free (now w)))
-          (λ took. takes m.from m.to m.message took)
+          (λ took. takes m.from m.to m.message took other)
           (plain-took m.from m.to m.message t a (reached-whole r).inv
           (cut-in_flight w (λ _. false) m keeps refl x.there turn)
           (subst (λ (k : ℕ).
@@ -201,13 +207,14 @@ module _ {shape : Shaped} {w : World} (r : Reached shape w) where
           (shown w m.to t (λ _. false) x.within refl))
 
   did-other : (s : Step) (v : World) → Happening w s v
-      → ((i : ℕ) (e : Event) → s ≢ step.Act i e) → ((i : ℕ) → s ≢ step.Restart i)
+      → is_act s ≡ false → ((i : ℕ) → s ≢ step.Restart i)
       → ((c : Cut) → Excuse c s) → Did shape (now w) (now v) s
-  did-other s v nothing no_act no_restart free = rests refl (free (now w))
-  did-other s v (acted i e t a is x) no_act no_restart free = absurd (no_act i e is)
-  did-other s v (delivered m t a x) no_act no_restart free = did-deliver s m t a x free
-  did-other s v (saved i within) no_act no_restart free = rests refl (free (now w))
-  did-other s v (restarted i is within) no_act no_restart free = absurd (no_restart i is)
+  did-other s v nothing other no_restart free = rests refl (free (now w))
+  did-other s v (acted i e t a is x) other no_restart free = 
+      absurd (both_ways _ other (ap is_act is))
+  did-other s v (delivered m t a x) other no_restart free = did-deliver s m t a x other free
+  did-other s v (saved i within) other no_restart free = rests refl (free (now w))
+  did-other s v (restarted i is within) other no_restart free = absurd (no_restart i is)
 
   pub did : (s : Step) → is_turns s ≡ true → outcome_of (take_step w s) ≢ Err LinkSpent
       → Does s
@@ -216,12 +223,12 @@ module _ {shape : Shaped} {w : World} (r : Reached shape w) where
   did (step.Act i (event.Sweep count)) turns numbered = did-sweep i count numbered
   did (step.Act i e) turns numbered = absurd cc
   did (step.Save i) turns numbered =
-      did-other (step.Save i) _ (happening w (step.Save i)) (λ _ _ e. absurd cc) (λ _ e. absurd cc)
+      did-other (step.Save i) _ (happening w (step.Save i)) refl (λ _ e. absurd cc)
       (λ _. tt)
   did (step.Restart i) turns numbered = absurd cc
   did (step.Deliver from to number) turns numbered =
       did-other (step.Deliver from to number) _ (happening w (step.Deliver from to number))
-      (λ _ _ e. absurd cc) (λ _ e. absurd cc) (λ _. tt)
+      refl (λ _ e. absurd cc) (λ _. tt)
   did (step.Hand from to) turns numbered =
-      did-other (step.Hand from to) _ (happening w (step.Hand from to)) (λ _ _ e. absurd cc)
+      did-other (step.Hand from to) _ (happening w (step.Hand from to)) refl
       (λ _ e. absurd cc) (λ _. tt)
