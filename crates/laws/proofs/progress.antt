@@ -20,3 +20,5 @@ mod Widths
 mod Idling
 mod Listed
 mod Resting
+mod Marching
+mod Rounded

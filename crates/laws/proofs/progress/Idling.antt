@@ -83,7 +83,7 @@ pub data IdleStep (shape : Shaped) (c d : Cut) (s : Step) : Type 0 where
       → x.body ≡ body.Token t → x.stamp ≤ cycle_of c to → is_act s ≡ false → IdleStep shape c d s
   token_on : (i : ℕ) (q : LocalState) (ms : List (ℕ × Message)) → Passes shape c d i
       → Idles shape.nodes c d i q ms → AllByRecursion (λ m. is_token m.1.body ≡ true) ms
-      → s ≡ step.Act i event.Pass → IdleStep shape c d s
+      → q.got ≡ (c i).local.got → s ≡ step.Act i event.Pass → IdleStep shape c d s
 
 -- nothing is grey, and nothing but tokens is in flight
 pub record Quiet (n : ℕ) (c : Cut) : Type 0 where
@@ -96,7 +96,7 @@ pub idle-grey : {shape : Shaped} {c d : Cut} {s : Step} → IdleStep shape c d s
 idle-grey (nothing same excuse) j = ap (λ (z : Cut). is_grey z j) same
 idle-grey (token_in from to x t took is here other) j =
     ap (λ (z : List ℕ). not (length z == 0)) ((token-idles took t is here).grey j)
-idle-grey (token_on i q ms pass idle tokens step_is) j =
+idle-grey (token_on i q ms pass idle tokens got step_is) j =
     ap (λ (z : List ℕ). not (length z == 0)) (idle.grey j)
 
 idle-tokens : {shape : Shaped} {c d : Cut} {s : Step} → IdleStep shape c d s
@@ -107,7 +107,7 @@ idle-tokens (nothing same excuse) all from to place x flight =
 idle-tokens (token_in f g y t took is here other) all from to place x flight =
     ⊎_elim {C = is_token x.body ≡ true} (λ before. all from to place x before)
     (λ new. absurd new.1) (flew (token-idles took t is here).turn from to place x flight)
-idle-tokens (token_on i q ms pass idle tokens step_is) all from to place x flight =
+idle-tokens (token_on i q ms pass idle tokens got step_is) all from to place x flight =
     ⊎_elim {C = is_token x.body ≡ true} (λ before. all from to place x before)
     (λ new. all-among (λ m. is_token m.1.body ≡ true) ms tokens (to, x) new.1)
     (flew idle.turn from to place x flight)
@@ -127,7 +127,7 @@ pub data MarkStep (shape : Shaped) (c d : Cut) (s : Step) : Type 0 where
   falls : Keeps shape.nodes c d → work_left shape.nodes d + 1 ≤ work_left shape.nodes c
       → (Quiet shape.nodes c → unjoined shape.nodes d + 1 ≤ unjoined shape.nodes c)
       → MarkStep shape c d s
-  ends : cycle_of d 0 ≡ cycle_of c 0 → (phases_of d 0).ended ≡ cycle_of c 0
+  finds : cycle_of d 0 ≡ cycle_of c 0 → (phases_of d 0).ended ≡ cycle_of c 0
       → slots_in shape.nodes d ≡ slots_in shape.nodes c
       → work_left shape.nodes d ≤ work_left shape.nodes c + shape.nodes → MarkStep shape c d s
 
@@ -238,13 +238,13 @@ module _ {shape : Shaped} {c d : Cut} (s : Step) (limits : IsShape shape) (whole
           let work = idle.work in
           idles
           (token_on i (record (c i).local { ring = whitened (without_token (c i).local.ring) }) _ h
-          idle (refl, tt) step_is)
+          idle (refl, tt) refl step_is)
           (keeps-by h.inside idle.turn refl refl refl) (omega (arith, work))
       by (concluded ms idle few load ended) =
           let work = idle.work in
           let width = nodes-turn shape.nodes width_of h.inside idle.turn in
           let same = ap (λ (z : Heap). length z.slots) idle.heap in
-          ends (idle.cycle 0) ended (omega (arith, width, same)) (omega (arith, work, load))
+          finds (idle.cycle 0) ended (omega (arith, width, same)) (omega (arith, work, load))
 
   pub mark-step : Did shape c d s → MarkStep shape c d s
   mark-step (rests same excuse) =

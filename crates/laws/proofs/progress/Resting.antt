@@ -13,7 +13,7 @@ use Rattle.model.specs.State.{LocalState}
 use Rattle.model.specs.Counting.{stamped}
 use Rattle.model.specs.Collecting.{swept_slots, sweeps_last, reports_sweep, looked_at}
 use Rattle.model.specs.World.{World, happens, run, outcomes}
-use Rattle.model.specs.Cuts.{Cut, taken}
+use Rattle.model.specs.Cuts.{Cut, taken, IsInFlight}
 use Rattle.laws.proofs.Flights.{load_sent}
 use Rattle.laws.proofs.Turns.{Turn, at_turn}
 use Rattle.laws.proofs.Rounds.{some-of}
@@ -56,8 +56,14 @@ pub record Ended (shape : Shaped) (cycle : ℕ) (c : Cut) : Type 0 where
   pub current : cycle_of c 0 ≡ cycle
   pub ended : (phases_of c 0).ended ≡ cycle
 
+-- a message is in flight, or a node has something to sweep
+pub data Busy (n : ℕ) (c : Cut) : Type 0 where
+  waits : (from to place : ℕ) (x : Message) → IsInFlight c from to place x → Busy n c
+  ready : (i : ℕ) → i < n → (phases_of c i).swept < (phases_of c i).ended → Busy n c
+
 -- the step takes some of what is left
 pub record Takes (shape : Shaped) (cycle : ℕ) (c d : Cut) : Type 0 where
+  pub busy : Busy shape.nodes c
   pub current : cycle_of d 0 ≡ cycle
   pub ended : (phases_of d 0).ended ≡ cycle
   pub left : rest_left shape.nodes cycle d + 1 ≤ rest_left shape.nodes cycle c
@@ -90,6 +96,7 @@ module _ {shape : Shaped} {cycle : ℕ} {c d : Cut} (e : Ended shape cycle c) wh
       ∙ ap (λ (z : ℕ).
       sweep_cost cycle (phases_of c j).swept (length (c j).local.heap.slots) z) (cursor j)) in
       record {
+        busy = waits from to (taken c from to) x took.flight;
         current = took-cycle took ∙ e.current;
         ended = first-ended took ∙ e.ended;
         left = omega (arith, work, same);
@@ -101,7 +108,7 @@ module _ {shape : Shaped} {cycle : ℕ} {c d : Cut} (e : Ended shape cycle c) wh
       → Turn c d i (swept_slots (c i).local count).local (swept_slots (c i).local count).sends
       → Takes shape cycle c d
   unfolding swept_slots
-  sweep-rest i count inside some ready turn =
+  sweep-rest i count inside some may turn =
       let n : ℕ = shape.nodes in
       let p : LocalState = (c i).local in
       let q : LocalState = (swept_slots p count).local in
@@ -109,7 +116,7 @@ module _ {shape : Shaped} {cycle : ℕ} {c d : Cut} (e : Ended shape cycle c) wh
       let first = e.inv.phased.first i in
       let joined : p.phases.cycle ≡ cycle = resting-joined e.inv (at-rest e) inside ∙ e.current in
       let ended = e.ended in
-      let before : p.phases.swept ≢ cycle = λ is. omega (arith, is, ready, first, ended) in
+      let before : p.phases.swept ≢ cycle = λ is. omega (arith, is, may, first, ended) in
       let was : sweep_work cycle p ≡ 2 + (length p.heap.slots - p.phases.cursor) =
       cond-false (p.phases.swept == cycle) 0 _ (ne_eqb _ _ before) in
       let wide : length q.heap.slots ≡ length p.heap.slots = swept-width p count in
@@ -143,6 +150,7 @@ module _ {shape : Shaped} {cycle : ℕ} {c d : Cut} (e : Ended shape cycle c) wh
       (cases_Bool (sweeps_last p count)) in
       let sums = nodes-turn n (sweep_work cycle) inside turn in
       record {
+        busy = ready i inside may;
         current = change.cycle ∙ e.current;
         ended =
             at_turn (λ j s. s.local.phases.ended ≡ (phases_of c j).ended) turn refl
@@ -160,9 +168,9 @@ module _ {shape : Shaped} {cycle : ℕ} {c d : Cut} (e : Ended shape cycle c) wh
   rest-step s turns (passes i inside has calm is turn) =
       let t = some-of (c i).local.ring.token has in
       absurd (e.inv.tokens.rest t.0 (at_node i) (at-rest e) (is_held i t.1))
-  rest-step s turns (sweeps i count inside ready is turn) =
+  rest-step s turns (sweeps i count inside may is turn) =
       inr (sweep-rest i count inside
-      (ltb-true 0 count (sym (ap is_turns is) ∙ turns)) ready turn)
+      (ltb-true 0 count (sym (ap is_turns is) ∙ turns)) may turn)
 
 -- ---- steps one after another
 

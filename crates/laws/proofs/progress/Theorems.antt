@@ -74,7 +74,7 @@ node-held cycle p calm =
 -- ---- the event
 
 -- what node 0 sends, and the work that it then has
-begun-costs : (p : LocalState)
+pub begun-costs : (p : LocalState)
     → (node_work (p.phases.cycle + 1) (begun p).local + load_sent weight (begun p).sends
     ≤ node_work (p.phases.cycle + 1) p + p.shape.nodes)
     × (length (begun p).sends ≤ node_work (p.phases.cycle + 1) p + p.shape.nodes + 1)
@@ -183,7 +183,7 @@ aim_at shape w spare = record {
   spare = spare;
 }
 
-reached-now : (shape : Shaped) → IsShape shape → (steps : List Step)
+pub reached-now : (shape : Shaped) → IsShape shape → (steps : List Step)
     → Reached shape (run (new_world shape) steps)
 reached-now shape limits steps = record { limits = limits; steps = steps; is = refl }
 

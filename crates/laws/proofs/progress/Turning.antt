@@ -69,7 +69,7 @@ refused-step w i e r own refused =
     (λ _. ap (world_after w) (cond-true (is_own e) _ _ own ∙ ap (moved w i) refused)) (λ _. refl)
 
 -- what passes all tests is done, unless a link has no number left
-acts-on : {shape : Shaped} (w : World) (i : ℕ) (e : Event) → Reached shape w → is_own e ≡ true
+pub acts-on : {shape : Shaped} (w : World) (i : ℕ) (e : Event) → Reached shape w → is_own e ≡ true
     → AllPass (tests (now w i).local e)
     → outcome_of (take_step w (step.Act i e)) ≢ Err LinkSpent
     → (i < shape.nodes)
