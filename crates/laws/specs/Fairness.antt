@@ -80,20 +80,20 @@ cycle_rounds n c = marking_rounds n c + sweeping_rounds n c
 
 -- ---- statements
 
--- Once there were so many rounds, the cycle's marking has ended.
+-- After this many rounds the cycle's marking has ended.
 abbrev pub RoundsEndMarking : ℕ → World → Type 0
 RoundsEndMarking n w =
     (rs : List (List Step)) → AreRounds n w rs → marking_rounds n (now w) ≤ length rs
     → HasEnded (current_cycle w) (now (after_rounds w rs))
 
--- Each node has swept the cycle.
+-- After this many, each node has swept the cycle.
 abbrev pub RoundsEndCycle : ℕ → World → Type 0
 RoundsEndCycle n w =
     (rs : List (List Step)) → AreRounds n w rs → cycle_rounds n (now w) ≤ length rs
     → IsSwept n (current_cycle w) (now (after_rounds w rs))
 
--- Then node 0 begins the next cycle, unless links or cycles have run out of numbers. After so many
--- rounds again each node has swept that too. Once each is saved after that, none of them has an
+-- Then node 0 begins the next cycle, unless links or cycles have run out of numbers. After enough
+-- rounds for that one each node has swept it too. Once each is saved after that, none of them has an
 -- object that was garbage at the start, saved or not, in any choice of current and saved states.
 abbrev pub begun_after : World → List (List Step) → World
 begun_after w rs = happens (after_rounds w rs) (step.Act 0 event.Begin)

@@ -136,14 +136,20 @@ module _ {shape : Shaped} {c d : Cut} {from to : ℕ} {x : Message} (h : Took sh
         ⊎ ((x.stamp ≤ cycle_of c to) × (after_it.phases.cycle ≡ cycle_of c to)
         × (after_it.phases.cursor ≡ (phases_of c to).cursor))}
         (λ (ahead : cycle_of c to < x.stamp).
-        inl (ahead, cycle
-        ∙ ap (λ (z : Phases). z.cycle)
-        (cond-true (ltb taker.phases.cycle x.stamp) _ taker.phases (lt-ltb _ _ ahead))))
+        inl (
+          ahead,
+          cycle
+              ∙ ap (λ (z : Phases). z.cycle)
+              (cond-true (ltb taker.phases.cycle x.stamp) _ taker.phases (lt-ltb _ _ ahead)),
+        ))
         (λ (here : x.stamp ≤ cycle_of c to).
         let stays : came ≡ taker.phases =
         cond-false (ltb taker.phases.cycle x.stamp) _ taker.phases (le-ltb _ _ here) in
-        inr (here, cycle ∙ ap (λ (z : Phases). z.cycle) stays,
-        ap (λ (z : Phases). z.cursor) came-is ∙ same.2 ∙ ap (λ (z : Phases). z.cursor) stays))
+        inr (
+          here,
+          cycle ∙ ap (λ (z : Phases). z.cycle) stays,
+          ap (λ (z : Phases). z.cursor) came-is ∙ same.2 ∙ ap (λ (z : Phases). z.cursor) stays,
+        ))
         (cases_lt (cycle_of c to) x.stamp)
 
     -- node 0 joins no cycle
@@ -347,11 +353,11 @@ module _ {shape : Shaped} {c d : Cut} {from to : ℕ} {x : Message} (h : Took sh
 
 -- The first message in flight on a link was given to its receiver: nothing changed, or it was
 -- received.
-pub plain-took : {shape : Shaped} {c d : Cut} (from to : ℕ) (x : Message) (s : NodeState)
-    (a : Answer) → Inv shape c → IsInFlight c from to (taken c from to) x
+pub plain-took : {shape : Shaped} {c d : Cut} {from to : ℕ} {x : Message} {s : NodeState}
+    {a : Answer} → Inv shape c → IsInFlight c from to (taken c from to) x
     → receive (c to) from to (taken c from to + 1) x.stamp x.body ≡ Ok (s, a) → Becomes c d to s
     → (d ≡ c) ⊎ Took shape c d from to x
-plain-took {shape = shape} {c = c} {d = d} from to x s a inv flight answered becomes =
+plain-took {shape} {c} {d} {from} {to} {x} {s} {a} inv flight answered becomes =
     by (receipt-cases (c to) (first_in_flight c from to x) s a answered)
   where
     by : Receipt (c to) (first_in_flight c from to x) s a → (d ≡ c) ⊎ Took shape c d from to x
@@ -394,7 +400,7 @@ heard-plain {shape = shape} {c = c} {d = d} several inv (acts i e s a own answer
     own-heard-on e owns heard
 heard-plain {shape = shape} several inv (delivers from to x s a flight answered becomes) heard =
     ⊎_elim (λ same. subst (λ (z : Cut). Heard shape.nodes z) (sym same) heard)
-    (λ took. taken-heard-on took heard) (plain-took from to x s a inv flight answered becomes)
+    (λ took. taken-heard-on took heard) (plain-took inv flight answered becomes)
 
 heard-run : {shape : Shaped} {c d : Cut} → IsShape shape → PlainRun c d → Whole shape c
     → Heard shape.nodes c → Heard shape.nodes d

@@ -1,8 +1,8 @@
 -- What a step within a cycle does while marking goes on. It takes some of the work away; or it does
 -- nothing, or moves the token, and no more; or node 0 finds that marking has ended.
-use Rattle.std.proofs.Common.{◌≡◌, ℕ, ◌+◌, ◌<◌, ◌≤◌, ◌⊎◌, ◌==◌, Bool, true, false, not, cond, List, [], ◌∷◌, length, map, refl, sym, ap, ◌∙◌, subst, ⊎_elim, inl, inr, arith, eqb-true, eq-eqb}
+use Rattle.std.proofs.Common.{◌≡◌, ℕ, ◌+◌, ◌<◌, ◌≤◌, ◌==◌, true, false, not, cond, List, length, map, refl, sym, ap, ◌∙◌, subst, ⊎_elim, inl, inr, arith, eq-eqb}
 use Rattle.std.specs.List.{AllByRecursion}
-use Rattle.std.proofs.lemmas.Bool.{cond_both, cond-true, cond-false, cases_Bool, cases_lt, not-true, both_ways, ne_eqb}
+use Rattle.std.proofs.lemmas.Bool.{cond-true, cond-false, cases_Bool, cases_lt, not-true, both_ways, ne_eqb}
 use Rattle.ids.specs.Limits.{Shaped, IsShape}
 use Rattle.msg.specs.declared.body.Body.TheVariants as body
 use Rattle.msg.specs.declared.body.Token.{Token}
@@ -15,18 +15,17 @@ use Rattle.model.specs.Shading.{see_to}
 use Rattle.model.specs.Collecting.{scan, scanned, whitened, without_token}
 use Rattle.model.specs.Cuts.{Cut, taken, IsInFlight}
 use Rattle.model.proofs.Leaving.{own-stands}
-use Rattle.laws.proofs.Flights.{load_sent}
 use Rattle.laws.proofs.Turns.{Turn, at_turn, flew}
 use Rattle.laws.proofs.Lookups.{all-among}
 use Rattle.laws.proofs.Invariant.{phases_of, cycle_of, Marking, Inv}
 use Rattle.laws.proofs.Live.{Whole}
 use Rattle.laws.specs.Strategy.{is_grey}
-use Rattle.laws.specs.Bounds.{sum_to, weight, work_left}
+use Rattle.laws.specs.Bounds.{sum_to, work_left}
 use Rattle.laws.proofs.progress.Flights.{sum-same}
 use Rattle.laws.proofs.progress.Costs.{is_token, token-there}
 use Rattle.laws.proofs.progress.Hearing.{Took, after_it, stamp-latest, took-joins, took-cycle, first-ended}
-use Rattle.laws.proofs.progress.Falls.{Falls, nodes-turn, took-falls, scan-falls}
-use Rattle.laws.proofs.progress.TokenMoves.{Idles, holding, token-idles, Passes, PassMove, goes_on, concluded, pass-move}
+use Rattle.laws.proofs.progress.Falls.{nodes-turn, took-falls, scan-falls}
+use Rattle.laws.proofs.progress.TokenMoves.{Idles, token-idles, Passes, PassMove, goes_on, concluded, pass-move}
 use Rattle.laws.proofs.progress.Turning.{Excuse, is_act, Did, rests, takes, scans, passes, sweeps}
 use Rattle.laws.proofs.progress.Widths.{taken-width, scanned-width}
 
@@ -195,9 +194,9 @@ module _ {shape : Shaped} {c d : Cut} (s : Step) (limits : IsShape shape) (whole
       ))
       (took-joins took)
 
-  take-step : (from to : ℕ) (x : Message) → Took shape c d from to x → is_act s ≡ false
+  take-step : {from to : ℕ} {x : Message} → Took shape c d from to x → is_act s ≡ false
       → MarkStep shape c d s
-  take-step from to x took act =
+  take-step {from} {to} {x} took act =
       let keeps = taken-keeps took in
       ⊎_elim {C = MarkStep shape c d s}
       (λ (ahead : cycle_of c to < x.stamp).
@@ -250,7 +249,7 @@ module _ {shape : Shaped} {c d : Cut} (s : Step) (limits : IsShape shape) (whole
   mark-step (rests same excuse) =
       subst (λ (z : Cut). MarkStep shape c z s) (sym same)
       (idles (nothing refl excuse) (keeps-all shape.nodes c) (omega arith))
-  mark-step (takes from to x took act) = take-step from to x took act
+  mark-step (takes from to x took act) = take-step took act
   mark-step (scans i inside grey turn) = scan-step i inside grey turn
   mark-step (passes i inside has calm step_is turn) =
       pass-step i

@@ -1,5 +1,5 @@
 -- Steps in any order while marking goes on.
-use Rattle.std.proofs.Common.{◌≡◌, ℕ, ◌+◌, ◌-◌, ◌*◌, ◌<◌, ◌≤◌, ◌⊎◌, ◌==◌, ltb-true, Bool, true, false, not, cond, List, [], ◌∷◌, length, refl, sym, ap, ◌∙◌, subst, ⊎_elim, inl, inr, arith, get_or}
+use Rattle.std.proofs.Common.{◌≡◌, ℕ, ◌+◌, ◌-◌, ◌*◌, ◌<◌, ◌≤◌, ◌⊎◌, ◌==◌, ltb-true, true, false, List, [], ◌∷◌, length, sym, ap, ◌∙◌, subst, ⊎_elim, inl, inr, arith, get_or}
 use Rattle.std.specs.Prelude.{is_some}
 use Rattle.std.proofs.lemmas.Bool.{both_ways, cond_both, cases_Bool, cases_eq}
 use Rattle.std.proofs.lemmas.Option.{slice_get_within, slice_get-get_or}
@@ -9,7 +9,7 @@ use Rattle.msg.specs.declared.body.Message.{Message}
 use Rattle.model.specs.declared.event.Event.TheVariants as event
 use Rattle.model.specs.declared.step.Step.{Step}
 use Rattle.model.specs.declared.step.Step.TheVariants as step
-use Rattle.model.specs.State.{LocalState, sent_to}
+use Rattle.model.specs.State.{sent_to}
 use Rattle.model.specs.References.{no_message}
 use Rattle.model.specs.World.{World, happens, run}
 use Rattle.model.specs.Cuts.{Cut, Among, taken, IsInFlight}
@@ -18,10 +18,10 @@ use Rattle.laws.proofs.Rounds.{some-of}
 use Rattle.laws.proofs.Turns.{flies}
 use Rattle.laws.proofs.Invariant.{phases_of, cycle_of, Marking, Spot, at_node, on_way, place_of_spot, IsAt, is_held, is_sent, Inv}
 use Rattle.laws.specs.Strategy.{now, is_grey, has_token, is_waiting}
-use Rattle.laws.specs.Bounds.{sum_to, work_left}
-use Rattle.laws.specs.Fairness.{IsRound, ComesIn}
+use Rattle.laws.specs.Bounds.{work_left}
+use Rattle.laws.specs.Fairness.{IsRound}
 use Rattle.laws.proofs.progress.Flights.{sum-le, sum-add, sum-const, taken-same}
-use Rattle.laws.proofs.progress.Spaces.{Reached, reached-whole, reached-heard, reached-more}
+use Rattle.laws.proofs.progress.Spaces.{Reached, reached-whole, reached-more}
 use Rattle.laws.proofs.progress.Choices.{Still}
 use Rattle.laws.proofs.progress.Costs.{is_token, token-there}
 use Rattle.laws.proofs.progress.Hearing.{flies-on}
@@ -53,6 +53,13 @@ AllIdle shape w (s ∷ ss) =
     IdleStep shape (now w) (now (happens w s)) s
     × Keeps shape.nodes (now w) (now (happens w s)) × AllIdle shape (happens w s) ss
 
+-- only the token may have moved
+pub record Idly (shape : Shaped) (cycle most : ℕ) (w : World) (ss : List Step) : Type 0 where
+  pub marks : Marks shape cycle most (run w ss)
+  pub all : AllIdle shape w ss
+  pub work : work_left shape.nodes (now (run w ss)) ≤ work_left shape.nodes (now w)
+  pub joins : unjoined shape.nodes (now (run w ss)) ≤ unjoined shape.nodes (now w)
+
 -- Marking ends; or some of the work is taken away, after which more nodes have joined if all was
 -- quiet before; or only the token moves.
 pub data Went (shape : Shaped) (cycle most : ℕ) (w : World) (ss : List Step) : Type 0 where
@@ -63,10 +70,7 @@ pub data Went (shape : Shaped) (cycle most : ℕ) (w : World) (ss : List Step) :
       → (Quiet shape.nodes (now w)
       → unjoined shape.nodes (now (run w ss)) + 1 ≤ unjoined shape.nodes (now w))
       → Went shape cycle most w ss
-  idle : Marks shape cycle most (run w ss) → AllIdle shape w ss
-      → work_left shape.nodes (now (run w ss)) ≤ work_left shape.nodes (now w)
-      → unjoined shape.nodes (now (run w ss)) ≤ unjoined shape.nodes (now w)
-      → Went shape cycle most w ss
+  idle : Idly shape cycle most w ss → Went shape cycle most w ss
 
 pub sweeps-most : (n cycle : ℕ) (c : Cut) → sweeps_left n cycle c ≤ 2 * n + slots_in n c
 sweeps-most n cycle c =
@@ -114,9 +118,16 @@ module _ {shape : Shaped} {cycle most : ℕ} {w : World} (m : Marks shape cycle 
       let j = k.unjoined in
       less marks (omega (arith, work, le)) (omega (arith, joins, j))
       (λ q. let more = quiet (idle-quiet i q) in omega (arith, more, j))
-  after-idle i k le (idle marks all work joins) =
+  after-idle i k le (idle h) =
       let j = k.unjoined in
-      idle marks (i, k, all) (omega (arith, work, le)) (omega (arith, joins, j))
+      let work = h.work in
+      let joins = h.joins in
+      idle (record {
+        marks = h.marks;
+        all = (i, k, h.all);
+        work = omega (arith, work, le);
+        joins = omega (arith, joins, j);
+      })
 
   after-fall : Keeps shape.nodes (now w) (now u)
       → work_left shape.nodes (now u) + 1 ≤ work_left shape.nodes (now w)
@@ -128,9 +139,11 @@ module _ {shape : Shaped} {cycle most : ℕ} {w : World} (m : Marks shape cycle 
       let j = k.unjoined in
       less marks (omega (arith, work, fell)) (omega (arith, joins, j))
       (λ q. let more = falls_so q in omega (arith, joins, more))
-  after-fall k fell falls_so (idle marks all work joins) =
+  after-fall k fell falls_so (idle h) =
       let j = k.unjoined in
-      less marks (omega (arith, work, fell)) (omega (arith, joins, j))
+      let work = h.work in
+      let joins = h.joins in
+      less h.marks (omega (arith, work, fell)) (omega (arith, joins, j))
       (λ q. let more = falls_so q in omega (arith, joins, more))
 
   after-end : cycle_of (now u) 0 ≡ cycle_of (now w) 0
@@ -152,7 +165,8 @@ module _ {shape : Shaped} {cycle most : ℕ} {w : World} (m : Marks shape cycle 
 
 pub went : {shape : Shaped} {cycle most : ℕ} (w : World) (ss : List Step)
     → Marks shape cycle most w → Turned w ss → Went shape cycle most w ss
-went w [] m t = idle m tt (omega arith) (omega arith)
+went w [] m t =
+    idle (record { marks = m; all = tt; work = omega arith; joins = omega arith })
 went {shape} {cycle} {most} w (s ∷ ss) m t =
     by (λ next. went (happens w s) ss next (turned-on t))
     (mark-step s m.reached.limits (reached-whole m.reached) m.marking
@@ -198,16 +212,16 @@ idle-flight-step from to place x (token_on i q ms pass idle_is tokens got step_i
     (let same = taken-same idle_is.turn got from to in
     let later = flight.later in omega (arith, same, later)))
 
-idle-flight : (shape : Shaped) (w : World) (ss : List Step) (from to place : ℕ) (x : Message)
+idle-flight : (shape : Shaped) (w : World) (ss : List Step) {from to place : ℕ} {x : Message}
     → AllIdle shape w ss → IsInFlight (now w) from to place x
     → IsInFlight (now (run w ss)) from to place x ⊎ (is_token x.body ≡ true)
-idle-flight shape w [] from to place x all flight = inl flight
-idle-flight shape w (s ∷ ss) from to place x all flight =
+idle-flight shape w [] all flight = inl flight
+idle-flight shape w (s ∷ ss) {from} {to} {place} {x} all flight =
     ⊎_elim {C = IsInFlight (now (run w (s ∷ ss))) from to place x ⊎ (is_token x.body ≡ true)}
-    (λ stays. idle-flight shape (happens w s) ss from to place x all.2 stays) (λ token. inr token)
+    (λ stays. idle-flight shape (happens w s) ss all.2 stays) (λ token. inr token)
     (idle-flight-step from to place x all.0 flight)
 
--- where the token is, if it is in flight
+-- the token's spot, if it is in flight
 token-at : {shape : Shaped} {c : Cut} (inv : Inv shape c) (marking : Marking (phases_of c 0))
     (from to place : ℕ) (x : Message) → IsInFlight c from to place x → is_token x.body ≡ true
     → on_way from to place ≡ (inv.tokens.round marking).spot
@@ -257,15 +271,15 @@ module _ {shape : Shaped} {cycle most : ℕ} (w : World) (ss : List Step)
   inv = (reached-whole m.reached).inv
 
   -- of the first two messages in flight each is the token
-  first-two : (from to k : ℕ) (x : Message) → k < 2 → IsInFlight c from to (taken c from to + k) x
+  first-two : {from to : ℕ} {x : Message} (k : ℕ) → k < 2 → IsInFlight c from to (taken c from to + k) x
       → is_token x.body ≡ true
-  first-two from to k x two flight =
+  first-two {from} {to} {x} k two flight =
       let inside = flight-inside from to (taken c from to + k) x inv.base flight in
       let came = r.comes_in from to k inside.0 inside.1 two
       (slice_get_within (sent_to (c from) to) (taken c from to + k) x flight.there) in
       ⊎_elim {C = is_token x.body ≡ true}
       (λ stays. absurd (let later = stays.later in omega (arith, later, came))) (λ token. token)
-      (idle-flight shape w ss from to (taken c from to + k) x all flight)
+      (idle-flight shape w ss all flight)
 
   pub quiet-start : Quiet shape.nodes c
   quiet-start = record {
@@ -273,10 +287,10 @@ module _ {shape : Shaped} {cycle most : ℕ} (w : World) (ss : List Step)
     tokens = λ from to place x flight.
         ⊎_elim {C = is_token x.body ≡ true}
         (λ (first : place ≡ taken c from to).
-        first-two from to 0 x (omega arith)
+        first-two 0 (omega arith)
         (subst (λ (k : ℕ). IsInFlight c from to k x)
         (let e : place ≡ taken c from to + 0 = omega (arith, first) in e) flight))
-        (λ (behind : taken c from to < place). absurd (behind-none from to place x flight behind))
+        (λ (behind : taken c from to < place). absurd (behind-none flight behind))
         (by-place (taken c from to) place flight.later);
   }
     where
@@ -285,9 +299,9 @@ module _ {shape : Shaped} {cycle most : ℕ} (w : World) (ss : List Step)
           (cases_eq place k)
 
       -- two tokens would be in flight
-      behind-none : (from to place : ℕ) (x : Message) → IsInFlight c from to place x
+      behind-none : {from to place : ℕ} {x : Message} → IsInFlight c from to place x
           → taken c from to < place → ⊥
-      behind-none from to place x flight behind =
+      behind-none {from} {to} {place} {x} flight behind =
           let k : ℕ = taken c from to in
           let within = slice_get_within (sent_to (c from) to) place x flight.there in
           let at : (j : ℕ) → j < 2
@@ -295,7 +309,7 @@ module _ {shape : Shaped} {cycle most : ℕ} (w : World) (ss : List Step)
           λ j two.
           let there : IsInFlight c from to (k + j) (message_at c from to (k + j)) =
           stands-there c from to (k + j) (omega arith) (omega (arith, behind, within, two)) in
-          token-at inv m.marking from to (k + j) _ there (first-two from to j _ two there) in
+          token-at inv m.marking from to (k + j) _ there (first-two j two there) in
           let same : on_way from to (k + 0) ≡ on_way from to (k + 1) =
           at 0 (omega arith) ∙ sym (at 1 (omega arith)) in
           let e : k + 0 ≡ k + 1 = ap place_at same in
@@ -318,14 +332,14 @@ pub data RingRun (shape : Shaped) (w : World) (ss : List Step) (budget : ℕ) : 
   moved : (less : ℕ) → less < budget → Budget shape.nodes (now (run w ss)) 0 less
       → RingRun shape w ss budget
 
-pub ring-run : (shape : Shaped) (w : World) (ss : List Step) (budget : ℕ) → Reached shape w
+pub ring-run : {shape : Shaped} (w : World) (ss : List Step) (budget : ℕ) → Reached shape w
     → Marking (phases_of (now w) 0) → AllIdle shape w ss → Quiet shape.nodes (now w)
     → Budget shape.nodes (now w) 0 budget → RingRun shape w ss budget
-ring-run shape w [] budget r marking all quiet spends = stood tt
-ring-run shape w (s ∷ ss) budget r marking all quiet spends =
+ring-run w [] budget r marking all quiet spends = stood tt
+ring-run {shape} w (s ∷ ss) budget r marking all quiet spends =
     let k = all.1 in
     by (λ rest left.
-    ring-run shape (happens w s) ss rest (reached-more (s ∷ []) r)
+    ring-run (happens w s) ss rest (reached-more (s ∷ []) r)
     (let e = k.ended in let f = k.cycle in omega (arith, e, f, marking)) all.2
     (idle-quiet all.0 quiet) left) all.0
   where

@@ -1,11 +1,10 @@
 -- Rounds lead to the end of marking and of the cycle, whatever the order of the steps in them. So
 -- garbage goes.
-use Rattle.std.proofs.Common.{◌≡◌, ◌≢◌, ℕ, zero, suc, ◌+◌, ◌-◌, ◌*◌, ◌<◌, ◌≤◌, ◌⊎◌, ◌==◌, ltb-true, lt-ltb, Bool, true, false, cond, List, [], ◌∷◌, ◌++◌, length, Err, refl, sym, ap, ◌∙◌, subst, ⊎_elim, inl, inr, arith, eq-eqb, mul-le-mul_left}
+use Rattle.std.proofs.Common.{◌≡◌, ◌≢◌, ℕ, suc, ◌+◌, ◌-◌, ◌*◌, ◌<◌, ◌≤◌, ◌==◌, ltb-true, lt-ltb, true, false, cond, List, [], ◌∷◌, ◌++◌, length, Err, refl, sym, ap, ◌∙◌, subst, ⊎_elim, arith, eq-eqb, mul-le-mul_left}
 use Rattle.std.specs.List.{AllByRecursion}
 use Rattle.std.proofs.lemmas.Bool.{both_ways, cond_both, cond-true, cond-false, cases_Bool, cases_eq, ne_eqb}
-use Rattle.ids.specs.Limits.{Shaped, IsShape}
+use Rattle.ids.specs.Limits.{Shaped}
 use Rattle.ids.specs.declared.limits.TheConstants.{GREATEST_CYCLE}
-use Rattle.ids.specs.declared.names.Ref.{Ref}
 use Rattle.ids.specs.declared.refusal.Refusal.TheVariants.{LinkSpent}
 use Rattle.model.specs.declared.event.Event.TheVariants as event
 use Rattle.model.specs.declared.step.Step.{Step}
@@ -15,10 +14,10 @@ use Rattle.model.specs.World.{World, new_world, happens, run, take_step, outcome
 use Rattle.model.specs.Cuts.{Cut, taken}
 use Rattle.model.proofs.References.{all-append}
 use Rattle.laws.proofs.Live.{several}
-use Rattle.laws.proofs.Invariant.{phases_of, cycle_of, Marking, Inv}
+use Rattle.laws.proofs.Invariant.{phases_of, cycle_of, Inv}
 use Rattle.laws.specs.Statements.{OfSpaces, StaysUp}
 use Rattle.laws.specs.Strategy.{now, is_waiting, is_collectors}
-use Rattle.laws.specs.Bounds.{sum_to, work_left}
+use Rattle.laws.specs.Bounds.{work_left}
 use Rattle.laws.specs.Progress.{current_cycle, HasEnded, IsSwept, IsGone, saves}
 use Rattle.laws.specs.Fairness.{is_turns, IsRound, AreRounds, steps_in, after_rounds, begun_after, marking_rounds, sweeping_rounds, cycle_rounds, RoundsEndMarking, RoundsEndCycle, RoundsFreeGarbage}
 use Rattle.laws.proofs.progress.Paths.{run-append}
@@ -27,11 +26,11 @@ use Rattle.laws.proofs.progress.Spaces.{Reached, reached-whole, reached-heard, r
 use Rattle.laws.proofs.progress.Choices.{Still, still-none}
 use Rattle.laws.proofs.progress.Stages.{Budget, budget-new}
 use Rattle.laws.proofs.progress.Sweeping.{Stilled, told, swept-all}
-use Rattle.laws.proofs.progress.Turning.{Excuse, did, acts-on}
-use Rattle.laws.proofs.progress.Idling.{unjoined, unjoined_one, slots_in, Quiet}
+use Rattle.laws.proofs.progress.Turning.{did, acts-on}
+use Rattle.laws.proofs.progress.Idling.{unjoined, unjoined_one, Quiet}
 use Rattle.laws.proofs.progress.Listed.{AllRest, rest-same, rest-excuse}
-use Rattle.laws.proofs.progress.Resting.{rest_left, Busy, waits, ready, Takes, Rests, rests-ended, rest-step, Turned, turned-on, RestRun, all_rest, left_less, rest-run}
-use Rattle.laws.proofs.progress.Marching.{Marks, Over, AllIdle, Went, over, less, idle, sweeps-most, over-run, went, quiet-start, idle-quiet-run, RingRun, stood, moved, ring-run, stood-never}
+use Rattle.laws.proofs.progress.Resting.{rest_left, Busy, waits, ready, Rests, rests-ended, rest-step, Turned, turned-on, RestRun, all_rest, left_less, rest-run}
+use Rattle.laws.proofs.progress.Marching.{Marks, Over, Idly, Went, over, less, idle, sweeps-most, over-run, went, quiet-start, idle-quiet-run, RingRun, stood, moved, ring-run, stood-never}
 use Rattle.laws.proofs.progress.Theorems.{begun-costs, reached-now, gone}
 
 turned : {n : ℕ} {w : World} {ss : List Step} → IsRound n w ss → Turned w ss
@@ -44,14 +43,19 @@ turned r = record { turns = r.turns; numbered = r.numbered }
 abbrev joins_left : ℕ → Cut → ℕ
 joins_left n c = 6 * n * unjoined n c
 
+-- all is quiet, and the token has moves left
+record Calm (shape : Shaped) (cycle most : ℕ) (w : World) (k : ℕ) : Type 0 where
+  marks : Marks shape cycle most w
+  quiet : Quiet shape.nodes (now w)
+  budget : ℕ
+  spends : Budget shape.nodes (now w) 0 budget
+  enough : work_left shape.nodes (now w) + joins_left shape.nodes (now w) + budget ≤ k
+
 data Ahead (shape : Shaped) (cycle most : ℕ) (w : World) (k : ℕ) : Type 0 where
   active : Marks shape cycle most w
       → work_left shape.nodes (now w) + joins_left shape.nodes (now w) + 6 * shape.nodes ≤ k
       → Ahead shape cycle most w k
-  calm : Marks shape cycle most w → Quiet shape.nodes (now w) → (budget : ℕ)
-      → Budget shape.nodes (now w) 0 budget
-      → work_left shape.nodes (now w) + joins_left shape.nodes (now w) + budget ≤ k
-      → Ahead shape cycle most w k
+  calm : Calm shape cycle most w k → Ahead shape cycle most w k
 
 -- a round later
 data Later (shape : Shaped) (cycle most : ℕ) (w : World) (k : ℕ) : Type 0 where
@@ -61,26 +65,29 @@ data Later (shape : Shaped) (cycle most : ℕ) (w : World) (k : ℕ) : Type 0 wh
 module _ {shape : Shaped} {cycle most : ℕ} {w : World} {k : ℕ} (ss : List Step)
     (r : IsRound shape.nodes w ss) where
   -- only the token has moved
-  quiet-round : (m : Marks shape cycle most w) → Quiet shape.nodes (now w) → (budget : ℕ)
-      → Budget shape.nodes (now w) 0 budget
-      → work_left shape.nodes (now w) + joins_left shape.nodes (now w) + budget ≤ k
-      → Marks shape cycle most (run w ss) → AllIdle shape w ss
-      → work_left shape.nodes (now (run w ss)) ≤ work_left shape.nodes (now w)
-      → unjoined shape.nodes (now (run w ss)) ≤ unjoined shape.nodes (now w)
+  quiet-round : Calm shape cycle most w k → Idly shape cycle most w ss
       → Later shape cycle most (run w ss) k
-  quiet-round m quiet budget spends enough marks all work joins =
-      by (ring-run shape w ss budget m.reached m.marking all quiet spends)
+  quiet-round c h =
+      by (ring-run w ss c.budget c.marks.reached c.marks.marking h.all c.quiet c.spends)
     where
-      by : RingRun shape w ss budget → Later shape cycle most (run w ss) k
-      by (stood rest) = absurd (stood-never w ss m quiet r rest)
-      by (moved left fewer spends_then) =
+      by : RingRun shape w ss c.budget → Later shape cycle most (run w ss) k
+      by (stood rest) = absurd (stood-never w ss c.marks c.quiet r rest)
+      by (moved left fewer spends) =
           let times : 6 * shape.nodes * unjoined shape.nodes (now (run w ss))
           ≤ 6 * shape.nodes * unjoined shape.nodes (now w) =
-          mul-le-mul_left (6 * shape.nodes) joins in
+          mul-le-mul_left (6 * shape.nodes) h.joins in
+          let work = h.work in
+          let enough = c.enough in
           let j : ℕ = work_left shape.nodes (now (run w ss))
           + joins_left shape.nodes (now (run w ss)) + left in
           nearer j (omega (arith, times, work, fewer, enough))
-          (calm marks (idle-quiet-run shape w ss all quiet) left spends_then (omega arith))
+          (calm (record {
+            marks = h.marks;
+            quiet = idle-quiet-run shape w ss h.all c.quiet;
+            budget = left;
+            spends = spends;
+            enough = omega arith;
+          }))
 
   next-round : Ahead shape cycle most w k → Later shape cycle most (run w ss) k
   next-round (active m enough) = by (went w ss m (turned r))
@@ -93,30 +100,36 @@ module _ {shape : Shaped} {cycle most : ℕ} {w : World} {k : ℕ} (ss : List St
           mul-le-mul_left (6 * shape.nodes) joins in
           nearer (k - 1) (omega (arith, work, enough))
           (active marks (omega (arith, times, work, enough)))
-      by (idle marks all work joins) =
-          quiet-round m (quiet-start w ss m all r) (6 * shape.nodes)
-          (budget-new 0 (6 * shape.nodes) (reached-whole m.reached).inv m.marking (omega arith))
-          enough marks all work joins
-  next-round (calm m quiet budget spends enough) = by (went w ss m (turned r))
+      by (idle h) =
+          quiet-round (record {
+            marks = m;
+            quiet = quiet-start w ss m h.all r;
+            budget = 6 * shape.nodes;
+            spends = budget-new 0 (6 * shape.nodes) (reached-whole m.reached).inv m.marking
+                (omega arith);
+            enough = enough;
+          }) h
+  next-round (calm c) = by (went w ss c.marks (turned r))
     where
       by : Went shape cycle most w ss → Later shape cycle most (run w ss) k
       by (over o) = found o
       by (less marks work joins falls_so) =
           let times : 6 * shape.nodes * (unjoined shape.nodes (now (run w ss)) + 1)
           ≤ 6 * shape.nodes * unjoined shape.nodes (now w) =
-          mul-le-mul_left (6 * shape.nodes) (falls_so quiet) in
+          mul-le-mul_left (6 * shape.nodes) (falls_so c.quiet) in
+          let enough = c.enough in
           nearer (k - 1) (omega (arith, work, enough))
           (active marks (omega (arith, times, work, enough)))
-      by (idle marks all work joins) =
-          quiet-round m quiet budget spends enough marks all work joins
+      by (idle h) = quiet-round c h
 
 -- some round is still needed
 ahead-some : {shape : Shaped} {cycle most : ℕ} {w : World} {k : ℕ} → Ahead shape cycle most w k
     → 0 < k
 ahead-some (active m enough) =
     let many = several m.reached.limits in omega (arith, many, enough)
-ahead-some (calm m quiet budget spends enough) =
-    let some = spends.enough in omega (arith, some, enough)
+ahead-some (calm c) =
+    let some = c.spends.enough in
+    let enough = c.enough in omega (arith, some, enough)
 
 after-one : (w : World) (ss : List Step) (rs : List (List Step))
     → after_rounds (run w ss) rs ≡ after_rounds w (ss ∷ rs)

@@ -250,12 +250,12 @@ module _ {shape : Shaped} {c d : Cut} {i : ℕ} (h : Passes shape c d i) where
     here = budget-at token_here (at_node i) h.whole.inv marking (is_held i holder.held) spends
 
     -- the token is sent on
-    sent-move : {t : ℕ} {u : Token} (z : ℕ)
+    sent-move : {t z : ℕ} {u : Token}
         → Idles m c d i (record p { ring = whitened (without_token p.ring) })
         ((t, stamped p (body.Token u)) ∷ []) → t < m → Stage m (cycle_of c 0) d t u z
         → z * (2 * m) + 2 * t + 1 < here.stage * (2 * m) + 2 * i
         → TokenMove m c d left budget
-    sent-move {t} {u} z idle near stage less =
+    sent-move {t} {z} {u} idle near stage less =
         let at : StandsAt d i t (stamped p (body.Token u)) =
         sent-flies idle.turn t (stamped p (body.Token u))
         (omega (arith, h.whole.inv.base.width i h.inside, near))
@@ -279,7 +279,7 @@ module _ {shape : Shaped} {c d : Cut} {i : ℕ} (h : Passes shape c d i) where
         by : PassMove m c d i → TokenMove m c d left budget
         by (goes_on t u (inl why) idle) =
             let below : i ≡ suc t = omega (arith, own, why.0, why.1) in
-            sent-move here.stage idle (omega (arith, below, h.inside))
+            sent-move idle (omega (arith, below, h.inside))
             (handed-stage holder idle.turn below why.2 here.stage here.is)
             (omega (arith, below))
         by (goes_on t u (inr why) idle) =
@@ -296,6 +296,6 @@ module _ {shape : Shaped} {c d : Cut} {i : ℕ} (h : Passes shape c d i) where
             let rounds : suc z * (2 * m) ≡ here.stage * (2 * m) =
             ap (λ (y : ℕ). y * (2 * m)) next.1 in
             let one : suc z * (2 * m) ≡ z * (2 * m) + 2 * m = suc-mul z (2 * m) in
-            sent-move z idle (omega (arith, last)) next.2
+            sent-move idle (omega (arith, last)) next.2
             (omega (arith, rounds, one, zero_is, last))
         by (concluded ms idle few load ended) = ends i (passed p).local ms idle few load ended

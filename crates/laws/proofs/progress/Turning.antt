@@ -1,8 +1,8 @@
 -- What a step within a cycle does to the current states, whichever it is.
-use Rattle.std.proofs.Common.{◌≡◌, ◌≢◌, ℕ, ◌+◌, ◌<◌, ◌≤◌, ◌⊎◌, Bool, true, false, ltb, ltb-true, List, [], ◌∷◌, ◌++◌, length, map, set, Result, Ok, Err, refl, sym, ap, ◌∙◌, subst, ⊎_elim, inl, inr, arith, le_refl}
+use Rattle.std.proofs.Common.{◌++◌, ◌≡◌, ◌≢◌, ℕ, ◌<◌, ◌≤◌, Bool, true, false, ltb, ltb-true, List, [], ◌∷◌, length, map, set, Result, Ok, Err, refl, sym, ap, ◌∙◌, subst, ⊎_elim, arith}
 use Rattle.std.proofs.lemmas.Bool.{cond_both, cond-true, cond-false, cases_Bool, lt-ltb, ltb-false, not-true, not-false, both_ways}
 use Rattle.std.proofs.lemmas.List.{set-get_or}
-use Rattle.ids.specs.Limits.{Shaped, IsShape}
+use Rattle.ids.specs.Limits.{Shaped}
 use Rattle.ids.specs.declared.refusal.Refusal.{Refusal}
 use Rattle.ids.specs.declared.refusal.Refusal.TheVariants.{LinkSpent, NothingToDo}
 use Rattle.msg.specs.declared.body.Message.{Message}
@@ -11,22 +11,21 @@ use Rattle.model.specs.declared.event.Event.TheVariants as event
 use Rattle.model.specs.declared.event.Answer.{Answer}
 use Rattle.model.specs.declared.step.Step.{Step}
 use Rattle.model.specs.declared.step.Step.TheVariants as step
-use Rattle.model.specs.declared.step.Outcome.{Outcome}
 use Rattle.model.specs.Checks.{AllPass, guarded}
-use Rattle.model.specs.State.{LocalState, NodeState, no_node, node_at, got_from}
+use Rattle.model.specs.State.{NodeState, no_node, node_at}
 use Rattle.model.specs.Effects.{Effect}
 use Rattle.model.specs.Collecting.{scanned, passed, swept_slots}
-use Rattle.model.specs.Steps.{is_own, tests, made, fits, all_tests, after, act, receive}
-use Rattle.model.specs.World.{World, KeepsSent, new_world, happens, run, take_step, world_after, outcome_of, is_node, moved}
-use Rattle.model.specs.Cuts.{Cut, cut, taken}
+use Rattle.model.specs.Steps.{is_own, tests, made, fits, after, act, receive}
+use Rattle.model.specs.World.{World, KeepsSent, new_world, happens, take_step, world_after, outcome_of, is_node, moved}
+use Rattle.model.specs.Cuts.{Cut}
 use Rattle.model.proofs.Checks.{guarded-passed}
 use Rattle.model.proofs.Leaving.{own-stands}
-use Rattle.laws.proofs.StepFacts.{Delivery, given_to, Delivered, Happening, nothing, acted, delivered, saved, restarted, happening, Receipt, repeated, next, receipt-cases}
+use Rattle.laws.proofs.StepFacts.{Delivery, Delivered, Happening, nothing, acted, delivered, saved, restarted, happening, Receipt, repeated, next, receipt-cases}
 use Rattle.laws.proofs.KeepsSent.{new-keeps-sent}
 use Rattle.laws.proofs.Cuts.{run-keeps-sent, turn-number, cut-in_flight, shown}
 use Rattle.laws.proofs.Turns.{Turn}
 use Rattle.laws.proofs.Base.{inside-where, no-node-refuses, own-heard}
-use Rattle.laws.proofs.Invariant.{phases_of, Inv}
+use Rattle.laws.proofs.Invariant.{phases_of}
 use Rattle.laws.specs.Strategy.{now, is_grey, has_token}
 use Rattle.laws.specs.Fairness.{is_turns}
 use Rattle.laws.proofs.progress.Spaces.{Reached, reached-whole, reached-count, acts-so, act-step}
@@ -106,26 +105,14 @@ acts-on {shape = shape} w i e r own passed numbered =
           (cases_Bool (fits counts x.sends)),
     )
 
--- the first test fails
-fails-first : (s : NodeState) (e : Event) (ok : Bool) (r : Refusal) (ts : List (Bool × Refusal))
-    → tests s.local e ≡ (ok, r) ∷ ts → ok ≡ false → act s e ≡ Err r
+-- A test fails, whatever comes after it.
+fails : (s : NodeState) (e : Event) (q : Refusal)
+    → ((us : List (Bool × Refusal)) (x : Effect) → guarded (tests s.local e ++ us) x ≡ Err q)
+    → act s e ≡ Err q
 unfolding act
-fails-first s e ok r ts is fails =
-    let counts : List ℕ = map length s.sent in
-    let x : Effect = made s.local counts e in
-    ap (λ (us : List (Bool × Refusal)). after s (guarded (all_tests us counts x) x)) is
-    ∙ ap (after s) (cond-false ok _ _ fails)
-
--- the second one does
-fails-second : (s : NodeState) (e : Event) (ok good : Bool) (q r : Refusal)
-    (ts : List (Bool × Refusal)) → tests s.local e ≡ (ok, q) ∷ (good, r) ∷ ts → ok ≡ true
-    → good ≡ false → act s e ≡ Err r
-unfolding act
-fails-second s e ok good q r ts is first fails =
-    let counts : List ℕ = map length s.sent in
-    let x : Effect = made s.local counts e in
-    ap (λ (us : List (Bool × Refusal)). after s (guarded (all_tests us counts x) x)) is
-    ∙ ap (after s) (cond-true ok _ _ first ∙ cond-false good _ _ fails)
+fails s e q refuses =
+    let x : Effect = made s.local (map length s.sent) e in
+    ap (after s) (refuses ((fits (map length s.sent) x.sends, LinkSpent) ∷ []) x)
 
 module _ {shape : Shaped} {w : World} (r : Reached shape w) where
   abbrev Does : Step → Type 0
@@ -142,7 +129,7 @@ module _ {shape : Shaped} {w : World} (r : Reached shape w) where
       let done = acts-on w i event.Scan r refl (grey, tt) numbered in
       scans i done.0 grey done.1)
       (λ calm.
-      refused i event.Scan NothingToDo refl (fails-first (now w i) event.Scan _ _ _ refl calm) calm)
+      refused i event.Scan NothingToDo refl (fails (now w i) event.Scan NothingToDo (λ us x. cond-false _ _ _ calm)) calm)
       (cases_Bool (is_grey (now w) i))
 
   did-pass : (i : ℕ) → outcome_of (take_step w (step.Act i event.Pass)) ≢ Err LinkSpent
@@ -151,13 +138,14 @@ module _ {shape : Shaped} {w : World} (r : Reached shape w) where
       (λ has. ⊎_elim {C = Does (step.Act i event.Pass)}
       (λ grey.
       refused i event.Pass NothingToDo refl
-      (fails-second (now w i) event.Pass _ _ _ _ _ refl has (not-true _ grey)) (λ _. grey))
+      (fails (now w i) event.Pass NothingToDo
+      (λ us x. cond-true _ _ _ has ∙ cond-false _ _ _ (not-true _ grey))) (λ _. grey))
       (λ calm.
       let done = acts-on w i event.Pass r refl (has, (not-false _ calm, tt)) numbered in
       passes i done.0 has calm refl done.1)
       (cases_Bool (is_grey (now w) i)))
       (λ none.
-      refused i event.Pass NothingToDo refl (fails-first (now w i) event.Pass _ _ _ refl none)
+      refused i event.Pass NothingToDo refl (fails (now w i) event.Pass NothingToDo (λ us x. cond-false _ _ _ none))
       (λ has. absurd (both_ways _ none has)))
       (cases_Bool (has_token (now w) i))
 
@@ -173,7 +161,7 @@ module _ {shape : Shaped} {w : World} (r : Reached shape w) where
       sweeps i count done.0 (ltb-true swept ended ready) refl done.1)
       (λ none.
       refused i (event.Sweep count) NothingToDo refl
-      (fails-first (now w i) (event.Sweep count) _ _ _ refl none) (ltb-false swept ended none))
+      (fails (now w i) (event.Sweep count) NothingToDo (λ us x. cond-false _ _ _ none)) (ltb-false swept ended none))
       (cases_Bool (ltb swept ended))
 
   -- ---- a message, and the others
@@ -199,7 +187,7 @@ module _ {shape : Shaped} {w : World} (r : Reached shape w) where
       by (next turn may found) = ⊎_elim {C = Did shape (now w) (now v) s}
           (λ same. rests same (free (now w)))
           (λ took. takes m.from m.to m.message took other)
-          (plain-took m.from m.to m.message t a (reached-whole r).inv
+          (plain-took (reached-whole r).inv
           (cut-in_flight w (λ _. false) m keeps refl x.there turn)
           (subst (λ (k : ℕ).
           receive (now w m.to) m.from m.to k m.message.stamp m.message.body ≡ Ok (t, a))
@@ -210,7 +198,7 @@ module _ {shape : Shaped} {w : World} (r : Reached shape w) where
       → is_act s ≡ false → ((i : ℕ) → s ≢ step.Restart i)
       → ((c : Cut) → Excuse c s) → Did shape (now w) (now v) s
   did-other s v nothing other no_restart free = rests refl (free (now w))
-  did-other s v (acted i e t a is x) other no_restart free = 
+  did-other s v (acted i e t a is x) other no_restart free =
       absurd (both_ways _ other (ap is_act is))
   did-other s v (delivered m t a x) other no_restart free = did-deliver s m t a x other free
   did-other s v (saved i within) other no_restart free = rests refl (free (now w))

@@ -1,14 +1,14 @@
 -- No step within a cycle adds a slot to a heap, or takes one away.
-use Rattle.std.proofs.Common.{◌≡◌, ℕ, true, [], length, length-set, refl, ◌∙◌, ap}
+use Rattle.std.proofs.Common.{◌≡◌, ℕ, true, [], length, length-set, refl, ◌∙◌}
 use Rattle.ids.specs.declared.names.Ref.{Ref}
 use Rattle.msg.specs.declared.body.Body.{Body}
-use Rattle.model.specs.State.{Object, Heap, LocalState, slot_at}
+use Rattle.model.specs.State.{Object, LocalState, slot_at}
 use Rattle.model.specs.Heaps.{rewritten, with_rewritten, sharing}
 use Rattle.model.specs.Effects.{Work, at_rest}
 use Rattle.model.specs.Counting.{append, announce}
 use Rattle.std.specs.Prelude.{cond}
 use Rattle.model.specs.Shading.{is_open, filled, see_to, enter, last_grey, without_last_grey}
-use Rattle.model.specs.Collecting.{places_in, scan, scanned, swept_slots, sweeping, looked_at}
+use Rattle.model.specs.Collecting.{places_in, scan, scanned, swept_slots, looked_at}
 use Rattle.model.specs.Steps.{count_in, settled, taken_in}
 use Rattle.model.proofs.Walk.{Collects, Moves, place-walks, post-walks, taken-moves}
 use Rattle.laws.proofs.Sweeps.{swept-some}
