@@ -5,7 +5,7 @@ mod HeapWork
 mod Hearing
 pub mod Choices
 mod Heard
-mod Spaces
+pub mod Spaces
 mod Falls
 mod Stages
 mod Ends
@@ -21,4 +21,4 @@ mod Idling
 mod Listed
 mod Resting
 mod Marching
-mod Rounded
+pub mod Rounded

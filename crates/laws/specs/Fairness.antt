@@ -1,14 +1,16 @@
 -- Collection never gets stuck, in whatever order the collector's steps are done ("Progress" in
 -- docs/PROOF.md). `Progress` has one order that leads to the end. Here all do that are fair: in each
 -- round every node has a turn, and messages come in on every link.
-use Rattle.std.specs.Prelude.{◌≡◌, ◌≢◌, ℕ, ◌+◌, ◌*◌, ◌<◌, ◌≤◌, Bool, true, false, nat_lt, List, [], ◌∷◌, ◌++◌, length, Err}
+use Rattle.std.specs.Prelude.{◌≡◌, ◌≢◌, ℕ, ◌+◌, ◌*◌, ◌<◌, ◌≤◌, Bool, true, false, nat_lt, List, [], ◌∷◌, ◌++◌, length, Result, Err, IsOk}
 use Rattle.std.specs.List.{AllByRecursion}
 use Rattle.ids.specs.declared.limits.TheConstants.{GREATEST_CYCLE}
 use Rattle.ids.specs.declared.names.Ref.{Ref}
+use Rattle.ids.specs.declared.refusal.Refusal.{Refusal}
 use Rattle.ids.specs.declared.refusal.Refusal.TheVariants.{LinkSpent}
 use Rattle.model.specs.declared.event.Event.TheVariants as event
 use Rattle.model.specs.declared.step.Step.{Step}
 use Rattle.model.specs.declared.step.Step.TheVariants as step
+use Rattle.model.specs.declared.step.Outcome.{Outcome}
 use Rattle.model.specs.State.{sent_to}
 use Rattle.model.specs.World.{World, run, happens, take_step, outcome_of, outcomes}
 use Rattle.model.specs.Cuts.{Cut, Among, taken}
@@ -18,10 +20,11 @@ use Rattle.laws.specs.Progress.{current_cycle, HasEnded, IsSwept, IsGone, saves}
 
 -- ---- rounds
 
--- A step of the collector within a cycle, a save, a delivery or an acknowledgement. A sweep looks at
--- some slots.
+-- A step of the collector within a cycle, a Next, a save, a delivery or an acknowledgement. A sweep
+-- looks at some slots.
 abbrev pub is_turns : Step → Bool
 is_turns (step.Act i event.Begin) = false
+is_turns (step.Act i (event.Next from)) = true
 is_turns (step.Act i (event.Sweep count)) = nat_lt 0 count
 is_turns s = is_collectors s
 
@@ -92,17 +95,26 @@ RoundsEndCycle n w =
     (rs : List (List Step)) → AreRounds n w rs → cycle_rounds n (now w) ≤ length rs
     → IsSwept n (current_cycle w) (now (after_rounds w rs))
 
--- Then node 0 begins the next cycle, unless links or cycles have run out of numbers. After enough
--- rounds for that one each node has swept it too. Once each is saved after that, none of them has an
--- object that was garbage at the start, saved or not, in any choice of current and saved states.
+-- the outcome when node 0 begins the next cycle after rounds, and the space then
+abbrev pub begins_after : World → List (List Step) → Result Outcome Refusal
+begins_after w rs = outcome_of (take_step (after_rounds w rs) (step.Act 0 event.Begin))
+
 abbrev pub begun_after : World → List (List Step) → World
 begun_after w rs = happens (after_rounds w rs) (step.Act 0 event.Begin)
 
+-- Then node 0 may begin the next cycle, unless cycles or links have run out of numbers.
+abbrev pub RoundsLetBegin : ℕ → World → Type 0
+RoundsLetBegin n w =
+    (rs : List (List Step)) → AreRounds n w rs → cycle_rounds n (now w) ≤ length rs
+    → current_cycle w < GREATEST_CYCLE → begins_after w rs ≢ Err LinkSpent
+    → IsOk (begins_after w rs)
+
+-- If it does, and after enough rounds for that cycle, each node has swept it too. Once each is saved
+-- then, none of them has an object that was garbage at the start, saved or not, in any choice of
+-- current and saved states.
 abbrev pub RoundsFreeGarbage : ℕ → World → Type 0
 RoundsFreeGarbage n w =
-    (rs ts : List (List Step)) → current_cycle w < GREATEST_CYCLE
-    → AreRounds n w rs → cycle_rounds n (now w) ≤ length rs
-    → outcome_of (take_step (after_rounds w rs) (step.Act 0 event.Begin)) ≢ Err LinkSpent
+    (rs ts : List (List Step)) → AreRounds n w rs → IsOk (begins_after w rs)
     → AreRounds n (begun_after w rs) ts → cycle_rounds n (now (begun_after w rs)) ≤ length ts
     → IsSwept n (current_cycle w + 1) (now (after_rounds (begun_after w rs) ts))
     × ((r : Ref) → IsGone w (run (after_rounds (begun_after w rs) ts) (saves n)) r)

@@ -10,28 +10,30 @@ use Rattle.model.specs.declared.event.Event.TheVariants as event
 use Rattle.model.specs.declared.step.Step.{Step}
 use Rattle.model.specs.declared.step.Step.TheVariants as step
 use Rattle.model.specs.State.{LocalState, NodeState}
+use Rattle.model.specs.Checks.{AllPass}
+use Rattle.model.specs.Steps.{tests}
 use Rattle.model.specs.World.{World, new_world, happens, run, take_step, outcome_of}
 use Rattle.model.specs.Cuts.{Cut, taken}
 use Rattle.model.proofs.References.{all-append}
 use Rattle.laws.proofs.Live.{several}
 use Rattle.laws.proofs.Invariant.{phases_of, cycle_of, Inv}
 use Rattle.laws.specs.Statements.{OfSpaces, StaysUp}
-use Rattle.laws.specs.Strategy.{now, is_waiting, is_collectors}
+use Rattle.laws.specs.Strategy.{now, is_waiting}
 use Rattle.laws.specs.Bounds.{work_left}
 use Rattle.laws.specs.Progress.{current_cycle, HasEnded, IsSwept, IsGone, saves}
-use Rattle.laws.specs.Fairness.{is_turns, IsRound, AreRounds, steps_in, after_rounds, begun_after, marking_rounds, sweeping_rounds, cycle_rounds, RoundsEndMarking, RoundsEndCycle, RoundsFreeGarbage}
+use Rattle.laws.specs.Fairness.{is_turns, IsRound, AreRounds, steps_in, after_rounds, begun_after, marking_rounds, sweeping_rounds, cycle_rounds, RoundsEndMarking, RoundsEndCycle, RoundsLetBegin, RoundsFreeGarbage}
 use Rattle.laws.proofs.progress.Paths.{run-append}
 use Rattle.laws.proofs.progress.Flights.{sum-le, sum-one, sum-const}
 use Rattle.laws.proofs.progress.Spaces.{Reached, reached-whole, reached-heard, reached-more}
 use Rattle.laws.proofs.progress.Choices.{Still, still-none}
 use Rattle.laws.proofs.progress.Stages.{Budget, budget-new}
 use Rattle.laws.proofs.progress.Sweeping.{Stilled, told, swept-all}
-use Rattle.laws.proofs.progress.Turning.{did, acts-on}
-use Rattle.laws.proofs.progress.Idling.{unjoined, unjoined_one, Quiet}
+use Rattle.laws.proofs.progress.Turning.{did, acts-ok, ok-acts}
+use Rattle.laws.proofs.progress.Idling.{unjoined, unjoined_one, Quiet, MarkStep, idles, falls, finds, mark-step}
 use Rattle.laws.proofs.progress.Listed.{AllRest, rest-same, rest-excuse}
 use Rattle.laws.proofs.progress.Resting.{rest_left, Busy, waits, ready, Rests, rests-ended, rest-step, Turned, turned-on, RestRun, all_rest, left_less, rest-run}
 use Rattle.laws.proofs.progress.Marching.{Marks, Over, Idly, Went, over, less, idle, sweeps-most, over-run, went, quiet-start, idle-quiet-run, RingRun, stood, moved, ring-run, stood-never}
-use Rattle.laws.proofs.progress.Theorems.{begun-costs, reached-now, gone}
+use Rattle.laws.proofs.progress.Theorems.{begun-costs, reached-now, is_resolving, gone}
 
 turned : {n : ℕ} {w : World} {ss : List Step} → IsRound n w ss → Turned w ss
 turned r = record { turns = r.turns; numbered = r.numbered }
@@ -380,67 +382,116 @@ rounds-end-cycle shape limits steps rs are enough =
 
 -- ---- garbage
 
--- node 0 begins the next cycle
-next-cycle : {shape : Shaped} (w : World) → Reached shape w
+-- Node 0 begins the next cycle after rounds. It stays in its cycle in these.
+begin-passes : {shape : Shaped} (w : World) → Reached shape w
     → IsSwept shape.nodes (current_cycle w) (now w) → current_cycle w < GREATEST_CYCLE
-    → outcome_of (take_step w (step.Act 0 event.Begin)) ≢ Err LinkSpent
-    → current_cycle (happens w (step.Act 0 event.Begin)) ≡ current_cycle w + 1
-next-cycle w r swept below numbered =
+    → AllPass (tests (now w 0).local event.Begin)
+begin-passes w r swept below =
     let p : LocalState = (now w 0).local in
     let own : p.own ≡ 0 =
     (reached-whole r).inv.base.own 0 (let many = several r.limits in omega (arith, many)) in
-    let begins = acts-on w 0 event.Begin r refl
     (eq-eqb p.own 0 own, (swept.reported, (lt-ltb p.phases.cycle GREATEST_CYCLE below, tt)))
-    numbered in
-    ap (λ (s : NodeState). s.local.phases.cycle) begins.1.becomes.changed ∙ (begun-costs p).2
 
-turns-collect : (ss : List Step) → AllByRecursion (λ s. is_turns s ≡ true) ss
-    → AllByRecursion (λ s. is_collectors s ≡ true) ss
-turns-collect [] all = tt
-turns-collect (s ∷ ss) all = (by s all.0, turns-collect ss all.1)
+pub rounds-let-begin : OfSpaces RoundsLetBegin
+rounds-let-begin shape limits steps rs are enough below numbered =
+    let w : World = run (new_world shape) steps in
+    let r : Reached shape w = reached-now shape limits steps in
+    let u : World = after_rounds w rs in
+    let swept = cycle-swept shape w rs r are enough in
+    acts-ok u 0 event.Begin (reached-more (steps_in rs) r) refl
+    (begin-passes u (reached-more (steps_in rs) r)
+    (subst (λ (k : ℕ). IsSwept shape.nodes k (now u)) (sym swept.current) swept)
+    (let same = swept.current in omega (arith, same, below))) numbered
+
+-- no round changes node 0's cycle
+step-cycle : {shape : Shaped} (w : World) (s : Step) → Reached shape w → is_turns s ≡ true
+    → outcome_of (take_step w s) ≢ Err LinkSpent
+    → cycle_of (now (happens w s)) 0 ≡ cycle_of (now w) 0
+step-cycle {shape} w s r turns numbered =
+    ⊎_elim {C = cycle_of (now (happens w s)) 0 ≡ cycle_of (now w) 0}
+    (λ (rest : (phases_of (now w) 0).ended ≡ cycle_of (now w) 0).
+    ⊎_elim (λ same. ap (λ (z : Cut). cycle_of z 0) same.0) (λ takes_some. takes_some.current)
+    (rest-step (rests-ended (record { reached = r; current = refl; ended = rest })) s turns
+    (did r s turns numbered)))
+    (λ (other : (phases_of (now w) 0).ended ≢ cycle_of (now w) 0).
+    by (mark-step s r.limits (reached-whole r)
+    (let e = (reached-whole r).inv.phased.ended 0 in omega (arith, e, other))
+    (did r s turns numbered)))
+    (cases_eq (phases_of (now w) 0).ended (cycle_of (now w) 0))
   where
-    by : (s : Step) → is_turns s ≡ true → is_collectors s ≡ true
+    by : MarkStep shape (now w) (now (happens w s)) s
+        → cycle_of (now (happens w s)) 0 ≡ cycle_of (now w) 0
+    by (idles i k le) = k.cycle
+    by (falls k fell falls_so) = k.cycle
+    by (finds same ended slots work) = same
+
+steps-cycle : {shape : Shaped} (w : World) (ss : List Step) → Reached shape w → Turned w ss
+    → cycle_of (now (run w ss)) 0 ≡ cycle_of (now w) 0
+steps-cycle w [] r t = refl
+steps-cycle w (s ∷ ss) r t =
+    steps-cycle (happens w s) ss (reached-more (s ∷ []) r) (turned-on t)
+    ∙ step-cycle w s r t.turns.0 t.numbered.0
+
+rounds-cycle : {shape : Shaped} (w : World) (rs : List (List Step)) → Reached shape w
+    → AreRounds shape.nodes w rs
+    → cycle_of (now (after_rounds w rs)) 0 ≡ cycle_of (now w) 0
+rounds-cycle w [] r are = refl
+rounds-cycle w (ss ∷ rs) r are =
+    ap (λ (z : World). cycle_of (now z) 0) (sym (after-one w ss rs))
+    ∙ rounds-cycle (run w ss) rs (reached-more ss r) are.1
+    ∙ steps-cycle w ss r (turned are.0)
+
+turns-leave : (ss : List Step) → AllByRecursion (λ s. is_turns s ≡ true) ss
+    → AllByRecursion (λ s. is_resolving s ≡ false) ss
+turns-leave [] all = tt
+turns-leave (s ∷ ss) all = (by s all.0, turns-leave ss all.1)
+  where
+    by : (s : Step) → is_turns s ≡ true → is_resolving s ≡ false
     by (step.Act i event.Begin) is = refl
+    by (step.Act i event.Scan) is = refl
+    by (step.Act i event.Pass) is = refl
     by (step.Act i (event.Sweep count)) is = refl
-    by s is = is
+    by (step.Act i (event.Next from)) is = refl
+    by (step.Act i e) is = absurd cc
+    by s is = refl
 
-rounds-collect : (n : ℕ) (w : World) (rs : List (List Step)) → AreRounds n w rs
-    → AllByRecursion (λ s. is_collectors s ≡ true) (steps_in rs)
-rounds-collect n w [] are = tt
-rounds-collect n w (ss ∷ rs) are =
-    all-append (λ s. is_collectors s ≡ true) ss (steps_in rs) (turns-collect ss are.0.turns)
-    (rounds-collect n (run w ss) rs are.1)
-
-collectors-stay : (i : ℕ) (ss : List Step) → AllByRecursion (λ s. is_collectors s ≡ true) ss
+turns-stay : (i : ℕ) (ss : List Step) → AllByRecursion (λ s. is_turns s ≡ true) ss
     → StaysUp i ss
-collectors-stay i [] all = tt
-collectors-stay i (s ∷ ss) all = (
-  λ is. both_ways _ (ap is_collectors is) all.0,
-  collectors-stay i ss all.1,
-)
+turns-stay i [] all = tt
+turns-stay i (s ∷ ss) all = (λ is. both_ways _ (ap is_turns is) all.0, turns-stay i ss all.1)
+
+-- what each step of the rounds is
+rounds-all : (P : Step → Type 0) (n : ℕ) (w : World) (rs : List (List Step))
+    → ((ss : List Step) → AllByRecursion (λ s. is_turns s ≡ true) ss → AllByRecursion P ss)
+    → AreRounds n w rs → AllByRecursion P (steps_in rs)
+rounds-all P n w [] turns are = tt
+rounds-all P n w (ss ∷ rs) turns are =
+    all-append P ss (steps_in rs) (turns ss are.0.turns) (rounds-all P n (run w ss) rs turns are.1)
 
 pub rounds-free-garbage : OfSpaces RoundsFreeGarbage
-rounds-free-garbage shape limits steps rs ts below first enough numbered second enough_then =
+rounds-free-garbage shape limits steps rs ts first begins second enough =
     let n : ℕ = shape.nodes in
     let w : World = run (new_world shape) steps in
     let r : Reached shape w = reached-now shape limits steps in
     let u : World = after_rounds w rs in
     let v : World = begun_after w rs in
     let there : Reached shape u = reached-more (steps_in rs) r in
-    let swept : IsSwept n (current_cycle w) (now u) = cycle-swept shape w rs r first enough in
     let next : current_cycle v ≡ current_cycle w + 1 =
-    next-cycle u there
-    (subst (λ (k : ℕ). IsSwept n k (now u)) (sym swept.current) swept)
-    (let same = swept.current in omega (arith, same, below)) numbered
-    ∙ ap (λ (k : ℕ). k + 1) swept.current in
+    ap (λ (s : NodeState). s.local.phases.cycle)
+    (ok-acts u 0 event.Begin there refl begins).becomes.changed
+    ∙ (begun-costs (now u 0).local).2
+    ∙ ap (λ (k : ℕ). k + 1) (rounds-cycle w rs r first) in
     let all : IsSwept n (current_cycle w + 1) (now (after_rounds v ts)) =
     subst (λ (k : ℕ). IsSwept n k (now (after_rounds v ts))) next
-    (cycle-swept shape v ts (reached-more (step.Act 0 event.Begin ∷ []) there) second enough_then)
+    (cycle-swept shape v ts (reached-more (step.Act 0 event.Begin ∷ []) there) second enough)
     in
     let later : List Step = steps_in rs ++ step.Act 0 event.Begin ∷ steps_in ts in
-    let collect : AllByRecursion (λ s. is_collectors s ≡ true) later =
-    all-append (λ s. is_collectors s ≡ true) (steps_in rs) (step.Act 0 event.Begin ∷ steps_in ts)
-    (rounds-collect n w rs first) (refl, rounds-collect n v ts second) in
+    let all_of : (P : Step → Type 0)
+    → ((ss : List Step) → AllByRecursion (λ s. is_turns s ≡ true) ss → AllByRecursion P ss)
+    → P (step.Act 0 event.Begin) → AllByRecursion P later =
+    λ P turns begins.
+    all-append P (steps_in rs) (step.Act 0 event.Begin ∷ steps_in ts)
+    (rounds-all P n w rs turns first) (begins, rounds-all P n v ts turns second) in
     let same : run w later ≡ after_rounds v ts =
     run-append w (steps_in rs) (step.Act 0 event.Begin ∷ steps_in ts) in (
       all,
@@ -448,5 +499,6 @@ rounds-free-garbage shape limits steps rs ts below first enough numbered second 
           subst (λ (z : World). IsGone w (run z (saves n)) r) same
           (gone shape limits steps later (current_cycle w + 1) (omega arith)
           (subst (λ (z : World). IsSwept n (current_cycle w + 1) (now z)) (sym same) all)
-          (λ i. collectors-stay i later collect) collect r),
+          (λ i. all_of (λ s. s ≢ step.Restart i) (turns-stay i) (λ e. absurd cc))
+          (all_of (λ s. is_resolving s ≡ false) turns-leave refl) r),
     )

@@ -1,10 +1,10 @@
 -- What a step within a cycle does to the current states, whichever it is.
-use Rattle.std.proofs.Common.{◌++◌, ◌≡◌, ◌≢◌, ℕ, ◌<◌, ◌≤◌, Bool, true, false, ltb, ltb-true, List, [], ◌∷◌, length, map, set, Result, Ok, Err, refl, sym, ap, ◌∙◌, subst, ⊎_elim, arith}
+use Rattle.std.proofs.Common.{◌++◌, ◌≡◌, ◌≢◌, ℕ, ◌<◌, ◌≤◌, Bool, true, false, ltb, ltb-true, List, [], ◌∷◌, length, map, set, Result, Ok, Err, IsOk, refl, sym, ap, ◌∙◌, subst, ⊎_elim, arith}
 use Rattle.std.proofs.lemmas.Bool.{cond_both, cond-true, cond-false, cases_Bool, lt-ltb, ltb-false, not-true, not-false, both_ways}
 use Rattle.std.proofs.lemmas.List.{set-get_or}
 use Rattle.ids.specs.Limits.{Shaped}
 use Rattle.ids.specs.declared.refusal.Refusal.{Refusal}
-use Rattle.ids.specs.declared.refusal.Refusal.TheVariants.{LinkSpent, NothingToDo}
+use Rattle.ids.specs.declared.refusal.Refusal.TheVariants.{LinkSpent, NoNode, NothingToDo}
 use Rattle.msg.specs.declared.body.Message.{Message}
 use Rattle.model.specs.declared.event.Event.{Event}
 use Rattle.model.specs.declared.event.Event.TheVariants as event
@@ -12,15 +12,15 @@ use Rattle.model.specs.declared.event.Answer.{Answer}
 use Rattle.model.specs.declared.step.Step.{Step}
 use Rattle.model.specs.declared.step.Step.TheVariants as step
 use Rattle.model.specs.Checks.{AllPass, guarded}
-use Rattle.model.specs.State.{NodeState, no_node, node_at}
+use Rattle.model.specs.State.{LocalState, NodeState, no_node, node_at}
 use Rattle.model.specs.Effects.{Effect}
 use Rattle.model.specs.Collecting.{scanned, passed, swept_slots}
 use Rattle.model.specs.Steps.{is_own, tests, made, fits, after, act, receive}
 use Rattle.model.specs.World.{World, KeepsSent, new_world, happens, take_step, world_after, outcome_of, is_node, moved}
-use Rattle.model.specs.Cuts.{Cut}
+use Rattle.model.specs.Cuts.{Cut, Becomes}
 use Rattle.model.proofs.Checks.{guarded-passed}
 use Rattle.model.proofs.Leaving.{own-stands}
-use Rattle.laws.proofs.StepFacts.{Delivery, Delivered, Happening, nothing, acted, delivered, saved, restarted, happening, Receipt, repeated, next, receipt-cases}
+use Rattle.laws.proofs.StepFacts.{act-ok, Delivery, Delivered, Happening, nothing, acted, delivered, saved, restarted, happening, Receipt, repeated, next, receipt-cases}
 use Rattle.laws.proofs.KeepsSent.{new-keeps-sent}
 use Rattle.laws.proofs.Cuts.{run-keeps-sent, turn-number, cut-in_flight, shown}
 use Rattle.laws.proofs.Turns.{Turn}
@@ -67,43 +67,80 @@ refused-step w i e r own refused =
     cond_both (is_node w i) _ _ (λ z. world_after w z ≡ w)
     (λ _. ap (world_after w) (cond-true (is_own e) _ _ own ∙ ap (moved w i) refused)) (λ _. refl)
 
--- what passes all tests is done, unless a link has no number left
-pub acts-on : {shape : Shaped} (w : World) (i : ℕ) (e : Event) → Reached shape w → is_own e ≡ true
+-- only a node of the space passes the tests of its own event
+acts-inside : {shape : Shaped} (w : World) (i : ℕ) (e : Event) → Reached shape w
+    → is_own e ≡ true → AllPass (tests (now w i).local e) → i < shape.nodes
+acts-inside w i e r own passed =
+    inside-where i (λ z. AllPass (tests z.local e)) (reached-whole r).inv.base passed
+    (no-node-refuses e own)
+
+-- an event that was answered
+pub ok-acts : {shape : Shaped} (w : World) (i : ℕ) (e : Event) → Reached shape w
+    → is_own e ≡ true → IsOk (outcome_of (take_step w (step.Act i e)))
+    → Turn (now w) (now (happens w (step.Act i e))) i
+    (made (now w i).local (map length (now w i).sent) e).local
+    (made (now w i).local (map length (now w i).sent) e).sends
+unfolding take_step
+ok-acts {shape = shape} w i e r own ok =
+    cond_both (is_node w i) _ _ (λ z. IsOk (outcome_of z) → Turns (world_after w z))
+    (λ inside.
+    subst (λ z. IsOk (outcome_of z) → Turns (world_after w z)) (sym (cond-true (is_own e) _ _ own))
+    (by (ltb-true _ _ inside) (act (now w i) e) refl))
+    (λ _ never. absurd cc) ok
+  where
+    x : Effect
+    x = made (now w i).local (map length (now w i).sent) e
+
+    Turns : World → Type 0
+    Turns v = Turn (now w) (now v) i x.local x.sends
+
+    by : i < length w.current → (z : Result (NodeState × Answer) Refusal) → act (now w i) e ≡ z
+        → IsOk (outcome_of (moved w i z)) → Turns (world_after w (moved w i z))
+    by inside (Err f) is never = absurd cc
+    by inside (Ok y) is ok_is = record {
+      becomes = subst (λ (z : NodeState).
+          Becomes (now w) (now (record w { current = set w.current i y.0 })) i z)
+          (act-ok (now w i) e y.0 y.1 is).state (shown w i y.0 (λ _. false) inside refl);
+      heard = own-heard (own-stands (now w i).local (map length (now w i).sent) e own);
+    }
+
+-- what passes all tests is answered, unless a link has no number left
+pub acts-ok : {shape : Shaped} (w : World) (i : ℕ) (e : Event) → Reached shape w
+    → is_own e ≡ true → AllPass (tests (now w i).local e)
+    → outcome_of (take_step w (step.Act i e)) ≢ Err LinkSpent
+    → IsOk (outcome_of (take_step w (step.Act i e)))
+unfolding act take_step
+acts-ok {shape = shape} w i e r own passed numbered =
+    let s : NodeState = now w i in
+    let counts : List ℕ = map length s.sent in
+    let x : Effect = made s.local counts e in
+    let within : i < length w.current =
+    (let inside = acts-inside w i e r own passed in
+    omega (arith, reached-count r, inside)) in
+    ⊎_elim {C = IsOk (outcome_of (take_step w (step.Act i e)))}
+    (λ fit.
+    subst (λ z. IsOk (outcome_of z))
+    (sym (act-step w i e _ x.answer within own (acts-so s e passed fit))) refl)
+    (λ full.
+    absurd (numbered
+    (ap outcome_of
+    (cond-true (is_node w i) _ _ (lt-ltb i (length w.current) within)
+    ∙ cond-true (is_own e) _ _ own
+    ∙ ap (λ (z : Result Effect Refusal). moved w i (after s z))
+    (guarded-passed (tests s.local e) ((fits counts x.sends, LinkSpent) ∷ []) x passed
+    ∙ cond-false (fits counts x.sends) _ _ full)))))
+    (cases_Bool (fits counts x.sends))
+
+-- and done
+acts-on : {shape : Shaped} (w : World) (i : ℕ) (e : Event) → Reached shape w → is_own e ≡ true
     → AllPass (tests (now w i).local e)
     → outcome_of (take_step w (step.Act i e)) ≢ Err LinkSpent
     → (i < shape.nodes)
     × Turn (now w) (now (happens w (step.Act i e))) i
     (made (now w i).local (map length (now w i).sent) e).local
     (made (now w i).local (map length (now w i).sent) e).sends
-unfolding act take_step
-acts-on {shape = shape} w i e r own passed numbered =
-    let s : NodeState = now w i in
-    let counts : List ℕ = map length s.sent in
-    let x : Effect = made s.local counts e in
-    let inside : i < shape.nodes =
-    inside-where i (λ z. AllPass (tests z.local e)) (reached-whole r).inv.base passed
-    (no-node-refuses e own) in
-    let within : i < length w.current = omega (arith, reached-count r, inside) in (
-      inside,
-      ⊎_elim {C = Turn (now w) (now (happens w (step.Act i e))) i x.local x.sends}
-          (λ fit.
-          let step_is = act-step w i e _ x.answer within own (acts-so s e passed fit) in
-          subst (λ (z : World). Turn (now w) (now z) i x.local x.sends)
-          (sym (ap (world_after w) step_is))
-          (record {
-            becomes = shown w i _ (λ _. false) within refl;
-            heard = own-heard (own-stands s.local counts e own);
-          }))
-          (λ full.
-          absurd (numbered
-          (ap outcome_of
-          (cond-true (is_node w i) _ _ (lt-ltb i (length w.current) within)
-          ∙ cond-true (is_own e) _ _ own
-          ∙ ap (λ (z : Result Effect Refusal). moved w i (after s z))
-          (guarded-passed (tests s.local e) ((fits counts x.sends, LinkSpent) ∷ []) x passed
-          ∙ cond-false (fits counts x.sends) _ _ full)))))
-          (cases_Bool (fits counts x.sends)),
-    )
+acts-on w i e r own passed numbered =
+    (acts-inside w i e r own passed, ok-acts w i e r own (acts-ok w i e r own passed numbered))
 
 -- A test fails, whatever comes after it.
 fails : (s : NodeState) (e : Event) (q : Refusal)
@@ -164,6 +201,19 @@ module _ {shape : Shaped} {w : World} (r : Reached shape w) where
       (fails (now w i) (event.Sweep count) NothingToDo (λ us x. cond-false _ _ _ none)) (ltb-false swept ended none))
       (cases_Bool (ltb swept ended))
 
+  -- a state keeps no early messages
+  did-next : (i from : ℕ) → Does (step.Act i (event.Next from))
+  did-next i from =
+      let p : LocalState = (now w i).local in
+      ⊎_elim {C = Does (step.Act i (event.Next from))}
+      (λ there.
+      refused i (event.Next from) NothingToDo refl
+      (fails (now w i) (event.Next from) NothingToDo (λ us x. cond-true _ _ _ there)) tt)
+      (λ none.
+      refused i (event.Next from) NoNode refl
+      (fails (now w i) (event.Next from) NoNode (λ us x. cond-false _ _ _ none)) tt)
+      (cases_Bool (ltb from p.shape.nodes))
+
   -- ---- a message, and the others
 
   keeps : KeepsSent w
@@ -209,6 +259,7 @@ module _ {shape : Shaped} {w : World} (r : Reached shape w) where
   did (step.Act i event.Scan) turns numbered = did-scan i numbered
   did (step.Act i event.Pass) turns numbered = did-pass i numbered
   did (step.Act i (event.Sweep count)) turns numbered = did-sweep i count numbered
+  did (step.Act i (event.Next from)) turns numbered = did-next i from
   did (step.Act i e) turns numbered = absurd cc
   did (step.Save i) turns numbered =
       did-other (step.Save i) _ (happening w (step.Save i)) refl (λ _ e. absurd cc)
