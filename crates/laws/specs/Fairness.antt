@@ -1,6 +1,6 @@
 -- Collection never gets stuck, in whatever order the collector's steps are done ("Progress" in
--- docs/PROOF.md). `Progress` has one order that leads to the end. Here all do that are fair: in each
--- round every node has a turn, and messages come in on every link.
+-- docs/PROOF.md). `Progress` has one order that leads to the end. Here every fair one does: in each
+-- round all nodes have a turn, and messages come in on every link.
 use Rattle.std.specs.Prelude.{◌≡◌, ◌≢◌, ℕ, ◌+◌, ◌*◌, ◌<◌, ◌≤◌, Bool, true, false, nat_lt, List, [], ◌∷◌, ◌++◌, length, Result, Err, IsOk}
 use Rattle.std.specs.List.{AllByRecursion}
 use Rattle.ids.specs.declared.limits.TheConstants.{GREATEST_CYCLE}
@@ -109,9 +109,9 @@ RoundsLetBegin n w =
     → current_cycle w < GREATEST_CYCLE → begins_after w rs ≢ Err LinkSpent
     → IsOk (begins_after w rs)
 
--- If it does, and after enough rounds for that cycle, each node has swept it too. Once each is saved
--- then, none of them has an object that was garbage at the start, saved or not, in any choice of
--- current and saved states.
+-- If it does, and after enough rounds for that cycle, each node has swept it too. Once each is
+-- saved then, none of them has an object that was garbage at the start, saved or not, in any choice
+-- of current and saved states.
 abbrev pub RoundsFreeGarbage : ℕ → World → Type 0
 RoundsFreeGarbage n w =
     (rs ts : List (List Step)) → AreRounds n w rs → IsOk (begins_after w rs)

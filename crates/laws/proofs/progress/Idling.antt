@@ -150,7 +150,8 @@ module _ {shape : Shaped} {c d : Cut} (s : Step) (limits : IsShape shape) (whole
   -- ---- a message
 
   taken-keeps : {from to : ℕ} {x : Message} (took : Took shape c d from to x)
-      → (Keeps shape.nodes c d) × ((cycle_of c to < x.stamp) → unjoined shape.nodes d + 1 ≤ unjoined shape.nodes c)
+      → (Keeps shape.nodes c d)
+      × ((cycle_of c to < x.stamp) → unjoined shape.nodes d + 1 ≤ unjoined shape.nodes c)
   taken-keeps {from} {to} {x} took =
       let first : ℕ = cycle_of c 0 in
       let q : LocalState = after_it took in

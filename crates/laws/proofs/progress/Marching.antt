@@ -82,8 +82,8 @@ sweeps-most n cycle c =
     omega (arith, a, sum-add n (λ _. 2) (λ j. width_of (c j).local), sum-const n 2)
 
 -- steps once marking has ended
-pub over-run : {shape : Shaped} {cycle most : ℕ} (w : World) (ss : List Step) → Over shape cycle most w
-    → Turned w ss → Over shape cycle most (run w ss)
+pub over-run : {shape : Shaped} {cycle most : ℕ} (w : World) (ss : List Step)
+    → Over shape cycle most w → Turned w ss → Over shape cycle most (run w ss)
 over-run {shape} {cycle} {most} w ss o t =
     let r = rest-run w ss o.rests t in
     record { rests = r.0; left = by r.1 }
@@ -271,7 +271,8 @@ module _ {shape : Shaped} {cycle most : ℕ} (w : World) (ss : List Step)
   inv = (reached-whole m.reached).inv
 
   -- of the first two messages in flight each is the token
-  first-two : {from to : ℕ} {x : Message} (k : ℕ) → k < 2 → IsInFlight c from to (taken c from to + k) x
+  first-two : {from to : ℕ} {x : Message} (k : ℕ) → k < 2
+      → IsInFlight c from to (taken c from to + k) x
       → is_token x.body ≡ true
   first-two {from} {to} {x} k two flight =
       let inside = flight-inside from to (taken c from to + k) x inv.base flight in

@@ -139,7 +139,8 @@ module _ {shape : Shaped} {cycle : ℕ} {c d : Cut} (e : Ended shape cycle c) wh
       let apart = eqb-false (p.phases.cursor + looked_at p count) (length p.heap.slots) more in
       let is_now : sweep_work cycle q ≤ 2 + (length q.heap.slots - q.phases.cursor) =
       cond_both (q.phases.swept == cycle) 0 (2 + (length q.heap.slots - q.phases.cursor))
-      (λ z. z ≤ 2 + (length q.heap.slots - q.phases.cursor)) (λ _. omega arith) (λ _. omega arith) in
+      (λ z. z ≤ 2 + (length q.heap.slots - q.phases.cursor))
+      (λ _. omega arith) (λ _. omega arith) in
       let none : ms ≡ [] =
       cond-false (reports_sweep p count) ((0, stamped p body.Swept) ∷ []) []
       (ap (λ (b : Bool). b && not (p.own == 0)) more) in
@@ -161,8 +162,9 @@ module _ {shape : Shaped} {cycle : ℕ} {c d : Cut} (e : Ended shape cycle c) wh
   rest-step s turns (rests same excuse) = inl (same, excuse)
   rest-step s turns (takes from to x took act) = inr (take-rest from to x took)
   rest-step s turns (scans i inside grey turn) =
-      absurd (both_ways _ (ap (λ (z : List ℕ). not (length z == 0)) (e.inv.rested.grey i (at-rest e)))
-      grey)
+      absurd
+      (both_ways _
+      (ap (λ (z : List ℕ). not (length z == 0)) (e.inv.rested.grey i (at-rest e))) grey)
   rest-step s turns (passes i inside has calm is turn) =
       let t = some-of (c i).local.ring.token has in
       absurd (e.inv.tokens.rest t.0 (at_node i) (at-rest e) (is_held i t.1))

@@ -204,7 +204,7 @@ pub save-step : (w : World) (i : ℕ) → i < length w.current
 unfolding take_step
 save-step w i inside = cond-true (is_node w i) _ _ (lt-ltb i (length w.current) inside)
 
-deliver-step : {x : Message} {t : NodeState} {a : Answer} (w : World) (from to number : ℕ)
+pub deliver-step : {x : Message} {t : NodeState} {a : Answer} (w : World) (from to number : ℕ)
     → from < length w.current → to < length w.current → released w from to number ≡ Some x
     → receive (node_at w.current to) from to number x.stamp x.body ≡ Ok (t, a)
     → take_step w (step.Deliver from to number)

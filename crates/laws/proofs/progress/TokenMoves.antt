@@ -106,7 +106,8 @@ module _ {shape : Shaped} {c d : Cut} {from to : ℕ} {x : Message} (h : Took sh
 
   token-turn : Turn c d to (holding c from to t) []
   token-turn =
-      subst (λ (y : Effect). Turn c d to y.local y.sends) (token-effect c from to x t is here) h.turn
+      subst (λ (y : Effect). Turn c d to y.local y.sends) (token-effect c from to x t is here)
+      h.turn
 
   pub token-idles : Idles n c d to (holding c from to t) []
   token-idles =

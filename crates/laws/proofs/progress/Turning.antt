@@ -166,7 +166,8 @@ module _ {shape : Shaped} {w : World} (r : Reached shape w) where
       let done = acts-on w i event.Scan r refl (grey, tt) numbered in
       scans i done.0 grey done.1)
       (λ calm.
-      refused i event.Scan NothingToDo refl (fails (now w i) event.Scan NothingToDo (λ us x. cond-false _ _ _ calm)) calm)
+      refused i event.Scan NothingToDo refl
+      (fails (now w i) event.Scan NothingToDo (λ us x. cond-false _ _ _ calm)) calm)
       (cases_Bool (is_grey (now w) i))
 
   did-pass : (i : ℕ) → outcome_of (take_step w (step.Act i event.Pass)) ≢ Err LinkSpent
@@ -182,7 +183,8 @@ module _ {shape : Shaped} {w : World} (r : Reached shape w) where
       passes i done.0 has calm refl done.1)
       (cases_Bool (is_grey (now w) i)))
       (λ none.
-      refused i event.Pass NothingToDo refl (fails (now w i) event.Pass NothingToDo (λ us x. cond-false _ _ _ none))
+      refused i event.Pass NothingToDo refl
+      (fails (now w i) event.Pass NothingToDo (λ us x. cond-false _ _ _ none))
       (λ has. absurd (both_ways _ none has)))
       (cases_Bool (has_token (now w) i))
 
@@ -198,7 +200,8 @@ module _ {shape : Shaped} {w : World} (r : Reached shape w) where
       sweeps i count done.0 (ltb-true swept ended ready) refl done.1)
       (λ none.
       refused i (event.Sweep count) NothingToDo refl
-      (fails (now w i) (event.Sweep count) NothingToDo (λ us x. cond-false _ _ _ none)) (ltb-false swept ended none))
+      (fails (now w i) (event.Sweep count) NothingToDo (λ us x. cond-false _ _ _ none))
+      (ltb-false swept ended none))
       (cases_Bool (ltb swept ended))
 
   -- a state keeps no early messages
