@@ -12,7 +12,7 @@ use Rattle.model.specs.declared.step.Step.TheVariants as step
 use Rattle.model.specs.Cuts.{Among}
 use Rattle.model.specs.State.{LocalState, NodeState, node_at, sent_to}
 use Rattle.model.specs.View.{NodeView, Shows, is_other, link_to, released_at}
-use Rattle.model.specs.World.{World, IsInNet}
+use Rattle.model.specs.World.{World, IsInNet, outcome_of}
 use Rattle.node.specs.Frames.{acknowledgement, frame_of, released_frame}
 use Rattle.node.specs.Keeping.{WholeNode}
 use Rattle.laws.specs.Carried.{IsCarried}
@@ -26,7 +26,9 @@ use Rattle.c_handles.specs.Batches.{IsStored}
 use Rattle.c_handles.specs.Images.{counts_of, keeps, released}
 use Rattle.c_handles.specs.Logs.{KeepsLog}
 use Rattle.c_handles.specs.declared.lone.images.Counts.{Counts}
-use Rattle.c_handles.specs.Laws.{Telling, nothing_told}
+use Rattle.c_handles.specs.Laws.{nothing_told}
+use Rattle.laws.proofs.progress.Spaces.{save-step}
+use Rattle.c_handles.proofs.Says.{Says, quietly, tells}
 use Rattle.c_handles.specs.Programs.{AreIn, Becomes, Choice, Finds, HasCounts, Holds, IsPlaceOf, MayFind, Place, Stored, Nothing, Image, Lost, System, choices_of, last_of, newest, window_of}
 use Rattle.c_handles.specs.declared.lone.LoneNode.{LoneNode}
 use Rattle.c_handles.proofs.Advances.{Advances, AreGiven, below, nodes, owns}
@@ -57,22 +59,22 @@ sound-more frames given e (Some n) is = record {
 }
 
 -- after a call: what holds of every handle, and that worlds go on
-pub record Stepped (shape : Shaped) (s t : System) (told : Telling) : Type 0 where
+pub record Stepped (shape : Shaped) (s t : System) (so : Says) : Type 0 where
   pub sound : IsSound t
-  pub leads : (c : Choice) → MayFind t c → Tells shape s t told c
+  pub leads : (c : Choice) → MayFind t c → Tells shape s t so c
 
 pub stepped-not : {shape : Shaped} {s t : System} → t ≡ s → IsSound s
-    → Stepped shape s t nothing_told
+    → Stepped shape s t quietly
 stepped-not {shape} {s} {t} same sound =
-    subst (λ (z : System). Stepped shape s z nothing_told) (sym same)
+    subst (λ (z : System). Stepped shape s z quietly) (sym same)
     (record { sound = sound; leads = tells-not s })
 
 -- at one node
 pub stepped-at : {shape : Shaped} → IsShape shape → {s t : System} {i : ℕ} {p : Place}
-    {given : List Plain} {told : Telling} → i < shape.nodes → IsSound s → Becomes s t i p given
+    {given : List Plain} {so : Says} → i < shape.nodes → IsSound s → Becomes s t i p given
     → IsSoundIn s.frames (newest p) p.handle
-    → ((e : Stored) → Among e (choices_of p) → Follows shape s i p given told e)
-    → Stepped shape s t told
+    → ((e : Stored) → Among e (choices_of p) → Follows shape s i p given so e)
+    → Stepped shape s t so
 stepped-at within {s} {t} {i} {p} {given} inside sound becomes here follows = record {
   sound = record {
     each = λ k.
@@ -124,10 +126,10 @@ place-in {shape} {i} {e} {p} {a} {x = x} {y} first second h =
 -- no step
 still : {shape : Shaped} {w : World} {i : ℕ} {e : Stored} {p : Place} {given : List Plain}
     → IsPlaceOf shape i e p (node_at w.saved i) (node_at w.current i)
-    → ((f : Plain) → Among f given → IsInNet w f) → Next shape w i e p given nothing_told
+    → ((f : Plain) → Among f given → IsInNet w f) → Next shape w i e p given quietly
 still here out = record {
   later = [];
-  tells = λ saved. refl;
+  says = (λ saved. refl, tt);
   others = λ k other. (refl, refl);
   here = here;
   frames = out;
@@ -155,12 +157,12 @@ module _ {shape : Shaped} (within : IsShape shape) {s : System} (t : System) {i 
   -- ---- calls that store nothing
 
   -- the node goes on with events, or gives out frames
-  pub advances-stepped : {n m : LoneNode} {given : List Plain} {told : Telling}
-      → (s.places i).handle ≡ Some n → Advances shape s.frames i told n m
+  pub advances-stepped : {n m : LoneNode} {given : List Plain} {so : Says}
+      → (s.places i).handle ≡ Some n → Advances shape s.frames i so n m
       → Becomes s t i (record (s.places i) { handle = Some m }) given
       → ((w : World) → IsWorld shape s.frames w → Carries w n → (f : Plain) → Among f given
       → IsInNet w f)
-      → Stepped shape s t told
+      → Stepped shape s t so
   advances-stepped {n} {m} {given} held a becomes out =
       let was = sound-node held in
       stepped-at within inside sound becomes
@@ -176,7 +178,7 @@ module _ {shape : Shaped} (within : IsShape shape) {s : System} (t : System) {i 
             let saved = ap (λ (l : List NodeState). node_at l i) went.saved in
             record {
               later = went.later;
-              tells = went.tells;
+              says = went.says;
               others = λ k other.
                   (ap (λ (l : List NodeState). node_at l k) went.saved, went.others k other);
               here = place-in saved refl (record {
@@ -265,7 +267,8 @@ module _ {shape : Shaped} (within : IsShape shape) {s : System} (t : System) {i 
   -- ---- calls that end a handle, or only store
 
   -- the handle is freed, or its process ends
-  pub ended-stepped : Becomes s t i (record (s.places i) { handle = None }) [] → Stepped shape s t nothing_told
+  pub ended-stepped : Becomes s t i (record (s.places i) { handle = None }) []
+      → Stepped shape s t (tells nothing_told)
   ended-stepped becomes =
       stepped-at within inside sound becomes tt
       (λ e among. record {
@@ -276,7 +279,7 @@ module _ {shape : Shaped} (within : IsShape shape) {s : System} (t : System) {i 
             let saved = ap (λ (l : List NodeState). node_at l i) moved.saved in
             record {
               later = step.Restart i ∷ [];
-              tells = λ saved. refl;
+              says = λ saved. refl;
               others = λ k other.
                   (ap (λ (l : List NodeState). node_at l k) moved.saved, moved.others k other);
               here = place-in saved moved.now
@@ -288,7 +291,7 @@ module _ {shape : Shaped} (within : IsShape shape) {s : System} (t : System) {i 
   -- an image or a batch is stored
   pub stored-stepped : {e : Stored} {others : List Stored} (earlier : List Stored)
       → (s.places i).taken ≡ earlier ++ e ∷ others
-      → Becomes s t i (record (s.places i) { stored = e; taken = others }) [] → Stepped shape s t nothing_told
+      → Becomes s t i (record (s.places i) { stored = e; taken = others }) [] → Stepped shape s t quietly
   stored-stepped {e} {others} earlier taken becomes =
       let p : Place = s.places i in
       let same : newest p ≡ newest (record p { stored = e; taken = others }) =
@@ -314,12 +317,22 @@ module _ {shape : Shaped} (within : IsShape shape) {s : System} (t : System) {i 
   saves : {w : World} {e : Stored} {p : Place} → IsWorld shape s.frames w
       → Holds p.handle (node_at w.current i) (node_at w.current i)
       → Finds shape i e (node_at w.current i)
-      → HasCounts p.handle (node_at w.current i) → Next shape w i e p [] nothing_told
+      → HasCounts p.handle (node_at w.current i) → Next shape w i e p [] quietly
   saves {w} is holds finds counts =
       let saved = save-saves w i (world-grown is) (below within is inside) in
       record {
         later = step.Save i ∷ [];
-        tells = λ saved. refl;
+        says = (
+          λ saved. refl,
+          (
+            (
+              refl,
+              λ e. absurd
+                  (let never = sym (ap outcome_of (save-step w i (below within is inside))) ∙ e in cc),
+            ),
+            tt,
+          ),
+        );
         others = λ k other.
             (saved.others k other, ap (λ (l : List NodeState). node_at l k) saved.current);
         here = place-in saved.now (ap (λ (l : List NodeState). node_at l i) saved.current)
@@ -331,7 +344,7 @@ module _ {shape : Shaped} (within : IsShape shape) {s : System} (t : System) {i 
   pub kept-stepped : {n m : LoneNode} (counts : Vec Counts) → (s.places i).handle ≡ Some n
       → n.counts ≡ Some counts → m.counts ≡ n.counts → m.node ≡ keeps counts.items n.node
       → KeepsLog n m → (s.places i).taken ≡ []
-      → Becomes s t i (record (s.places i) { handle = Some m }) [] → Stepped shape s t nothing_told
+      → Becomes s t i (record (s.places i) { handle = Some m }) [] → Stepped shape s t quietly
   kept-stepped {n} {m} counts held has same is_now logs none becomes =
       let p : Place = s.places i in
       let was = sound-node held in
@@ -369,7 +382,7 @@ module _ {shape : Shaped} (within : IsShape shape) {s : System} (t : System) {i 
   -- everything counts as saved, without an image
   pub released-stepped : {n : LoneNode} → (s.places i).handle ≡ Some n
       → Becomes s t i (record { handle = Some (released n); stored = Lost; taken = [] }) []
-      → Stepped shape s t nothing_told
+      → Stepped shape s t quietly
   released-stepped {n} held becomes =
       let p : Place = s.places i in
       let was = sound-node held in
@@ -383,7 +396,7 @@ module _ {shape : Shaped} (within : IsShape shape) {s : System} (t : System) {i 
             ⊎_elim {C = e ≡ Lost} (λ (x : e ≡ Lost). x) (λ never. absurd never) among in
             subst (λ (x : Stored).
             Next shape w i x (record { handle = Some (released n); stored = Lost; taken = [] }) []
-            nothing_told)
+            quietly)
             (sym lost)
             (saves is (carried-kept h.shows) tt
             (are-later n.counts (node_at w.saved i) (node_at w.current i) ((world-grown is).sent i) (world-heard is i)
@@ -399,7 +412,7 @@ module _ {shape : Shaped} (within : IsShape shape) {s : System} (t : System) {i 
         stored = (s.places i).stored;
         taken = [];
       }) []
-      → Stepped shape s t nothing_told
+      → Stepped shape s t quietly
   opened-stepped {n} empty carried early log none becomes =
       let p : Place = s.places i in
       let q : Place = record { handle = Some n; stored = p.stored; taken = [] } in
@@ -413,7 +426,7 @@ module _ {shape : Shaped} (within : IsShape shape) {s : System} (t : System) {i 
             let same : node_at w.current i ≡ node_at w.saved i =
             subst (λ (h : Option LoneNode). Holds h (node_at w.saved i) (node_at w.current i))
             empty place.holds in
-            subst (λ (x : Stored). Next shape w i x q [] nothing_told) (sym is_it)
+            subst (λ (x : Stored). Next shape w i x q [] quietly) (sym is_it)
             (still
             (record {
               holds = subst (λ (x : NodeState). IsCarried (node_at w.saved i) x n.node.core)
@@ -441,13 +454,13 @@ module _ {shape : Shaped} (within : IsShape shape) {s : System} (t : System) {i 
     finds-of Lost of shows = tt
 
     -- it is what is found: the node is saved
-    taken-now : (e x : Stored) → IsOf e n.node → x ≡ e → Follows shape s i (After e) [] nothing_told x
+    taken-now : (e x : Stored) → IsOf e n.node → x ≡ e → Follows shape s i (After e) [] quietly x
     taken-now e x of now = record {
       before = newest (s.places i);
       may = newest-among (s.places i).stored (s.places i).taken;
       next = λ w is place.
           (let h : Carries w n = carries w held place in
-          subst (λ (z : Stored). Next shape w i z (After e) [] nothing_told) (sym now)
+          subst (λ (z : Stored). Next shape w i z (After e) [] quietly) (sym now)
           (saves is
           (subst (λ (z : WholeNode).
           IsCarried (node_at w.current i) (node_at w.current i) z.core) (sym same)
@@ -458,7 +471,7 @@ module _ {shape : Shaped} (within : IsShape shape) {s : System} (t : System) {i 
     -- it isn't: nothing happened to the node yet
     taken-before : (e x : Stored) → Among x (choices_of (s.places i))
         → ((z : NodeState) → Finds shape i x z → x ≡ e → AreIn m.counts z)
-        → Follows shape s i (After e) [] nothing_told x
+        → Follows shape s i (After e) [] quietly x
     taken-before e x among counted_in = record {
       before = x;
       may = among;
@@ -476,7 +489,7 @@ module _ {shape : Shaped} (within : IsShape shape) {s : System} (t : System) {i 
     }
 
     taken-else : (e x : Stored) → IsOf e n.node → Among x (choices_of (s.places i))
-        → Follows shape s i (After e) [] nothing_told x
+        → Follows shape s i (After e) [] quietly x
     taken-else Nothing x of among = absurd of
     taken-else (Image image batches) x of among =
         taken-before (Image image batches) x among
@@ -490,7 +503,7 @@ module _ {shape : Shaped} (within : IsShape shape) {s : System} (t : System) {i 
     taken-else Lost Lost of among = taken-now Lost Lost of refl
 
     pub taken-stepped : (e : Stored) → IsOf e n.node → Continues e m
-        → Becomes s t i (After e) [] → Stepped shape s t nothing_told
+        → Becomes s t i (After e) [] → Stepped shape s t quietly
     taken-stepped e of log becomes =
         stepped-at within inside sound becomes
         (record {
@@ -499,9 +512,9 @@ module _ {shape : Shaped} (within : IsShape shape) {s : System} (t : System) {i 
           log = subst (λ (z : Stored). Continues z m) (sym (after-newest e)) log;
         })
         (λ x among.
-        ⊎_elim {C = Follows shape s i (After e) [] nothing_told x}
+        ⊎_elim {C = Follows shape s i (After e) [] quietly x}
         (λ (old : Among x (choices_of (s.places i))). taken-else e x of old)
         (λ (new : Among x (e ∷ [])).
-        ⊎_elim {C = Follows shape s i (After e) [] nothing_told x}
+        ⊎_elim {C = Follows shape s i (After e) [] quietly x}
         (λ (now : x ≡ e). taken-now e x of now) (λ never. absurd never) new)
         (among-append x (choices_of (s.places i)) (e ∷ []) among))

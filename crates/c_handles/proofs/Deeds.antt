@@ -29,10 +29,10 @@ use Rattle.c_handles.specs.Logs.{KeepsLog, LogsFrom, logging}
 use Rattle.c_handles.specs.Lone.{Made, Read, is_congested, lone}
 use Rattle.c_handles.specs.declared.lone.images.Counts.{Counts}
 use Rattle.c_handles.specs.declared.lone.LoneNode.{LoneNode}
-use Rattle.c_handles.specs.Laws.{nothing_told, told_in}
 use Rattle.c_handles.specs.Programs.{Becomes, Call, Choice, Deed, Does, Finds, Goes, IsShown, MayFind, Opening, Owes, Place, Stored, System, behind, gives, new_system, newest, place_after, place_of}
 use Rattle.c_handles.specs.Programs.{Act, Take, Work, FrameAt, AckFor, Frames, TakeImage, TakeBatch, Keep, Release, Log, Track, Freed, Open, On, End, Store, New, FromImage, FromBatches, Nothing, Image, Lost, Meets, Opens, GoesOn, IsMadeOnce, IsStoredFirst, IsOfSpace}
 use Rattle.c_handles.proofs.Advances.{AreGiven, acts-advances, advances-not, advances-same, took-advances, works-advances}
+use Rattle.c_handles.proofs.Says.{quietly, said_by}
 use Rattle.c_handles.proofs.Calls.{IsOf, IsSound, Stepped, ack-out, advances-stepped, ended-stepped, kept-stepped, opened-stepped, released-out, released-stepped, sound-node, stepped-not, stored-stepped, taken-stepped, window-out}
 use Rattle.c_handles.proofs.Logs.{if_none}
 use Rattle.c_handles.proofs.Saving.{Continues, at-front, continues-from, continues-none, found-carried, read-one, stored-alone, stored-quiet}
@@ -49,7 +49,7 @@ module _ {shape : Shaped} (within : IsShape shape) {s : System} (t : System) {i 
 
   -- a call that leaves the node as it was, and gives nothing out
   same-stepped : {n m : LoneNode} → p.handle ≡ Some n → m ≡ n
-      → Becomes s t i (record p { handle = Some m }) [] → Stepped shape s t nothing_told
+      → Becomes s t i (record p { handle = Some m }) [] → Stepped shape s t quietly
   same-stepped {n} held same becomes =
       advances-stepped within t inside sound held (advances-not same) becomes
       (λ w is h f never. absurd never)
@@ -65,7 +65,7 @@ module _ {shape : Shaped} (within : IsShape shape) {s : System} (t : System) {i 
 
   image-stepped : (n m : LoneNode) (old new : List ℕ) (before needed : ℕ) (r : Result ℕ Fault)
       → p.handle ≡ Some n → Imaged n m r old new before needed
-      → Becomes s t i (place_after (TakeImage r old new before needed) m p) [] → Stepped shape s t nothing_told
+      → Becomes s t i (place_after (TakeImage r old new before needed) m p) [] → Stepped shape s t quietly
   image-stepped n m old new before needed (Ok mark) held (took, wrote) becomes =
       let bytes : List ℕ = image_in n in
       let front : take needed new ≡ bytes = front-of bytes old new needed wrote in
@@ -106,7 +106,7 @@ module _ {shape : Shaped} (within : IsShape shape) {s : System} (t : System) {i 
       → Continues (newest p) n
       → ((image batches : List ℕ) → newest p ≡ Image image batches
       → (first : WholeNode) × IsStored image batches first)
-      → Becomes s t i (place_after (TakeBatch r old new before needed) m p) [] → Stepped shape s t nothing_told
+      → Becomes s t i (place_after (TakeBatch r old new before needed) m p) [] → Stepped shape s t quietly
   batch-stepped n m old new before needed (Ok mark) (Some bytes) held (gave, wrote) log
       found becomes =
       let front : take needed new ≡ record_of bytes =
@@ -133,7 +133,7 @@ module _ {shape : Shaped} (within : IsShape shape) {s : System} (t : System) {i 
   keep-stepped : {n m : LoneNode} (mark : ℕ) (counts : Option (Vec Counts)) (same : Bool)
       → n.counts ≡ counts → (mark == n.mark) ≡ same → p.handle ≡ Some n
       → m ≡ after_kept counts same n → KeepsLog n m → (mark ≡ n.mark → p.taken ≡ [])
-      → Becomes s t i (record p { handle = Some m }) [] → Stepped shape s t nothing_told
+      → Becomes s t i (record p { handle = Some m }) [] → Stepped shape s t quietly
   keep-stepped mark None same has is held now logs first becomes =
       same-stepped held now becomes
   keep-stepped mark (Some counts) false has is held now logs first becomes =
@@ -164,7 +164,7 @@ module _ {shape : Shaped} (within : IsShape shape) {s : System} (t : System) {i 
   logging-counts n false = refl
 
   log-stepped : {n m : LoneNode} (on : Bool) → p.handle ≡ Some n → m ≡ logging on n
-      → Becomes s t i (record p { handle = Some m }) [] → Stepped shape s t nothing_told
+      → Becomes s t i (record p { handle = Some m }) [] → Stepped shape s t quietly
   log-stepped {n} {m} on held now becomes =
       advances-stepped within t inside sound held
       (advances-same (ap (λ (x : LoneNode). x.node) now ∙ logging-node n on)
@@ -174,7 +174,7 @@ module _ {shape : Shaped} (within : IsShape shape) {s : System} (t : System) {i 
 
   -- only the list of what is gone changes
   gone-stepped : {n m : LoneNode} (gone : GoneView) → p.handle ≡ Some n → m ≡ record n { gone = gone }
-      → Becomes s t i (record p { handle = Some m }) [] → Stepped shape s t nothing_told
+      → Becomes s t i (record p { handle = Some m }) [] → Stepped shape s t quietly
   gone-stepped {n} gone held now becomes =
       advances-stepped within t inside sound held
       (advances-same (ap (λ (x : LoneNode). x.node) now) (ap (λ (x : LoneNode). x.counts) now)
@@ -188,7 +188,7 @@ module _ {shape : Shaped} (within : IsShape shape) {s : System} (t : System) {i 
       → ((w : World) → IsWorld shape s.frames w
       → IsCarried (node_at w.saved i) (node_at w.current i) n.node.core → (f : Plain)
       → Among f given → IsInNet w f)
-      → Becomes s t i (record p { handle = Some m }) given → Stepped shape s t nothing_told
+      → Becomes s t i (record p { handle = Some m }) given → Stepped shape s t quietly
   gives-stepped held same out becomes =
       advances-stepped within t inside sound held (advances-not same) becomes out
 
@@ -197,7 +197,7 @@ module _ {shape : Shaped} (within : IsShape shape) {s : System} (t : System) {i 
       → IsStoredFirst s (On i d) → Continues (newest p) n
       → ((image batches : List ℕ) → newest p ≡ Image image batches
       → (first : WholeNode) × IsStored image batches first)
-      → Stepped shape s t (told_in (On i d))
+      → Stepped shape s t (said_by (On i d))
   deed-stepped {n} m (Act e r) held meets becomes space first log found =
       advances-stepped within t inside sound held
       (acts-advances within inside (is_congested n e) e r meets.0 meets.1) becomes
@@ -256,7 +256,7 @@ module _ {shape : Shaped} (within : IsShape shape) {s : System} (t : System) {i 
   made-stepped : {n : LoneNode} (limit : ℕ) → n ≡ lone (new_whole shape i) limit
       → p.stored ≡ Nothing → p.handle ≡ None
       → Becomes s t i (record { handle = Some n; stored = p.stored; taken = [] }) []
-      → Stepped shape s t nothing_told
+      → Stepped shape s t quietly
   made-stepped {n} limit is nothing empty becomes =
       let same : n.node ≡ new_whole shape i = ap (λ (x : LoneNode). x.node) is in
       opened-stepped within t inside sound empty
@@ -273,7 +273,7 @@ module _ {shape : Shaped} (within : IsShape shape) {s : System} (t : System) {i 
   read-stepped : {n : LoneNode} (bytes : List ℕ) (limit : ℕ) → Read bytes limit (Ok n)
       → p.stored ≡ Image bytes [] → p.handle ≡ None
       → Becomes s t i (record { handle = Some n; stored = p.stored; taken = [] }) []
-      → Stepped shape s t nothing_told
+      → Stepped shape s t quietly
   read-stepped {n} bytes limit (image, is) stored empty becomes =
       let same : n.node ≡ alone n.node.core = ap (λ (x : LoneNode). x.node) is in
       opened-stepped within t inside sound empty
@@ -289,7 +289,7 @@ module _ {shape : Shaped} (within : IsShape shape) {s : System} (t : System) {i 
   reopened-stepped : {n : LoneNode} (image batches : List ℕ) (limit : ℕ)
       → Reopened image batches limit (Ok n) → p.stored ≡ Image image batches → p.handle ≡ None
       → Becomes s t i (record { handle = Some n; stored = p.stored; taken = [] }) []
-      → Stepped shape s t nothing_told
+      → Stepped shape s t quietly
   reopened-stepped {n} image batches limit (of, is, logs) stored empty becomes =
       opened-stepped within t inside sound empty
       (λ x found. found-carried (subst (λ (e : Stored). Finds shape i e x) stored found) of)
@@ -301,7 +301,7 @@ module _ {shape : Shaped} (within : IsShape shape) {s : System} (t : System) {i 
       → IsMadeOnce shape s (Open i how limit (Ok n)) → GoesOn s (Open i how limit (Ok n))
       → p.handle ≡ None
       → Becomes s t i (record { handle = Some n; stored = p.stored; taken = [] }) []
-      → Stepped shape s t nothing_told
+      → Stepped shape s t quietly
   open-stepped {n} (New sizes own) limit made once on empty becomes =
       let is = subst (λ (k : ℕ). Made (Some shape) k limit (Ok n)) once.1
       (subst (λ (z : Option Shaped). Made z own limit (Ok n)) once.0 made) in
@@ -327,7 +327,7 @@ module _ {shape : Shaped} (within : IsShape shape) {s : System} (t : System) (so
       (node.node, node.stored)
 
   pub does-stepped : (c : Call) → place_of c < shape.nodes → Does c s t → Owes shape s c
-      → Stepped shape s t (told_in c)
+      → Stepped shape s t (said_by c)
   does-stepped (Open i how limit (Ok n)) inside does owes =
       open-stepped within t inside sound how limit does.0 owes.made_once owes.goes_on
       owes.one_holder does.1
@@ -341,7 +341,7 @@ module _ {shape : Shaped} (within : IsShape shape) {s : System} (t : System) (so
 
 -- ---- all calls
 
-shown-on : {shape : Shaped} {s t : System} → AllShown shape s
+pub shown-on : {shape : Shaped} {s t : System} → AllShown shape s
     → ((c : Choice) → MayFind t c → Leads shape s t c) → AllShown shape t
 shown-on shown leads c may =
     let l = leads c may in

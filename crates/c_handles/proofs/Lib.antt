@@ -21,12 +21,14 @@ pub mod Leaving
 pub mod Moves
 pub mod Handles
 pub mod Scans
-pub mod Systems
 pub mod Trails
+pub mod Says
+pub mod Systems
 pub mod Advances
 pub mod Saving
 pub mod Calls
 pub mod Deeds
+pub mod Fairness
 pub mod Theorems
 pub mod Entered
 pub mod Went

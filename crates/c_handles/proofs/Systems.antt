@@ -1,6 +1,6 @@
 -- Programs that hold the nodes of a space, one call at a time: the world that the handles show goes
 -- on, for each choice of what is stored.
-use Rattle.std.proofs.Common.{◌≡◌, ◌≢◌, ℕ, Bool, ◌<◌, ◌==◌, cond, List, [], ◌∷◌, ◌++◌, length, inl, inr, ⊎_elim, refl, sym, ap, ◌∙◌, subst}
+use Rattle.std.proofs.Common.{◌≡◌, ◌≢◌, ℕ, ◌<◌, ◌==◌, cond, List, [], ◌∷◌, ◌++◌, length, inl, inr, ⊎_elim, refl, sym, ap, ◌∙◌, subst}
 use Rattle.std.proofs.lemmas.Bool.{cases_eq, cond-false, cond-true, eq-eqb, ne_eqb}
 use Rattle.ids.specs.Limits.{Shaped, IsShape}
 use Rattle.msg.specs.Frames.{Plain}
@@ -14,9 +14,8 @@ use Rattle.laws.proofs.KeepsSent.{new-keeps-sent, node-count}
 use Rattle.laws.proofs.Lookups.{among-append}
 use Rattle.laws.proofs.Net.{HeardMore, net-grows, run-heard}
 use Rattle.laws.proofs.Onward.{Behind}
-use Rattle.laws.specs.Sights.{observed_in_cut}
-use Rattle.c_handles.specs.Laws.{Telling, nothing_told, tolds}
 use Rattle.c_handles.specs.Programs.{Becomes, Choice, IsPlaceOf, IsShown, MayFind, Place, Stored, System, choices_of, last_of}
+use Rattle.c_handles.proofs.Says.{Says, quietly}
 
 -- ---- a world that a run reaches, with frames in the net
 
@@ -60,9 +59,9 @@ world-of h = record { steps = h.steps; reached = h.reached; net = h.frames }
 
 -- the world goes on by steps that change nothing at other nodes
 pub record Next (shape : Shaped) (w : World) (i : ℕ) (found : Stored) (p : Place)
-    (given : List Plain) (told : Telling) : Type 0 where
+    (given : List Plain) (so : Says) : Type 0 where
   pub later : List Step
-  pub tells : (saved : ℕ → Bool) → tolds (observed_in_cut w later saved) ≡ told saved
+  pub says : so w later
   pub others : (k : ℕ) → k ≢ i
       → (node_at (run w later).saved k ≡ node_at w.saved k)
       × (node_at (run w later).current k ≡ node_at w.current k)
@@ -72,8 +71,8 @@ pub record Next (shape : Shaped) (w : World) (i : ℕ) (found : Stored) (p : Pla
 
 module _ {shape : Shaped} (within : IsShape shape) {s t : System} {i : ℕ} {p : Place}
     {given : List Plain} (becomes : Becomes s t i p given) where
-  shown-next : {b c : Choice} {w : World} {told : Telling} → IsShown shape s b w
-      → ((k : ℕ) → k ≢ i → b k ≡ c k) → (n : Next shape w i (c i) p given told)
+  shown-next : {b c : Choice} {w : World} {so : Says} → IsShown shape s b w
+      → ((k : ℕ) → k ≢ i → b k ≡ c k) → (n : Next shape w i (c i) p given so)
       → IsShown shape t c (run w n.later)
   shown-next {b} {c} {w} h same n =
       let v : World = run w n.later in
@@ -110,12 +109,12 @@ module _ {shape : Shaped} (within : IsShape shape) {s t : System} {i : ℕ} {p :
 -- For what may be stored of the node afterwards, something may be stored of it before, with which
 -- the world goes on.
 pub record Follows (shape : Shaped) (s : System) (i : ℕ) (p : Place) (given : List Plain)
-    (told : Telling) (e : Stored) : Type 0 where
+    (so : Says) (e : Stored) : Type 0 where
   pub before : Stored
   pub may : Among before (choices_of (s.places i))
   pub next : (w : World) → IsWorld shape s.frames w
       → IsPlaceOf shape i before (s.places i) (node_at w.saved i) (node_at w.current i)
-      → Next shape w i e p given told
+      → Next shape w i e p given so
 
 -- For whatever may be stored after calls, something may be stored before them, with which the world
 -- that the handles showed then goes on to one that they show now.
@@ -125,16 +124,16 @@ pub record Leads (shape : Shaped) (s t : System) (c : Choice) : Type 0 where
   pub goes_on : (w : World) → IsShown shape s before w
       → (later : List Step) × IsShown shape t c (run w later)
 
--- the same of one call, in whose steps programs are told this
-pub record Tells (shape : Shaped) (s t : System) (told : Telling) (c : Choice) : Type 0 where
+-- the same of one call, of whose steps this is said
+pub record Tells (shape : Shaped) (s t : System) (so : Says) (c : Choice) : Type 0 where
   pub before : Choice
   pub may : MayFind s before
   pub goes_on : (w : World) → IsShown shape s before w
       → (later : List Step) × IsShown shape t c (run w later)
-      × ((saved : ℕ → Bool) → tolds (observed_in_cut w later saved) ≡ told saved)
+      × so w later
 
-pub leads-by : {shape : Shaped} {s t : System} {told : Telling} {c : Choice}
-    → Tells shape s t told c → Leads shape s t c
+pub leads-by : {shape : Shaped} {s t : System} {so : Says} {c : Choice}
+    → Tells shape s t so c → Leads shape s t c
 leads-by l = record {
   before = l.before;
   may = l.may;
@@ -152,9 +151,9 @@ instead-other : (i : ℕ) (c : Choice) (e : Stored) (k : ℕ) → k ≢ i → in
 instead-other i c e k other = cond-false (k == i) e (c k) (ne_eqb k i other)
 
 pub tells-at : {shape : Shaped} → IsShape shape → {s t : System} {i : ℕ} {p : Place}
-    {given : List Plain} {told : Telling} → Becomes s t i p given → i < shape.nodes
-    → ((e : Stored) → Among e (choices_of p) → Follows shape s i p given told e)
-    → (c : Choice) → MayFind t c → Tells shape s t told c
+    {given : List Plain} {so : Says} → Becomes s t i p given → i < shape.nodes
+    → ((e : Stored) → Among e (choices_of p) → Follows shape s i p given so e)
+    → (c : Choice) → MayFind t c → Tells shape s t so c
 tells-at {shape} within {s} {t} {i} {p} {given} becomes inside follows c may =
     let f = follows (c i)
     (subst (λ (q : Place). Among (c i) (choices_of q)) becomes.here (may i)) in
@@ -176,7 +175,7 @@ tells-at {shape} within {s} {t} {i} {p} {given} becomes inside follows c may =
           let n = f.next w (world-of h)
           (subst (λ (e : Stored). IsPlaceOf shape i e (s.places i) (node_at w.saved i)
           (node_at w.current i)) (instead-here i c f.before) (h.each i inside)) in
-          (n.later, shown-next within becomes h (instead-other i c f.before) n, n.tells);
+          (n.later, shown-next within becomes h (instead-other i c f.before) n, n.says);
     }
 
 -- nothing happened
@@ -188,11 +187,11 @@ leads-nowhere s c may = record {
 }
 
 pub tells-not : {shape : Shaped} (s : System) (c : Choice) → MayFind s c
-    → Tells shape s s nothing_told c
+    → Tells shape s s quietly c
 tells-not s c may = record {
   before = c;
   may = may;
-  goes_on = λ w h. ([], h, λ saved. refl);
+  goes_on = λ w h. ([], h, (λ saved. refl, tt));
 }
 
 -- one call after another

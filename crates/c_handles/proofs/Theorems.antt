@@ -39,6 +39,7 @@ use Rattle.c_handles.specs.Lone.{Gave, Given, Handled, is_congested, listed}
 use Rattle.c_handles.specs.Programs.{Choice, Holds, System}
 use Rattle.c_handles.specs.declared.lone.LoneNode.{LoneNode}
 use Rattle.c_handles.proofs.Deeds.{came, does-stepped, goes-came}
+use Rattle.c_handles.proofs.Says.{said-tells}
 use Rattle.c_handles.proofs.Systems.{world-count, world-of}
 
 pub programs-are-shown : ProgramsAreShown
@@ -55,8 +56,11 @@ pub calls-go-on : CallsGoOn
 calls-go-on shape s t c reachable inside does owes choice may =
     let here = came reachable.limits reachable.calls s reachable.goes in
     let l = (does-stepped reachable.limits t here.sound here.shown c inside does owes).leads choice
-    may in
-    (l.before, l.may, l.goes_on)
+    may in (
+      l.before,
+      l.may,
+      λ w h. let end = l.goes_on w h in (end.0, end.1, said-tells c w end.0 end.2),
+    )
 
 pub of-every-shown : (P : World → Type 0) → OfEveryRun P → OfEveryShown P
 of-every-shown P law shape s choice w limits shown =

@@ -15,6 +15,7 @@ pub mod Watches
 pub mod Work
 pub mod Programs
 pub mod Laws
+pub mod Fairness
 pub mod Collecting
 pub mod Lists
 pub mod Garbage

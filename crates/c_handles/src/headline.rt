@@ -1,8 +1,10 @@
 //! The theorems about programs that hold the nodes of a space by handles, as the contract of one
 //! function that does nothing.
+ghost use Rattle.laws.specs.Fairness.{RoundsEndCycle, RoundsEndMarking, RoundsFreeGarbage, RoundsLetBegin};
 ghost use Rattle.laws.specs.Privacy.{PrivateIsUnknown};
 ghost use Rattle.laws.specs.Progress.{CycleCanEnd, EndIsFoundSoon, GarbageCanGo, MarkingCanEnd};
 ghost use Rattle.laws.specs.Statements.{AcknowledgedIsTakenIn, BalancesAddUp, CutsExtend, GarbageGoes, NetGrows, NodesAgree, NoneBeyond, OldGarbageGoes, ReachIsLive, ReachResolves, TargetsAreLive};
+ghost use Rattle.c_handles.specs.Fairness.{CallsEndCycle, CallsEndMarking, CallsFreeGarbage};
 ghost use Rattle.c_handles.specs.Lists.{ListsAreExact};
 ghost use Rattle.c_handles.specs.Laws.{
   CallsGoOn,
@@ -38,7 +40,8 @@ ghost use Rattle.c_handles.specs.Laws.{
 /// its handle.
 ///
 /// No clause says that anyone carries frames or stores images, nor that a node takes every
-/// acknowledgement.
+/// acknowledgement. But if callers go on in rounds, so that every node works and messages come in,
+/// the cycle ends and garbage goes (`calls_end_marking` and what follows).
 ///
 /// The function does nothing; its contract states the theorems.
 pub fn laws()
@@ -92,4 +95,17 @@ pub fn laws()
     ensures cycle { OfShownSpaces CycleCanEnd }
     ensures garbage { OfShownSpaces GarbageCanGo }
     ensures soon { OfShownSpaces EndIsFoundSoon }
+    // The same in any order of the collector's steps, if these come in fair rounds.
+    ensures rounds_end_marking { OfShownSpaces RoundsEndMarking }
+    ensures rounds_end_cycle { OfShownSpaces RoundsEndCycle }
+    ensures rounds_let_begin { OfShownSpaces RoundsLetBegin }
+    ensures rounds_free_garbage { OfShownSpaces RoundsFreeGarbage }
+    // Callers come to that who do nothing but work, save and carry frames, in whatever order. After
+    // enough rounds of calls, in each of which every node works and messages come in on every link,
+    // node 0 counts the cycle's marking as ended.
+    ensures calls_end_marking { CallsEndMarking }
+    // After more rounds each node has swept the cycle.
+    ensures calls_end_cycle { CallsEndCycle }
+    // Node 0 begins another cycle, and after enough rounds again garbage is in no handle.
+    ensures calls_free_garbage { CallsFreeGarbage }
 {}

@@ -5,7 +5,7 @@ mod HeapWork
 mod Hearing
 pub mod Choices
 mod Heard
-mod Spaces
+pub mod Spaces
 mod Falls
 mod Stages
 mod Ends
@@ -15,3 +15,10 @@ pub mod LocalWork
 pub mod Theorems
 mod TokenMoves
 mod Soon
+mod Turning
+mod Widths
+mod Idling
+mod Listed
+mod Resting
+mod Marching
+pub mod Rounded

@@ -5,6 +5,7 @@ pub mod Sights
 pub mod Strategy
 pub mod Bounds
 pub mod Progress
+pub mod Fairness
 pub mod Copies
 pub mod Freeing
 pub mod Carried

@@ -1,6 +1,6 @@
 -- From any space that a run reaches, marking ends.
-use Rattle.std.proofs.Common.{◌≡◌, ◌≢◌, ℕ, ◌+◌, ◌-◌, ◌<◌, ◌≤◌, ◌⊎◌, true, false, List, refl, ◌∙◌, ⊎_elim, inl, inr, arith, ◌*◌, length, mul-le-mul_right, mul-le-mul_left, map}
-use Rattle.std.proofs.lemmas.Bool.{cases_Bool, cases_eq, cases_lt, both_ways, not-true}
+use Rattle.std.proofs.Common.{◌≡◌, ◌≢◌, ℕ, ◌+◌, ◌-◌, ◌<◌, ◌≤◌, ◌⊎◌, true, false, List, refl, sym, ap, ◌∙◌, subst, ⊎_elim, inl, inr, arith, ◌*◌, length, mul-le-mul_right, mul-le-mul_left, map}
+use Rattle.std.proofs.lemmas.Bool.{cases_Bool, cases_eq, cases_lt, both_ways, not-true, not-false}
 use Rattle.ids.specs.Limits.{Shaped}
 use Rattle.msg.specs.declared.body.Message.{Message}
 use Rattle.model.specs.State.{LocalState, NodeState}
@@ -18,12 +18,12 @@ use Rattle.laws.proofs.progress.Choices.{Chosen, brings, scans, passes, sweeps, 
 use Rattle.laws.proofs.progress.Spaces.{Reached, reached-whole, Link, message_of, Moved, do-moved, effect_there, would-take, link-brought, link-took}
 use Rattle.laws.proofs.progress.Costs.{is_token, token-there}
 use Rattle.laws.proofs.progress.Stages.{Budget, budget-less, budget-new}
-use Rattle.laws.proofs.progress.TokenMoves.{Idles, TokenMove, moves_on, ends, token-comes, token-passes}
+use Rattle.laws.proofs.progress.TokenMoves.{Idles, TokenMove, moves_on, ends, token-effect, token-comes, passed-few, token-passes}
 use Rattle.laws.proofs.Live.{several}
 use Rattle.laws.proofs.progress.Falls.{Falls, took-falls, scan-falls}
 use Rattle.model.specs.Effects.{Effect}
-use Rattle.model.specs.Collecting.{scanned}
-use Rattle.model.specs.Steps.{append_all}
+use Rattle.model.specs.Collecting.{scanned, passed}
+use Rattle.model.specs.Steps.{append_all, fits}
 use Rattle.model.proofs.Leaving.{own-stands}
 use Rattle.laws.proofs.Base.{own-heard}
 use Rattle.laws.proofs.Acting.{becomes-put}
@@ -63,10 +63,11 @@ Hunted h w budget = Over h w ⊎ Going h w budget
 pub record Rules (h : Hunt) : Type 0 where
   pub more : (k l : ℕ) (w : World) → k ≤ l → h.Keeps k w → h.Keeps l w
   pub idle : (w : World) (i : ℕ) (q : LocalState) (ms : List (ℕ × Message)) → Known h 0 w
-      → Idles h.shape w i q ms
+      → Idles h.shape.nodes (now w) (now (run w (next_steps h.shape.nodes w))) i q ms
       → h.Keeps (load_sent weight ms) (run w (next_steps h.shape.nodes w))
   pub less : (w : World) (i : ℕ) (q : LocalState) (ms : List (ℕ × Message))
-      → Idles h.shape w i q ms → load_sent weight ms ≡ 0
+      → Idles h.shape.nodes (now w) (now (run w (next_steps h.shape.nodes w))) i q ms
+      → load_sent weight ms ≡ 0
       → h.left (run w (next_steps h.shape.nodes w)) ≤ h.left w
   pub receives : (w : World) (budget from to : ℕ) → Going h w budget
       → (l : Link h.shape w from to)
@@ -113,36 +114,37 @@ module _ {h : Hunt} (rules : Rules h) {w : World} {budget : ℕ} (g : Going h w 
   inv = (reached-whole g.known.reached).inv
 
   idle-known : {i : ℕ} {q : LocalState} {ms : List (ℕ × Message)} (most : ℕ)
-      → Idles h.shape w i q ms → load_sent weight ms ≤ most → Known h most v
-  idle-known {i} {q} {ms} most idle load = record {
-    reached = idle.moved.reached;
+      → Reached h.shape v → Idles n c (now v) i q ms → load_sent weight ms ≤ most → Known h most v
+  idle-known {i} {q} {ms} most reached idle load = record {
+    reached = reached;
     cycle = idle.cycle 0 ∙ g.known.cycle;
     keeps = rules.more (load_sent weight ms) most v load (rules.idle w i q ms g.known idle);
   }
 
   -- the token moves, or node 0 concludes
-  token-onward : TokenMove h.shape w (h.left w) budget → Onward n (Hunted h) w budget
-  token-onward (moves_on i q ms idle few load spends) =
+  token-onward : {j : ℕ} {p : LocalState} {xs : List (ℕ × Message)} → Moved h.shape w j p xs
+      → TokenMove n c (now v) (h.left w) budget → Onward n (Hunted h) w budget
+  token-onward moved (moves_on i q ms idle few load spends) =
       record {
-        goes = idle.moved.goes;
+        goes = moved.goes;
         rest = budget - 1;
         less = omega (arith, g.spends.enough);
         then = hunt-on v (budget - 1) (rules.more 0 n v (omega arith))
-            (idle-known 0 idle (omega (arith, load)))
-            (room-after (budget + n + h.spare) (budget - 1 + n + h.spare) idle.moved.turn
+            (idle-known 0 moved.reached idle (omega (arith, load)))
+            (room-after (budget + n + h.spare) (budget - 1 + n + h.spare) idle.turn
             (omega (arith, g.spends.enough, few)) g.room)
             (λ _.
             budget-less (h.left w) (h.left v) (budget - 1) (rules.less w i q ms idle load) spends);
       }
-  token-onward (ends i q ms idle few load ended) =
+  token-onward moved (ends i q ms idle few load ended) =
       record {
-        goes = idle.moved.goes;
+        goes = moved.goes;
         rest = 0;
         less = omega (arith, g.spends.enough);
         then = inl (record {
-          known = idle-known n idle load;
+          known = idle-known n moved.reached idle load;
           ended = ended ∙ g.known.cycle;
-          room = room-after (budget + n + h.spare) h.spare idle.moved.turn (omega (arith, few))
+          room = room-after (budget + n + h.spare) h.spare idle.turn (omega (arith, few))
               g.room;
         });
       }
@@ -154,7 +156,10 @@ module _ {h : Hunt} (rules : Rules h) {w : World} {budget : ℕ} (g : Going h w 
       rules.receives w budget from to g l (inr ahead))
       (λ (here : (message_of l).stamp ≤ cycle_of c to).
       let t = token-there (message_of l).body token in
-      token-onward (token-comes l g.marking g.spends t.0 t.1 here))
+      let moved = link-brought l
+      (subst (λ (y : Effect). fits (map length (c to).sent) y.sends ≡ true)
+      (sym (token-effect c from to (message_of l) t.0 t.1 here)) refl) in
+      token-onward moved (token-comes (link-took l moved) t.0 t.1 here g.marking g.spends))
       (cases_lt (cycle_of c to) (message_of l).stamp))
       (λ other. rules.receives w budget from to g l (inl other))
       (cases_Bool (is_token (message_of l).body))
@@ -176,18 +181,29 @@ module _ {h : Hunt} (rules : Rules h) {w : World} {budget : ℕ} (g : Going h w 
           })
       by m is (scans i inside opened grey) = rules.scans_one w budget i g inside is grey
       by m is (passes i inside still opened calm has) =
-          token-onward
-          (token-passes {left = h.left w} {budget = budget} (record {
+          let nodes : (c i).local.shape.nodes ≡ n =
+          ap (λ (z : Shaped). z.nodes) (inv.base.shapes i inside) in
+          let few = passed-few (c i).local (omega (arith, nodes, inside)) in
+          let moved = do-moved w i event.Pass (record {
             reached = g.known.reached;
-            marking = g.marking;
-            spends = g.spends;
-            room = room-less c (budget + n + h.spare) n (omega arith) g.room;
-            inside = inside;
             chosen = is;
-            still = still;
-            calm = calm i inside;
+            inside = inside;
+            own = refl;
+            collectors = refl;
+            passed = (has, (not-false _ (calm i inside), tt));
+            numbered =
+                numbers-fit c i (passed (c i).local).sends
+                (room-less c (budget + n + h.spare) (length (passed (c i).local).sends)
+                (omega (arith, few, nodes)) g.room);
+          }) in
+          token-onward moved
+          (token-passes (record {
+            limits = g.known.reached.limits;
+            whole = reached-whole g.known.reached;
+            inside = inside;
             has = has;
-          }))
+            turn = moved.turn;
+          }) g.marking g.spends still)
       by m is (sweeps i inside still shut unswept) = never shut
       by m is (begins still shut all) = never shut
 

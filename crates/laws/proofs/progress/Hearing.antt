@@ -1,16 +1,17 @@
 -- After each step, what a node still has to hear is in flight.
-use Rattle.std.proofs.Common.{ltb-true, cond, ◌≡◌, ℕ, ◌<◌, ◌≤◌, ltb, set, refl, ap, ◌∙◌, ◌≢◌, ◌+◌, ◌⊎◌, Bool, true, List, [], length, map, get_or, Option, Some, slice_get, sym, subst, ⊎_elim, inl, inr, arith, le_refl, get_or-set_same, get_or-set_other}
-use Rattle.std.proofs.lemmas.Bool.{cond_both, ltb-false, cond-true, cond-false, le-ltb, cases_eq, and_parts, eqb-false, not-true}
+use Rattle.std.proofs.Common.{ltb-true, cond, ◌≡◌, ℕ, ◌<◌, ◌≤◌, ltb, set, refl, ap, ◌∙◌, ◌≢◌, ◌+◌, ◌⊎◌, Bool, true, List, [], length, map, get_or, Option, Some, Ok, slice_get, sym, subst, ⊎_elim, inl, inr, arith, le_refl, get_or-set_same, get_or-set_other}
+use Rattle.std.proofs.lemmas.Bool.{cond_both, ltb-false, cond-true, cond-false, le-ltb, cases_eq, cases_lt, lt-ltb, and_parts, eqb-false, not-true}
 use Rattle.msg.specs.declared.body.Body.{Body}
 use Rattle.model.specs.State.{Phases, LocalState, NodeState, got_from, sent_to}
 use Rattle.model.specs.Effects.{at_rest}
 use Rattle.model.specs.Counting.{append}
 use Rattle.model.specs.Shading.{see_to, join, joined}
-use Rattle.model.specs.Steps.{count_in, take_carried, take_body, settled, taken_in, is_addressed, tests}
+use Rattle.model.specs.Steps.{count_in, take_carried, take_body, settled, taken_in, receive, is_addressed, tests}
 use Rattle.model.proofs.Joining.{join-phases}
 use Rattle.std.proofs.Math.Path.{fun_ext}
 use Rattle.ids.specs.Limits.{Shaped, IsShape}
 use Rattle.msg.specs.declared.body.Message.{Message}
+use Rattle.model.specs.declared.event.Answer.{Answer}
 use Rattle.model.specs.declared.step.Step.{Step}
 use Rattle.model.specs.Checks.{AllPass}
 use Rattle.model.specs.World.{new_world, run}
@@ -37,8 +38,9 @@ heard_phases from stamp b ph = ph
 heard-same : (from stamp : ℕ) (b : Body) (ph : Phases)
     → ((heard_phases from stamp b ph).cycle ≡ ph.cycle)
     × ((heard_phases from stamp b ph).swept ≡ ph.swept)
-heard-same from stamp body.Ended ph = (refl, refl)
-heard-same from stamp b ph = (refl, refl)
+    × ((heard_phases from stamp b ph).cursor ≡ ph.cursor)
+heard-same from stamp body.Ended ph = (refl, refl, refl)
+heard-same from stamp b ph = (refl, refl, refl)
 
 body-phases : (from stamp : ℕ) (b : Body) (p : LocalState)
     → (take_body from stamp b p).local.phases ≡ heard_phases from stamp b p.phases
@@ -121,6 +123,34 @@ module _ {shape : Shaped} {c d : Cut} {from to : ℕ} {x : Message} (h : Took sh
 
     came-least : (x.stamp ≤ came.cycle) × (taker.phases.ended ≤ came.cycle)
     came-least = joined-least x.stamp taker.phases (h.inv.phased.ended to)
+
+    -- the receiver joins the message's cycle, or is in its own as before
+    pub took-joins : ((cycle_of c to < x.stamp) × (after_it.phases.cycle ≡ x.stamp))
+        ⊎ ((x.stamp ≤ cycle_of c to) × (after_it.phases.cycle ≡ cycle_of c to)
+        × (after_it.phases.cursor ≡ (phases_of c to).cursor))
+    took-joins =
+        let same = heard-same from x.stamp x.body came in
+        let cycle : after_it.phases.cycle ≡ came.cycle =
+        ap (λ (z : Phases). z.cycle) came-is ∙ same.0 in
+        ⊎_elim {C = ((cycle_of c to < x.stamp) × (after_it.phases.cycle ≡ x.stamp))
+        ⊎ ((x.stamp ≤ cycle_of c to) × (after_it.phases.cycle ≡ cycle_of c to)
+        × (after_it.phases.cursor ≡ (phases_of c to).cursor))}
+        (λ (ahead : cycle_of c to < x.stamp).
+        inl (
+          ahead,
+          cycle
+              ∙ ap (λ (z : Phases). z.cycle)
+              (cond-true (ltb taker.phases.cycle x.stamp) _ taker.phases (lt-ltb _ _ ahead)),
+        ))
+        (λ (here : x.stamp ≤ cycle_of c to).
+        let stays : came ≡ taker.phases =
+        cond-false (ltb taker.phases.cycle x.stamp) _ taker.phases (le-ltb _ _ here) in
+        inr (
+          here,
+          cycle ∙ ap (λ (z : Phases). z.cycle) stays,
+          ap (λ (z : Phases). z.cursor) came-is ∙ same.2 ∙ ap (λ (z : Phases). z.cursor) stays,
+        ))
+        (cases_lt (cycle_of c to) x.stamp)
 
     -- node 0 joins no cycle
     pub took-cycle : cycle_of d 0 ≡ cycle_of c 0
@@ -321,6 +351,36 @@ module _ {shape : Shaped} {c d : Cut} {from to : ℕ} {x : Message} (h : Took sh
 
 -- ---- runs
 
+-- The first message in flight on a link was given to its receiver: nothing changed, or it was
+-- received.
+pub plain-took : {shape : Shaped} {c d : Cut} {from to : ℕ} {x : Message} {s : NodeState}
+    {a : Answer} → Inv shape c → IsInFlight c from to (taken c from to) x
+    → receive (c to) from to (taken c from to + 1) x.stamp x.body ≡ Ok (s, a) → Becomes c d to s
+    → (d ≡ c) ⊎ Took shape c d from to x
+plain-took {shape} {c} {d} {from} {to} {x} {s} {a} inv flight answered becomes =
+    by (receipt-cases (c to) (first_in_flight c from to x) s a answered)
+  where
+    by : Receipt (c to) (first_in_flight c from to x) s a → (d ≡ c) ⊎ Took shape c d from to x
+    by (repeated same says) =
+        inl (fun_ext (at_becomes (λ j z. z ≡ c j) becomes same (λ j _. refl)))
+    by (next turn may found) =
+        let inside : to < shape.nodes =
+        inside-where to (λ z. is_addressed z.local from to ≡ true) inv.base found.passed.0
+        (no-node-takes_nothing from to) in
+        inr (record {
+          inv = inv;
+          inside = inside;
+          apart = λ e. eqb-false from (c to).local.own
+              (not-true _ (and_parts _ _ (and_parts _ _ found.passed.0).1).1)
+              (e ∙ sym (inv.base.own to inside));
+          flight = flight;
+          turn = record {
+            becomes = subst (λ (z : NodeState). Becomes c d to z) found.state becomes;
+            heard = taken-heard (c to).local from (taken c from to + 1)
+                (taken-stands (c to).local from (taken c from to + 1) x.stamp x.body) (omega arith);
+          };
+        })
+
 heard-plain : {shape : Shaped} {c d : Cut} → 2 ≤ shape.nodes → Inv shape c → PlainStep c d
     → Heard shape.nodes c → Heard shape.nodes d
 heard-plain {shape = shape} {c = c} {d = d} several inv (acts i e s a own answered becomes) heard =
@@ -338,32 +398,9 @@ heard-plain {shape = shape} {c = c} {d = d} several inv (acts i e s a own answer
       };
     } in
     own-heard-on e owns heard
-heard-plain {shape = shape} {c = c} {d = d} several inv
-    (delivers from to x s a flight answered becomes) heard =
-    by (receipt-cases (c to) (first_in_flight c from to x) s a answered)
-  where
-    by : Receipt (c to) (first_in_flight c from to x) s a → Heard shape.nodes d
-    by (repeated same says) =
-        subst (λ (z : Cut). Heard shape.nodes z)
-        (sym (fun_ext (at_becomes (λ j z. z ≡ c j) becomes same (λ j _. refl)))) heard
-    by (next turn may found) =
-        let inside : to < shape.nodes =
-        inside-where to (λ z. is_addressed z.local from to ≡ true) inv.base found.passed.0
-        (no-node-takes_nothing from to) in
-        let took : Took shape c d from to x = record {
-          inv = inv;
-          inside = inside;
-          apart = λ e. eqb-false from (c to).local.own
-              (not-true _ (and_parts _ _ (and_parts _ _ found.passed.0).1).1)
-              (e ∙ sym (inv.base.own to inside));
-          flight = flight;
-          turn = record {
-            becomes = subst (λ (z : NodeState). Becomes c d to z) found.state becomes;
-            heard = taken-heard (c to).local from (taken c from to + 1)
-                (taken-stands (c to).local from (taken c from to + 1) x.stamp x.body) (omega arith);
-          };
-        } in
-        taken-heard-on took heard
+heard-plain {shape = shape} several inv (delivers from to x s a flight answered becomes) heard =
+    ⊎_elim (λ same. subst (λ (z : Cut). Heard shape.nodes z) (sym same) heard)
+    (λ took. taken-heard-on took heard) (plain-took inv flight answered becomes)
 
 heard-run : {shape : Shaped} {c d : Cut} → IsShape shape → PlainRun c d → Whole shape c
     → Heard shape.nodes c → Heard shape.nodes d

@@ -549,7 +549,7 @@ soon-rules : (shape : Shaped) (cycle : ℕ) → Rules (soon shape cycle)
 soon-rules shape cycle = record {
   more = λ k l w le calm. calm;
   idle = λ w i q ms k idle.
-      calm-after idle.moved.turn idle.cycle idle.grey (idle.uncounted cycle) k.keeps;
+      calm-after idle.turn idle.cycle idle.grey (idle.uncounted cycle) k.keeps;
   less = λ w i q ms idle load. omega (arith, idle.flown, load);
   receives = λ w budget from to g h either. ⊎_elim
       {C = Onward shape.nodes (Hunted (soon shape cycle)) w budget}

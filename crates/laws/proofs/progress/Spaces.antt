@@ -49,7 +49,7 @@ done s ts x passed fit =
     (guarded-pass (all_tests ts (map length s.sent) x) x
     (passed-both ts ((fits (map length s.sent) x.sends, LinkSpent) ∷ []) passed (fit, tt)))
 
-acts-so : (s : NodeState) (e : Event) → AllPass (tests s.local e)
+pub acts-so : (s : NodeState) (e : Event) → AllPass (tests s.local e)
     → fits (map length s.sent) (made s.local (map length s.sent) e).sends ≡ true
     → act s e
     ≡ Ok (
@@ -159,7 +159,7 @@ moved-by {shape} {w} {v} {m} {i} {q} {ms} r is goes turn =
 
 -- ---- a node's own event
 
-act-step : (w : World) (i : ℕ) (e : Event) (t : NodeState) (a : Answer) → i < length w.current
+pub act-step : (w : World) (i : ℕ) (e : Event) (t : NodeState) (a : Answer) → i < length w.current
     → is_own e ≡ true → act (node_at w.current i) e ≡ Ok (t, a)
     → take_step w (step.Act i e)
     ≡ Ok (record w { current = set w.current i t }, outcome.Answer a)
@@ -204,7 +204,7 @@ pub save-step : (w : World) (i : ℕ) → i < length w.current
 unfolding take_step
 save-step w i inside = cond-true (is_node w i) _ _ (lt-ltb i (length w.current) inside)
 
-deliver-step : {x : Message} {t : NodeState} {a : Answer} (w : World) (from to number : ℕ)
+pub deliver-step : {x : Message} {t : NodeState} {a : Answer} (w : World) (from to number : ℕ)
     → from < length w.current → to < length w.current → released w from to number ≡ Some x
     → receive (node_at w.current to) from to number x.stamp x.body ≡ Ok (t, a)
     → take_step w (step.Deliver from to number)

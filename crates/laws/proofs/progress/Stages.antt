@@ -303,3 +303,15 @@ budget-less left less budget le b = record {
   near = b.near;
   enough = omega (arith, b.enough, le);
 }
+
+pub budget-more : {n : ℕ} {c : Cut} {left : ℕ} (less more : ℕ) → less ≤ more → Budget n c left less
+    → Budget n c left more
+budget-more less more le b = record {
+  token = b.token;
+  spot = b.spot;
+  there = b.there;
+  stage = b.stage;
+  is = b.is;
+  near = b.near;
+  enough = omega (arith, b.enough, le);
+}

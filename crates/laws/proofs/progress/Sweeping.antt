@@ -4,6 +4,7 @@ use Rattle.std.specs.List.{list_all}
 use Rattle.std.proofs.lemmas.List.Sums.{list_all-from_AllPass}
 use Rattle.std.proofs.lemmas.List.Elements.{All-from_get_or}
 use Rattle.std.proofs.lemmas.Bool.{cases_lt, cond_both, cond-true, cond-false, and_from, both_ways, not-true, not-false, eqb-false}
+use Rattle.ids.specs.Limits.{Shaped}
 use Rattle.msg.specs.declared.body.Body.{Body}
 use Rattle.msg.specs.declared.body.Body.TheVariants as body
 use Rattle.msg.specs.declared.body.Message.{Message}
@@ -19,13 +20,14 @@ use Rattle.laws.proofs.Turns.{at_turn}
 use Rattle.laws.proofs.Flights.{load_sent}
 use Rattle.laws.proofs.Inner.{resting-joined}
 use Rattle.laws.proofs.Invariant.{phases_of, cycle_of, Resting, on_way, is_sent, Inv}
-use Rattle.laws.proofs.Live.{Whole}
+use Rattle.laws.proofs.Live.{Whole, several}
 use Rattle.laws.specs.Strategy.{Move, Do, now, is_unswept, next_move, next_steps}
 use Rattle.laws.specs.Bounds.{sum_to, weight, work_left, whole_work, HasRoom}
 use Rattle.laws.specs.Progress.{IsSwept}
 use Rattle.laws.proofs.progress.Flights.{sum-same, sum-le, sum-at, sum-const, room-after, room-less, numbers-fit}
 use Rattle.laws.proofs.progress.Paths.{Onward, Searches, Reaches, searched}
 use Rattle.laws.proofs.progress.Choices.{Still, still-none, Chosen, brings, scans, passes, sweeps, begins, chosen}
+use Rattle.laws.proofs.progress.Heard.{Heard}
 use Rattle.laws.proofs.progress.Hearing.{new-swept, first-ended}
 use Rattle.laws.proofs.progress.Spaces.{Reached, reached-whole, reached-heard, do-moved, Moved, Link, first-of, message_of, effect_there, would-take, link-brought, link-took}
 use Rattle.laws.proofs.progress.Costs.{is_token, sweep-frees}
@@ -79,6 +81,61 @@ reported-by (x ∷ xs) cycle all =
     (all (suc i) (omega arith)
     (let k : suc i < length (x ∷ xs) = omega (arith, below) in k))))
 
+-- once marking has ended, no token is in flight
+pub resting-plain : {shape : Shaped} {c : Cut} {from to place stamp : ℕ} (b : Body) → Inv shape c
+    → Resting (phases_of c 0) → IsInFlight c from to place (record { stamp = stamp; body = b })
+    → is_token b ≡ false
+resting-plain {from = from} {to = to} {place = place} {stamp = stamp} (body.Token t) inv resting
+    flight =
+    absurd (inv.tokens.rest t (on_way from to place) resting (is_sent from to place stamp flight))
+resting-plain b inv resting flight = refl
+
+-- Marking has ended, and nothing is in flight.
+pub record Stilled (shape : Shaped) (cycle : ℕ) (c : Cut) : Type 0 where
+  pub inv : Inv shape c
+  pub heard : Heard shape.nodes c
+  pub current : cycle_of c 0 ≡ cycle
+  pub ended : (phases_of c 0).ended ≡ cycle
+  pub still : Still shape.nodes c
+
+-- so each node was told
+pub told : {shape : Shaped} {cycle : ℕ} {c : Cut} → Stilled shape cycle c → (i : ℕ)
+    → i < shape.nodes → (phases_of c i).ended ≡ cycle
+told {cycle = cycle} {c = c} h i inside = ⊎_elim {C = (phases_of c i).ended ≡ cycle}
+    (λ (less : (phases_of c i).ended < (phases_of c 0).ended).
+    absurd
+    (let at = h.heard.ended i inside less in
+    still-none 0 i at.place _ h.inv.base h.still at.flight))
+    (λ (more : (phases_of c 0).ended ≤ (phases_of c i).ended).
+    (omega (arith, more, h.inv.phased.first i, h.ended)))
+    (cases_lt (phases_of c i).ended (phases_of c 0).ended)
+
+-- and node 0 too, once each has swept
+pub swept-all : {shape : Shaped} {cycle : ℕ} {c : Cut} → 2 ≤ shape.nodes
+    → Stilled shape cycle c → ((i : ℕ) → i < shape.nodes → (phases_of c i).swept ≡ cycle)
+    → IsSwept shape.nodes cycle c
+swept-all {shape = shape} {cycle = cycle} {c = c} several h swept =
+    let reported : (i : ℕ) → 0 < i → i < length (phases_of c 0).reports
+    → get_or (phases_of c 0).reports i 0 ≡ cycle_of c 0 =
+    λ i above below.
+    let inside : i < shape.nodes = omega (arith, h.inv.phased.reporters, below) in
+    ⊎_elim {C = get_or (phases_of c 0).reports i 0 ≡ cycle_of c 0}
+    (λ (less : get_or (phases_of c 0).reports i 0 < (phases_of c i).swept).
+    absurd
+    (let at = h.heard.swept i above inside less in
+    still-none i 0 at.place _ h.inv.base h.still at.flight))
+    (λ (more : (phases_of c i).swept ≤ get_or (phases_of c 0).reports i 0).
+    omega (arith, more, h.inv.phased.reports i above inside, swept i inside, h.current))
+    (cases_lt (get_or (phases_of c 0).reports i 0) (phases_of c i).swept) in
+    record {
+      current = h.current;
+      swept = swept;
+      reported =
+          and_from _ _
+          (eq-eqb _ _ (swept 0 (omega (arith, several)) ∙ sym h.current))
+          (reported-by (phases_of c 0).reports (cycle_of c 0) reported);
+    }
+
 module _ {a : Aim} {w : World} {budget : ℕ} (g : Clearing a w budget) where
   abbrev n : ℕ
   n = a.shape.nodes
@@ -95,20 +152,22 @@ module _ {a : Aim} {w : World} {budget : ℕ} (g : Clearing a w budget) where
   resting : Resting (phases_of c 0)
   resting = g.ended ∙ sym g.cycle
 
-  -- ---- a message is received
+  stilled : Still n c → Stilled a.shape a.cycle c
+  stilled still = record {
+    inv = whole.inv;
+    heard = reached-heard g.reached;
+    current = g.cycle;
+    ended = g.ended;
+    still = still;
+  }
 
-  no-token : {from to place stamp : ℕ} (b : Body)
-      → IsInFlight c from to place (record { stamp = stamp; body = b }) → is_token b ≡ false
-  no-token {from} {to} {place} {stamp} (body.Token t) flight =
-      absurd (whole.inv.tokens.rest t (on_way from to place) resting
-      (is_sent from to place stamp flight))
-  no-token b flight = refl
+  -- ---- a message is received
 
   receive-clearing : (from to : ℕ) → Link a.shape w from to → Onward n (Clearing a) w budget
   receive-clearing from to h =
       let x : Message = message_of h in
       let plain : is_token x.body ≡ false =
-      no-token x.body (first-of h) in
+      resting-plain x.body whole.inv resting (first-of h) in
       let few : length (effect_there h).sends + 1 ≤ work_left n c =
       omega (arith, (took-falls (would-take h) (inl plain)).work) in
       let moved = link-brought h
@@ -138,16 +197,6 @@ module _ {a : Aim} {w : World} {budget : ℕ} (g : Clearing a w budget) where
 
   -- ---- a node sweeps
 
-  told : Still n c → (i : ℕ) → i < n → (phases_of c i).ended ≡ a.cycle
-  told still i inside = ⊎_elim {C = (phases_of c i).ended ≡ a.cycle}
-      (λ (less : (phases_of c i).ended < (phases_of c 0).ended).
-      absurd
-      (let at = (reached-heard g.reached).ended i inside less in
-      still-none 0 i at.place _ whole.inv.base still at.flight))
-      (λ (more : (phases_of c 0).ended ≤ (phases_of c i).ended).
-      (omega (arith, more, whole.inv.phased.first i, g.ended)))
-      (cases_lt (phases_of c i).ended (phases_of c 0).ended)
-
   sweep-clearing : (i : ℕ) → i < n → Still n c
       → next_move n c ≡ Do i (event.Sweep (length (c i).local.heap.slots))
       → is_unswept c i ≡ true → Onward n (Clearing a) w budget
@@ -161,7 +210,7 @@ module _ {a : Aim} {w : World} {budget : ℕ} (g : Clearing a w budget) where
       ap (λ (z : ℕ). p.phases.swept == z) (sym g.cycle) ∙ not-true _ unswept in
       let before : p.phases.swept ≢ a.cycle = eqb-false p.phases.swept a.cycle apart in
       let ready : p.phases.swept < p.phases.ended =
-      omega (arith, told still i inside, whole.inv.phased.swept i, before) in
+      omega (arith, told (stilled still) i inside, whole.inv.phased.swept i, before) in
       let placed = (reached-heard g.reached).placed i in
       let last : sweeps_last p count ≡ true =
       eq-eqb (p.phases.cursor + looked_at p count) count (omega (arith, placed)) in
@@ -218,33 +267,14 @@ module _ {a : Aim} {w : World} {budget : ℕ} (g : Clearing a w budget) where
   all-cleared : next_move n c ≡ Do 0 event.Begin → Still n c
       → ((j : ℕ) → j < n → is_unswept c j ≡ false) → Cleared a w
   all-cleared next still all =
-      let swept : (i : ℕ) → i < n → (phases_of c i).swept ≡ a.cycle =
-      λ i inside.
-      eqb-true (phases_of c i).swept (cycle_of c 0) (not-false _ (all i inside)) ∙ g.cycle in
-      let reported : (i : ℕ) → 0 < i → i < length (phases_of c 0).reports
-      → get_or (phases_of c 0).reports i 0 ≡ cycle_of c 0 =
-      λ i above below.
-      let inside : i < n = omega (arith, whole.inv.phased.reporters, below) in
-      ⊎_elim {C = get_or (phases_of c 0).reports i 0 ≡ cycle_of c 0}
-      (λ (less : get_or (phases_of c 0).reports i 0 < (phases_of c i).swept).
-      absurd
-      (let at = (reached-heard g.reached).swept i above inside less in
-      still-none i 0 at.place _ whole.inv.base still at.flight))
-      (λ (more : (phases_of c i).swept ≤ get_or (phases_of c 0).reports i 0).
-      omega (arith, more, whole.inv.phased.reports i above inside, swept i inside, g.cycle))
-      (cases_lt (get_or (phases_of c 0).reports i 0) (phases_of c i).swept) in
       record {
         reached = g.reached;
         next = next;
         resting = resting;
-        swept = record {
-          current = g.cycle;
-          swept = swept;
-          reported =
-              and_from _ _
-              (eq-eqb _ _ (swept 0 (omega (arith, g.reached.limits.least_nodes)) ∙ sym g.cycle))
-              (reported-by (phases_of c 0).reports (cycle_of c 0) reported);
-        };
+        swept =
+            swept-all (several g.reached.limits) (stilled still)
+            (λ i inside.
+            eqb-true (phases_of c i).swept (cycle_of c 0) (not-false _ (all i inside)) ∙ g.cycle);
         room = room-less c (budget + a.spare) a.spare (omega arith) g.room;
         both = omega (arith, g.both);
       }

@@ -1,7 +1,8 @@
 -- The next cycle, and the theorems.
 use Rattle.std.proofs.Common.{false, ◌≡◌, ℕ, ◌+◌, ◌-◌, ◌*◌, ◌<◌, ◌≤◌, ◌==◌, lt-ltb, List, [], ◌∷◌, ◌++◌, length, map, refl, ap, ◌∙◌, arith, eq-eqb, length-append, ◌≢◌, zero, suc, Bool, true, Result, Ok, set, sym, subst, ⊎_elim, length-set, eqb}
 use Rattle.std.specs.List.{AllByRecursion, sum_by, range_with_len}
-use Rattle.std.proofs.lemmas.Bool.{cond_both, cases_eq, cond-true, cond-false, ne_eqb}
+use Rattle.std.specs.Prelude.{is_some}
+use Rattle.std.proofs.lemmas.Bool.{both_ways, cond_both, cases_eq, cond-true, cond-false, ne_eqb}
 use Rattle.std.proofs.lemmas.List.Sums.{sum_by-cons}
 use Rattle.ids.specs.Limits.{Shaped, IsShape}
 use Rattle.ids.specs.declared.limits.TheConstants.{GREATEST_CYCLE}
@@ -20,7 +21,7 @@ use Rattle.laws.proofs.Flights.{load_sent}
 use Rattle.model.proofs.Joining.{join-phases}
 use Rattle.model.proofs.Walk.{join-walks}
 use Rattle.laws.proofs.Invariant.{cycle_of, Inv}
-use Rattle.laws.specs.Statements.{OfSpaces, Garbage, StaysUp, LeavesAlone, IfDone, EachDone}
+use Rattle.laws.specs.Statements.{OfSpaces, Garbage, StaysUp, resolved, LeavesAlone, IfDone, EachDone}
 use Rattle.laws.specs.Strategy.{is_collectors, now, next_move, next_steps, played, steps_of, Move, Bring, Do}
 use Rattle.laws.specs.Bounds.{sum_to, weight, scan_work, slot_work, held_work, grey_work, heap_work, root_work, node_work, whole_node_work, work_left, whole_work, HasRoom, flight, rounds, marking_moves, cycle_moves, next_work, both_moves, marking_room}
 use Rattle.laws.proofs.progress.Flights.{sum-le, sum-at, sum-add, sum-const, flight-sends, room-after, room-less, numbers-fit}
@@ -74,7 +75,7 @@ node-held cycle p calm =
 -- ---- the event
 
 -- what node 0 sends, and the work that it then has
-begun-costs : (p : LocalState)
+pub begun-costs : (p : LocalState)
     → (node_work (p.phases.cycle + 1) (begun p).local + load_sent weight (begun p).sends
     ≤ node_work (p.phases.cycle + 1) p + p.shape.nodes)
     × (length (begun p).sends ≤ node_work (p.phases.cycle + 1) p + p.shape.nodes + 1)
@@ -183,7 +184,7 @@ aim_at shape w spare = record {
   spare = spare;
 }
 
-reached-now : (shape : Shaped) → IsShape shape → (steps : List Step)
+pub reached-now : (shape : Shaped) → IsShape shape → (steps : List Step)
     → Reached shape (run (new_world shape) steps)
 reached-now shape limits steps = record { limits = limits; steps = steps; is = refl }
 
@@ -323,36 +324,51 @@ played-stays n (suc k) w i =
     all-append (λ s. s ≢ step.Restart i) (next_steps n w) (played n k (run w (next_steps n w)))
     (steps-stay (now w) (next_move n (now w)) i) (played-stays n k (run w (next_steps n w)) i)
 
--- no step of the collector resolves a reference
-collector-leaves : (w : World) (r : Ref) (s : Step) (o : Result Outcome Refusal)
-    → is_collectors s ≡ true → IfDone (LeavesAlone w r) s o
-collector-leaves w r (step.Act i event.Begin) (Ok o) is = λ q never. absurd cc
-collector-leaves w r (step.Act i event.Scan) (Ok o) is = λ q never. absurd cc
-collector-leaves w r (step.Act i event.Pass) (Ok o) is = λ q never. absurd cc
-collector-leaves w r (step.Act i (event.Sweep count)) (Ok o) is = λ q never. absurd cc
-collector-leaves w r (step.Act i e) (Ok o) never = absurd cc
-collector-leaves w r s o is = tt
+-- a step that resolves no reference
+abbrev pub is_resolving : Step → Bool
+is_resolving (step.Act i e) = is_some (resolved e)
+is_resolving s = false
 
-collectors-leave : (w : World) (r : Ref) (v : World) (later : List Step)
-    → AllByRecursion (λ s. is_collectors s ≡ true) later → EachDone (LeavesAlone w r) v later
-collectors-leave w r v [] all = tt
-collectors-leave w r v (s ∷ ss) all = (
-  collector-leaves w r s (outcome_of (take_step v s)) all.0,
-  collectors-leave w r (happens v s) ss all.1,
+step-leaves : (w : World) (r : Ref) (s : Step) (o : Result Outcome Refusal)
+    → is_resolving s ≡ false → IfDone (LeavesAlone w r) s o
+step-leaves w r (step.Act i e) (Ok o) none =
+    λ q found. absurd (both_ways _ none (ap is_some found))
+step-leaves w r s o none = tt
+
+steps-leave : (w : World) (r : Ref) (v : World) (later : List Step)
+    → AllByRecursion (λ s. is_resolving s ≡ false) later → EachDone (LeavesAlone w r) v later
+steps-leave w r v [] all = tt
+steps-leave w r v (s ∷ ss) all = (
+  step-leaves w r s (outcome_of (take_step v s)) all.0,
+  steps-leave w r (happens v s) ss all.1,
 )
 
-saves-collect : (is : List ℕ) → AllByRecursion (λ s. is_collectors s ≡ true) (map step.Save is)
-saves-collect [] = tt
-saves-collect (i ∷ is) = (refl, saves-collect is)
+collectors-resolve_none : (ss : List Step) → AllByRecursion (λ s. is_collectors s ≡ true) ss
+    → AllByRecursion (λ s. is_resolving s ≡ false) ss
+collectors-resolve_none [] all = tt
+collectors-resolve_none (s ∷ ss) all = (by s all.0, collectors-resolve_none ss all.1)
+  where
+    by : (s : Step) → is_collectors s ≡ true → is_resolving s ≡ false
+    by (step.Act i event.Begin) is = refl
+    by (step.Act i event.Scan) is = refl
+    by (step.Act i event.Pass) is = refl
+    by (step.Act i (event.Sweep count)) is = refl
+    by (step.Act i e) is = absurd cc
+    by s is = refl
+
+saves-resolve_none : (is : List ℕ)
+    → AllByRecursion (λ s. is_resolving s ≡ false) (map step.Save is)
+saves-resolve_none [] = tt
+saves-resolve_none (i ∷ is) = (refl, saves-resolve_none is)
 
 pub gone : (shape : Shaped) (limits : IsShape shape) (steps later : List Step) (cycle : ℕ)
     → current_cycle (run (new_world shape) steps) < cycle
     → IsSwept shape.nodes cycle (now (run (run (new_world shape) steps) later))
     → ((i : ℕ) → StaysUp i later)
-    → AllByRecursion (λ s. is_collectors s ≡ true) later → (r : Ref)
+    → AllByRecursion (λ s. is_resolving s ≡ false) later → (r : Ref)
     → IsGone (run (new_world shape) steps)
     (run (run (run (new_world shape) steps) later) (saves shape.nodes)) r
-gone shape limits steps later cycle before swept stays collects r dead choice live =
+gone shape limits steps later cycle before swept stays leaves r dead choice live =
     let n : ℕ = shape.nodes in
     let w : World = run (new_world shape) steps in
     let v : World = run w later in
@@ -378,15 +394,15 @@ gone shape limits steps later cycle before swept stays collects r dead choice li
     ⊎_elim {C = ⊥}
     (λ (old : OldGarbage w r).
     old-garbage-goes shape limits steps (later ++ saves n) choice cycle r before old
-    (collectors-leave w r w (later ++ saves n)
-    (all-append (λ s. is_collectors s ≡ true) later (saves n) collects
-    (saves-collect (range_with_len 0 n))))
+    (steps-leave w r w (later ++ saves n)
+    (all-append (λ s. is_resolving s ≡ false) later (saves n) leaves
+    (saves-resolve_none (range_with_len 0 n))))
     (subst (λ (z : World). cycle ≤ (cut z choice r.node).local.phases.swept) (sym same)
     (omega (arith, done)))
     (subst (λ (z : World). IsLive (cut z choice) r) (sym same) live))
     (λ (fresh : Garbage w r).
     garbage-goes shape limits steps later saved.other cycle r before fresh
-    (collectors-leave w r w later collects) (stays r.node) chosen
+    (steps-leave w r w later leaves) (stays r.node) chosen
     (omega (arith, now_swept))
     (record {
       object = live.object;
@@ -410,7 +426,8 @@ garbage-can-go shape limits steps below room =
       holds = (
         c.holds,
         gone shape limits steps (played n c.moves w) (current_cycle w + 1) (omega arith) c.holds
-            (played-stays n c.moves w) c.played.collectors,
+            (played-stays n c.moves w)
+            (collectors-resolve_none (played n c.moves w) c.played.collectors),
       );
     }
 

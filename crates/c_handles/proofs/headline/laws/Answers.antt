@@ -5,6 +5,9 @@ use Rattle.laws.proofs.Net.{acknowledged-is-taken-in, net-grows, none-beyond}
 use Rattle.laws.proofs.OldGarbage.{garbage-goes, old-garbage-goes}
 use Rattle.laws.proofs.Privacy.{private-is-unknown}
 use Rattle.laws.proofs.Resolves.{reach-resolves}
+use Rattle.laws.specs.Fairness.{RoundsEndCycle, RoundsEndMarking, RoundsFreeGarbage, RoundsLetBegin}
+use Rattle.laws.proofs.progress.Rounded.{rounds-end-cycle, rounds-end-marking, rounds-free-garbage, rounds-let-begin}
+use Rattle.c_handles.proofs.Fairness.{calls-end-cycle, calls-end-marking, calls-free-garbage}
 use Rattle.laws.specs.Privacy.{PrivateIsUnknown}
 use Rattle.laws.specs.Progress.{CycleCanEnd, EndIsFoundSoon, GarbageCanGo, MarkingCanEnd}
 use Rattle.laws.proofs.progress.Theorems.{cycle-can-end, end-is-found-soon, garbage-can-go, marking-can-end}
@@ -97,3 +100,24 @@ returns-clause-garbage c = of-shown-spaces GarbageCanGo garbage-can-go
 
 pub returns-clause-soon : goal.returns-clause-soon
 returns-clause-soon c = of-shown-spaces EndIsFoundSoon end-is-found-soon
+
+pub returns-clause-rounds_end_marking : goal.returns-clause-rounds_end_marking
+returns-clause-rounds_end_marking c = of-shown-spaces RoundsEndMarking rounds-end-marking
+
+pub returns-clause-rounds_end_cycle : goal.returns-clause-rounds_end_cycle
+returns-clause-rounds_end_cycle c = of-shown-spaces RoundsEndCycle rounds-end-cycle
+
+pub returns-clause-rounds_let_begin : goal.returns-clause-rounds_let_begin
+returns-clause-rounds_let_begin c = of-shown-spaces RoundsLetBegin rounds-let-begin
+
+pub returns-clause-rounds_free_garbage : goal.returns-clause-rounds_free_garbage
+returns-clause-rounds_free_garbage c = of-shown-spaces RoundsFreeGarbage rounds-free-garbage
+
+pub returns-clause-calls_end_marking : goal.returns-clause-calls_end_marking
+returns-clause-calls_end_marking c = calls-end-marking
+
+pub returns-clause-calls_end_cycle : goal.returns-clause-calls_end_cycle
+returns-clause-calls_end_cycle c = calls-end-cycle
+
+pub returns-clause-calls_free_garbage : goal.returns-clause-calls_free_garbage
+returns-clause-calls_free_garbage c = calls-free-garbage
