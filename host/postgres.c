@@ -735,16 +735,29 @@ static database_status prepare_all(postgres *it)
     return status;
 }
 
+// Whether the text says that the server has no room, or that the connection was lost while it was
+// made. (What libpq says itself is English, since no program here sets a locale.)
+static bool may_be_taken_later(const char *text)
+{
+    static const char *const said[] = {"too many", "remaining connection",
+        "server closed the connection", "could not receive data", "could not send data",
+        "timeout expired", "SSL SYSCALL error", "SSL connection has been closed"};
+    for (size_t i = 0; i < sizeof said / sizeof *said; i++) {
+        if (strstr(text, said[i]) != NULL) {
+            return true;
+        }
+    }
+    return false;
+}
+
 // Whether the server refused this user, or is away for now.
 static postgres_reason reason_of_refusal(
     postgres *it, const char *const *keys, const char *const *values, const char *text)
 {
     int found = it->pq.ping(keys, values, 1);
-    bool has_many = strstr(text, "too many") != NULL
-        || strstr(text, "remaining connection") != NULL;
-    return found == PING_IMPOSSIBLE     ? POSTGRES_ADDRESS
-        : found == PING_OK && !has_many ? POSTGRES_DENIED
-                                        : POSTGRES_AWAY;
+    return found == PING_IMPOSSIBLE                     ? POSTGRES_ADDRESS
+        : found == PING_OK && !may_be_taken_later(text) ? POSTGRES_DENIED
+                                                        : POSTGRES_AWAY;
 }
 
 // Connects, without a look at the server.
