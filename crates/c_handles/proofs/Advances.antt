@@ -5,7 +5,7 @@ use Rattle.std.proofs.lemmas.Bool.{and_parts, cond-false, cond-true, cond_both, 
 use Rattle.ids.specs.Limits.{Shaped, IsShape}
 use Rattle.ids.specs.declared.refusal.Refusal.{Refusal}
 use Rattle.ids.specs.declared.refusal.Refusal.TheVariants.{LinkSpent, Memory, NothingToDo}
-use Rattle.msg.specs.Frames.{Plain, plain, plain_data}
+use Rattle.msg.specs.Frames.{Plain, plain, plain_ack, plain_data}
 use Rattle.msg.specs.declared.frame.Ack.{Ack}
 use Rattle.msg.specs.declared.frame.Data.{Data}
 use Rattle.msg.specs.declared.frame.Frame.{Frame}
@@ -50,6 +50,7 @@ use Rattle.c_handles.specs.Lone.{Acknowledged, Gave, Given, Handled, Heard, Node
 use Rattle.c_handles.specs.declared.working.Task.TheVariants as task
 use Rattle.c_handles.specs.declared.lone.LoneNode.{LoneNode}
 use Rattle.c_handles.proofs.Trails.{Did, IsQuiet, IsTried, had_none, was_done, Trail, Tries, turn-led, work-tries}
+use Rattle.c_handles.proofs.Acked.{AreAcked, ack-acked, left-acked}
 use Rattle.c_handles.proofs.Says.{AreTurns, EventSteps, IsActed, Says, Tried, acted, acted_by, came_in, made, quiet-on, quietly, trailed, unmade, worked}
 use Rattle.c_handles.proofs.Systems.{IsWorld, later-world, world-count}
 
@@ -72,6 +73,7 @@ pub record Advances (shape : Shaped) (frames : List Plain) (i : ℕ) (so : Says)
   pub counts : m.counts ≡ n.counts
   pub logs : KeepsLog n m
   pub early : AreGiven frames n.node.early → AreGiven frames m.node.early
+  pub acked : AreAcked frames n.node.core → AreAcked frames m.node.core
   pub moves : AreGiven frames n.node.early → (w : World) → IsWorld shape frames w
       → IsCarried (node_at w.saved i) (node_at w.current i) n.node.core → Went w i so m.node.core
 
@@ -98,6 +100,7 @@ advances-same {frames = frames} {n = n} {m = m} same counts logs = record {
   counts = counts;
   logs = logs;
   early = λ given. subst (λ x. AreGiven frames (x.early)) (sym same) given;
+  acked = λ all. subst (λ x. AreAcked frames (x.core)) (sym same) all;
   moves = λ given w is h. stays (ap (λ x. x.core) same) h;
 }
 
@@ -116,6 +119,7 @@ advances-so {shape} {frames} {i} {n} so says same =
       counts = refl;
       logs = λ first led. led;
       early = λ given. given;
+      acked = λ all. all;
       moves = λ given w is h. stays-so {so = so} (says w) refl h;
     })
 
@@ -137,6 +141,7 @@ advances-resaid more g = record {
   counts = g.counts;
   logs = g.logs;
   early = g.early;
+  acked = g.acked;
   moves = λ given w is h. resaid (more w) (g.moves given w is h);
 }
 
@@ -150,6 +155,7 @@ advances-on within {i = i} {x = x} {m = m} both a b = record {
   counts = b.counts ∙ a.counts;
   logs = λ first led. b.logs first (a.logs first led);
   early = λ given. b.early (a.early given);
+  acked = λ all. b.acked (a.acked all);
   moves = λ given w is h.
       let one = a.moves given w is h in
       let v : World = run w one.later in
@@ -374,6 +380,16 @@ module _ {shape : Shaped} (within : IsShape shape) {frames : List Plain} {w : Wo
           )) (data-went d r (is.net (plain_data d) (given from 0 d there)) h found leaves same)
   met-went es e r own given h found leaves same = own-went e r own h found leaves same
 
+-- no event of a node's own is an acknowledgement
+own-met : (es : Rings) (e : Event) → is_own e ≡ true → ack_of (met es e) ≡ None
+own-met es (event.Next from) own = by (waiting es from)
+  where
+    by : (o : Option Data) → ack_of (next_event from o) ≡ None
+    by None = refl
+    by (Some d) = refl
+own-met es (event.Ack a) own = absurd cc
+own-met es e own = refl
+
 -- no memory for a list
 unlisted-told : (i : ℕ) (e : Event) (f : Refusal) → f ≡ Memory → (saved : ℕ → Bool)
     → nothing_told saved ≡ told_of_event i e (Err f) saved
@@ -446,6 +462,7 @@ module _ {shape : Shaped} (within : IsShape shape) {frames : List Plain} {i : �
         let never : is_own (event.Data d) ≡ true =
         subst (λ (x : Event). is_own x ≡ true) same own in
         absurd cc));
+    acked = left-acked g.acts.leaves (own-met n.node.early e own);
     moves = λ given w is h.
         met-went within is inside n.node.early e r own given h
         (g.acts.states (node_at w.current i) h.shows) g.acts.leaves g.acts.unchanged;
@@ -464,6 +481,7 @@ module _ {shape : Shaped} (within : IsShape shape) {frames : List Plain} {i : �
         (event.Data d) r given
         (λ x same.
         let one : d ≡ x = cc in subst (λ (y : Data). Among (plain_data y) frames) one among));
+    acked = left-acked g.acts.leaves refl;
     moves = λ given w is h.
         data-went within is inside d r (is.net (plain_data d) among) h
         (g.acts.states (node_at w.current i) h.shows) g.acts.leaves g.acts.unchanged;
@@ -473,7 +491,13 @@ module _ {shape : Shaped} (within : IsShape shape) {frames : List Plain} {i : �
   unlisted : {n m : LoneNode} {so : Says} (c : NodeView) (e : Event)
       → Advances shape frames i so (listed n c e) m → Advances shape frames i so n m
   unlisted c e a =
-      record { counts = a.counts; logs = a.logs; early = a.early; moves = a.moves }
+      record {
+        counts = a.counts;
+        logs = a.logs;
+        early = a.early;
+        acked = a.acked;
+        moves = a.moves;
+      }
 
   given-advances : {n m : LoneNode} (e : Event) (r : Result Answer Fault) → is_own e ≡ true
       → Given false n m e r → Advances shape frames i (acted_by i e r) n m
@@ -507,15 +531,16 @@ module _ {shape : Shaped} (within : IsShape shape) {frames : List Plain} {i : �
 
   -- ---- frames
 
-  heard-advances : {n m : LoneNode} (x : Ack) (r : Result Answer Refusal) → Heard n m x r
-      → Advances shape frames i quietly n m
-  heard-advances {n} {m} x r g = record {
+  heard-advances : {n m : LoneNode} (x : Ack) (r : Result Answer Refusal)
+      → Among (plain_ack x) frames → Heard n m x r → Advances shape frames i quietly n m
+  heard-advances {n} {m} x r among g = record {
     counts = ap (λ (z : LoneNode). z.counts) g.stays;
     logs = g.logs;
     early = λ given.
         subst (AreGiven frames) (sym g.acts.early)
         (after-all (λ from d. Among (plain_data d) frames) n.node.core.local n.node.early
         (event.Ack x) r given (λ d same. absurd cc));
+    acked = acks r g;
     moves = λ given w is h. by r g h;
   }
     where
@@ -536,17 +561,22 @@ module _ {shape : Shaped} (within : IsShape shape) {frames : List Plain} {i : �
           }
       by (Err f) g h = stays g.acts.unchanged h
 
+      acks : (r : Result Answer Refusal) → Heard n m x r → AreAcked frames n.node.core
+          → AreAcked frames m.node.core
+      acks (Ok a) g all = ack-acked n.node.core m.node.core x a g.acts.performs among all
+      acks (Err f) g all = subst (AreAcked frames) (sym g.acts.unchanged) all
+
   acknowledged-advances : {n m : LoneNode} (x : Ack) (r : Result Answer Fault)
-      → Acknowledged n m x r → Advances shape frames i quietly n m
-  acknowledged-advances x (Ok a) g = heard-advances x (Ok a) g
-  acknowledged-advances x (Err (fault.Refused f)) g = heard-advances x (Err f) g
-  acknowledged-advances x (Err f) g = absurd g
+      → Among (plain_ack x) frames → Acknowledged n m x r → Advances shape frames i quietly n m
+  acknowledged-advances x (Ok a) among g = heard-advances x (Ok a) among g
+  acknowledged-advances x (Err (fault.Refused f)) among g = heard-advances x (Err f) among g
+  acknowledged-advances x (Err f) among g = absurd g
 
   handled-advances : {n m : LoneNode} (f : Frame) (r : Result Answer Fault)
       → Among (plain f) frames → Handled f n m r → Advances shape frames i quietly n m
   handled-advances {n} (frame.Data d) r among g =
       given-data-advances d r among g
-  handled-advances (frame.Ack x) r among g = acknowledged-advances x r g
+  handled-advances (frame.Ack x) r among g = acknowledged-advances x r among g
 
   pub took-advances : {n m : LoneNode} {bytes : List ℕ} {r : Result Answer Fault}
       → ((f : Plain) → Fits f → bytes ≡ spelling f → Among f frames) → TookIn bytes n m r
@@ -577,6 +607,7 @@ module _ {shape : Shaped} (within : IsShape shape) {frames : List Plain} {i : �
         counts = g.counts;
         logs = g.logs;
         early = g.early;
+        acked = g.acked;
         moves = λ given w at h.
             stays-so {so = done i d} (
               (λ saved. refl, tt),

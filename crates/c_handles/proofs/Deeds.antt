@@ -1,5 +1,5 @@
 -- What the contract of each call says is enough: after it, worlds go on.
-use Rattle.std.proofs.Common.{◌≡◌, ℕ, ◌<◌, ◌≤◌, ◌==◌, true, false, Bool, List, [], ◌∷◌, ◌++◌, length, take, drop, Option, Some, None, Result, Ok, Err, ⊎_elim, refl, sym, ap, ◌∙◌, subst}
+use Rattle.std.proofs.Common.{◌≡◌, ℕ, ◌<◌, ◌≤◌, ◌==◌, true, false, Bool, List, [], ◌∷◌, ◌++◌, length, take, drop, Option, Some, None, Result, Ok, Err, inl, ⊎_elim, refl, sym, ap, ◌∙◌, subst}
 use Rattle.std.specs.Global.{Vec}
 use Rattle.std.proofs.lemmas.Bool.{cond_both, eqb-true}
 use Rattle.ids.specs.Limits.{Shaped, IsShape}
@@ -11,7 +11,9 @@ use Rattle.image.specs.Wholes.{saved_whole}
 use Rattle.msg.specs.Frames.{Plain}
 use Rattle.model.specs.Cuts.{Among}
 use Rattle.model.specs.State.{NodeState, node_at}
-use Rattle.model.specs.View.{NodeView, new_view}
+use Rattle.model.specs.View.{Link, NodeView, base_of, new_view, no_link}
+use Rattle.model.proofs.Lookups.{get_or-replicate_any}
+use Rattle.node_store.proofs.Stores.{any_of}
 use Rattle.model.specs.World.{World, IsInNet, new_world, run}
 use Rattle.model.proofs.NewNodes.{new-kept, new-shown}
 use Rattle.node.specs.Keeping.{WholeNode, alone, new_whole}
@@ -32,6 +34,7 @@ use Rattle.c_handles.specs.declared.lone.LoneNode.{LoneNode}
 use Rattle.c_handles.specs.Programs.{Becomes, Call, Choice, Deed, Does, Finds, Goes, IsShown, MayFind, Opening, Owes, Place, Stored, System, behind, gives, new_system, newest, place_after, place_of}
 use Rattle.c_handles.specs.Programs.{Act, Take, Work, FrameAt, AckFor, Frames, TakeImage, TakeBatch, Keep, Release, Log, Track, Freed, Open, On, End, Store, New, FromImage, FromBatches, Nothing, Image, Lost, Meets, Opens, GoesOn, IsMadeOnce, IsStoredFirst, IsOfSpace}
 use Rattle.c_handles.proofs.Advances.{AreGiven, acts-advances, advances-not, advances-same, took-advances, works-advances}
+use Rattle.c_handles.proofs.Acked.{AreAcked, none_yet}
 use Rattle.c_handles.proofs.Says.{quietly, said_by}
 use Rattle.c_handles.proofs.Calls.{IsOf, IsSound, Stepped, ack-out, advances-stepped, ended-stepped, kept-stepped, opened-stepped, released-out, released-stepped, sound-node, stepped-not, stored-stepped, taken-stepped, window-out}
 use Rattle.c_handles.proofs.Logs.{if_none}
@@ -267,6 +270,8 @@ module _ {shape : Shaped} (within : IsShape shape) {s : System} (t : System) {i 
       (carried-whole (new-kept shape i) (new-shown shape i))))
       (subst (λ (y : WholeNode). AreGiven s.frames y.early) (sym same)
       (of-none (λ from d. Among (plain_data d) s.frames) shape.nodes))
+      (subst (λ (y : WholeNode). AreAcked s.frames y.core) (sym same)
+      (λ j. none_yet (ap base_of (get_or-replicate_any {A = Link} shape.nodes j no_link))))
       (continues-none p.stored n (no-log n (ap (λ (x : LoneNode). x.logs) is)))
       (ap (λ (x : LoneNode). x.counts) is) becomes
 
@@ -283,6 +288,8 @@ module _ {shape : Shaped} (within : IsShape shape) {s : System} (t : System) {i 
       (read-one bytes n.node.core node.node image node.stored)
       (carried-whole node.saved node.shows))
       (alone-given n.node same)
+      (sound.stored i p.stored (inl refl) bytes [] (alone n.node.core) stored
+      (stored-alone bytes (alone n.node.core) (any_of bytes (alone n.node.core) (image, refl))))
       (continues-none p.stored n (no-log n (ap (λ (x : LoneNode). x.logs) is)))
       (ap (λ (x : LoneNode). x.counts) is) becomes
 
@@ -294,6 +301,7 @@ module _ {shape : Shaped} (within : IsShape shape) {s : System} (t : System) {i 
       opened-stepped within t inside sound empty
       (λ x found. found-carried (subst (λ (e : Stored). Finds shape i e x) stored found) of)
       (alone-given n.node (stored-quiet of))
+      (sound.stored i p.stored (inl refl) image batches n.node stored of)
       (subst (λ (e : Stored). Continues e n) (sym stored) (continues-from n n.node of logs))
       (ap (λ (x : LoneNode). x.counts) is) becomes
 
@@ -391,4 +399,8 @@ new-shown-system shape c may = (
 pub came : {shape : Shaped} → IsShape shape → (calls : List Call) (s : System)
     → Goes shape new_system calls s → Came shape new_system s
 came {shape} within calls s goes =
-    goes-came within calls new_system s (record { each = λ i. tt }) (new-shown-system shape) goes
+    goes-came within calls new_system s (record {
+      each = λ i. tt;
+      stored = λ i e among image batches m is of.
+          absurd (⊎_elim (λ (none : e ≡ Nothing). let both = sym none ∙ is in cc) (λ never. never) among);
+    }) (new-shown-system shape) goes

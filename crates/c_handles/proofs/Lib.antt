@@ -23,6 +23,7 @@ pub mod Handles
 pub mod Scans
 pub mod Trails
 pub mod Says
+pub mod Acked
 pub mod Systems
 pub mod Advances
 pub mod Saving
