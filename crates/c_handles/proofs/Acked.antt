@@ -1,9 +1,10 @@
 -- What a node counts as acknowledged was acknowledged by a frame that handles gave out.
-use Rattle.std.proofs.Common.{◌≡◌, ℕ, zero, suc, ◌+◌, ◌-◌, ◌<◌, ◌≤◌, ◌==◌, ◌++◌, length, true, List, [], ◌∷◌, get_or, Option, None, Some, Ok, refl, sym, ap, ◌∙◌, subst, ⊎_elim, arith, eqb-true, map, set}
+use Rattle.std.proofs.Common.{◌≡◌, ℕ, zero, suc, ◌+◌, ◌-◌, ◌<◌, ◌≤◌, ◌==◌, ◌++◌, ◌⊎◌, inl, inr, le_refl, length, length-set, get_or-set_same, true, List, [], ◌∷◌, get_or, Option, None, Some, Ok, refl, sym, ap, ◌∙◌, subst, ⊎_elim, arith, eqb-true, map, set}
 use Rattle.std.specs.Prelude.{min, nat_le, Bool}
 use Rattle.ids.specs.declared.refusal.Refusal.{Refusal}
 use Rattle.ids.specs.declared.refusal.Refusal.TheVariants.{AckBeyond, LinkSpent, WrongNode}
 use Rattle.std.proofs.Math.ListN.{get_or-map}
+use Rattle.std.proofs.lemmas.List.{length-map}
 use Rattle.std.proofs.lemmas.Bool.{and_parts, cases_lt, cond_both}
 use Rattle.msg.specs.Frames.{Plain, ack_frame, plain_ack}
 use Rattle.msg.specs.declared.frame.Ack.{Ack}
@@ -16,7 +17,7 @@ use Rattle.model.specs.declared.event.Event.TheVariants as event
 use Rattle.model.specs.Cuts.{Among}
 use Rattle.model.specs.State.{got_from}
 use Rattle.model.specs.Steps.{ack_of, is_addressed, made, tests}
-use Rattle.model.specs.View.{Leaves, Link, NodeView, ack_tests, all_kept, base_of, is_other, kept_to, kept_view, kept_with, let_go, link_to, no_link, trimmed, used, view_act}
+use Rattle.model.specs.View.{Leaves, Link, NodeView, ack_tests, all_kept, base_of, is_other, kept_to, kept_view, kept_with, kept_of, let_go, link_to, no_link, trimmed, used, view_act}
 use Rattle.model.proofs.Checks.{guarded-passes}
 use Rattle.model.proofs.Lookups.{at_set_if}
 use Rattle.model.proofs.Shown.{ack-done, view-ok}
@@ -31,88 +32,149 @@ pub data IsAcked (frames : List Plain) (own from base : ℕ) : Type 0 where
   by_frame : (number : ℕ) → base ≤ number → Among (ack_frame from own number) frames
       → IsAcked frames own from base
 
-abbrev pub AreAcked : List Plain → NodeView → Type 0
-AreAcked frames n = (j : ℕ) → IsAcked frames n.local.own j (link_to n j).base
+-- The node counts an acknowledgement for each of its links.
+pub record AreAcked (frames : List Plain) (n : NodeView) : Type 0 where
+  pub each : (j : ℕ) → IsAcked frames n.local.own j (link_to n j).base
+  pub wide : length n.acks ≡ length n.links
 
 pub acked-more : (frames given : List Plain) (n : NodeView) → AreAcked frames n
     → AreAcked (frames ++ given) n
-acked-more frames given n all j = by (all j)
+acked-more frames given n all =
+    record { each = λ j. by j (all.each j); wide = all.wide }
   where
-    by : IsAcked frames n.local.own j (link_to n j).base
+    by : (j : ℕ) → IsAcked frames n.local.own j (link_to n j).base
         → IsAcked (frames ++ given) n.local.own j (link_to n j).base
-    by (none_yet is) = none_yet is
-    by (by_frame number le among) =
+    by j (none_yet is) = none_yet is
+    by j (by_frame number le among) =
         by_frame number le (among-append_left (ack_frame j n.local.own number) frames given among)
 
-pub same-bases : {frames : List Plain} (n m : NodeView) → m.local.own ≡ n.local.own
-    → ((j : ℕ) → (link_to m j).base ≡ (link_to n j).base) → AreAcked frames n → AreAcked frames m
-same-bases {frames} n m own same all j =
-    subst (λ (k : ℕ). IsAcked frames k j (link_to m j).base) (sym own)
-    (subst (IsAcked frames n.local.own j) (sym (same j)) (all j))
+same-bases : {frames : List Plain} (n m : NodeView) → m.local.own ≡ n.local.own
+    → ((j : ℕ) → (link_to m j).base ≡ (link_to n j).base) → length m.acks ≡ length m.links
+    → AreAcked frames n → AreAcked frames m
+same-bases {frames} n m own same wide all = record {
+  each = λ j.
+      subst (λ (k : ℕ). IsAcked frames k j (link_to m j).base) (sym own)
+      (subst (IsAcked frames n.local.own j) (sym (same j)) (all.each j));
+  wide = wide;
+}
 
--- an event that is no acknowledgement
+-- ---- events
+
+-- the bases stay, unless the event is an acknowledgement
+pub left-bases : {n m : NodeView} {e : Event} → Leaves n m e → ack_of e ≡ None → (j : ℕ)
+    → (link_to m j).base ≡ (link_to n j).base
+left-bases {n = n} {m = m} leaves none j =
+    sym (get_or-map base_of m.links j no_link)
+    ∙ ap (λ (l : List ℕ). get_or l j 0) (leaves.bases none)
+    ∙ get_or-map base_of n.links j no_link
+
 pub left-acked : {frames : List Plain} {n m : NodeView} {e : Event} → Leaves n m e
     → ack_of e ≡ None → AreAcked frames n → AreAcked frames m
 left-acked {n = n} {m = m} leaves none all =
-    same-bases n m leaves.own
-    (λ j.
-    sym (get_or-map base_of m.links j no_link)
-    ∙ ap (λ (l : List ℕ). get_or l j 0) (leaves.bases none)
-    ∙ get_or-map base_of n.links j no_link) all
+    same-bases n m leaves.own (left-bases leaves none)
+    (ap (λ (l : List ℕ). length l) leaves.acks ∙ all.wide
+    ∙ sym (length-map n.links kept_of) ∙ ap (λ (l : List ℕ). length l) (sym leaves.kept)
+    ∙ length-map m.links kept_of)
+    all
 
--- an acknowledgement that was given out
-pub ack-acked : {frames : List Plain} (n new : NodeView) (a : Ack) (x : Answer)
-    → view_act n (event.Ack a) ≡ Ok (new, x) → Among (plain_ack a) frames → AreAcked frames n
-    → AreAcked frames new
+-- An acknowledgement moves the base on, to its number if the link has so many messages.
+trimmed-base : (l : Link) (number : ℕ) → (l.base ≤ (trimmed l number).base)
+    × (number ≤ used l → number ≤ (trimmed l number).base)
+    × (((trimmed l number).base ≡ l.base) ⊎ ((trimmed l number).base ≤ number))
+trimmed-base l number = (
+  omega arith,
+  λ within. (let w = within in omega (arith, w)),
+  ⊎_elim {C = ((trimmed l number).base ≡ l.base) ⊎ ((trimmed l number).base ≤ number)}
+      (λ (more : l.base < number). inr (omega (arith, more)))
+      (λ (none : number ≤ l.base). inl (omega (arith, none)))
+      (cases_lt l.base number),
+)
+
+pub ack-bases : (n new : NodeView) (a : Ack) (x : Answer) → view_act n (event.Ack a) ≡ Ok (new, x)
+    → (j : ℕ) → (link_to n j).base ≤ (link_to new j).base
+ack-bases n new a x h j =
+    subst (λ (z : NodeView). (link_to n j).base ≤ (link_to z j).base) (sym (ack-done n new a x h).1)
+    (at_set_if (λ (z : Link). (link_to n j).base ≤ z.base) n.links a.by j
+    (trimmed (link_to n a.by) a.number) no_link
+    (λ (here : a.by ≡ j).
+    subst (λ (k : ℕ). (link_to n k).base ≤ (trimmed (link_to n a.by) a.number).base) here
+    (trimmed-base (link_to n a.by) a.number).0)
+    (le_refl _))
+
+-- and the base is past its number then
+pub ack-reaches : (n new : NodeView) (a : Ack) (x : Answer)
+    → view_act n (event.Ack a) ≡ Ok (new, x) → a.by < length n.links
+    → a.number ≤ used (link_to n a.by) → a.number ≤ (link_to new a.by).base
+ack-reaches n new a x h inside within =
+    let l : Link = trimmed (link_to n a.by) a.number in
+    subst (λ (z : NodeView). a.number ≤ (link_to z a.by).base) (sym (ack-done n new a x h).1)
+    (subst (λ (z : Link). a.number ≤ z.base) (sym (get_or-set_same n.links a.by l no_link inside))
+    ((trimmed-base (link_to n a.by) a.number).1 within))
+
+-- the acknowledgement names the node
+pub ack-own : (n new : NodeView) (a : Ack) (x : Answer) → view_act n (event.Ack a) ≡ Ok (new, x)
+    → a.of ≡ n.local.own
 unfolding view_act
-ack-acked {frames} n new a x h among all =
-    let own : ℕ = n.local.own in
+ack-own n new a x h =
     let ts : List (Bool × Refusal) =
     (is_addressed n.local a.by a.of, WrongNode)
     ∷ (nat_le a.number (link_to n a.by).kept, AckBeyond) ∷ (true, LinkSpent) ∷ [] in
     let found =
     view-ok n new (let_go n.links (Some a)) (guarded ts (unchanged n.local answer.Done)) x h in
     let passed = guarded-passes ts (unchanged n.local answer.Done) found.0 found.1 in
-    let of : a.of ≡ own =
-    eqb-true a.of own (and_parts (a.of == own) _ passed.0).0 in
+    eqb-true a.of n.local.own (and_parts (a.of == n.local.own) _ passed.0).0
+
+pub ack-acked : {frames : List Plain} (n new : NodeView) (a : Ack) (x : Answer)
+    → view_act n (event.Ack a) ≡ Ok (new, x) → Among (plain_ack a) frames → AreAcked frames n
+    → AreAcked frames new
+ack-acked {frames} n new a x h among all =
+    let own : ℕ = n.local.own in
     let l : Link = link_to n a.by in
     subst (AreAcked frames) (sym (ack-done n new a x h).1)
-    (λ j.
-    at_set_if (λ (z : Link). IsAcked frames own j z.base) n.links a.by j (trimmed l a.number) no_link
-    (λ (here : a.by ≡ j).
-    let there : Among (ack_frame j own a.number) frames =
-    subst (λ (k : ℕ). Among (ack_frame k own a.number) frames) here
-    (subst (λ (k : ℕ). Among (ack_frame a.by k a.number) frames) of among) in
-    let before : IsAcked frames own j l.base =
-    subst (λ (k : ℕ). IsAcked frames own j (link_to n k).base) (sym here) (all j) in
-    ⊎_elim {C = IsAcked frames own j (trimmed l a.number).base}
-    (λ (more : l.base < a.number).
-    by_frame a.number
-    (let e : (trimmed l a.number).base ≤ a.number = omega (arith, more) in e) there)
-    (λ (none : a.number ≤ l.base).
-    subst (IsAcked frames own j)
-    (let e : l.base ≡ (trimmed l a.number).base = omega (arith, none) in e) before)
-    (cases_lt l.base a.number))
-    (all j))
+    (record {
+      each = λ j.
+          at_set_if (λ (z : Link). IsAcked frames own j z.base) n.links a.by j (trimmed l a.number)
+          no_link
+          (λ (here : a.by ≡ j).
+          let there : Among (ack_frame j own a.number) frames =
+          subst (λ (k : ℕ). Among (ack_frame k own a.number) frames) here
+          (subst (λ (k : ℕ). Among (ack_frame a.by k a.number) frames) (ack-own n new a x h) among)
+          in
+          let before : IsAcked frames own j l.base =
+          subst (λ (k : ℕ). IsAcked frames own j (link_to n k).base) (sym here) (all.each j) in
+          ⊎_elim {C = IsAcked frames own j (trimmed l a.number).base}
+          (λ same. subst (IsAcked frames own j) (sym same) before)
+          (λ le. by_frame a.number le there)
+          (trimmed-base l a.number).2)
+          (all.each j);
+      wide = all.wide ∙ sym (length-set n.links a.by (trimmed l a.number));
+    })
 
--- everything counts as saved
-pub kept-acked : {frames : List Plain} (n : NodeView) → AreAcked frames n
-    → AreAcked frames (kept_view n)
-kept-acked n all =
+-- ---- what counts as saved
+
+-- everything
+pub kept-acked : {frames : List Plain} (n : NodeView) → length n.local.got ≡ length n.links
+    → AreAcked frames n → AreAcked frames (kept_view n)
+kept-acked n wide all =
     same-bases n (kept_view n) refl
-    (λ j. ap base_of (get_or-map all_kept n.links j no_link)) all
+    (λ j. ap base_of (get_or-map all_kept n.links j no_link))
+    (wide ∙ sym (length-map n.links all_kept)) all
 
--- more counts as saved
+-- more than before
 with-acked : {frames : List Plain} (peer sent received : ℕ) (n : NodeView) → AreAcked frames n
     → AreAcked frames (kept_with peer sent received n)
 with-acked {frames} peer sent received n all =
     cond_both (is_other n.local peer) _ n (AreAcked frames)
-    (λ _ j.
-    at_set_if (λ (z : Link). IsAcked frames n.local.own j z.base) n.links peer j
-    (kept_to sent (link_to n peer)) no_link
-    (λ (here : peer ≡ j).
-    subst (λ (k : ℕ). IsAcked frames n.local.own j (link_to n k).base) (sym here) (all j))
-    (all j))
+    (λ _. record {
+      each = λ j.
+          at_set_if (λ (z : Link). IsAcked frames n.local.own j z.base) n.links peer j
+          (kept_to sent (link_to n peer)) no_link
+          (λ (here : peer ≡ j).
+          subst (λ (k : ℕ). IsAcked frames n.local.own j (link_to n k).base) (sym here) (all.each j))
+          (all.each j);
+      wide = length-set n.acks peer _ ∙ all.wide
+          ∙ sym (length-set n.links peer (kept_to sent (link_to n peer)));
+    })
     (λ _. all)
 
 keeps_below-acked : {frames : List Plain} (counts : List Counts) (k : ℕ) (n : WholeNode)

@@ -1,5 +1,5 @@
 -- Calls after which a node goes on with its events: in each world that shows it, steps lead on.
-use Rattle.std.proofs.Common.{◌≡◌, ◌≢◌, ℕ, ◌<◌, ◌==◌, ◌&&◌, true, false, Bool, List, [], ◌∷◌, ◌++◌, length, append-nil, cond, Option, Some, None, Result, Ok, Err, OnErr, inl, inr, refl, sym, ap, ◌∙◌, subst, arith, ltb-true}
+use Rattle.std.proofs.Common.{◌≡◌, ◌≢◌, ℕ, ◌<◌, ◌==◌, ◌&&◌, true, false, Bool, List, [], ◌∷◌, ◌++◌, length, append-nil, cond, Option, Some, None, Result, Ok, Err, OnErr, inl, inr, refl, sym, ap, ◌∙◌, subst, arith, ltb-true, le_refl, le_trans, ◌≤◌}
 use Rattle.std.specs.Prelude.{min, nat_lt, not}
 use Rattle.std.proofs.lemmas.Bool.{and_parts, cond-false, cond-true, cond_both, eqb-true, lt-ltb}
 use Rattle.ids.specs.Limits.{Shaped, IsShape}
@@ -24,7 +24,8 @@ use Rattle.model.specs.declared.step.Step.TheVariants as step
 use Rattle.model.specs.Cuts.{Among}
 use Rattle.model.specs.State.{NodeState, node_at}
 use Rattle.model.specs.Steps.{ack_of, act, is_own, is_shading, receive}
-use Rattle.model.specs.View.{Follows, IsTold, Leaves, NodeView}
+use Rattle.model.specs.View.{Follows, IsTold, Leaves, NodeView, link_to}
+use Rattle.node.specs.Keeping.{WholeNode}
 use Rattle.model.specs.World.{World, IsInNet, happens, is_node, moved, outcome_of, released, run, take_step, world_after}
 use Rattle.model.proofs.Runs.{run-append}
 use Rattle.node.specs.Keeping.{OfAll, Rings, met, next_event, waiting}
@@ -50,7 +51,7 @@ use Rattle.c_handles.specs.Lone.{Acknowledged, Gave, Given, Handled, Heard, Node
 use Rattle.c_handles.specs.declared.working.Task.TheVariants as task
 use Rattle.c_handles.specs.declared.lone.LoneNode.{LoneNode}
 use Rattle.c_handles.proofs.Trails.{Did, IsQuiet, IsTried, had_none, was_done, Trail, Tries, turn-led, work-tries}
-use Rattle.c_handles.proofs.Acked.{AreAcked, ack-acked, left-acked}
+use Rattle.c_handles.proofs.Acked.{AreAcked, ack-acked, ack-bases, left-acked, left-bases}
 use Rattle.c_handles.proofs.Says.{AreTurns, EventSteps, IsActed, Says, Tried, acted, acted_by, came_in, made, quiet-on, quietly, trailed, unmade, worked}
 use Rattle.c_handles.proofs.Systems.{IsWorld, later-world, world-count}
 
@@ -74,6 +75,7 @@ pub record Advances (shape : Shaped) (frames : List Plain) (i : ℕ) (so : Says)
   pub logs : KeepsLog n m
   pub early : AreGiven frames n.node.early → AreGiven frames m.node.early
   pub acked : AreAcked frames n.node.core → AreAcked frames m.node.core
+  pub bases : (j : ℕ) → (link_to n.node.core j).base ≤ (link_to m.node.core j).base
   pub moves : AreGiven frames n.node.early → (w : World) → IsWorld shape frames w
       → IsCarried (node_at w.saved i) (node_at w.current i) n.node.core → Went w i so m.node.core
 
@@ -101,6 +103,9 @@ advances-same {frames = frames} {n = n} {m = m} same counts logs = record {
   logs = logs;
   early = λ given. subst (λ x. AreGiven frames (x.early)) (sym same) given;
   acked = λ all. subst (λ x. AreAcked frames (x.core)) (sym same) all;
+  bases = λ j.
+      subst (λ (x : WholeNode). (link_to n.node.core j).base ≤ (link_to x.core j).base) (sym same)
+      (le_refl _);
   moves = λ given w is h. stays (ap (λ x. x.core) same) h;
 }
 
@@ -120,6 +125,7 @@ advances-so {shape} {frames} {i} {n} so says same =
       logs = λ first led. led;
       early = λ given. given;
       acked = λ all. all;
+      bases = λ j. le_refl _;
       moves = λ given w is h. stays-so {so = so} (says w) refl h;
     })
 
@@ -142,6 +148,7 @@ advances-resaid more g = record {
   logs = g.logs;
   early = g.early;
   acked = g.acked;
+  bases = g.bases;
   moves = λ given w is h. resaid (more w) (g.moves given w is h);
 }
 
@@ -156,6 +163,7 @@ advances-on within {i = i} {x = x} {m = m} both a b = record {
   logs = λ first led. b.logs first (a.logs first led);
   early = λ given. b.early (a.early given);
   acked = λ all. b.acked (a.acked all);
+  bases = λ j. le_trans (a.bases j) (b.bases j);
   moves = λ given w is h.
       let one = a.moves given w is h in
       let v : World = run w one.later in
@@ -463,6 +471,8 @@ module _ {shape : Shaped} (within : IsShape shape) {frames : List Plain} {i : �
         subst (λ (x : Event). is_own x ≡ true) same own in
         absurd cc));
     acked = left-acked g.acts.leaves (own-met n.node.early e own);
+    bases = λ j.
+        (let same = left-bases g.acts.leaves (own-met n.node.early e own) j in omega (arith, same));
     moves = λ given w is h.
         met-went within is inside n.node.early e r own given h
         (g.acts.states (node_at w.current i) h.shows) g.acts.leaves g.acts.unchanged;
@@ -482,6 +492,7 @@ module _ {shape : Shaped} (within : IsShape shape) {frames : List Plain} {i : �
         (λ x same.
         let one : d ≡ x = cc in subst (λ (y : Data). Among (plain_data y) frames) one among));
     acked = left-acked g.acts.leaves refl;
+    bases = λ j. (let same = left-bases g.acts.leaves refl j in omega (arith, same));
     moves = λ given w is h.
         data-went within is inside d r (is.net (plain_data d) among) h
         (g.acts.states (node_at w.current i) h.shows) g.acts.leaves g.acts.unchanged;
@@ -496,6 +507,7 @@ module _ {shape : Shaped} (within : IsShape shape) {frames : List Plain} {i : �
         logs = a.logs;
         early = a.early;
         acked = a.acked;
+        bases = a.bases;
         moves = a.moves;
       }
 
@@ -541,6 +553,7 @@ module _ {shape : Shaped} (within : IsShape shape) {frames : List Plain} {i : �
         (after-all (λ from d. Among (plain_data d) frames) n.node.core.local n.node.early
         (event.Ack x) r given (λ d same. absurd cc));
     acked = acks r g;
+    bases = grow r g;
     moves = λ given w is h. by r g h;
   }
     where
@@ -565,6 +578,13 @@ module _ {shape : Shaped} (within : IsShape shape) {frames : List Plain} {i : �
           → AreAcked frames m.node.core
       acks (Ok a) g all = ack-acked n.node.core m.node.core x a g.acts.performs among all
       acks (Err f) g all = subst (AreAcked frames) (sym g.acts.unchanged) all
+
+      grow : (r : Result Answer Refusal) → Heard n m x r → (j : ℕ)
+          → (link_to n.node.core j).base ≤ (link_to m.node.core j).base
+      grow (Ok a) g j = ack-bases n.node.core m.node.core x a g.acts.performs j
+      grow (Err f) g j =
+          subst (λ (z : NodeView). (link_to n.node.core j).base ≤ (link_to z j).base)
+          (sym g.acts.unchanged) (le_refl _)
 
   acknowledged-advances : {n m : LoneNode} (x : Ack) (r : Result Answer Fault)
       → Among (plain_ack x) frames → Acknowledged n m x r → Advances shape frames i quietly n m
@@ -608,6 +628,7 @@ module _ {shape : Shaped} (within : IsShape shape) {frames : List Plain} {i : �
         logs = g.logs;
         early = g.early;
         acked = g.acked;
+        bases = g.bases;
         moves = λ given w at h.
             stays-so {so = done i d} (
               (λ saved. refl, tt),

@@ -70,6 +70,10 @@ sound-more frames given e (Some n) is = record {
   log = is.log;
 }
 
+-- the node counts what it received on each of its links
+abbrev pub IsCounted : LoneNode → Type 0
+IsCounted n = length n.node.core.local.got ≡ length n.node.core.links
+
 -- after a call: what holds of every handle, and that worlds go on
 pub record Stepped (shape : Shaped) (s t : System) (so : Says) : Type 0 where
   pub sound : IsSound t
@@ -414,14 +418,14 @@ module _ {shape : Shaped} (within : IsShape shape) {s : System} (t : System) {i 
       })
 
   -- everything counts as saved, without an image
-  pub released-stepped : {n : LoneNode} → (s.places i).handle ≡ Some n
+  pub released-stepped : {n : LoneNode} → (s.places i).handle ≡ Some n → IsCounted n
       → Becomes s t i (record { handle = Some (released n); stored = Lost; taken = [] }) []
       → Stepped shape s t quietly
-  released-stepped {n} held becomes =
+  released-stepped {n} held wide becomes =
       let p : Place = s.places i in
       let was = sound-node held in
       stepped-at within inside sound becomes
-      (record { early = was.early; acked = kept-acked n.node.core was.acked; log = tt })
+      (record { early = was.early; acked = kept-acked n.node.core wide was.acked; log = tt })
       (λ e among image batches m is of.
       absurd (⊎_elim (λ (lost : e ≡ Lost). let both = sym lost ∙ is in cc) (λ never. never) among))
       (λ e among. record {
@@ -482,7 +486,7 @@ module _ {shape : Shaped} (within : IsShape shape) {s : System} (t : System) {i 
   -- an image or a batch was taken, which may be stored
   module _ (n m : LoneNode) (counts : Vec Counts) (held : (s.places i).handle ≡ Some n)
       (same : m.node ≡ n.node) (are : counts.items ≡ counts_of n.node.core)
-      (has : m.counts ≡ Some counts) where
+      (has : m.counts ≡ Some counts) (wide : IsCounted n) where
     abbrev After : Stored → Place
     After e = record (s.places i) { handle = Some m; taken = (s.places i).taken ++ e ∷ [] }
 
@@ -497,7 +501,7 @@ module _ {shape : Shaped} (within : IsShape shape) {s : System} (t : System) {i 
         let b : batches ≡ batches_is = cc in
         subst (λ (l : List ℕ). IsStored l batches x) (sym a)
         (subst (λ (l : List ℕ). IsStored image_is l x) (sym b) stored)))
-        (kept-acked n.node.core all)
+        (kept-acked n.node.core wide all)
 
     after-newest : (e : Stored) → newest (After e) ≡ e
     after-newest e = newest-last (s.places i).stored (s.places i).taken e
