@@ -77,13 +77,11 @@ left-acked {n = n} {m = m} leaves none all =
     ∙ length-map m.links kept_of)
     all
 
--- An acknowledgement moves the base on, to its number if the link has so many messages.
+-- An acknowledgement moves the base on, to its number at most.
 trimmed-base : (l : Link) (number : ℕ) → (l.base ≤ (trimmed l number).base)
-    × (number ≤ used l → number ≤ (trimmed l number).base)
     × (((trimmed l number).base ≡ l.base) ⊎ ((trimmed l number).base ≤ number))
 trimmed-base l number = (
   omega arith,
-  λ within. (let w = within in omega (arith, w)),
   ⊎_elim {C = ((trimmed l number).base ≡ l.base) ⊎ ((trimmed l number).base ≤ number)}
       (λ (more : l.base < number). inr (omega (arith, more)))
       (λ (none : number ≤ l.base). inl (omega (arith, none)))
@@ -100,16 +98,6 @@ ack-bases n new a x h j =
     subst (λ (k : ℕ). (link_to n k).base ≤ (trimmed (link_to n a.by) a.number).base) here
     (trimmed-base (link_to n a.by) a.number).0)
     (le_refl _))
-
--- and the base is past its number then
-pub ack-reaches : (n new : NodeView) (a : Ack) (x : Answer)
-    → view_act n (event.Ack a) ≡ Ok (new, x) → a.by < length n.links
-    → a.number ≤ used (link_to n a.by) → a.number ≤ (link_to new a.by).base
-ack-reaches n new a x h inside within =
-    let l : Link = trimmed (link_to n a.by) a.number in
-    subst (λ (z : NodeView). a.number ≤ (link_to z a.by).base) (sym (ack-done n new a x h).1)
-    (subst (λ (z : Link). a.number ≤ z.base) (sym (get_or-set_same n.links a.by l no_link inside))
-    ((trimmed-base (link_to n a.by) a.number).1 within))
 
 -- the acknowledgement names the node
 pub ack-own : (n new : NodeView) (a : Ack) (x : Answer) → view_act n (event.Ack a) ≡ Ok (new, x)
@@ -145,7 +133,7 @@ ack-acked {frames} n new a x h among all =
           ⊎_elim {C = IsAcked frames own j (trimmed l a.number).base}
           (λ same. subst (IsAcked frames own j) (sym same) before)
           (λ le. by_frame a.number le there)
-          (trimmed-base l a.number).2)
+          (trimmed-base l a.number).1)
           (all.each j);
       wide = all.wide ∙ sym (length-set n.links a.by (trimmed l a.number));
     })

@@ -34,7 +34,7 @@ use Rattle.c_handles.proofs.Systems.{leads-by}
 
 -- ---- handles stay full
 
-after-filled : (d : Deed) (n : LoneNode) (p : Place) → (place_after d n p).handle ≡ Some n
+pub after-filled : (d : Deed) (n : LoneNode) (p : Place) → (place_after d n p).handle ≡ Some n
 after-filled (TakeImage (Ok mark) old new before needed) n p = refl
 after-filled (TakeBatch (Ok mark) old new before needed) n p = refl
 after-filled (Release r) n p = refl
@@ -53,7 +53,7 @@ deed-filled shape {s} {t} {i} d does filled j inside =
     (n.0, ap (λ (p : Place). p.handle) (does.becomes.others j other) ∙ n.1))
     (cases_eq j i)
 
-call-filled : (shape : Shaped) (s t : System) (c : Call) → IsWithin c → Does c s t
+pub call-filled : (shape : Shaped) (s t : System) (c : Call) → IsWithin c → Does c s t
     → AreFilled shape s → AreFilled shape t
 call-filled shape s t (On i d) within does filled j inside =
     deed-filled shape d does filled j inside
@@ -113,7 +113,7 @@ more-right ss ts h = record {
 }
 
 -- what is said by one call
-said-turns : (c : Call) → IsWithin c → (w : World) (later : List Step) → said_by c w later
+pub said-turns : (c : Call) → IsWithin c → (w : World) (later : List Step) → said_by c w later
     → AreTurns w later
 said-turns (On i (Act e r)) within w later so = absurd within
 said-turns (On i (Work scans slots work r)) within w later so = so.0.1
@@ -193,7 +193,7 @@ module _ {shape : Shaped} {s : System} {choice : Choice} {w : World}
       subst (λ (o : Option LoneNode). Holds o (node_at w.saved i) (node_at w.current i))
       (filled i inside).1 (shown.each i inside).holds
 
-  sent-shown : (from to : ℕ) → from < shape.nodes
+  pub sent-shown : (from to : ℕ) → from < shape.nodes
       → sent_by (s.places from).handle to ≡ length (sent_to (node_at w.current from) to)
   sent-shown from to inside =
       let n = filled from inside in
@@ -206,7 +206,7 @@ module _ {shape : Shaped} {s : System} {choice : Choice} {w : World}
       ap (λ (o : Option LoneNode). sent_by o to) n.1
       ∙ (let e : l.base + length l.unacknowledged ≡ length xs = omega (arith, within, long) in e)
 
-  received-shown : (to from : ℕ) → to < shape.nodes
+  pub received-shown : (to from : ℕ) → to < shape.nodes
       → received_by (s.places to).handle from ≡ got_from (node_at w.current to).local from
   received-shown to from inside =
       let n = filled to inside in
@@ -313,7 +313,7 @@ after-rounds needed Holds_of P law holds shape s t rounds reachable filled are c
     )
 
 -- the node in a handle is as shown
-held-local : {shape : Shaped} {s : System} {c : Choice} {w : World} (i : ℕ) (n : LoneNode)
+pub held-local : {shape : Shaped} {s : System} {c : Choice} {w : World} (i : ℕ) (n : LoneNode)
     → IsShown shape s c w → i < shape.nodes → (s.places i).handle ≡ Some n
     → n.node.core.local ≡ (node_at w.current i).local
 held-local {w = w} i n shown inside held =
