@@ -1,6 +1,6 @@
 -- What a node counts as acknowledged was acknowledged by a frame that handles gave out.
-use Rattle.std.proofs.Common.{◌≡◌, ℕ, zero, suc, ◌+◌, ◌-◌, ◌<◌, ◌≤◌, ◌==◌, ◌++◌, ◌⊎◌, inl, inr, le_refl, length, length-set, get_or-set_same, true, List, [], ◌∷◌, get_or, Option, None, Some, Ok, refl, sym, ap, ◌∙◌, subst, ⊎_elim, arith, eqb-true, map, set}
-use Rattle.std.specs.Prelude.{min, nat_le, Bool}
+use Rattle.std.proofs.Common.{◌≡◌, ℕ, zero, suc, ◌<◌, ◌≤◌, ◌==◌, ◌++◌, ◌⊎◌, inl, inr, le_refl, length, length-set, true, List, [], ◌∷◌, get_or, None, Some, Ok, refl, sym, ap, ◌∙◌, subst, ⊎_elim, arith, eqb-true}
+use Rattle.std.specs.Prelude.{nat_le, Bool}
 use Rattle.ids.specs.declared.refusal.Refusal.{Refusal}
 use Rattle.ids.specs.declared.refusal.Refusal.TheVariants.{AckBeyond, LinkSpent, WrongNode}
 use Rattle.std.proofs.Math.ListN.{get_or-map}
@@ -15,9 +15,8 @@ use Rattle.model.specs.Effects.{unchanged}
 use Rattle.model.specs.declared.event.Event.{Event}
 use Rattle.model.specs.declared.event.Event.TheVariants as event
 use Rattle.model.specs.Cuts.{Among}
-use Rattle.model.specs.State.{got_from}
-use Rattle.model.specs.Steps.{ack_of, is_addressed, made, tests}
-use Rattle.model.specs.View.{Leaves, Link, NodeView, ack_tests, all_kept, base_of, is_other, kept_to, kept_view, kept_with, kept_of, let_go, link_to, no_link, trimmed, used, view_act}
+use Rattle.model.specs.Steps.{ack_of, is_addressed}
+use Rattle.model.specs.View.{Leaves, Link, NodeView, all_kept, base_of, is_other, kept_to, kept_view, kept_with, kept_of, let_go, link_to, no_link, trimmed, view_act}
 use Rattle.model.proofs.Checks.{guarded-passes}
 use Rattle.model.proofs.Lookups.{at_set_if}
 use Rattle.model.proofs.Shown.{ack-done, view-ok}

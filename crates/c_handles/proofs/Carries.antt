@@ -1,16 +1,16 @@
 -- What saving a node and giving it frames come to, in terms of its links.
-use Rattle.std.proofs.Common.{◌≡◌, ◌≢◌, ℕ, zero, suc, ◌+◌, ◌-◌, ◌<◌, ◌≤◌, ◌==◌, ◌++◌, true, false, Bool, List, [], ◌∷◌, length, get_or, set, Some, Ok, Result, Err, refl, sym, ap, ◌∙◌, subst, ⊎_elim, arith, le_refl, le_trans, length-set, get_or-set_same, get_or-set_other, leb-true, ltb-true, leb-false}
+use Rattle.std.proofs.Common.{◌≡◌, ◌≢◌, ℕ, zero, suc, ◌+◌, ◌<◌, ◌≤◌, ◌++◌, true, List, [], ◌∷◌, length, get_or, Ok, refl, sym, ap, ◌∙◌, subst, ⊎_elim, arith, le_refl, length-set, get_or-set_same, get_or-set_other, leb-true, ltb-true}
 use Rattle.std.specs.Prelude.{max, min}
 use Rattle.std.proofs.Math.Seq.{get_or-append_seam}
 use Rattle.std.proofs.lemmas.List.{get_or_append_left}
-use Rattle.std.proofs.lemmas.Bool.{cases_Bool, cases_eq, cond_both, cond-true, ltb-false}
+use Rattle.std.proofs.lemmas.Bool.{cases_eq, cond_both, cond-true}
 use Rattle.msg.specs.declared.frame.Ack.{Ack}
 use Rattle.msg.specs.declared.frame.Data.{Data}
 use Rattle.model.specs.declared.event.Answer.{Answer}
 use Rattle.model.specs.declared.event.Event.TheVariants as event
-use Rattle.model.specs.Effects.{Effect, unchanged}
+use Rattle.model.specs.Effects.{Effect}
 use Rattle.model.specs.State.{LocalState, NodeState, got_from}
-use Rattle.model.specs.Steps.{act, is_early, is_repeat, made, receipt, taken_in}
+use Rattle.model.specs.Steps.{act, is_early, is_repeat, receipt}
 use Rattle.model.specs.View.{Link, NodeView, is_other, kept_to, kept_with, link_to, no_link, trimmed, used, view_act}
 use Rattle.model.proofs.Leaving.{taken-stands}
 use Rattle.model.proofs.Lookups.{at_set_if}

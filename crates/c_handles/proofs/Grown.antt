@@ -1,5 +1,5 @@
 -- What only grows at nodes while callers work, save and carry frames.
-use Rattle.std.proofs.Common.{◌≡◌, ◌≢◌, ℕ, ◌+◌, ◌<◌, ◌≤◌, ◌==◌, true, false, Bool, List, [], ◌∷◌, ◌++◌, length, length-append, Option, None, Some, Result, Ok, Err, ⊎_elim, refl, sym, ap, ◌∙◌, subst, arith, le_refl, le_trans}
+use Rattle.std.proofs.Common.{◌≡◌, ◌≢◌, ℕ, ◌<◌, ◌≤◌, ◌==◌, true, false, Bool, List, [], ◌∷◌, length, length-append, Option, None, Some, Result, Ok, Err, ⊎_elim, refl, sym, ap, ◌∙◌, subst, arith, le_refl, le_trans}
 use Rattle.std.specs.Global.{Vec}
 use Rattle.std.specs.List.{AllByRecursion}
 use Rattle.std.proofs.Math.ListN.{get_or-map}
@@ -10,15 +10,14 @@ use Rattle.frames.specs.Grammar.{Fits, spelling}
 use Rattle.ids.specs.declared.refusal.Refusal.TheVariants.{Memory}
 use Rattle.model.specs.declared.event.Answer.{Answer}
 use Rattle.model.specs.declared.step.Step.{Step}
-use Rattle.model.specs.declared.step.Step.TheVariants as step
 use Rattle.model.specs.Cuts.{Among}
-use Rattle.model.specs.State.{NodeState, got_from, no_node, node_at, sent_to}
+use Rattle.model.specs.State.{NodeState, no_node, node_at, sent_to}
 use Rattle.model.specs.View.{all_kept, base_of, link_to, no_link}
 use Rattle.model.specs.World.{World, happens, run}
 use Rattle.model.proofs.Lookups.{at_set_if}
 use Rattle.laws.specs.Fairness.{is_turns}
-use Rattle.laws.proofs.KeepsSent.{SentMore, sent-onward}
-use Rattle.laws.proofs.Net.{HeardMore, heard-onward}
+use Rattle.laws.proofs.KeepsSent.{sent-onward}
+use Rattle.laws.proofs.Net.{heard-onward}
 use Rattle.laws.proofs.Onward.{Onward}
 use Rattle.laws.proofs.StepFacts.{Happening, nothing, acted, delivered, saved, restarted, happening}
 use Rattle.c_values.specs.declared.fault.Fault.{Fault}
@@ -27,7 +26,7 @@ use Rattle.c_handles.specs.Batches.{BatchOr, batch_of}
 use Rattle.c_handles.specs.Fairness.{AreFilled, IsWithin, IsWithinDeed, received_by, sent_by}
 use Rattle.c_handles.specs.Images.{after_kept}
 use Rattle.c_handles.specs.Logs.{logging}
-use Rattle.c_handles.specs.Programs.{Act, AckFor, Call, Choice, Deed, Does, FrameAt, Frames, Freed, Goes, IsOfSpace, IsShown, Keep, Log, MayFind, Meets, On, Owes, Release, Store, System, Take, TakeBatch, TakeImage, Track, Work, newest, place_of}
+use Rattle.c_handles.specs.Programs.{Act, Call, Choice, Deed, Does, Freed, Goes, IsOfSpace, Keep, Log, Meets, On, Owes, Release, Store, System, Take, TakeBatch, TakeImage, Track, Work, newest, place_of}
 use Rattle.c_handles.specs.declared.lone.images.Counts.{Counts}
 use Rattle.c_handles.specs.declared.lone.LoneNode.{LoneNode}
 use Rattle.c_handles.proofs.Advances.{took-advances, works-advances}

@@ -1,30 +1,27 @@
 -- If each node has a turn twice, messages come in on every link.
-use Rattle.std.proofs.Common.{◌≡◌, ◌≢◌, ℕ, zero, suc, ◌+◌, ◌-◌, ◌<◌, ◌≤◌, ◌==◌, ◌&&◌, ltb, true, false, Bool, List, [], ◌∷◌, ◌++◌, length, get_or, Option, None, Some, Result, Ok, Err, slice_get, inl, inr, ⊎_elim, refl, sym, ap, ◌∙◌, subst, arith, le_refl, le_trans, lt-ltb, length-append, length-drop, eqb-true}
-use Rattle.std.specs.Prelude.{not, option_to_list}
+use Rattle.std.proofs.Common.{◌≡◌, ◌≢◌, ℕ, zero, suc, ◌+◌, ◌-◌, ◌<◌, ◌≤◌, ◌==◌, ◌&&◌, ltb, true, false, Bool, List, [], ◌∷◌, ◌++◌, length, get_or, Option, None, Some, Ok, Err, slice_get, inl, inr, ⊎_elim, refl, sym, ap, ◌∙◌, subst, arith, le_refl, le_trans, lt-ltb, length-drop}
+use Rattle.std.specs.Prelude.{option_to_list}
 use Rattle.std.specs.Global.{Vec}
 use Rattle.std.specs.List.{AllByRecursion}
 use Rattle.std.specs.Option.{option_map}
 use Rattle.std.proofs.lemmas.Bool.{and_from, cases_eq, cases_lt, cond-true, ne_eqb, not_from_false}
 use Rattle.std.proofs.lemmas.List.{append-nil}
 use Rattle.std.proofs.lemmas.Option.{slice_get-get_or}
-use Rattle.ids.specs.Limits.{Shaped, IsShape}
+use Rattle.ids.specs.Limits.{Shaped}
 use Rattle.ids.specs.declared.limits.TheConstants.{WINDOW}
-use Rattle.msg.specs.Frames.{Plain, ack_frame, data_frame, plain, plain_ack, plain_data}
+use Rattle.msg.specs.Frames.{Plain, ack_frame, data_frame, plain}
 use Rattle.msg.specs.declared.body.Body.{Body}
 use Rattle.msg.specs.declared.body.Message.{Message}
-use Rattle.msg.specs.declared.frame.Ack.{Ack}
-use Rattle.msg.specs.declared.frame.Data.{Data}
 use Rattle.msg.specs.declared.frame.Frame.{Frame}
 use Rattle.msg.specs.declared.frame.Frame.TheVariants as frame
 use Rattle.frames.specs.Grammar.{Fits, spelling}
 use Rattle.frames.proofs.Frames.{no_spelling_begins_another}
 use Rattle.model.specs.declared.event.Answer.{Answer}
-use Rattle.model.specs.declared.event.Event.TheVariants as event
 use Rattle.model.specs.Cuts.{Among, cut}
 use Rattle.model.specs.References.{no_message}
-use Rattle.model.specs.State.{LocalState, NodeState, got_from, node_at, sent_to}
-use Rattle.model.specs.View.{Link, NodeView, is_other, link_to, released_at, used}
-use Rattle.model.specs.World.{World, IsInNet, new_world, run}
+use Rattle.model.specs.State.{LocalState, got_from, node_at, sent_to}
+use Rattle.model.specs.View.{Link, NodeView, is_other, link_to, used}
+use Rattle.model.specs.World.{World, IsInNet}
 use Rattle.node.specs.Frames.{acknowledgement, frame_of, released_frame}
 use Rattle.node.specs.Keeping.{WholeNode}
 use Rattle.laws.specs.Carried.{IsCarried}
@@ -34,21 +31,19 @@ use Rattle.laws.proofs.Invariant.{Base}
 use Rattle.laws.proofs.Lookups.{among-append_left, among-append_right}
 use Rattle.laws.proofs.Net.{acknowledged-is-taken-in}
 use Rattle.laws.proofs.progress.Spaces.{Reached, reached-heard}
-use Rattle.c_values.specs.declared.fault.Fault.{Fault}
-use Rattle.c_values.specs.declared.fields.CWork.{CWork}
 use Rattle.c_handles.specs.Batches.{BatchOr, batch_of}
-use Rattle.c_handles.specs.Fairness.{AreFilled, GaveMark, HasWorked, HaveAllTurns, HaveTurns, IsCallRound, IsTurnOf, IsWithin, IsWithinDeed, TakesIn, TurnsAreRounds, frames_for, has_taken, passes_by, received_by, sent_by, takes}
+use Rattle.c_handles.specs.Fairness.{GaveMark, HasWorked, HaveTurns, IsTurnOf, IsWithin, IsWithinDeed, TakesIn, TurnsAreRounds, frames_for, has_taken, passes_by, received_by, sent_by, takes}
 use Rattle.c_handles.specs.Images.{after_kept, counts_of, keeps, kept_result}
-use Rattle.c_handles.specs.Lone.{Given, Handled, TookIn}
-use Rattle.c_handles.specs.Programs.{Call, Choice, Deed, Does, Goes, Holds, IsShown, Keep, MayFind, Meets, On, Store, Stored, System, Take, TakeBatch, TakeImage, Work, newest, window_of}
+use Rattle.c_handles.specs.Lone.{Handled, TookIn}
+use Rattle.c_handles.specs.Programs.{Call, Choice, Deed, Does, Goes, Holds, IsShown, Keep, Meets, On, Store, System, Take, TakeBatch, TakeImage, Work, newest, window_of}
 use Rattle.c_handles.specs.declared.lone.images.Counts.{Counts}
 use Rattle.c_handles.specs.declared.lone.LoneNode.{LoneNode}
-use Rattle.c_handles.proofs.Acked.{AreAcked, IsAcked, ack-own, by_frame, none_yet}
+use Rattle.c_handles.proofs.Acked.{IsAcked, by_frame, none_yet}
 use Rattle.c_handles.proofs.Calls.{IsSoundIn, IsSoundNode}
 use Rattle.c_handles.proofs.Carries.{Saves, ack-reaches, all-saved, data-got}
 use Rattle.c_handles.proofs.Deeds.{came}
-use Rattle.c_handles.proofs.Grown.{Grown, Sits, Went, base_by, goes-went, grown-on, grown-same, sits-on, call-grown}
-use Rattle.c_handles.proofs.Fairness.{after-filled, held-local}
+use Rattle.c_handles.proofs.Grown.{Sits, Went, base_by, goes-went, grown-on, grown-same, sits-on, call-grown}
+use Rattle.c_handles.proofs.Fairness.{after-filled}
 use Rattle.c_handles.proofs.Systems.{newest-among}
 
 -- ---- lists of calls
@@ -699,8 +694,7 @@ turns-goes shape (i ∷ is) calls s t (next, turn, rest, same, inside, h, more) 
     let within = within-append four h.gives (tt, (deed_within, (tt, (tt, tt)))) h.within in
     subst (λ (z : List Call). Goes shape s z t × AllByRecursion IsWithin z) (sym same)
     (subst (λ (z : List Call). Goes shape s (z ++ rest) t × AllByRecursion IsWithin (z ++ rest))
-    (sym h.is)
-    (
+    (sym h.is) (
       goes-append shape (four ++ h.gives) rest s next t goes later.0,
       within-append (four ++ h.gives) rest within later.1,
     ))

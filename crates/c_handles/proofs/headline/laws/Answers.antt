@@ -122,3 +122,6 @@ returns-clause-calls_end_cycle c = calls-end-cycle
 
 pub returns-clause-calls_free_garbage : goal.returns-clause-calls_free_garbage
 returns-clause-calls_free_garbage c = calls-free-garbage
+
+pub returns-clause-turns_are_rounds : goal.returns-clause-turns_are_rounds
+returns-clause-turns_are_rounds c = turns-are-rounds
