@@ -157,7 +157,8 @@ with-acked {frames} peer sent received n all =
           at_set_if (λ (z : Link). IsAcked frames n.local.own j z.base) n.links peer j
           (kept_to sent (link_to n peer)) no_link
           (λ (here : peer ≡ j).
-          subst (λ (k : ℕ). IsAcked frames n.local.own j (link_to n k).base) (sym here) (all.each j))
+          subst (λ (k : ℕ). IsAcked frames n.local.own j (link_to n k).base) (sym here)
+          (all.each j))
           (all.each j);
       wide = length-set n.acks peer _ ∙ all.wide
           ∙ sym (length-set n.links peer (kept_to sent (link_to n peer)));

@@ -438,18 +438,19 @@ done i d w later =
     × (IsTried d.result → IsActed d.event → Among (step.Act i d.event) later)
 
 event-done : (i : ℕ) (d : Did) (q : IsQuiet d.event) (x : Result Answer Refusal) → x ≢ Err LinkSpent
-    → (IsTried d.result → x ≢ Err Memory) → (w : World) (later : List Step)
+    → (IsTried d.result → x ≢ Err Memory) → {w : World} {later : List Step}
     → EventSteps i d.event x w later
     → AreTurns w later × (IsTried d.result → IsActed d.event → Among (step.Act i d.event) later)
-event-done i d q x numbered plenty w later (made out) =
+event-done i d q x numbered plenty (made out) =
     (((q.2 i, λ e. numbered (unspent x (sym out ∙ e))), tt), λ tried acts. inl refl)
-event-done i d q x numbered plenty w later (unmade is) =
+event-done i d q x numbered plenty (unmade is) =
     (tt, λ tried acts. absurd (plenty tried is))
-event-done i d q x numbered plenty w later (came_in ss from is turns) =
+event-done i d q x numbered plenty (came_in ss from is turns) =
     (turns, λ tried acts. absurd (acts from is))
 
 -- what was tried is among the steps
-tried-among : (i : ℕ) {e : Event} {ds : List Did} (later : List Step) → Tried i ds later → Tries e ds
+tried-among : (i : ℕ) {e : Event} {ds : List Did} (later : List Step) → Tried i ds later
+    → Tries e ds
     → IsActed e → Among (step.Act i e) later
 tried-among i {e} later all t acts_so =
     subst (λ (z : Event). Among (step.Act i z) later) t.is
@@ -621,7 +622,7 @@ module _ {shape : Shaped} (within : IsShape shape) {frames : List Plain} {i : �
       by (Ok a) is g same =
           advances-resaid (λ w later so.
           (let told = subst (λ (z : Result Answer Fault). acted_by i d.event z w later) is so in
-          let steps = event-done i d q (Ok a) (λ e. absurd cc) (λ _ e. absurd cc) w later told.1 in
+          let steps = event-done i d q (Ok a) (λ e. absurd cc) (λ _ e. absurd cc) told.1 in
           (((λ saved. told.0 saved ∙ untold i d.event (Ok a) q.1 saved), steps.0), steps.1))) g
       by (Err (fault.Refused LinkSpent)) is g same = record {
         counts = g.counts;
@@ -639,7 +640,7 @@ module _ {shape : Shaped} (within : IsShape shape) {frames : List Plain} {i : �
           advances-resaid (λ w later so.
           (let told = subst (λ (z : Result Answer Fault). acted_by i d.event z w later) is so in
           let steps = event-done i d q (Err f) (λ e. absurd cc)
-          (λ tried e. tried-plenty f (subst IsTried is tried) e) w later told.1 in
+          (λ tried e. tried-plenty f (subst IsTried is tried) e) told.1 in
           (((λ saved. told.0 saved ∙ untold i d.event (Err f) q.1 saved), steps.0), steps.1))) g
       by (Err f) is g same =
           advances-resaid (λ w later so. (

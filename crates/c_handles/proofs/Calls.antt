@@ -323,7 +323,8 @@ module _ {shape : Shaped} (within : IsShape shape) {s : System} (t : System) {i 
   -- an image or a batch is stored
   pub stored-stepped : {e : Stored} {others : List Stored} (earlier : List Stored)
       → (s.places i).taken ≡ earlier ++ e ∷ others
-      → Becomes s t i (record (s.places i) { stored = e; taken = others }) [] → Stepped shape s t quietly
+      → Becomes s t i (record (s.places i) { stored = e; taken = others }) []
+      → Stepped shape s t quietly
   stored-stepped {e} {others} earlier taken becomes =
       let p : Place = s.places i in
       let same : newest p ≡ newest (record p { stored = e; taken = others }) =
@@ -363,7 +364,8 @@ module _ {shape : Shaped} (within : IsShape shape) {s : System} (t : System) {i 
             (
               refl,
               λ e. absurd
-                  (let never = sym (ap outcome_of (save-step w i (below within is inside))) ∙ e in cc),
+                  (let done = save-step w i (below within is inside) in
+                  let never = sym (ap outcome_of done) ∙ e in cc),
             ),
             tt,
           ),

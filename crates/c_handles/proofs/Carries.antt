@@ -90,10 +90,10 @@ keeps-alike counts (suc peer) n =
     alike-with peer (get_or counts peer no_counts).sent (get_or counts peer no_counts).received
     n.core (keeps_below counts peer n).core (keeps-alike counts peer n)
 
-saves-with : (peer : ℕ) (c : Counts) (n m : NodeView) → Alike n m → is_other n.local peer ≡ true
+saves-with : {n m : NodeView} (peer : ℕ) (c : Counts) → Alike n m → is_other n.local peer ≡ true
     → peer < length n.links → length n.acks ≡ length n.links → c ≡ counted n peer
     → Saves n (kept_with peer c.sent c.received m) peer
-saves-with peer c n m h other inside wide is =
+saves-with {n} {m} peer c h other inside wide is =
     let link : Link = kept_to c.sent (link_to m peer) in
     let ack : ℕ = max (get_or m.acks peer 0) (min c.received (got_from m.local peer)) in
     subst (λ (z : NodeView). Saves n z peer)
@@ -139,7 +139,7 @@ keeps-saves n (suc peer) j below inside other wide =
     ⊎_elim {C = Saves n.core (kept_with peer c.sent c.received m) j}
     (λ (last : j ≡ peer).
     subst (λ (z : ℕ). Saves n.core (kept_with peer c.sent c.received m) z) (sym last)
-    (saves-with peer c n.core m (keeps-alike counts peer n)
+    (saves-with peer c (keeps-alike counts peer n)
     (subst (λ (z : ℕ). is_other n.core.local z ≡ true) last other)
     (omega (arith, inside)) wide
     (counts-at n.core (length n.core.links) peer (omega (arith, inside)))))
@@ -187,10 +187,10 @@ data-got s t d a answered inside due =
     (le_refl _)))))
 
 -- An acknowledgement moves the base on to its number, or to all that was sent.
-pub ack-reaches : (n new : NodeView) (a : Ack) (x : Answer) (k : ℕ)
+pub ack-reaches : (n new : NodeView) (a : Ack) {x : Answer} (k : ℕ)
     → view_act n (event.Ack a) ≡ Ok (new, x) → a.by < length n.links → k ≤ a.number
     → k ≤ used (link_to n a.by) → k ≤ (link_to new a.by).base
-ack-reaches n new a x k h inside most within =
+ack-reaches n new a {x} k h inside most within =
     let l : Link = trimmed (link_to n a.by) a.number in
     subst (λ (z : NodeView). k ≤ (link_to z a.by).base) (sym (ack-done n new a x h).1)
     (subst (λ (z : Link). k ≤ z.base) (sym (get_or-set_same n.links a.by l no_link inside))

@@ -71,7 +71,8 @@ module _ {shape : Shaped} (within : IsShape shape) {s : System} (t : System) {i 
 
   image-stepped : (n m : LoneNode) (old new : List ℕ) (before needed : ℕ) (r : Result ℕ Fault)
       → p.handle ≡ Some n → IsCounted n → Imaged n m r old new before needed
-      → Becomes s t i (place_after (TakeImage r old new before needed) m p) [] → Stepped shape s t quietly
+      → Becomes s t i (place_after (TakeImage r old new before needed) m p) []
+      → Stepped shape s t quietly
   image-stepped n m old new before needed (Ok mark) held wide (took, wrote) becomes =
       let bytes : List ℕ = image_in n in
       let front : take needed new ≡ bytes = front-of bytes old new needed wrote in
@@ -85,8 +86,10 @@ module _ {shape : Shaped} (within : IsShape shape) {s : System} (t : System) {i 
       (subst (λ (l : List ℕ). Continues (Image l []) m) (sym front)
       (continues-from m (saved_whole n.node) stored took.logs))
       becomes
-  image-stepped n m old new before needed (Err fault.ShortBuffer) held wide h becomes = same-stepped held h.0 becomes
-  image-stepped n m old new before needed (Err (fault.Refused e)) held wide h becomes = same-stepped held h.0 becomes
+  image-stepped n m old new before needed (Err fault.ShortBuffer) held wide h becomes =
+      same-stepped held h.0 becomes
+  image-stepped n m old new before needed (Err (fault.Refused e)) held wide h becomes =
+      same-stepped held h.0 becomes
   image-stepped n m old new before needed (Err e) held wide h becomes = absurd h
 
   batch-of : {n m : LoneNode} {mark : ℕ} {bytes : List ℕ} (e : Stored)
@@ -108,11 +111,13 @@ module _ {shape : Shaped} (within : IsShape shape) {s : System} (t : System) {i 
       (λ _. (tt, tt))
 
   batch-stepped : (n m : LoneNode) (old new : List ℕ) (before needed : ℕ) (r : Result ℕ Fault)
-      (b : Option (List ℕ)) → p.handle ≡ Some n → IsCounted n → BatchOr b n m r old new before needed
+      (b : Option (List ℕ)) → p.handle ≡ Some n → IsCounted n
+      → BatchOr b n m r old new before needed
       → Continues (newest p) n
       → ((image batches : List ℕ) → newest p ≡ Image image batches
       → (first : WholeNode) × IsStored image batches first)
-      → Becomes s t i (place_after (TakeBatch r old new before needed) m p) [] → Stepped shape s t quietly
+      → Becomes s t i (place_after (TakeBatch r old new before needed) m p) []
+      → Stepped shape s t quietly
   batch-stepped n m old new before needed (Ok mark) (Some bytes) held wide (gave, wrote) log
       found becomes =
       let front : take needed new ≡ record_of bytes =
@@ -125,14 +130,20 @@ module _ {shape : Shaped} (within : IsShape shape) {s : System} (t : System) {i 
       (subst (λ (l : List ℕ). IsOf (behind (newest p) l) n.node) (sym front) both.0)
       (subst (λ (l : List ℕ). Continues (behind (newest p) l) m) (sym front) both.1)
       becomes
-  batch-stepped n m old new before needed (Err fault.ShortBuffer) (Some bytes) held wide h log found becomes =
+  batch-stepped n m old new before needed (Err fault.ShortBuffer) (Some bytes) held wide h log
+      found becomes =
       same-stepped held h.0 becomes
-  batch-stepped n m old new before needed (Err (fault.Refused refusal.Memory)) (Some bytes) held wide h log found becomes =
+  batch-stepped n m old new before needed (Err (fault.Refused refusal.Memory)) (Some bytes) held
+      wide h log found becomes =
       same-stepped held h.0 becomes
-  batch-stepped n m old new before needed (Err (fault.Refused e)) (Some bytes) held wide h log found becomes = absurd h
-  batch-stepped n m old new before needed (Err e) (Some bytes) held wide h log found becomes = absurd h
-  batch-stepped n m old new before needed (Ok mark) None held wide h log found becomes = absurd (let never = h.0 in cc)
-  batch-stepped n m old new before needed (Err e) None held wide h log found becomes = same-stepped held h.1 becomes
+  batch-stepped n m old new before needed (Err (fault.Refused e)) (Some bytes) held wide h log
+      found becomes = absurd h
+  batch-stepped n m old new before needed (Err e) (Some bytes) held wide h log found becomes =
+      absurd h
+  batch-stepped n m old new before needed (Ok mark) None held wide h log found becomes =
+      absurd (let never = h.0 in cc)
+  batch-stepped n m old new before needed (Err e) None held wide h log found becomes =
+      same-stepped held h.1 becomes
 
   -- ---- what counts as saved
 
@@ -218,21 +229,23 @@ module _ {shape : Shaped} (within : IsShape shape) {s : System} (t : System) {i 
   deed-stepped {n} m (FrameAt to place (Ok u) old new before needed) held meets becomes space first
       wide log found =
       gives-stepped held meets.1 (released-out within t inside sound n to place) becomes
-  deed-stepped {n} m (FrameAt to place (Err e) old new before needed) held meets becomes space first wide log
-      found = same-stepped held meets.1 becomes
-  deed-stepped {n} m (AckFor from (Ok u) old new before needed) held meets becomes space first wide log
-      found =
+  deed-stepped {n} m (FrameAt to place (Err e) old new before needed) held meets becomes space first
+      wide log found = same-stepped held meets.1 becomes
+  deed-stepped {n} m (AckFor from (Ok u) old new before needed) held meets becomes space first
+      wide log found =
       gives-stepped held meets.1 (ack-out within t inside sound n from) becomes
-  deed-stepped {n} m (AckFor from (Err e) old new before needed) held meets becomes space first wide log
-      found = same-stepped held meets.1 becomes
+  deed-stepped {n} m (AckFor from (Err e) old new before needed) held meets becomes space first
+      wide log found = same-stepped held meets.1 becomes
   deed-stepped {n} m (Frames to after (Ok count) old new before needed) held meets becomes space
       first wide log found =
       gives-stepped held meets.1 (window-out within t inside sound n to WINDOW) becomes
-  deed-stepped {n} m (Frames to after (Err e) old new before needed) held meets becomes space first wide log
-      found = same-stepped held meets.1 becomes
-  deed-stepped {n} m (TakeImage r old new before needed) held meets becomes space first wide log found =
+  deed-stepped {n} m (Frames to after (Err e) old new before needed) held meets becomes space first
+      wide log found = same-stepped held meets.1 becomes
+  deed-stepped {n} m (TakeImage r old new before needed) held meets becomes space first
+      wide log found =
       image-stepped n m old new before needed r held wide meets becomes
-  deed-stepped {n} m (TakeBatch r old new before needed) held meets becomes space first wide log found =
+  deed-stepped {n} m (TakeBatch r old new before needed) held meets becomes space first
+      wide log found =
       batch-stepped n m old new before needed r (batch_of n) held wide meets log found becomes
   deed-stepped {n} m (Keep mark r) held meets becomes space first wide log found =
       keep-stepped mark n.counts (mark == n.mark) refl refl held meets.0 meets.2 (first n held)
@@ -276,7 +289,8 @@ module _ {shape : Shaped} (within : IsShape shape) {s : System} (t : System) {i 
       (subst (λ (y : WholeNode). AreAcked s.frames y.core) (sym same)
       (record {
         each = λ j. none_yet (ap base_of (get_or-replicate_any {A = Link} shape.nodes j no_link));
-        wide = length-replicate shape.nodes 0 ∙ sym (length-replicate {A = Link} shape.nodes no_link);
+        wide = length-replicate shape.nodes 0
+            ∙ sym (length-replicate {A = Link} shape.nodes no_link);
       }))
       (continues-none p.stored n (no-log n (ap (λ (x : LoneNode). x.logs) is)))
       (ap (λ (x : LoneNode). x.counts) is) becomes
@@ -424,5 +438,6 @@ came {shape} within calls s goes =
     goes-came within calls new_system s (record {
       each = λ i. tt;
       stored = λ i e among image batches m is of.
-          absurd (⊎_elim (λ (none : e ≡ Nothing). let both = sym none ∙ is in cc) (λ never. never) among);
+          absurd
+          (⊎_elim (λ (none : e ≡ Nothing). let both = sym none ∙ is in cc) (λ never. never) among);
     }) (new-shown-system shape) goes

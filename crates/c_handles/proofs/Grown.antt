@@ -23,19 +23,18 @@ use Rattle.laws.proofs.StepFacts.{Happening, nothing, acted, delivered, saved, r
 use Rattle.c_values.specs.declared.fault.Fault.{Fault}
 use Rattle.c_values.specs.declared.fault.Fault.TheVariants as fault
 use Rattle.c_handles.specs.Batches.{BatchOr, batch_of}
-use Rattle.c_handles.specs.Fairness.{AreFilled, IsWithin, IsWithinDeed, received_by, sent_by}
+use Rattle.c_handles.specs.Fairness.{IsWithin, IsWithinDeed, received_by, sent_by}
 use Rattle.c_handles.specs.Images.{after_kept}
 use Rattle.c_handles.specs.Logs.{logging}
-use Rattle.c_handles.specs.Programs.{Act, Call, Choice, Deed, Does, Freed, Goes, IsOfSpace, Keep, Log, Meets, On, Owes, Release, Store, System, Take, TakeBatch, TakeImage, Track, Work, newest, place_of}
+use Rattle.c_handles.specs.Programs.{Act, Call, Choice, Deed, Does, DoesOn, Freed, Goes, IsOfSpace, Keep, Log, On, Owes, Release, Store, System, Take, TakeBatch, TakeImage, Track, Work, newest, place_of}
 use Rattle.c_handles.specs.declared.lone.images.Counts.{Counts}
 use Rattle.c_handles.specs.declared.lone.LoneNode.{LoneNode}
 use Rattle.c_handles.proofs.Advances.{took-advances, works-advances}
-use Rattle.c_handles.proofs.Calls.{IsSound}
 use Rattle.c_handles.proofs.Carries.{kept-bases}
-use Rattle.c_handles.proofs.Deeds.{AllShown, does-stepped, shown-on}
-use Rattle.c_handles.proofs.Fairness.{after-filled, call-filled, received-shown, said-turns, sent-shown}
+use Rattle.c_handles.proofs.Deeds.{does-stepped}
+use Rattle.c_handles.proofs.Fairness.{Sits, after-filled, sits-on, call-filled, received-shown, said-turns, sent-shown}
 use Rattle.c_handles.proofs.Says.{AreTurns}
-use Rattle.c_handles.proofs.Systems.{leads-by, newest-among}
+use Rattle.c_handles.proofs.Systems.{newest-among}
 
 -- ---- steps
 
@@ -78,20 +77,6 @@ same-node : (n m : LoneNode) → m.node ≡ n.node → Bases n m
 same-node n m same j =
     subst (λ z. (link_to n.node.core j).base ≤ (link_to z.core j).base) (sym same) (le_refl _)
 
-batch-bases : (b : Option (List ℕ)) (n m : LoneNode) (r : Result ℕ Fault) (old new : List ℕ)
-    (before needed : ℕ) → BatchOr b n m r old new before needed → Bases n m
-batch-bases (Some bytes) n m (Ok mark) old new before needed h =
-    same-node n m (ap (λ (x : LoneNode). x.node) h.0.stays)
-batch-bases (Some bytes) n m (Err fault.ShortBuffer) old new before needed h =
-    same-node n m (ap (λ (x : LoneNode). x.node) h.0)
-batch-bases (Some bytes) n m (Err (fault.Refused Memory)) old new before needed h =
-    same-node n m (ap (λ (x : LoneNode). x.node) h.0)
-batch-bases (Some bytes) n m (Err (fault.Refused e)) old new before needed h = absurd h
-batch-bases (Some bytes) n m (Err e) old new before needed h = absurd h
-batch-bases None n m (Ok mark) old new before needed h = absurd (let never = h.0 in cc)
-batch-bases None n m (Err e) old new before needed h =
-    same-node n m (ap (λ (x : LoneNode). x.node) h.1)
-
 keep-bases : (o : Option (Vec Counts)) (same : Bool) (n : LoneNode)
     → Bases n (after_kept o same n)
 keep-bases None same n j = le_refl _
@@ -99,67 +84,67 @@ keep-bases (Some counts) false n j = le_refl _
 keep-bases (Some counts) true n j =
     (let e = kept-bases counts.items n.node j in omega (arith, e))
 
-deed-bases : {shape : Shaped} → IsShape shape → (frames : List Plain) {i : ℕ} → i < shape.nodes
-    → (d : Deed) (n m : LoneNode) → IsWithinDeed d → Meets d n m
-    → ((bytes : List ℕ) (r : Result Answer Fault) → d ≡ Take bytes r → (f : Plain) → Fits f → bytes ≡ spelling f
-    → Among f frames)
-    → Bases n m
-deed-bases limits frames inside (Act e r) n m within meets of_space = absurd within
-deed-bases limits frames inside (Take bytes r) n m within meets of_space =
-    (took-advances limits {frames = frames} inside (of_space bytes r refl) meets).bases
-deed-bases limits frames inside (Work scans slots work r) n m within meets of_space =
-    (works-advances limits {frames = frames} inside scans slots work r meets).bases
-deed-bases limits frames inside (TakeImage (Ok mark) old new before needed) n m within meets of_space =
-    same-node n m (ap (λ (x : LoneNode). x.node) meets.0.stays)
-deed-bases limits frames inside (TakeImage (Err fault.ShortBuffer) old new before needed) n m within meets
-    of_space = same-node n m (ap (λ (x : LoneNode). x.node) meets.0)
-deed-bases limits frames inside (TakeImage (Err (fault.Refused e)) old new before needed) n m within meets
-    of_space = same-node n m (ap (λ (x : LoneNode). x.node) meets.0)
-deed-bases limits frames inside (TakeImage (Err e) old new before needed) n m within meets of_space =
-    absurd meets
-deed-bases limits frames inside (TakeBatch r old new before needed) n m within meets of_space =
-    batch-bases (batch_of n) n m r old new before needed meets
-deed-bases limits frames inside (Keep mark r) n m within meets of_space =
-    subst (Bases n) (sym meets.0) (keep-bases n.counts (mark == n.mark) n)
-deed-bases limits frames inside (Release r) n m within meets of_space =
-    λ j. (let e = ap base_of (get_or-map all_kept n.node.core.links j no_link) in
-    subst (λ (x : LoneNode). (link_to n.node.core j).base ≤ (link_to x.node.core j).base)
-    (sym meets.0) (omega (arith, e)))
-deed-bases limits frames inside (Log on r) n m within meets of_space =
-    subst (Bases n) (sym meets.0)
-    (by on)
+deed-bases : {shape : Shaped} {s t : System} {i : ℕ} → IsShape shape → (frames : List Plain)
+    → i < shape.nodes → (d : Deed) (does : DoesOn i d s t) → IsWithinDeed d
+    → ((bytes : List ℕ) (r : Result Answer Fault) → d ≡ Take bytes r → (f : Plain) → Fits f
+    → bytes ≡ spelling f → Among f frames)
+    → Bases does.old does.new
+deed-bases limits frames inside (Act e r) does within of_space = absurd within
+deed-bases limits frames inside (Take bytes r) does within of_space =
+    (took-advances limits {frames = frames} inside (of_space bytes r refl) does.meets).bases
+deed-bases limits frames inside (Work scans slots work r) does within of_space =
+    (works-advances limits {frames = frames} inside scans slots work r does.meets).bases
+deed-bases limits frames inside (TakeImage (Ok mark) old new before needed) does within of_space =
+    same-node does.old does.new (ap (λ (x : LoneNode). x.node) does.meets.0.stays)
+deed-bases limits frames inside (TakeImage (Err fault.ShortBuffer) old new before needed) does
+    within of_space = same-node does.old does.new (ap (λ (x : LoneNode). x.node) does.meets.0)
+deed-bases limits frames inside (TakeImage (Err (fault.Refused e)) old new before needed) does
+    within of_space = same-node does.old does.new (ap (λ (x : LoneNode). x.node) does.meets.0)
+deed-bases limits frames inside (TakeImage (Err e) old new before needed) does within of_space =
+    absurd does.meets
+deed-bases limits frames inside (TakeBatch r old new before needed) does within of_space =
+    by (batch_of does.old) r does.meets
   where
-    by : (b : Bool) → Bases n (logging b n)
+    same : does.new ≡ does.old → Bases does.old does.new
+    same e = same-node does.old does.new (ap (λ (x : LoneNode). x.node) e)
+
+    by : (b : Option (List ℕ)) (q : Result ℕ Fault)
+        → BatchOr b does.old does.new q old new before needed → Bases does.old does.new
+    by (Some bytes) (Ok mark) h =
+        same-node does.old does.new (ap (λ (x : LoneNode). x.node) h.0.stays)
+    by (Some bytes) (Err fault.ShortBuffer) h = same h.0
+    by (Some bytes) (Err (fault.Refused Memory)) h = same h.0
+    by (Some bytes) (Err (fault.Refused e)) h = absurd h
+    by (Some bytes) (Err e) h = absurd h
+    by None (Ok mark) h = absurd (let never = h.0 in cc)
+    by None (Err e) h = same h.1
+deed-bases limits frames inside (Keep mark r) does within of_space =
+    subst (Bases does.old) (sym does.meets.0)
+    (keep-bases does.old.counts (mark == does.old.mark) does.old)
+deed-bases limits frames inside (Release r) does within of_space =
+    λ j.
+    (let e = ap base_of (get_or-map all_kept does.old.node.core.links j no_link) in
+    subst (λ (x : LoneNode). (link_to does.old.node.core j).base ≤ (link_to x.node.core j).base)
+    (sym does.meets.0) (omega (arith, e)))
+deed-bases limits frames inside (Log on r) does within of_space =
+    subst (Bases does.old) (sym does.meets.0) (by on)
+  where
+    by : (b : Bool) → Bases does.old (logging b does.old)
     by true =
-        cond_both n.logs n (record n { logs = true; log = None }) (Bases n) (λ _ j. le_refl _)
-        (λ _ j. le_refl _)
+        cond_both does.old.logs does.old (record does.old { logs = true; log = None })
+        (Bases does.old) (λ _ j. le_refl _) (λ _ j. le_refl _)
     by false = λ j. le_refl _
-deed-bases limits frames inside (Track on r) n m within meets of_space =
-    same-node n m (ap (λ (x : LoneNode). x.node) meets.0)
-deed-bases limits frames inside (Freed count old new) n m within meets of_space =
-    same-node n m (ap (λ (x : LoneNode). x.node) meets.stays)
-deed-bases limits frames inside d n m within meets of_space =
-    same-node n m (ap (λ (x : LoneNode). x.node) meets.1)
+deed-bases limits frames inside (Track on r) does within of_space =
+    same-node does.old does.new (ap (λ (x : LoneNode). x.node) does.meets.0)
+deed-bases limits frames inside (Freed count old new) does within of_space =
+    same-node does.old does.new (ap (λ (x : LoneNode). x.node) does.meets.stays)
+deed-bases limits frames inside d does within of_space =
+    same-node does.old does.new (ap (λ (x : LoneNode). x.node) does.meets.1)
 
 -- ---- calls
 
--- the handles are full, after calls whose callers did what they owe
-pub record Sits (shape : Shaped) (s : System) : Type 0 where
-  pub limits : IsShape shape
-  pub sound : IsSound s
-  pub shown : AllShown shape s
-  pub filled : AreFilled shape s
-
-pub sits-on : {shape : Shaped} {s : System} (t : System) (c : Call) → Sits shape s → IsWithin c
-    → place_of c < shape.nodes → Does c s t → Owes shape s c → Sits shape t
-sits-on {shape} {s} t c h within inside does owes =
-    let one = does-stepped h.limits t h.sound h.shown c inside does owes in
-    record {
-      limits = h.limits;
-      sound = one.sound;
-      shown = shown-on h.shown (λ b may. leads-by (one.leads b may));
-      filled = call-filled shape s t c within does h.filled;
-    }
+abbrev BasesGrow : System → System → Type 0
+BasesGrow s t = (i j : ℕ) → base_by (s.places i).handle j ≤ base_by (t.places i).handle j
 
 -- what grows
 pub record Grown (shape : Shaped) (s t : System) : Type 0 where
@@ -167,15 +152,14 @@ pub record Grown (shape : Shaped) (s t : System) : Type 0 where
       → received_by (s.places i).handle j ≤ received_by (t.places i).handle j
   pub sent : (i j : ℕ) → i < shape.nodes
       → sent_by (s.places i).handle j ≤ sent_by (t.places i).handle j
-  pub bases : (i j : ℕ) → base_by (s.places i).handle j ≤ base_by (t.places i).handle j
+  pub bases : BasesGrow s t
 
 call-bases : {shape : Shaped} {s : System} (t : System) (c : Call) → Sits shape s → IsWithin c
-    → place_of c < shape.nodes → Does c s t → Owes shape s c → (i j : ℕ)
-    → base_by (s.places i).handle j ≤ base_by (t.places i).handle j
+    → place_of c < shape.nodes → Does c s t → Owes shape s c → BasesGrow s t
 call-bases {shape} {s} t (On k d) h within inside does owes i j =
     ⊎_elim {C = base_by (s.places i).handle j ≤ base_by (t.places i).handle j}
     (λ (here : i ≡ k).
-    let bases = deed-bases h.limits s.frames inside d does.old does.new within does.meets
+    let bases = deed-bases h.limits s.frames inside d does within
     (λ bytes r is. subst (λ (z : Deed). IsOfSpace s (On k z)) is owes.of_space) j in
     let was = ap (λ (o : Option LoneNode). base_by o j)
     (ap (λ (z : ℕ). (s.places z).handle) here ∙ does.held) in
@@ -190,7 +174,8 @@ call-bases {shape} {s} t (On k d) h within inside does owes i j =
 call-bases {shape} {s} t (Store k e others) h within inside does owes i j =
     ⊎_elim {C = base_by (s.places i).handle j ≤ base_by (t.places i).handle j}
     (λ (here : i ≡ k).
-    let same = ap (λ (z : ℕ). base_by (t.places z).handle j) here ∙ ap (λ p. base_by p.handle j) does.here
+    let same = ap (λ (z : ℕ). base_by (t.places z).handle j) here
+    ∙ ap (λ p. base_by p.handle j) does.here
     ∙ ap (λ (z : ℕ). base_by (s.places z).handle j) (sym here) in
     omega (arith, same))
     (λ (other : i ≢ k).
@@ -219,7 +204,8 @@ call-grown {shape} {s} t c h within inside does owes =
           (let more = turns-onward sent-onward first.0 end.0 turns i j in
           let was = sent-shown first.1 h.filled i j inside_i in
           let is_now = sent-shown end.1 full i j inside_i in
-          let long = ap length more.1 ∙ length-append (sent_to (node_at first.0.current i) j) more.0 in
+          let long = ap length more.1
+          ∙ length-append (sent_to (node_at first.0.current i) j) more.0 in
           omega (arith, long, was, is_now));
       bases = call-bases t c h within inside does owes;
     }

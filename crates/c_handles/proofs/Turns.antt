@@ -32,7 +32,7 @@ use Rattle.laws.proofs.Lookups.{among-append_left, among-append_right}
 use Rattle.laws.proofs.Net.{acknowledged-is-taken-in}
 use Rattle.laws.proofs.progress.Spaces.{Reached, reached-heard}
 use Rattle.c_handles.specs.Batches.{BatchOr, batch_of}
-use Rattle.c_handles.specs.Fairness.{GaveMark, HasWorked, HaveTurns, IsTurnOf, IsWithin, IsWithinDeed, TakesIn, TurnsAreRounds, frames_for, has_taken, passes_by, received_by, sent_by, takes}
+use Rattle.c_handles.specs.Fairness.{GaveMark, HasWorked, HaveTurns, IsTurnOf, IsWithin, IsWithinDeed, TakesIn, TurnsAreRounds, has_taken, passes_by, received_by, sent_by, takes}
 use Rattle.c_handles.specs.Images.{after_kept, counts_of, keeps, kept_result}
 use Rattle.c_handles.specs.Lone.{Handled, TookIn}
 use Rattle.c_handles.specs.Programs.{Call, Choice, Deed, Does, Goes, Holds, IsShown, Keep, Meets, On, Store, System, Take, TakeBatch, TakeImage, Work, newest, window_of}
@@ -41,9 +41,8 @@ use Rattle.c_handles.specs.declared.lone.LoneNode.{LoneNode}
 use Rattle.c_handles.proofs.Acked.{IsAcked, by_frame, none_yet}
 use Rattle.c_handles.proofs.Calls.{IsSoundIn, IsSoundNode}
 use Rattle.c_handles.proofs.Carries.{Saves, ack-reaches, all-saved, data-got}
-use Rattle.c_handles.proofs.Deeds.{came}
-use Rattle.c_handles.proofs.Grown.{Sits, Went, base_by, goes-went, grown-on, grown-same, sits-on, call-grown}
-use Rattle.c_handles.proofs.Fairness.{after-filled}
+use Rattle.c_handles.proofs.Grown.{Grown, Went, base_by, call-grown, goes-went, grown-on, grown-same}
+use Rattle.c_handles.proofs.Fairness.{Sits, after-filled, sits-at-first, sits-on}
 use Rattle.c_handles.proofs.Systems.{newest-among}
 
 -- ---- lists of calls
@@ -241,32 +240,54 @@ the-frame f g fits also is spelled =
     (no_spelling_begins_another f (plain g) [] fits also
     (append-nil (spelling f) ∙ sym is ∙ spelled)).1
 
-module _ {shape : Shaped} {s t : System} (h : Sits shape s) {i : ℕ} (inside : i < shape.nodes)
-    {bytes : List ℕ} {a : Answer} (does : Does (On i (Take bytes (Ok a))) s t) (f : Plain)
-    (fits : Fits f) (is : bytes ≡ spelling f) where
+-- the node takes the frame
+record Taking (shape : Shaped) (i : ℕ) (f : Plain) (s t : System) : Type 0 where
+  sits : Sits shape s
+  inside : i < shape.nodes
+  bytes : List ℕ
+  answer : Answer
+  does : Does (On i (Take bytes (Ok answer))) s t
+  fits : Fits f
+  is : bytes ≡ spelling f
+
+-- the frame is a message of this number; it is an acknowledgement by this node up to this number
+record IsData (f : Plain) (from number : ℕ) : Type 0 where
+  to : ℕ
+  stamp : ℕ
+  body : Body
+  is : f ≡ data_frame from to number stamp body
+
+record IsAck (f : Plain) (from number : ℕ) : Type 0 where
+  of : ℕ
+  is : f ≡ ack_frame from of number
+
+module _ {shape : Shaped} {i : ℕ} {f : Plain} {s t : System} (h : Taking shape i f s t) where
+  abbrev does : Does (On i (Take h.bytes (Ok h.answer))) s t
+  does = h.does
+
   abbrev held_after : (t.places i).handle ≡ Some does.new
   held_after =
       ap (λ p. p.handle) does.becomes.here
-      ∙ after-filled (Take bytes (Ok a)) does.new (s.places i)
+      ∙ after-filled (Take h.bytes (Ok h.answer)) does.new (s.places i)
 
   -- a message that comes no later than in its turn
-  took-data : (from number stamp : ℕ) (b : Body) (to : ℕ) → f ≡ data_frame from to number stamp b
-      → from < shape.nodes → number ≤ received_by (s.places i).handle from + 1
+  took-data : {from number : ℕ} → IsData f from number → from < shape.nodes
+      → number ≤ received_by (s.places i).handle from + 1
       → number ≤ received_by (t.places i).handle from
-  took-data from number stamp b to frame_is there due = by does.meets
+  took-data {from} {number} x there due = by does.meets
     where
-      handled : (g : Frame) → data_frame from to number stamp b ≡ plain g
-          → Handled g does.old does.new (Ok a)
+      handled : (g : Frame) → data_frame from x.to number x.stamp x.body ≡ plain g
+          → Handled g does.old does.new (Ok h.answer)
           → number ≤ received_by (t.places i).handle from
       handled (frame.Data d) same g =
           let from_is : from ≡ d.from = cc in
           let number_is : number ≡ d.number = cc in
-          let view = (seen h).world in
-          let shows = (carried h i inside does.held).shows in
+          let view = (seen h.sits).world in
+          let shows = (carried h.sits i h.inside does.held).shows in
           let found = g.acts.states (node_at view.current i) shows in
-          let was = received-of h i from inside does.held in
-          let heard = (seen h).base.heard i inside in
-          let got = data-got (node_at view.current i) found.0 d a found.1
+          let was = received-of h.sits i from h.inside does.held in
+          let heard = (seen h.sits).base.heard i h.inside in
+          let got = data-got (node_at view.current i) found.0 d h.answer found.1
           (omega (arith, from_is, there, heard))
           (subst (λ (k : ℕ). d.number ≤ got_from (node_at view.current i).local k + 1) from_is
           (omega (arith, number_is, due, was))) in
@@ -274,90 +295,134 @@ module _ {shape : Shaped} {s t : System} (h : Sits shape s) {i : ℕ} (inside : 
           let here = subst (λ (k : ℕ). d.number ≤ got_from found.0.local k) (sym from_is) got in
           let is_now = ap (λ (o : Option LoneNode). received_by o from) held_after in
           omega (arith, number_is, here, local, is_now)
-      handled (frame.Ack x) same g = absurd cc
+      handled (frame.Ack ack) same g = absurd cc
 
-      by : TookIn bytes does.old does.new (Ok a) → number ≤ received_by (t.places i).handle from
+      by : TookIn h.bytes does.old does.new (Ok h.answer)
+          → number ≤ received_by (t.places i).handle from
       by (inl took) =
           handled took.frame
-          (sym frame_is ∙ the-frame f took.frame fits took.fits is took.spelled) took.handled
+          (sym x.is ∙ the-frame f took.frame h.fits took.fits h.is took.spelled) took.handled
       by (inr (inl none)) = absurd (let r = none.refused in cc)
       by (inr (inr room)) = absurd (let r = room.refused in cc)
 
   -- an acknowledgement
-  took-ack : (by_node of number k : ℕ) → f ≡ ack_frame by_node of number → by_node < shape.nodes
+  took-ack : {by_node number : ℕ} (k : ℕ) → IsAck f by_node number → by_node < shape.nodes
       → k ≤ number → k ≤ sent_by (s.places i).handle by_node
       → k ≤ base_by (t.places i).handle by_node
-  took-ack by_node of number k frame_is there most within = by does.meets
+  took-ack {by_node} {number} k x there most within = by does.meets
     where
-      handled : (g : Frame) → ack_frame by_node of number ≡ plain g
-          → Handled g does.old does.new (Ok a)
+      handled : (g : Frame) → ack_frame by_node x.of number ≡ plain g
+          → Handled g does.old does.new (Ok h.answer)
           → k ≤ base_by (t.places i).handle by_node
       handled (frame.Data d) same g = absurd cc
-      handled (frame.Ack x) same g =
-          let by_is : by_node ≡ x.by = cc in
-          let number_is : number ≡ x.number = cc in
-          let wide = links-wide h i inside does.held in
-          let sent = sent-of h i by_node inside does.held in
-          let reaches = ack-reaches does.old.node.core does.new.node.core x a k g.acts.performs
+      handled (frame.Ack ack) same g =
+          let by_is : by_node ≡ ack.by = cc in
+          let number_is : number ≡ ack.number = cc in
+          let wide = links-wide h.sits i h.inside does.held in
+          let sent = sent-of h.sits i by_node h.inside does.held in
+          let reaches = ack-reaches does.old.node.core does.new.node.core ack k g.acts.performs
           (omega (arith, by_is, there, wide)) (omega (arith, number_is, most))
           (subst (λ (z : ℕ). k ≤ used (link_to does.old.node.core z)) by_is
           (omega (arith, sent, within))) in
-          let here = subst (λ (z : ℕ). k ≤ (link_to does.new.node.core z).base) (sym by_is) reaches in
+          let here =
+          subst (λ (z : ℕ). k ≤ (link_to does.new.node.core z).base) (sym by_is) reaches in
           let is_now = ap (λ (o : Option LoneNode). base_by o by_node) held_after in
           omega (arith, here, is_now)
 
-      by : TookIn bytes does.old does.new (Ok a) → k ≤ base_by (t.places i).handle by_node
+      by : TookIn h.bytes does.old does.new (Ok h.answer) → k ≤ base_by (t.places i).handle by_node
       by (inl took) =
           handled took.frame
-          (sym frame_is ∙ the-frame f took.frame fits took.fits is took.spelled) took.handled
+          (sym x.is ∙ the-frame f took.frame h.fits took.fits h.is took.spelled) took.handled
       by (inr (inl none)) = absurd (let r = none.refused in cc)
       by (inr (inr room)) = absurd (let r = room.refused in cc)
 
 -- ---- frames one after another
 
--- somewhere among calls
-take-one : {shape : Shaped} {i : ℕ} (f : Plain) (fs : List Plain) (from number stamp : ℕ) (b : Body)
-    (to : ℕ) (calls : List Call) (s t : System) → i < shape.nodes → from < shape.nodes
-    → f ≡ data_frame from to number stamp b → fs ≡ f ∷ [] → TakesIn i fs calls → Sits shape s
-    → AllByRecursion IsWithin calls → Goes shape s calls t
+-- these calls are made, and the node is one of the space
+record Calling (shape : Shaped) (i : ℕ) (calls : List Call) (s t : System) : Type 0 where
+  inside : i < shape.nodes
+  sits : Sits shape s
+  within : AllByRecursion IsWithin calls
+  goes : Goes shape s calls t
+
+-- after the first of the calls
+record Next (shape : Shaped) (i : ℕ) (c : Call) (cs : List Call) (s t : System) : Type 0 where
+  next : System
+  does : Does c s next
+  calling : Calling shape i cs next t
+  grown : Grown shape s next
+  later : Went shape next t
+
+next-of : {shape : Shaped} {i : ℕ} {s t : System} (c : Call) (cs : List Call)
+    → Calling shape i (c ∷ cs) s t → Next shape i c cs s t
+next-of {shape} {i} {s} {t} c cs h = by h.goes
+  where
+    by : Goes shape s (c ∷ cs) t → Next shape i c cs s t
+    by (next, inside_c, does, owes, goes) =
+        let sits = sits-on next c h.sits h.within.0 inside_c does owes in
+        record {
+          next = next;
+          does = does;
+          calling = record {
+            inside = h.inside;
+            sits = sits;
+            within = h.within.1;
+            goes = goes;
+          };
+          grown = call-grown next c h.sits h.within.0 inside_c does owes;
+          later = goes-went cs next t sits h.within.1 goes;
+        }
+
+-- somewhere among the calls
+take-one : {shape : Shaped} {i from number : ℕ} {calls : List Call} {s t : System} (f : Plain)
+    (fs : List Plain) → IsData f from number → from < shape.nodes → fs ≡ f ∷ []
+    → TakesIn i fs calls → Calling shape i calls s t
     → number ≤ received_by (s.places i).handle from + 1
     → number ≤ received_by (t.places i).handle from
-take-one f fs from number stamp b to calls s t inside there frame_is one (has_taken calls0) h within
-    goes due = absurd cc
-take-one {shape} {i} f fs from number stamp b to calls s t inside there frame_is one
-    (takes g gs bytes a cs fits is rest) h within (next, inside_c, does, owes, goes) due =
+take-one f fs x there one (has_taken calls) h due = absurd cc
+take-one {shape} {i} {from} {number} f fs x there one (takes g gs bytes a cs fits is rest) h due =
     let same : g ≡ f = cc in
-    let now_is =
-    took-data h inside does g fits is from number stamp b to (same ∙ frame_is) there due in
-    let later = goes-went cs next t
-    (sits-on next (On i (Take bytes (Ok a))) h within.0 inside_c does owes) within.1 goes in
-    le_trans now_is (later.grown.got i from inside)
-take-one {shape} {i} f fs from number stamp b to calls s t inside there frame_is one
-    (passes_by gs c cs rest) h within (next, inside_c, does, owes, goes) due =
-    let grown = (call-grown next c h within.0 inside_c does owes).got i from inside in
-    take-one f gs from number stamp b to cs next t inside there frame_is one rest
-    (sits-on next c h within.0 inside_c does owes) within.1 goes (omega (arith, grown, due))
+    let k = next-of (On i (Take bytes (Ok a))) cs h in
+    let now_is = took-data (record {
+      sits = h.sits;
+      inside = h.inside;
+      bytes = bytes;
+      answer = a;
+      does = k.does;
+      fits = fits;
+      is = is;
+    }) (subst (λ (z : Plain). IsData z from number) (sym same) x) there due in
+    le_trans now_is (k.later.grown.got i from h.inside)
+take-one {i = i} {from = from} f fs x there one (passes_by gs c cs rest) h due =
+    let k = next-of c cs h in
+    let grown = k.grown.got i from h.inside in
+    take-one f gs x there one rest k.calling (omega (arith, grown, due))
 
-ack-one : {shape : Shaped} {i : ℕ} (f : Plain) (fs : List Plain) (by_node of number k : ℕ)
-    (calls : List Call) (s t : System) → i < shape.nodes → by_node < shape.nodes
-    → f ≡ ack_frame by_node of number → fs ≡ f ∷ [] → TakesIn i fs calls → Sits shape s
-    → AllByRecursion IsWithin calls → Goes shape s calls t → k ≤ number
-    → k ≤ sent_by (s.places i).handle by_node → k ≤ base_by (t.places i).handle by_node
-ack-one f fs by_node of number k calls s t inside there frame_is one (has_taken calls0) h within
-    goes most sent = absurd cc
-ack-one {shape} {i} f fs by_node of number k calls s t inside there frame_is one
-    (takes g gs bytes a cs fits is rest) h within (next, inside_c, does, owes, goes) most sent =
+ack-one : {shape : Shaped} {i by_node number k : ℕ} {calls : List Call} {s t : System} (f : Plain)
+    (fs : List Plain) → IsAck f by_node number → by_node < shape.nodes → fs ≡ f ∷ []
+    → TakesIn i fs calls → Calling shape i calls s t
+    → (k ≤ number) × (k ≤ sent_by (s.places i).handle by_node)
+    → k ≤ base_by (t.places i).handle by_node
+ack-one f fs x there one (has_taken calls) h most = absurd cc
+ack-one {shape} {i} {by_node} {number} {k} f fs x there one
+    (takes g gs bytes a cs fits is rest) h most =
     let same : g ≡ f = cc in
-    let now_is =
-    took-ack h inside does g fits is by_node of number k (same ∙ frame_is) there most sent in
-    let later = goes-went cs next t
-    (sits-on next (On i (Take bytes (Ok a))) h within.0 inside_c does owes) within.1 goes in
-    le_trans now_is (later.grown.bases i by_node)
-ack-one {shape} {i} f fs by_node of number k calls s t inside there frame_is one
-    (passes_by gs c cs rest) h within (next, inside_c, does, owes, goes) most sent =
-    let grown = (call-grown next c h within.0 inside_c does owes).sent i by_node inside in
-    ack-one f gs by_node of number k cs next t inside there frame_is one rest
-    (sits-on next c h within.0 inside_c does owes) within.1 goes most (omega (arith, grown, sent))
+    let n = next-of (On i (Take bytes (Ok a))) cs h in
+    let now_is = took-ack (record {
+      sits = h.sits;
+      inside = h.inside;
+      bytes = bytes;
+      answer = a;
+      does = n.does;
+      fits = fits;
+      is = is;
+    }) k (subst (λ (z : Plain). IsAck z by_node number) (sym same) x) there most.0 most.1 in
+    le_trans now_is (n.later.grown.bases i by_node)
+ack-one {i = i} {by_node = by_node} f fs x there one (passes_by gs c cs rest) h most =
+    let n = next-of c cs h in
+    let grown = n.grown.sent i by_node h.inside in
+    ack-one f gs x there one rest n.calling
+    (most.0, (let sent = most.1 in omega (arith, grown, sent)))
 
 -- the frame in a place of a window
 frame-at : (n : NodeView) (to place : ℕ) → is_other n.local to ≡ true → place < WINDOW
@@ -375,53 +440,109 @@ frame-at n to place other early kept there =
     (and_from _ _ (lt-ltb place WINDOW early) (lt-ltb (l.base + place) l.kept kept))
     ∙ slice_get-get_or l.unacknowledged place no_message there)
 
+-- the calls in which the first of the frames are taken, and then the others
+record Parts (shape : Shaped) (i : ℕ) (xs ys : List Plain) (s t : System) : Type 0 where
+  middle : System
+  first : List Call
+  then : List Call
+  takes_first : TakesIn i xs first
+  takes_then : TakesIn i ys then
+  calls_first : Calling shape i first s middle
+  calls_then : Calling shape i then middle t
+  grown_first : Grown shape s middle
+  grown_then : Grown shape middle t
+
+parts-of : {shape : Shaped} {i : ℕ} {calls : List Call} {s t : System} (xs ys : List Plain)
+    → TakesIn i (xs ++ ys) calls → Calling shape i calls s t → Parts shape i xs ys s t
+parts-of {shape} {i} {calls} {s} {t} xs ys all h =
+    let split = takes-split xs ys (xs ++ ys) calls refl all in
+    let both = within-split split.first split.then
+    (subst (AllByRecursion IsWithin) split.is h.within) in
+    let parts = goes-split shape split.first split.then s t
+    (subst (λ (z : List Call). Goes shape s z t) split.is h.goes) in
+    let first = goes-went split.first s parts.0 h.sits both.0 parts.1 in
+    let then = goes-went split.then parts.0 t first.sits both.1 parts.2 in
+    record {
+      middle = parts.0;
+      first = split.first;
+      then = split.then;
+      takes_first = split.takes_first;
+      takes_then = split.takes_then;
+      calls_first = record {
+        inside = h.inside;
+        sits = h.sits;
+        within = both.0;
+        goes = parts.1;
+      };
+      calls_then = record {
+        inside = h.inside;
+        sits = first.sits;
+        within = both.1;
+        goes = parts.2;
+      };
+      grown_first = first.grown;
+      grown_then = then.grown;
+    }
+
+-- a window of a node for another one
+record Window (shape : Shaped) (from to : ℕ) (n : NodeView) : Type 0 where
+  there : from < shape.nodes
+  own : n.local.own ≡ from
+  other : is_other n.local to ≡ true
+
+-- a message is in this place of the window
+record IsIn (n : NodeView) (to place : ℕ) : Type 0 where
+  kept : (link_to n to).base + place < (link_to n to).kept
+  long : place < length (link_to n to).unacknowledged
+
 -- the frames in the first places of a window, in their order
-module _ {shape : Shaped} (from to : ℕ) (there : from < shape.nodes) (inside : to < shape.nodes)
-    (n : NodeView) (own : n.local.own ≡ from) (other : is_other n.local to ≡ true) where
-  windows-come : (count : ℕ) → count ≤ WINDOW → (calls : List Call) (s t : System)
-      → Sits shape s → TakesIn to (window_of n to count) calls → AllByRecursion IsWithin calls
-      → Goes shape s calls t → (link_to n to).base ≤ received_by (s.places to).handle from → (place : ℕ)
-      → place < count → (link_to n to).base + place < (link_to n to).kept → place < length (link_to n to).unacknowledged
-      → (link_to n to).base + 1 + place ≤ received_by (t.places to).handle from
-  windows-come zero most calls s t h takes_all within goes based place below kept long =
-      absurd (omega (arith, below))
-  windows-come (suc count) most calls s t h takes_all within goes based place below kept long =
-      let split = takes-split (window_of n to count) (option_to_list (released_frame n to count))
-      (window_of n to (suc count)) calls refl takes_all in
-      let both = within-split split.first split.then
-      (subst (AllByRecursion IsWithin) split.is within) in
-      let parts = goes-split shape split.first split.then s t
-      (subst (λ (z : List Call). Goes shape s z t) split.is goes) in
-      let first = goes-went split.first s parts.0 h both.0 parts.1 in
-      let then = goes-went split.then parts.0 t first.sits both.1 parts.2 in
-      let grown = then.grown.got to from inside in
-      ⊎_elim {C = (link_to n to).base + 1 + place ≤ received_by (t.places to).handle from}
-      (λ (last : place ≡ count).
-      let kept_here : (link_to n to).base + count < (link_to n to).kept = omega (arith, kept, last) in
-      let long_here : count < length (link_to n to).unacknowledged = omega (arith, long, last) in
-      let x : Message = get_or (link_to n to).unacknowledged count no_message in
-      let f : Plain = frame_of n.local.own to ((link_to n to).base + 1 + count) x in
-      let is = frame-at n to count other (omega (arith, most)) kept_here long_here in
-      let heard = first.grown.got to from inside in
-      let due : (link_to n to).base + 1 + count ≤ received_by (parts.0.places to).handle from + 1 =
-      ⊎_elim {C = (link_to n to).base + 1 + count ≤ received_by (parts.0.places to).handle from + 1}
-      (λ (none : count ≡ 0). omega (arith, based, heard, none))
-      (λ (some : count ≢ 0).
-      let before = windows-come count (omega (arith, most)) split.first s parts.0 h
-      split.takes_first both.0 parts.1 based (count - 1) (omega (arith, some))
-      (omega (arith, kept_here)) (omega (arith, long_here)) in
-      omega (arith, before, some))
-      (cases_eq count 0) in
-      let done = take-one f (option_to_list (released_frame n to count)) from
-      ((link_to n to).base + 1 + count) x.stamp x.body to split.then parts.0 t inside there
-      (ap (λ (k : ℕ). frame_of k to ((link_to n to).base + 1 + count) x) own)
-      (ap option_to_list is) split.takes_then first.sits both.1 parts.2 due in
-      omega (arith, done, last))
-      (λ (earlier : place ≢ count).
-      let before = windows-come count (omega (arith, most)) split.first s parts.0 h
-      split.takes_first both.0 parts.1 based place (omega (arith, below, earlier)) kept long in
-      omega (arith, before, grown))
-      (cases_eq place count)
+windows-come : {shape : Shaped} {from to : ℕ} {n : NodeView} → Window shape from to n
+    → (count : ℕ) → count ≤ WINDOW → {calls : List Call} {s t : System}
+    → TakesIn to (window_of n to count) calls → Calling shape to calls s t
+    → (link_to n to).base ≤ received_by (s.places to).handle from → (place : ℕ)
+    → (place < count) × IsIn n to place
+    → (link_to n to).base + 1 + place ≤ received_by (t.places to).handle from
+windows-come v zero most all h based place (below, at) = absurd (omega (arith, below))
+windows-come {shape} {from} {to} {n} v (suc count) most {calls} {s} {t} all h based place
+    (below, at) =
+    let base : ℕ = (link_to n to).base in
+    let p = parts-of (window_of n to count) (option_to_list (released_frame n to count)) all h in
+    let grown = p.grown_then.got to from h.inside in
+    let kept = at.kept in
+    let long = at.long in
+    ⊎_elim {C = base + 1 + place ≤ received_by (t.places to).handle from}
+    (λ (last : place ≡ count).
+    let kept_here : base + count < (link_to n to).kept = omega (arith, kept, last) in
+    let long_here : count < length (link_to n to).unacknowledged = omega (arith, long, last) in
+    let x : Message = get_or (link_to n to).unacknowledged count no_message in
+    let is = frame-at n to count v.other (omega (arith, most)) kept_here long_here in
+    let heard = p.grown_first.got to from h.inside in
+    let due : base + 1 + count ≤ received_by (p.middle.places to).handle from + 1 =
+    ⊎_elim {C = base + 1 + count ≤ received_by (p.middle.places to).handle from + 1}
+    (λ (none : count ≡ 0). omega (arith, based, heard, none))
+    (λ (some : count ≢ 0).
+    let before = windows-come v count (omega (arith, most)) p.takes_first p.calls_first based
+    (count - 1) (
+      omega (arith, some),
+      record { kept = omega (arith, kept_here); long = omega (arith, long_here) },
+    ) in
+    omega (arith, before, some))
+    (cases_eq count 0) in
+    let done = take-one (frame_of n.local.own to (base + 1 + count) x)
+    (option_to_list (released_frame n to count))
+    (record {
+      to = to;
+      stamp = x.stamp;
+      body = x.body;
+      is = ap (λ (k : ℕ). frame_of k to (base + 1 + count) x) v.own;
+    })
+    v.there (ap option_to_list is) p.takes_then p.calls_then due in
+    omega (arith, done, last))
+    (λ (earlier : place ≢ count).
+    let before = windows-come v count (omega (arith, most)) p.takes_first p.calls_first based place
+    (omega (arith, below, earlier), at) in
+    omega (arith, before, grown))
+    (cases_eq place count)
 
 -- ---- a turn
 
@@ -430,8 +551,8 @@ some-same e = cc
 
 -- What a node's turn comes to: what it had sent and received before counts as saved, and then its
 -- frames are taken.
-record Turned (shape : Shaped) (i : ℕ) (s t : System) (turn : List Call) (h : IsTurnOf shape i s turn t)
-    : Type 0 where
+record Turned (shape : Shaped) (i : ℕ) (s t : System) (turn : List Call)
+    (h : IsTurnOf shape i s turn t) : Type 0 where
   middle : Went shape s h.middle
   end : Went shape h.middle t
   saves : (j : ℕ) → j < shape.nodes → j ≢ i
@@ -445,17 +566,6 @@ record Marked (n m : LoneNode) (mark : ℕ) : Type 0 where
   has : m.counts ≡ Some counts
   same : m.node ≡ n.node
 
-batch-marked : (b : Option (List ℕ)) (n m : LoneNode) (given mark : ℕ) (old new : List ℕ)
-    (before needed : ℕ) → BatchOr b n m (Ok mark) old new before needed → mark ≡ given
-    → Marked n m given
-batch-marked (Some bytes) n m given mark old new before needed h is = record {
-  counts = h.0.counts;
-  counted = h.0.counted;
-  has = ap (λ (x : LoneNode). x.counts) h.0.stays;
-  same = ap (λ (x : LoneNode). x.node) h.0.stays;
-}
-batch-marked None n m given mark old new before needed h is = absurd (let never = h.0 in cc)
-
 deed-marked : (d : Deed) (n m : LoneNode) (given : ℕ) → GaveMark d given → Meets d n m
     → Marked n m given
 deed-marked (TakeImage (Ok mark) old new before needed) n m given is meets = record {
@@ -465,7 +575,16 @@ deed-marked (TakeImage (Ok mark) old new before needed) n m given is meets = rec
   same = ap (λ (x : LoneNode). x.node) meets.0.stays;
 }
 deed-marked (TakeBatch (Ok mark) old new before needed) n m given is meets =
-    batch-marked (batch_of n) n m given mark old new before needed meets is
+    by (batch_of n) meets
+  where
+    by : (b : Option (List ℕ)) → BatchOr b n m (Ok mark) old new before needed → Marked n m given
+    by (Some bytes) h = record {
+      counts = h.0.counts;
+      counted = h.0.counted;
+      has = ap (λ (x : LoneNode). x.counts) h.0.stays;
+      same = ap (λ (x : LoneNode). x.node) h.0.stays;
+    }
+    by None h = absurd (let never = h.0 in cc)
 deed-marked (TakeImage (Err e) old new before needed) n m given never meets = absurd never
 deed-marked (TakeBatch (Err e) old new before needed) n m given never meets = absurd never
 deed-marked d n m given never meets = absurd never
@@ -494,7 +613,13 @@ turned {shape} {i} {s} {t} {turn} inside sits h = by h.saves
     by : Goes shape s
         (On i (Work h.scans h.slots h.work (Ok tt)) ∷ On i h.deed ∷ Store i h.stored []
         ∷ On i (Keep h.mark (Ok tt)) ∷ []) h.middle → Turned shape i s t turn h
-    by (s1, in1, works, owes1, (s2, in2, gives, owes2, (s3, in3, stores, owes3, (s4, in4, keeps_it, owes4, last)))) =
+    by (
+      s1,
+      in1,
+      works,
+      owes1,
+      (s2, in2, gives, owes2, (s3, in3, stores, owes3, (s4, in4, keeps_it, owes4, last))),
+    ) =
         let deed_within = marks-within h.deed h.mark h.marks in
         let first = goes-went (On i (Work h.scans h.slots h.work (Ok tt)) ∷ []) s s1 sits (tt, tt)
         (s1, in1, works, owes1, refl) in
@@ -569,7 +694,8 @@ turns-went (i ∷ is) calls s t h (next, turn, rest, same, inside, is_turn, more
 find-turn : {shape : Shaped} (i : ℕ) (order : List ℕ) (calls : List Call) (s t : System)
     → Sits shape s → HaveTurns shape order s calls t → Among i order → Found shape i s t
 find-turn i [] calls s t h turns never = absurd never
-find-turn {shape} i (k ∷ ks) calls s t h (next, turn, rest, same, inside, is_turn, more) (inl here) =
+find-turn {shape} i (k ∷ ks) calls s t h (next, turn, rest, same, inside, is_turn, more)
+    (inl here) =
     let one = turned inside h is_turn in
     let later = turns-went ks rest next t one.end.sits more in
     subst (λ (z : ℕ). Found shape z s t) (sym here)
@@ -602,82 +728,82 @@ find-turn i (k ∷ ks) calls s t h (next, turn, rest, same, inside, is_turn, mor
 
 -- ---- messages come in
 
+-- the calls of a turn in which its frames are taken
+turn-parts : {shape : Shaped} {i : ℕ} {s t : System} (j : ℕ) (f : Found shape i s t)
+    → j < shape.nodes → j ≢ i
+    → Parts shape j (window_of f.is_turn.node.node.core j WINDOW)
+    (option_to_list (acknowledgement f.is_turn.node.node.core j)) f.is_turn.middle f.last
+turn-parts j f there apart =
+    parts-of (window_of f.is_turn.node.node.core j WINDOW)
+    (option_to_list (acknowledgement f.is_turn.node.node.core j))
+    (f.is_turn.carries j there apart)
+    (record {
+      inside = there;
+      sits = f.turned_so.middle.sits;
+      within = f.is_turn.within;
+      goes = f.is_turn.gives_on;
+    })
+
 -- the acknowledgement that a turn gives reaches the other node
 acks-reach : {shape : Shaped} {s t : System} (from to k : ℕ) (f : Found shape to s t)
     → from < shape.nodes → from ≢ to → k ≤ received_by (s.places to).handle from
     → k ≤ sent_by (s.places from).handle to → k ≤ base_by (f.last.places from).handle to
 acks-reach {shape} from to k f there apart got sent =
-    let h = f.is_turn in
-    let n : LoneNode = h.node in
+    let n : NodeView = f.is_turn.node.node.core in
     let middle = f.turned_so.middle in
     let saves = (f.turned_so.saves from there apart).1 in
-    let other = others-are middle.sits to from f.inside there apart h.held in
-    let own = own-is middle.sits to f.inside h.held in
-    let number : ℕ = get_or n.node.core.acks from 0 in
-    let is : acknowledgement n.node.core from
-    ≡ Some (ack_frame n.node.core.local.own from number) =
-    cond-true (is_other n.node.core.local from) _ None other in
-    let split = takes-split (window_of n.node.core from WINDOW)
-    (option_to_list (acknowledgement n.node.core from)) (frames_for n from) h.gives refl
-    (h.carries from there apart) in
-    let both = within-split split.first split.then
-    (subst (AllByRecursion IsWithin) split.is h.within) in
-    let parts = goes-split shape split.first split.then h.middle f.last
-    (subst (λ (z : List Call). Goes shape h.middle z f.last) split.is h.gives_on) in
-    let first = goes-went split.first h.middle parts.0 middle.sits both.0 parts.1 in
+    let other = others-are middle.sits to from f.inside there apart f.is_turn.held in
+    let own = own-is middle.sits to f.inside f.is_turn.held in
+    let number : ℕ = get_or n.acks from 0 in
+    let is : acknowledgement n from ≡ Some (ack_frame n.local.own from number) =
+    cond-true (is_other n.local from) _ None other in
+    let p = turn-parts from f there apart in
     let grown_got = f.before.grown.got to from f.inside in
     let grown_sent = f.before.grown.sent from to there in
     let more = middle.grown.sent from to there in
-    let still = first.grown.sent from to there in
-    ack-one (ack_frame n.node.core.local.own from number)
-    (option_to_list (acknowledgement n.node.core from)) to from number k split.then parts.0 f.last
-    there f.inside (ap (λ (z : ℕ). ack_frame z from number) own) (ap option_to_list is)
-    split.takes_then first.sits both.1 parts.2
-    (omega (arith, got, grown_got, saves))
-    (omega (arith, sent, grown_sent, more, still))
+    let still = p.grown_first.sent from to there in
+    ack-one (ack_frame n.local.own from number) (option_to_list (acknowledgement n from))
+    (record { of = from; is = ap (λ (z : ℕ). ack_frame z from number) own }) f.inside
+    (ap option_to_list is) p.takes_then p.calls_then
+    (omega (arith, got, grown_got, saves), omega (arith, sent, grown_sent, more, still))
 
 -- the messages in the window of a turn reach the other node
-window-reaches : {shape : Shaped} {s t : System} (from to g k : ℕ) (f : Found shape from s t)
+window-reaches : {shape : Shaped} {s t : System} {from g : ℕ} (to k : ℕ) (f : Found shape from s t)
     → to < shape.nodes → to ≢ from → k < 2 → g ≤ base_by (s.places from).handle to
     → g + k < sent_by (s.places from).handle to
     → g + k < received_by (f.last.places to).handle from
-window-reaches {shape} {s} from to g k f there apart two based sent =
-    let h = f.is_turn in
-    let n : LoneNode = h.node in
+window-reaches {shape} {s} {t} {from} {g} to k f there apart two based sent =
+    let n : NodeView = f.is_turn.node.node.core in
     let middle = f.turned_so.middle in
-    let l : Link = link_to n.node.core to in
+    let base : ℕ = (link_to n to).base in
     let saves = (f.turned_so.saves to there apart).0 in
-    let other = others-are middle.sits from to f.inside there apart h.held in
-    let own = own-is middle.sits from f.inside h.held in
-    let split = takes-split (window_of n.node.core to WINDOW)
-    (option_to_list (acknowledgement n.node.core to)) (frames_for n to) h.gives refl
-    (h.carries to there apart) in
-    let both = within-split split.first split.then
-    (subst (AllByRecursion IsWithin) split.is h.within) in
-    let parts = goes-split shape split.first split.then h.middle f.last
-    (subst (λ (z : List Call). Goes shape h.middle z f.last) split.is h.gives_on) in
-    let first = goes-went split.first h.middle parts.0 middle.sits both.0 parts.1 in
-    let then = goes-went split.then parts.0 f.last first.sits both.1 parts.2 in
-    let grown = then.grown.got to from there in
-    let heard = first.grown.got to from there in
-    let received = base-received middle.sits from to f.inside there h.held in
+    let p = turn-parts to f there apart in
+    let grown = p.grown_then.got to from there in
+    let heard = p.grown_first.got to from there in
+    let received = base-received middle.sits from to f.inside there f.is_turn.held in
     let base_grown = f.before.grown.bases from to in
     let base_more = middle.grown.bases from to in
-    let base_is = ap (λ (o : Option LoneNode). base_by o to) h.held in
+    let base_is = ap (λ (o : Option LoneNode). base_by o to) f.is_turn.held in
     let sent_grown = f.before.grown.sent from to f.inside in
     let sent_more = middle.grown.sent from to f.inside in
-    let uses = sent-of middle.sits from to f.inside h.held in
+    let uses = sent-of middle.sits from to f.inside f.is_turn.held in
     ⊎_elim {C = g + k < received_by (f.last.places to).handle from}
-    (λ (past : g + k < l.base). omega (arith, past, received, heard, grown))
-    (λ (within : l.base ≤ g + k).
-    let place : ℕ = g + k - l.base in
-    let come = windows-come from to f.inside there n.node.core own other WINDOW (omega arith)
-    split.first h.middle parts.0 middle.sits split.takes_first both.0 parts.1 received place
-    (omega (arith, two, based, base_grown, base_more, base_is))
-    (omega (arith, within, sent, sent_grown, saves))
-    (omega (arith, within, sent, sent_grown, sent_more, uses)) in
+    (λ (past : g + k < base). omega (arith, past, received, heard, grown))
+    (λ (within : base ≤ g + k).
+    let place : ℕ = g + k - base in
+    let come = windows-come {n = n} (record {
+      there = f.inside;
+      own = own-is middle.sits from f.inside f.is_turn.held;
+      other = others-are middle.sits from to f.inside there apart f.is_turn.held;
+    }) WINDOW (omega arith) p.takes_first p.calls_first received place (
+      omega (arith, two, based, base_grown, base_more, base_is),
+      record {
+        kept = omega (arith, within, sent, sent_grown, saves);
+        long = omega (arith, within, sent, sent_grown, sent_more, uses);
+      },
+    ) in
     omega (arith, come, within, grown))
-    (cases_lt (g + k) l.base)
+    (cases_lt (g + k) base)
 
 -- calls of turns
 turns-goes : (shape : Shaped) (order : List ℕ) (calls : List Call) (s t : System)
@@ -739,13 +865,7 @@ turns-worked shape i (k ∷ ks) calls s t (next, turn, rest, same, inside, h, mo
 
 pub turns-are-rounds : TurnsAreRounds
 turns-are-rounds shape s u t first more reachable filled one two =
-    let here = came reachable.limits reachable.calls s reachable.goes in
-    let h : Sits shape s = record {
-      limits = reachable.limits;
-      sound = here.sound;
-      shown = here.shown;
-      filled = filled;
-    } in
+    let h = sits-at-first reachable filled in
     let a = turns-goes shape one.order first s u one.turns in
     let b = turns-goes shape two.order more u t two.turns in
     let mid = turns-went one.order first s u h one.turns in
@@ -753,7 +873,8 @@ turns-are-rounds shape s u t first more reachable filled one two =
       goes = goes-append shape first more s u t a.0 b.0;
       within = within-append first more a.1 b.1;
       works = λ i inside.
-          worked-left first more (turns-worked shape i one.order first s u one.turns (one.all i inside));
+          worked-left first more
+          (turns-worked shape i one.order first s u one.turns (one.all i inside));
       comes_in = λ from to k there inside two_of sent.
           ⊎_elim {C = received_by (s.places to).handle from + k
           < received_by (t.places to).handle from}
@@ -770,7 +891,7 @@ turns-are-rounds shape s u t first more reachable filled one two =
           let based = f.after.grown.bases from to in
           let grown = mid.grown.sent from to there in
           let w = find-turn from two.order more u t mid.sits two.turns (two.all from there) in
-          let come = window-reaches from to g k w inside (λ e. apart (sym e)) two_of
+          let come = window-reaches {g = g} to k w inside (λ e. apart (sym e)) two_of
           (omega (arith, reached, based)) (omega (arith, sent, grown)) in
           let after = w.after.grown.got to from inside in
           omega (arith, come, after))
