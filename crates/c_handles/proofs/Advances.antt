@@ -1,11 +1,11 @@
 -- Calls after which a node goes on with its events: in each world that shows it, steps lead on.
-use Rattle.std.proofs.Common.{◌≡◌, ◌≢◌, ℕ, ◌<◌, ◌==◌, ◌&&◌, true, false, Bool, List, [], ◌∷◌, ◌++◌, length, append-nil, cond, Option, Some, None, Result, Ok, Err, OnErr, inl, inr, refl, sym, ap, ◌∙◌, subst, arith, ltb-true}
+use Rattle.std.proofs.Common.{◌≡◌, ◌≢◌, ℕ, ◌<◌, ◌==◌, ◌&&◌, true, false, Bool, List, [], ◌∷◌, ◌++◌, length, append-nil, cond, Option, Some, None, Result, Ok, Err, OnErr, inl, inr, refl, sym, ap, ◌∙◌, subst, arith, ltb-true, le_refl, le_trans, ◌≤◌}
 use Rattle.std.specs.Prelude.{min, nat_lt, not}
 use Rattle.std.proofs.lemmas.Bool.{and_parts, cond-false, cond-true, cond_both, eqb-true, lt-ltb}
 use Rattle.ids.specs.Limits.{Shaped, IsShape}
 use Rattle.ids.specs.declared.refusal.Refusal.{Refusal}
 use Rattle.ids.specs.declared.refusal.Refusal.TheVariants.{LinkSpent, Memory, NothingToDo}
-use Rattle.msg.specs.Frames.{Plain, plain, plain_data}
+use Rattle.msg.specs.Frames.{Plain, plain, plain_ack, plain_data}
 use Rattle.msg.specs.declared.frame.Ack.{Ack}
 use Rattle.msg.specs.declared.frame.Data.{Data}
 use Rattle.msg.specs.declared.frame.Frame.{Frame}
@@ -24,7 +24,8 @@ use Rattle.model.specs.declared.step.Step.TheVariants as step
 use Rattle.model.specs.Cuts.{Among}
 use Rattle.model.specs.State.{NodeState, node_at}
 use Rattle.model.specs.Steps.{ack_of, act, is_own, is_shading, receive}
-use Rattle.model.specs.View.{Follows, IsTold, Leaves, NodeView}
+use Rattle.model.specs.View.{Follows, IsTold, Leaves, NodeView, link_to}
+use Rattle.node.specs.Keeping.{WholeNode}
 use Rattle.model.specs.World.{World, IsInNet, happens, is_node, moved, outcome_of, released, run, take_step, world_after}
 use Rattle.model.proofs.Runs.{run-append}
 use Rattle.node.specs.Keeping.{OfAll, Rings, met, next_event, waiting}
@@ -50,6 +51,7 @@ use Rattle.c_handles.specs.Lone.{Acknowledged, Gave, Given, Handled, Heard, Node
 use Rattle.c_handles.specs.declared.working.Task.TheVariants as task
 use Rattle.c_handles.specs.declared.lone.LoneNode.{LoneNode}
 use Rattle.c_handles.proofs.Trails.{Did, IsQuiet, IsTried, had_none, was_done, Trail, Tries, turn-led, work-tries}
+use Rattle.c_handles.proofs.Acked.{AreAcked, ack-acked, ack-bases, left-acked, left-bases}
 use Rattle.c_handles.proofs.Says.{AreTurns, EventSteps, IsActed, Says, Tried, acted, acted_by, came_in, made, quiet-on, quietly, trailed, unmade, worked}
 use Rattle.c_handles.proofs.Systems.{IsWorld, later-world, world-count}
 
@@ -72,6 +74,8 @@ pub record Advances (shape : Shaped) (frames : List Plain) (i : ℕ) (so : Says)
   pub counts : m.counts ≡ n.counts
   pub logs : KeepsLog n m
   pub early : AreGiven frames n.node.early → AreGiven frames m.node.early
+  pub acked : AreAcked frames n.node.core → AreAcked frames m.node.core
+  pub bases : (j : ℕ) → (link_to n.node.core j).base ≤ (link_to m.node.core j).base
   pub moves : AreGiven frames n.node.early → (w : World) → IsWorld shape frames w
       → IsCarried (node_at w.saved i) (node_at w.current i) n.node.core → Went w i so m.node.core
 
@@ -98,6 +102,10 @@ advances-same {frames = frames} {n = n} {m = m} same counts logs = record {
   counts = counts;
   logs = logs;
   early = λ given. subst (λ x. AreGiven frames (x.early)) (sym same) given;
+  acked = λ all. subst (λ x. AreAcked frames (x.core)) (sym same) all;
+  bases = λ j.
+      subst (λ (x : WholeNode). (link_to n.node.core j).base ≤ (link_to x.core j).base) (sym same)
+      (le_refl _);
   moves = λ given w is h. stays (ap (λ x. x.core) same) h;
 }
 
@@ -116,6 +124,8 @@ advances-so {shape} {frames} {i} {n} so says same =
       counts = refl;
       logs = λ first led. led;
       early = λ given. given;
+      acked = λ all. all;
+      bases = λ j. le_refl _;
       moves = λ given w is h. stays-so {so = so} (says w) refl h;
     })
 
@@ -137,6 +147,8 @@ advances-resaid more g = record {
   counts = g.counts;
   logs = g.logs;
   early = g.early;
+  acked = g.acked;
+  bases = g.bases;
   moves = λ given w is h. resaid (more w) (g.moves given w is h);
 }
 
@@ -150,6 +162,8 @@ advances-on within {i = i} {x = x} {m = m} both a b = record {
   counts = b.counts ∙ a.counts;
   logs = λ first led. b.logs first (a.logs first led);
   early = λ given. b.early (a.early given);
+  acked = λ all. b.acked (a.acked all);
+  bases = λ j. le_trans (a.bases j) (b.bases j);
   moves = λ given w is h.
       let one = a.moves given w is h in
       let v : World = run w one.later in
@@ -374,6 +388,16 @@ module _ {shape : Shaped} (within : IsShape shape) {frames : List Plain} {w : Wo
           )) (data-went d r (is.net (plain_data d) (given from 0 d there)) h found leaves same)
   met-went es e r own given h found leaves same = own-went e r own h found leaves same
 
+-- no event of a node's own is an acknowledgement
+own-met : (es : Rings) (e : Event) → is_own e ≡ true → ack_of (met es e) ≡ None
+own-met es (event.Next from) own = by (waiting es from)
+  where
+    by : (o : Option Data) → ack_of (next_event from o) ≡ None
+    by None = refl
+    by (Some d) = refl
+own-met es (event.Ack a) own = absurd cc
+own-met es e own = refl
+
 -- no memory for a list
 unlisted-told : (i : ℕ) (e : Event) (f : Refusal) → f ≡ Memory → (saved : ℕ → Bool)
     → nothing_told saved ≡ told_of_event i e (Err f) saved
@@ -414,18 +438,19 @@ done i d w later =
     × (IsTried d.result → IsActed d.event → Among (step.Act i d.event) later)
 
 event-done : (i : ℕ) (d : Did) (q : IsQuiet d.event) (x : Result Answer Refusal) → x ≢ Err LinkSpent
-    → (IsTried d.result → x ≢ Err Memory) → (w : World) (later : List Step)
+    → (IsTried d.result → x ≢ Err Memory) → {w : World} {later : List Step}
     → EventSteps i d.event x w later
     → AreTurns w later × (IsTried d.result → IsActed d.event → Among (step.Act i d.event) later)
-event-done i d q x numbered plenty w later (made out) =
+event-done i d q x numbered plenty (made out) =
     (((q.2 i, λ e. numbered (unspent x (sym out ∙ e))), tt), λ tried acts. inl refl)
-event-done i d q x numbered plenty w later (unmade is) =
+event-done i d q x numbered plenty (unmade is) =
     (tt, λ tried acts. absurd (plenty tried is))
-event-done i d q x numbered plenty w later (came_in ss from is turns) =
+event-done i d q x numbered plenty (came_in ss from is turns) =
     (turns, λ tried acts. absurd (acts from is))
 
 -- what was tried is among the steps
-tried-among : (i : ℕ) {e : Event} {ds : List Did} (later : List Step) → Tried i ds later → Tries e ds
+tried-among : (i : ℕ) {e : Event} {ds : List Did} (later : List Step) → Tried i ds later
+    → Tries e ds
     → IsActed e → Among (step.Act i e) later
 tried-among i {e} later all t acts_so =
     subst (λ (z : Event). Among (step.Act i z) later) t.is
@@ -446,6 +471,9 @@ module _ {shape : Shaped} (within : IsShape shape) {frames : List Plain} {i : �
         let never : is_own (event.Data d) ≡ true =
         subst (λ (x : Event). is_own x ≡ true) same own in
         absurd cc));
+    acked = left-acked g.acts.leaves (own-met n.node.early e own);
+    bases = λ j.
+        (let same = left-bases g.acts.leaves (own-met n.node.early e own) j in omega (arith, same));
     moves = λ given w is h.
         met-went within is inside n.node.early e r own given h
         (g.acts.states (node_at w.current i) h.shows) g.acts.leaves g.acts.unchanged;
@@ -464,6 +492,8 @@ module _ {shape : Shaped} (within : IsShape shape) {frames : List Plain} {i : �
         (event.Data d) r given
         (λ x same.
         let one : d ≡ x = cc in subst (λ (y : Data). Among (plain_data y) frames) one among));
+    acked = left-acked g.acts.leaves refl;
+    bases = λ j. (let same = left-bases g.acts.leaves refl j in omega (arith, same));
     moves = λ given w is h.
         data-went within is inside d r (is.net (plain_data d) among) h
         (g.acts.states (node_at w.current i) h.shows) g.acts.leaves g.acts.unchanged;
@@ -473,7 +503,14 @@ module _ {shape : Shaped} (within : IsShape shape) {frames : List Plain} {i : �
   unlisted : {n m : LoneNode} {so : Says} (c : NodeView) (e : Event)
       → Advances shape frames i so (listed n c e) m → Advances shape frames i so n m
   unlisted c e a =
-      record { counts = a.counts; logs = a.logs; early = a.early; moves = a.moves }
+      record {
+        counts = a.counts;
+        logs = a.logs;
+        early = a.early;
+        acked = a.acked;
+        bases = a.bases;
+        moves = a.moves;
+      }
 
   given-advances : {n m : LoneNode} (e : Event) (r : Result Answer Fault) → is_own e ≡ true
       → Given false n m e r → Advances shape frames i (acted_by i e r) n m
@@ -507,15 +544,17 @@ module _ {shape : Shaped} (within : IsShape shape) {frames : List Plain} {i : �
 
   -- ---- frames
 
-  heard-advances : {n m : LoneNode} (x : Ack) (r : Result Answer Refusal) → Heard n m x r
-      → Advances shape frames i quietly n m
-  heard-advances {n} {m} x r g = record {
+  heard-advances : {n m : LoneNode} (x : Ack) (r : Result Answer Refusal)
+      → Among (plain_ack x) frames → Heard n m x r → Advances shape frames i quietly n m
+  heard-advances {n} {m} x r among g = record {
     counts = ap (λ (z : LoneNode). z.counts) g.stays;
     logs = g.logs;
     early = λ given.
         subst (AreGiven frames) (sym g.acts.early)
         (after-all (λ from d. Among (plain_data d) frames) n.node.core.local n.node.early
         (event.Ack x) r given (λ d same. absurd cc));
+    acked = acks r g;
+    bases = grow r g;
     moves = λ given w is h. by r g h;
   }
     where
@@ -536,17 +575,29 @@ module _ {shape : Shaped} (within : IsShape shape) {frames : List Plain} {i : �
           }
       by (Err f) g h = stays g.acts.unchanged h
 
+      acks : (r : Result Answer Refusal) → Heard n m x r → AreAcked frames n.node.core
+          → AreAcked frames m.node.core
+      acks (Ok a) g all = ack-acked n.node.core m.node.core x a g.acts.performs among all
+      acks (Err f) g all = subst (AreAcked frames) (sym g.acts.unchanged) all
+
+      grow : (r : Result Answer Refusal) → Heard n m x r → (j : ℕ)
+          → (link_to n.node.core j).base ≤ (link_to m.node.core j).base
+      grow (Ok a) g j = ack-bases n.node.core m.node.core x a g.acts.performs j
+      grow (Err f) g j =
+          subst (λ (z : NodeView). (link_to n.node.core j).base ≤ (link_to z j).base)
+          (sym g.acts.unchanged) (le_refl _)
+
   acknowledged-advances : {n m : LoneNode} (x : Ack) (r : Result Answer Fault)
-      → Acknowledged n m x r → Advances shape frames i quietly n m
-  acknowledged-advances x (Ok a) g = heard-advances x (Ok a) g
-  acknowledged-advances x (Err (fault.Refused f)) g = heard-advances x (Err f) g
-  acknowledged-advances x (Err f) g = absurd g
+      → Among (plain_ack x) frames → Acknowledged n m x r → Advances shape frames i quietly n m
+  acknowledged-advances x (Ok a) among g = heard-advances x (Ok a) among g
+  acknowledged-advances x (Err (fault.Refused f)) among g = heard-advances x (Err f) among g
+  acknowledged-advances x (Err f) among g = absurd g
 
   handled-advances : {n m : LoneNode} (f : Frame) (r : Result Answer Fault)
       → Among (plain f) frames → Handled f n m r → Advances shape frames i quietly n m
   handled-advances {n} (frame.Data d) r among g =
       given-data-advances d r among g
-  handled-advances (frame.Ack x) r among g = acknowledged-advances x r g
+  handled-advances (frame.Ack x) r among g = acknowledged-advances x r among g
 
   pub took-advances : {n m : LoneNode} {bytes : List ℕ} {r : Result Answer Fault}
       → ((f : Plain) → Fits f → bytes ≡ spelling f → Among f frames) → TookIn bytes n m r
@@ -571,12 +622,14 @@ module _ {shape : Shaped} (within : IsShape shape) {frames : List Plain} {i : �
       by (Ok a) is g same =
           advances-resaid (λ w later so.
           (let told = subst (λ (z : Result Answer Fault). acted_by i d.event z w later) is so in
-          let steps = event-done i d q (Ok a) (λ e. absurd cc) (λ _ e. absurd cc) w later told.1 in
+          let steps = event-done i d q (Ok a) (λ e. absurd cc) (λ _ e. absurd cc) told.1 in
           (((λ saved. told.0 saved ∙ untold i d.event (Ok a) q.1 saved), steps.0), steps.1))) g
       by (Err (fault.Refused LinkSpent)) is g same = record {
         counts = g.counts;
         logs = g.logs;
         early = g.early;
+        acked = g.acked;
+        bases = g.bases;
         moves = λ given w at h.
             stays-so {so = done i d} (
               (λ saved. refl, tt),
@@ -587,7 +640,7 @@ module _ {shape : Shaped} (within : IsShape shape) {frames : List Plain} {i : �
           advances-resaid (λ w later so.
           (let told = subst (λ (z : Result Answer Fault). acted_by i d.event z w later) is so in
           let steps = event-done i d q (Err f) (λ e. absurd cc)
-          (λ tried e. tried-plenty f (subst IsTried is tried) e) w later told.1 in
+          (λ tried e. tried-plenty f (subst IsTried is tried) e) told.1 in
           (((λ saved. told.0 saved ∙ untold i d.event (Err f) q.1 saved), steps.0), steps.1))) g
       by (Err f) is g same =
           advances-resaid (λ w later so. (

@@ -29,6 +29,8 @@ use Rattle.c_handles.specs.declared.lone.images.Counts.{Counts}
 use Rattle.c_handles.specs.Laws.{nothing_told}
 use Rattle.laws.proofs.progress.Spaces.{save-step}
 use Rattle.c_handles.proofs.Says.{Says, quietly, tells}
+use Rattle.c_handles.proofs.Acked.{AreAcked, acked-more, kept-acked, keeps-acked}
+use Rattle.c_handles.proofs.Batches.{stored_one}
 use Rattle.c_handles.specs.Programs.{AreIn, Becomes, Choice, Finds, HasCounts, Holds, IsPlaceOf, MayFind, Place, Stored, Nothing, Image, Lost, System, choices_of, last_of, newest, window_of}
 use Rattle.c_handles.specs.declared.lone.LoneNode.{LoneNode}
 use Rattle.c_handles.proofs.Advances.{Advances, AreGiven, below, nodes, owns}
@@ -37,17 +39,26 @@ use Rattle.c_handles.proofs.Systems.{Follows, IsWorld, Next, Tells, among-left, 
 
 -- ---- what holds of every handle
 
--- The node keeps only early messages that were given out, and its log leads from what is newest.
+-- The node keeps only early messages that were given out, counts only as acknowledged what frames
+-- that were given out acknowledge, and its log leads from what is newest.
 pub record IsSoundNode (frames : List Plain) (e : Stored) (n : LoneNode) : Type 0 where
   pub early : AreGiven frames n.node.early
+  pub acked : AreAcked frames n.node.core
   pub log : Continues e n
 
 abbrev pub IsSoundIn : List Plain → Stored → Option LoneNode → Type 0
 IsSoundIn frames e None = Unit {0}
 IsSoundIn frames e (Some n) = IsSoundNode frames e n
 
+-- so does each node that is stored, or may be yet
+abbrev pub IsStoredAcked : List Plain → Stored → Type 0
+IsStoredAcked frames e =
+    (image batches : List ℕ) (m : WholeNode) → e ≡ Image image batches → IsStored image batches m
+    → AreAcked frames m.core
+
 pub record IsSound (s : System) : Type 0 where
   pub each : (i : ℕ) → IsSoundIn s.frames (newest (s.places i)) (s.places i).handle
+  pub stored : (i : ℕ) (e : Stored) → Among e (choices_of (s.places i)) → IsStoredAcked s.frames e
 
 sound-more : (frames given : List Plain) (e : Stored) (h : Option LoneNode)
     → IsSoundIn frames e h → IsSoundIn (frames ++ given) e h
@@ -55,8 +66,13 @@ sound-more frames given e None is = tt
 sound-more frames given e (Some n) is = record {
   early = λ from place d there. among-append_left (plain_data d) frames given
       (is.early from place d there);
+  acked = acked-more frames given n.node.core is.acked;
   log = is.log;
 }
+
+-- the node counts what it received on each of its links
+abbrev pub IsCounted : LoneNode → Type 0
+IsCounted n = length n.node.core.local.got ≡ length n.node.core.links
 
 -- after a call: what holds of every handle, and that worlds go on
 pub record Stepped (shape : Shaped) (s t : System) (so : Says) : Type 0 where
@@ -73,10 +89,24 @@ stepped-not {shape} {s} {t} same sound =
 pub stepped-at : {shape : Shaped} → IsShape shape → {s t : System} {i : ℕ} {p : Place}
     {given : List Plain} {so : Says} → i < shape.nodes → IsSound s → Becomes s t i p given
     → IsSoundIn s.frames (newest p) p.handle
+    → ((e : Stored) → Among e (choices_of p) → IsStoredAcked s.frames e)
     → ((e : Stored) → Among e (choices_of p) → Follows shape s i p given so e)
     → Stepped shape s t so
-stepped-at within {s} {t} {i} {p} {given} inside sound becomes here follows = record {
+stepped-at within {s} {t} {i} {p} {given} inside sound becomes here stored follows = record {
   sound = record {
+    stored = λ k e among image batches m is of.
+        subst (λ (fs : List Plain). AreAcked fs m.core) (sym becomes.frames)
+        (acked-more s.frames given m.core
+        (⊎_elim {C = AreAcked s.frames m.core}
+        (λ (same : k ≡ i).
+        stored e
+        (subst (λ (q : Place). Among e (choices_of q)) becomes.here
+        (subst (λ (j : ℕ). Among e (choices_of (t.places j))) same among)) image batches m is of)
+        (λ (other : k ≢ i).
+        sound.stored k e
+        (subst (λ (q : Place). Among e (choices_of q)) (becomes.others k other) among)
+        image batches m is of)
+        (cases_eq k i)));
     each = λ k.
         subst (λ (fs : List Plain). IsSoundIn fs (newest (t.places k)) (t.places k).handle)
         (sym becomes.frames)
@@ -168,8 +198,10 @@ module _ {shape : Shaped} (within : IsShape shape) {s : System} (t : System) {i 
       stepped-at within inside sound becomes
       (record {
         early = a.early was.early;
+        acked = a.acked was.acked;
         log = continues-on (newest (s.places i)) n m a.logs was.log;
       })
+      (sound.stored i)
       (λ e among. record {
         before = e;
         may = among;
@@ -270,7 +302,7 @@ module _ {shape : Shaped} (within : IsShape shape) {s : System} (t : System) {i 
   pub ended-stepped : Becomes s t i (record (s.places i) { handle = None }) []
       → Stepped shape s t (tells nothing_told)
   ended-stepped becomes =
-      stepped-at within inside sound becomes tt
+      stepped-at within inside sound becomes tt (sound.stored i)
       (λ e among. record {
         before = e;
         may = among;
@@ -291,7 +323,8 @@ module _ {shape : Shaped} (within : IsShape shape) {s : System} (t : System) {i 
   -- an image or a batch is stored
   pub stored-stepped : {e : Stored} {others : List Stored} (earlier : List Stored)
       → (s.places i).taken ≡ earlier ++ e ∷ others
-      → Becomes s t i (record (s.places i) { stored = e; taken = others }) [] → Stepped shape s t quietly
+      → Becomes s t i (record (s.places i) { stored = e; taken = others }) []
+      → Stepped shape s t quietly
   stored-stepped {e} {others} earlier taken becomes =
       let p : Place = s.places i in
       let same : newest p ≡ newest (record p { stored = e; taken = others }) =
@@ -299,6 +332,9 @@ module _ {shape : Shaped} (within : IsShape shape) {s : System} (t : System) {i 
       ∙ newest-left p.stored earlier e others in
       stepped-at within inside sound becomes
       (subst (λ (z : Stored). IsSoundIn s.frames z p.handle) same (sound.each i))
+      (λ x among.
+      sound.stored i x
+      (inr (subst (Among x) (sym taken) (among-left earlier x e others among))))
       (λ x among. record {
         before = x;
         may = inr (subst (Among x) (sym taken) (among-left earlier x e others among));
@@ -328,7 +364,8 @@ module _ {shape : Shaped} (within : IsShape shape) {s : System} (t : System) {i 
             (
               refl,
               λ e. absurd
-                  (let never = sym (ap outcome_of (save-step w i (below within is inside))) ∙ e in cc),
+                  (let done = save-step w i (below within is inside) in
+                  let never = sym (ap outcome_of done) ∙ e in cc),
             ),
             tt,
           ),
@@ -353,8 +390,11 @@ module _ {shape : Shaped} (within : IsShape shape) {s : System} (t : System) {i 
         early = subst (AreGiven s.frames)
             (sym (ap (λ (x : WholeNode). x.early) is_now ∙ kept-early counts.items n.node))
             was.early;
+        acked = subst (λ (x : WholeNode). AreAcked s.frames x.core) (sym is_now)
+            (keeps-acked counts.items n.node was.acked);
         log = continues-on (newest p) n m logs was.log;
       })
+      (sound.stored i)
       (λ e among. record {
         before = e;
         may = among;
@@ -380,13 +420,16 @@ module _ {shape : Shaped} (within : IsShape shape) {s : System} (t : System) {i 
       })
 
   -- everything counts as saved, without an image
-  pub released-stepped : {n : LoneNode} → (s.places i).handle ≡ Some n
+  pub released-stepped : {n : LoneNode} → (s.places i).handle ≡ Some n → IsCounted n
       → Becomes s t i (record { handle = Some (released n); stored = Lost; taken = [] }) []
       → Stepped shape s t quietly
-  released-stepped {n} held becomes =
+  released-stepped {n} held wide becomes =
       let p : Place = s.places i in
       let was = sound-node held in
-      stepped-at within inside sound becomes (record { early = was.early; log = tt })
+      stepped-at within inside sound becomes
+      (record { early = was.early; acked = kept-acked n.node.core wide was.acked; log = tt })
+      (λ e among image batches m is of.
+      absurd (⊎_elim (λ (lost : e ≡ Lost). let both = sym lost ∙ is in cc) (λ never. never) among))
       (λ e among. record {
         before = newest p;
         may = newest-among p.stored p.taken;
@@ -406,17 +449,22 @@ module _ {shape : Shaped} (within : IsShape shape) {s : System} (t : System) {i 
   -- a handle is filled with what is stored
   pub opened-stepped : {n : LoneNode} → (s.places i).handle ≡ None
       → ((x : NodeState) → Finds shape i (s.places i).stored x → IsCarried x x n.node.core)
-      → AreGiven s.frames n.node.early → Continues (s.places i).stored n → n.counts ≡ None
+      → AreGiven s.frames n.node.early → AreAcked s.frames n.node.core
+      → Continues (s.places i).stored n → n.counts ≡ None
       → Becomes s t i (record {
         handle = Some n;
         stored = (s.places i).stored;
         taken = [];
       }) []
       → Stepped shape s t quietly
-  opened-stepped {n} empty carried early log none becomes =
+  opened-stepped {n} empty carried early acked log none becomes =
       let p : Place = s.places i in
       let q : Place = record { handle = Some n; stored = p.stored; taken = [] } in
-      stepped-at within inside sound becomes (record { early = early; log = log })
+      stepped-at within inside sound becomes
+      (record { early = early; acked = acked; log = log })
+      (λ e among.
+      sound.stored i e
+      (⊎_elim (λ (is_it : e ≡ p.stored). inl is_it) (λ never. absurd never) among))
       (λ e among. record {
         before = p.stored;
         may = inl refl;
@@ -440,9 +488,22 @@ module _ {shape : Shaped} (within : IsShape shape) {s : System} (t : System) {i 
   -- an image or a batch was taken, which may be stored
   module _ (n m : LoneNode) (counts : Vec Counts) (held : (s.places i).handle ≡ Some n)
       (same : m.node ≡ n.node) (are : counts.items ≡ counts_of n.node.core)
-      (has : m.counts ≡ Some counts) where
+      (has : m.counts ≡ Some counts) (wide : IsCounted n) where
     abbrev After : Stored → Place
     After e = record (s.places i) { handle = Some m; taken = (s.places i).taken ++ e ∷ [] }
+
+    of-acked : (e : Stored) → IsOf e n.node → AreAcked s.frames n.node.core
+        → IsStoredAcked s.frames e
+    of-acked Nothing of all = absurd of
+    of-acked Lost of all = λ image batches x is stored. absurd cc
+    of-acked (Image image batches) of all = λ image_is batches_is x is stored.
+        subst (λ (z : WholeNode). AreAcked s.frames z.core)
+        (stored_one image batches (saved_whole n.node) x of
+        (let a : image ≡ image_is = cc in
+        let b : batches ≡ batches_is = cc in
+        subst (λ (l : List ℕ). IsStored l batches x) (sym a)
+        (subst (λ (l : List ℕ). IsStored image_is l x) (sym b) stored)))
+        (kept-acked n.node.core wide all)
 
     after-newest : (e : Stored) → newest (After e) ≡ e
     after-newest e = newest-last (s.places i).stored (s.places i).taken e
@@ -509,8 +570,19 @@ module _ {shape : Shaped} (within : IsShape shape) {s : System} (t : System) {i 
         (record {
           early = subst (λ (z : WholeNode). AreGiven s.frames z.early) (sym same)
               (sound-node held).early;
+          acked = subst (λ (z : WholeNode). AreAcked s.frames z.core) (sym same)
+              (sound-node held).acked;
           log = subst (λ (z : Stored). Continues z m) (sym (after-newest e)) log;
         })
+        (λ x among.
+        ⊎_elim {C = IsStoredAcked s.frames x}
+        (λ (old : Among x (choices_of (s.places i))). sound.stored i x old)
+        (λ (new : Among x (e ∷ [])).
+        ⊎_elim {C = IsStoredAcked s.frames x}
+        (λ (now : x ≡ e).
+        subst (IsStoredAcked s.frames) (sym now) (of-acked e of (sound-node held).acked))
+        (λ never. absurd never) new)
+        (among-append x (choices_of (s.places i)) (e ∷ []) among))
         (λ x among.
         ⊎_elim {C = Follows shape s i (After e) [] quietly x}
         (λ (old : Among x (choices_of (s.places i))). taken-else e x of old)

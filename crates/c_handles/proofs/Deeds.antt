@@ -1,7 +1,8 @@
 -- What the contract of each call says is enough: after it, worlds go on.
-use Rattle.std.proofs.Common.{◌≡◌, ℕ, ◌<◌, ◌≤◌, ◌==◌, true, false, Bool, List, [], ◌∷◌, ◌++◌, length, take, drop, Option, Some, None, Result, Ok, Err, ⊎_elim, refl, sym, ap, ◌∙◌, subst}
+use Rattle.std.proofs.Common.{◌≡◌, ℕ, ◌<◌, ◌≤◌, ◌==◌, true, false, Bool, List, [], ◌∷◌, ◌++◌, length, take, drop, Option, Some, None, Result, Ok, Err, inl, ⊎_elim, refl, sym, ap, ◌∙◌, subst}
 use Rattle.std.specs.Global.{Vec}
 use Rattle.std.proofs.lemmas.Bool.{cond_both, eqb-true}
+use Rattle.std.proofs.lemmas.List.{length-replicate}
 use Rattle.ids.specs.Limits.{Shaped, IsShape}
 use Rattle.ids.specs.declared.limits.TheConstants.{WINDOW}
 use Rattle.ids.specs.declared.refusal.Refusal.TheVariants as refusal
@@ -10,15 +11,19 @@ use Rattle.image_parts.specs.Logs.{begins_logged}
 use Rattle.image.specs.Wholes.{saved_whole}
 use Rattle.msg.specs.Frames.{Plain}
 use Rattle.model.specs.Cuts.{Among}
-use Rattle.model.specs.State.{NodeState, node_at}
-use Rattle.model.specs.View.{NodeView, new_view}
+use Rattle.model.specs.State.{LocalState, NodeState, node_at}
+use Rattle.model.specs.View.{Link, NodeView, base_of, new_view, no_link}
+use Rattle.model.proofs.Lookups.{get_or-replicate_any}
+use Rattle.node_store.proofs.Stores.{any_of}
 use Rattle.model.specs.World.{World, IsInNet, new_world, run}
 use Rattle.model.proofs.NewNodes.{new-kept, new-shown}
 use Rattle.node.specs.Keeping.{WholeNode, alone, new_whole}
 use Rattle.node.proofs.Kept.{of-none}
 use Rattle.msg.specs.Frames.{plain_data}
 use Rattle.laws.specs.Carried.{IsCarried}
-use Rattle.laws.proofs.Base.{new-inside}
+use Rattle.laws.proofs.Base.{all-base, new-inside}
+use Rattle.laws.proofs.Invariant.{Base}
+use Rattle.model.specs.Cuts.{cut}
 use Rattle.laws.proofs.Carrying.{carried-whole}
 use Rattle.c_values.specs.declared.fault.Fault.{Fault}
 use Rattle.c_values.specs.declared.fault.Fault.TheVariants as fault
@@ -29,11 +34,12 @@ use Rattle.c_handles.specs.Logs.{KeepsLog, LogsFrom, logging}
 use Rattle.c_handles.specs.Lone.{Made, Read, is_congested, lone}
 use Rattle.c_handles.specs.declared.lone.images.Counts.{Counts}
 use Rattle.c_handles.specs.declared.lone.LoneNode.{LoneNode}
-use Rattle.c_handles.specs.Programs.{Becomes, Call, Choice, Deed, Does, Finds, Goes, IsShown, MayFind, Opening, Owes, Place, Stored, System, behind, gives, new_system, newest, place_after, place_of}
+use Rattle.c_handles.specs.Programs.{Becomes, Call, Choice, Deed, Does, Finds, Goes, Holds, IsShown, MayFind, Opening, Owes, Place, Stored, System, behind, gives, new_system, newest, place_after, place_of}
 use Rattle.c_handles.specs.Programs.{Act, Take, Work, FrameAt, AckFor, Frames, TakeImage, TakeBatch, Keep, Release, Log, Track, Freed, Open, On, End, Store, New, FromImage, FromBatches, Nothing, Image, Lost, Meets, Opens, GoesOn, IsMadeOnce, IsStoredFirst, IsOfSpace}
 use Rattle.c_handles.proofs.Advances.{AreGiven, acts-advances, advances-not, advances-same, took-advances, works-advances}
+use Rattle.c_handles.proofs.Acked.{AreAcked, none_yet}
 use Rattle.c_handles.proofs.Says.{quietly, said_by}
-use Rattle.c_handles.proofs.Calls.{IsOf, IsSound, Stepped, ack-out, advances-stepped, ended-stepped, kept-stepped, opened-stepped, released-out, released-stepped, sound-node, stepped-not, stored-stepped, taken-stepped, window-out}
+use Rattle.c_handles.proofs.Calls.{IsCounted, IsOf, IsSound, Stepped, ack-out, advances-stepped, ended-stepped, kept-stepped, opened-stepped, released-out, released-stepped, sound-node, stepped-not, stored-stepped, taken-stepped, window-out}
 use Rattle.c_handles.proofs.Logs.{if_none}
 use Rattle.c_handles.proofs.Saving.{Continues, at-front, continues-from, continues-none, found-carried, read-one, stored-alone, stored-quiet}
 use Rattle.c_handles.proofs.Systems.{IsWorld, Leads, leads-by, leads-nowhere, leads-on, newest-among}
@@ -64,24 +70,27 @@ module _ {shape : Shaped} (within : IsShape shape) {s : System} (t : System) {i 
       ap (take needed) wrote.1 ∙ at-front bytes (drop (length bytes) old) needed wrote.2
 
   image-stepped : (n m : LoneNode) (old new : List ℕ) (before needed : ℕ) (r : Result ℕ Fault)
-      → p.handle ≡ Some n → Imaged n m r old new before needed
-      → Becomes s t i (place_after (TakeImage r old new before needed) m p) [] → Stepped shape s t quietly
-  image-stepped n m old new before needed (Ok mark) held (took, wrote) becomes =
+      → p.handle ≡ Some n → IsCounted n → Imaged n m r old new before needed
+      → Becomes s t i (place_after (TakeImage r old new before needed) m p) []
+      → Stepped shape s t quietly
+  image-stepped n m old new before needed (Ok mark) held wide (took, wrote) becomes =
       let bytes : List ℕ = image_in n in
       let front : take needed new ≡ bytes = front-of bytes old new needed wrote in
       let stored : IsStored bytes [] (saved_whole n.node) =
       stored-alone bytes (saved_whole n.node) took.read in
       taken-stepped within t inside sound n m took.counts held
       (ap (λ (x : LoneNode). x.node) took.stays) took.counted
-      (ap (λ (x : LoneNode). x.counts) took.stays)
+      (ap (λ (x : LoneNode). x.counts) took.stays) wide
       (Image (take needed new) [])
       (subst (λ (l : List ℕ). IsStored l [] (saved_whole n.node)) (sym front) stored)
       (subst (λ (l : List ℕ). Continues (Image l []) m) (sym front)
       (continues-from m (saved_whole n.node) stored took.logs))
       becomes
-  image-stepped n m old new before needed (Err fault.ShortBuffer) held h becomes = same-stepped held h.0 becomes
-  image-stepped n m old new before needed (Err (fault.Refused e)) held h becomes = same-stepped held h.0 becomes
-  image-stepped n m old new before needed (Err e) held h becomes = absurd h
+  image-stepped n m old new before needed (Err fault.ShortBuffer) held wide h becomes =
+      same-stepped held h.0 becomes
+  image-stepped n m old new before needed (Err (fault.Refused e)) held wide h becomes =
+      same-stepped held h.0 becomes
+  image-stepped n m old new before needed (Err e) held wide h becomes = absurd h
 
   batch-of : {n m : LoneNode} {mark : ℕ} {bytes : List ℕ} (e : Stored)
       → GaveBatch n m mark bytes → Continues e n
@@ -102,31 +111,39 @@ module _ {shape : Shaped} (within : IsShape shape) {s : System} (t : System) {i 
       (λ _. (tt, tt))
 
   batch-stepped : (n m : LoneNode) (old new : List ℕ) (before needed : ℕ) (r : Result ℕ Fault)
-      (b : Option (List ℕ)) → p.handle ≡ Some n → BatchOr b n m r old new before needed
+      (b : Option (List ℕ)) → p.handle ≡ Some n → IsCounted n
+      → BatchOr b n m r old new before needed
       → Continues (newest p) n
       → ((image batches : List ℕ) → newest p ≡ Image image batches
       → (first : WholeNode) × IsStored image batches first)
-      → Becomes s t i (place_after (TakeBatch r old new before needed) m p) [] → Stepped shape s t quietly
-  batch-stepped n m old new before needed (Ok mark) (Some bytes) held (gave, wrote) log
+      → Becomes s t i (place_after (TakeBatch r old new before needed) m p) []
+      → Stepped shape s t quietly
+  batch-stepped n m old new before needed (Ok mark) (Some bytes) held wide (gave, wrote) log
       found becomes =
       let front : take needed new ≡ record_of bytes =
       front-of (record_of bytes) old new needed wrote in
       let both = batch-of (newest p) gave log found in
       taken-stepped within t inside sound n m gave.counts held
       (ap (λ (x : LoneNode). x.node) gave.stays) gave.counted
-      (ap (λ (x : LoneNode). x.counts) gave.stays)
+      (ap (λ (x : LoneNode). x.counts) gave.stays) wide
       (behind (newest p) (take needed new))
       (subst (λ (l : List ℕ). IsOf (behind (newest p) l) n.node) (sym front) both.0)
       (subst (λ (l : List ℕ). Continues (behind (newest p) l) m) (sym front) both.1)
       becomes
-  batch-stepped n m old new before needed (Err fault.ShortBuffer) (Some bytes) held h log found becomes =
+  batch-stepped n m old new before needed (Err fault.ShortBuffer) (Some bytes) held wide h log
+      found becomes =
       same-stepped held h.0 becomes
-  batch-stepped n m old new before needed (Err (fault.Refused refusal.Memory)) (Some bytes) held h log found becomes =
+  batch-stepped n m old new before needed (Err (fault.Refused refusal.Memory)) (Some bytes) held
+      wide h log found becomes =
       same-stepped held h.0 becomes
-  batch-stepped n m old new before needed (Err (fault.Refused e)) (Some bytes) held h log found becomes = absurd h
-  batch-stepped n m old new before needed (Err e) (Some bytes) held h log found becomes = absurd h
-  batch-stepped n m old new before needed (Ok mark) None held h log found becomes = absurd (let never = h.0 in cc)
-  batch-stepped n m old new before needed (Err e) None held h log found becomes = same-stepped held h.1 becomes
+  batch-stepped n m old new before needed (Err (fault.Refused e)) (Some bytes) held wide h log
+      found becomes = absurd h
+  batch-stepped n m old new before needed (Err e) (Some bytes) held wide h log found becomes =
+      absurd h
+  batch-stepped n m old new before needed (Ok mark) None held wide h log found becomes =
+      absurd (let never = h.0 in cc)
+  batch-stepped n m old new before needed (Err e) None held wide h log found becomes =
+      same-stepped held h.1 becomes
 
   -- ---- what counts as saved
 
@@ -194,52 +211,54 @@ module _ {shape : Shaped} (within : IsShape shape) {s : System} (t : System) {i 
 
   deed-stepped : {n : LoneNode} (m : LoneNode) (d : Deed) → p.handle ≡ Some n → Meets d n m
       → Becomes s t i (place_after d m p) (gives d n) → IsOfSpace s (On i d)
-      → IsStoredFirst s (On i d) → Continues (newest p) n
+      → IsStoredFirst s (On i d) → IsCounted n → Continues (newest p) n
       → ((image batches : List ℕ) → newest p ≡ Image image batches
       → (first : WholeNode) × IsStored image batches first)
       → Stepped shape s t (said_by (On i d))
-  deed-stepped {n} m (Act e r) held meets becomes space first log found =
+  deed-stepped {n} m (Act e r) held meets becomes space first wide log found =
       advances-stepped within t inside sound held
       (acts-advances within inside (is_congested n e) e r meets.0 meets.1) becomes
       (λ w is h f never. absurd never)
-  deed-stepped {n} m (Take bytes r) held meets becomes space first log found =
+  deed-stepped {n} m (Take bytes r) held meets becomes space first wide log found =
       advances-stepped within t inside sound held (took-advances within inside space meets) becomes
       (λ w is h f never. absurd never)
-  deed-stepped {n} m (Work scans slots work r) held meets becomes space first log found =
+  deed-stepped {n} m (Work scans slots work r) held meets becomes space first wide log found =
       advances-stepped within t inside sound held
       (works-advances within inside scans slots work r meets) becomes
       (λ w is h f never. absurd never)
   deed-stepped {n} m (FrameAt to place (Ok u) old new before needed) held meets becomes space first
-      log found =
+      wide log found =
       gives-stepped held meets.1 (released-out within t inside sound n to place) becomes
-  deed-stepped {n} m (FrameAt to place (Err e) old new before needed) held meets becomes space first log
-      found = same-stepped held meets.1 becomes
-  deed-stepped {n} m (AckFor from (Ok u) old new before needed) held meets becomes space first log
-      found =
+  deed-stepped {n} m (FrameAt to place (Err e) old new before needed) held meets becomes space first
+      wide log found = same-stepped held meets.1 becomes
+  deed-stepped {n} m (AckFor from (Ok u) old new before needed) held meets becomes space first
+      wide log found =
       gives-stepped held meets.1 (ack-out within t inside sound n from) becomes
-  deed-stepped {n} m (AckFor from (Err e) old new before needed) held meets becomes space first log
-      found = same-stepped held meets.1 becomes
+  deed-stepped {n} m (AckFor from (Err e) old new before needed) held meets becomes space first
+      wide log found = same-stepped held meets.1 becomes
   deed-stepped {n} m (Frames to after (Ok count) old new before needed) held meets becomes space
-      first log found =
+      first wide log found =
       gives-stepped held meets.1 (window-out within t inside sound n to WINDOW) becomes
-  deed-stepped {n} m (Frames to after (Err e) old new before needed) held meets becomes space first log
-      found = same-stepped held meets.1 becomes
-  deed-stepped {n} m (TakeImage r old new before needed) held meets becomes space first log found =
-      image-stepped n m old new before needed r held meets becomes
-  deed-stepped {n} m (TakeBatch r old new before needed) held meets becomes space first log found =
-      batch-stepped n m old new before needed r (batch_of n) held meets log found becomes
-  deed-stepped {n} m (Keep mark r) held meets becomes space first log found =
+  deed-stepped {n} m (Frames to after (Err e) old new before needed) held meets becomes space first
+      wide log found = same-stepped held meets.1 becomes
+  deed-stepped {n} m (TakeImage r old new before needed) held meets becomes space first
+      wide log found =
+      image-stepped n m old new before needed r held wide meets becomes
+  deed-stepped {n} m (TakeBatch r old new before needed) held meets becomes space first
+      wide log found =
+      batch-stepped n m old new before needed r (batch_of n) held wide meets log found becomes
+  deed-stepped {n} m (Keep mark r) held meets becomes space first wide log found =
       keep-stepped mark n.counts (mark == n.mark) refl refl held meets.0 meets.2 (first n held)
       becomes
-  deed-stepped {n} m (Release r) held meets becomes space first log found =
-      released-stepped within t inside sound held
+  deed-stepped {n} m (Release r) held meets becomes space first wide log found =
+      released-stepped within t inside sound held wide
       (subst (λ (x : LoneNode).
       Becomes s t i (record { handle = Some x; stored = Lost; taken = [] }) []) meets.0 becomes)
-  deed-stepped {n} m (Log on r) held meets becomes space first log found =
+  deed-stepped {n} m (Log on r) held meets becomes space first wide log found =
       log-stepped on held meets.0 becomes
-  deed-stepped {n} m (Track on r) held meets becomes space first log found =
+  deed-stepped {n} m (Track on r) held meets becomes space first wide log found =
       gone-stepped (tracking on n.gone) held meets.0 becomes
-  deed-stepped {n} m (Freed count old new) held meets becomes space first log found =
+  deed-stepped {n} m (Freed count old new) held meets becomes space first wide log found =
       gone-stepped m.gone held meets.stays becomes
 
   -- ---- openings
@@ -267,6 +286,12 @@ module _ {shape : Shaped} (within : IsShape shape) {s : System} (t : System) {i 
       (carried-whole (new-kept shape i) (new-shown shape i))))
       (subst (λ (y : WholeNode). AreGiven s.frames y.early) (sym same)
       (of-none (λ from d. Among (plain_data d) s.frames) shape.nodes))
+      (subst (λ (y : WholeNode). AreAcked s.frames y.core) (sym same)
+      (record {
+        each = λ j. none_yet (ap base_of (get_or-replicate_any {A = Link} shape.nodes j no_link));
+        wide = length-replicate shape.nodes 0
+            ∙ sym (length-replicate {A = Link} shape.nodes no_link);
+      }))
       (continues-none p.stored n (no-log n (ap (λ (x : LoneNode). x.logs) is)))
       (ap (λ (x : LoneNode). x.counts) is) becomes
 
@@ -283,6 +308,8 @@ module _ {shape : Shaped} (within : IsShape shape) {s : System} (t : System) {i 
       (read-one bytes n.node.core node.node image node.stored)
       (carried-whole node.saved node.shows))
       (alone-given n.node same)
+      (sound.stored i p.stored (inl refl) bytes [] (alone n.node.core) stored
+      (stored-alone bytes (alone n.node.core) (any_of bytes (alone n.node.core) (image, refl))))
       (continues-none p.stored n (no-log n (ap (λ (x : LoneNode). x.logs) is)))
       (ap (λ (x : LoneNode). x.counts) is) becomes
 
@@ -294,6 +321,7 @@ module _ {shape : Shaped} (within : IsShape shape) {s : System} (t : System) {i 
       opened-stepped within t inside sound empty
       (λ x found. found-carried (subst (λ (e : Stored). Finds shape i e x) stored found) of)
       (alone-given n.node (stored-quiet of))
+      (sound.stored i p.stored (inl refl) image batches n.node stored of)
       (subst (λ (e : Stored). Continues e n) (sym stored) (continues-from n n.node of logs))
       (ap (λ (x : LoneNode). x.counts) is) becomes
 
@@ -326,6 +354,21 @@ module _ {shape : Shaped} (within : IsShape shape) {s : System} (t : System) (so
       (found.1.each i inside).finds in
       (node.node, node.stored)
 
+  -- a held node counts what it received on each of its links
+  got-counted : (i : ℕ) → i < shape.nodes → {n : LoneNode} → (s.places i).handle ≡ Some n
+      → IsCounted n
+  got-counted i inside {n} held =
+      let found = shown (λ k. newest (s.places k))
+      (λ k. newest-among (s.places k).stored (s.places k).taken) in
+      let w : World = found.0 in
+      let carried : IsCarried (node_at w.saved i) (node_at w.current i) n.node.core =
+      subst (λ (o : Option LoneNode). Holds o (node_at w.saved i) (node_at w.current i)) held
+      (found.1.each i inside).holds in
+      let base = subst (λ (v : World). Base shape (cut v (λ _. false))) (sym found.1.reached)
+      (all-base shape within found.1.steps (λ _. false)) in
+      ap (λ (q : LocalState). length q.got) carried.shows.local ∙ base.heard i inside
+      ∙ sym (base.width i inside) ∙ sym carried.shows.width
+
   pub does-stepped : (c : Call) → place_of c < shape.nodes → Does c s t → Owes shape s c
       → Stepped shape s t (said_by c)
   does-stepped (Open i how limit (Ok n)) inside does owes =
@@ -334,7 +377,8 @@ module _ {shape : Shaped} (within : IsShape shape) {s : System} (t : System) (so
   does-stepped (Open i how limit (Err f)) inside does owes = stepped-not does.1 sound
   does-stepped (On i d) inside does owes =
       deed-stepped within t inside sound does.new d does.held does.meets does.becomes owes.of_space
-      owes.stored_first (sound-node within t inside sound does.held).log (newest-found i inside)
+      owes.stored_first (got-counted i inside does.held)
+      (sound-node within t inside sound does.held).log (newest-found i inside)
   does-stepped (End i) inside does owes = ended-stepped within t inside sound does
   does-stepped (Store i e others) inside does owes =
       stored-stepped within t inside sound owes.in_order.0 owes.in_order.1 does
@@ -391,4 +435,9 @@ new-shown-system shape c may = (
 pub came : {shape : Shaped} → IsShape shape → (calls : List Call) (s : System)
     → Goes shape new_system calls s → Came shape new_system s
 came {shape} within calls s goes =
-    goes-came within calls new_system s (record { each = λ i. tt }) (new-shown-system shape) goes
+    goes-came within calls new_system s (record {
+      each = λ i. tt;
+      stored = λ i e among image batches m is of.
+          absurd
+          (⊎_elim (λ (none : e ≡ Nothing). let both = sym none ∙ is in cc) (λ never. never) among);
+    }) (new-shown-system shape) goes

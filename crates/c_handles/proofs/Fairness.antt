@@ -23,9 +23,9 @@ use Rattle.laws.specs.Progress.{HasEnded, IsGone, IsSwept, current_cycle, saves}
 use Rattle.laws.specs.Fairness.{AreRounds, HasTurn, IsRound, after_rounds, begins_after, begun_after, cycle_rounds, is_turns, marking_rounds, steps_in}
 use Rattle.laws.proofs.Lookups.{among-append_left, among-append_right}
 use Rattle.laws.proofs.progress.Rounded.{rounds-end-cycle, rounds-end-marking, rounds-free-garbage}
-use Rattle.c_values.specs.declared.fields.CWork.{CWork}
 use Rattle.c_handles.specs.Fairness.{AfterRounds, AreCallRounds, AreFilled, CallsEndCycle, CallsEndMarking, CallsFreeGarbage, HandleHasEnded, HandlesHaveSwept, HasWorked, IsCallRound, IsWithin, received_by, sent_by}
-use Rattle.c_handles.specs.Programs.{Act, Call, Choice, Deed, Does, DoesOn, Goes, Holds, IsShown, MayFind, On, Place, Release, Store, System, TakeBatch, TakeImage, Work, place_after}
+use Rattle.c_handles.specs.Laws.{IsReachable}
+use Rattle.c_handles.specs.Programs.{Act, Call, Choice, Deed, Does, DoesOn, Goes, Holds, IsShown, MayFind, On, Owes, Place, Release, Store, System, TakeBatch, TakeImage, Work, place_after, place_of}
 use Rattle.c_handles.specs.declared.lone.LoneNode.{LoneNode}
 use Rattle.c_handles.proofs.Says.{AreTurns, EventSteps, came_in, made, said_by, turns-on, unmade}
 use Rattle.c_handles.proofs.Calls.{IsSound}
@@ -34,7 +34,7 @@ use Rattle.c_handles.proofs.Systems.{leads-by}
 
 -- ---- handles stay full
 
-after-filled : (d : Deed) (n : LoneNode) (p : Place) → (place_after d n p).handle ≡ Some n
+pub after-filled : (d : Deed) (n : LoneNode) (p : Place) → (place_after d n p).handle ≡ Some n
 after-filled (TakeImage (Ok mark) old new before needed) n p = refl
 after-filled (TakeBatch (Ok mark) old new before needed) n p = refl
 after-filled (Release r) n p = refl
@@ -53,7 +53,7 @@ deed-filled shape {s} {t} {i} d does filled j inside =
     (n.0, ap (λ (p : Place). p.handle) (does.becomes.others j other) ∙ n.1))
     (cases_eq j i)
 
-call-filled : (shape : Shaped) (s t : System) (c : Call) → IsWithin c → Does c s t
+pub call-filled : (shape : Shaped) (s t : System) (c : Call) → IsWithin c → Does c s t
     → AreFilled shape s → AreFilled shape t
 call-filled shape s t (On i d) within does filled j inside =
     deed-filled shape d does filled j inside
@@ -67,13 +67,6 @@ call-filled shape s t (Store i e others) within does filled j inside =
     (λ (other : j ≢ i). (n.0, ap (λ (p : Place). p.handle) (does.others j other) ∙ n.1))
     (cases_eq j i)
 call-filled shape s t c within does filled j inside = absurd within
-
-pub calls-filled : (shape : Shaped) (calls : List Call) (s t : System)
-    → AllByRecursion IsWithin calls → Goes shape s calls t → AreFilled shape s → AreFilled shape t
-calls-filled shape [] s t within same filled =
-    subst (AreFilled shape) (sym same) filled
-calls-filled shape (c ∷ cs) s t within (next, inside, does, owes, rest) filled =
-    calls-filled shape cs next t within.1 rest (call-filled shape s next c within.0 does filled)
 
 -- ---- one round
 
@@ -90,10 +83,33 @@ record TurnLeads (shape : Shaped) (s : System) (calls : List Call) (t : System) 
   goes_on : (w : World) → IsShown shape s before w
       → (later : List Step) × IsShown shape t c (run w later) × Turns calls w later
 
+-- The handles are full, and what callers did led to this.
+pub record Sits (shape : Shaped) (s : System) : Type 0 where
+  pub limits : IsShape shape
+  pub sound : IsSound s
+  pub shown : AllShown shape s
+  pub filled : AreFilled shape s
+
+pub sits-at-first : {shape : Shaped} {s : System} → IsReachable shape s → AreFilled shape s
+    → Sits shape s
+sits-at-first {s = s} r filled =
+    let here = came r.limits r.calls s r.goes in
+    record { limits = r.limits; sound = here.sound; shown = here.shown; filled = filled }
+
 record TurnCame (shape : Shaped) (s : System) (calls : List Call) (t : System) : Type 0 where
-  sound : IsSound t
-  shown : AllShown shape t
+  sits : Sits shape t
   leads : (c : Choice) → MayFind t c → TurnLeads shape s calls t c
+
+pub sits-on : {shape : Shaped} {s : System} (t : System) (c : Call) → Sits shape s → IsWithin c
+    → place_of c < shape.nodes → Does c s t → Owes shape s c → Sits shape t
+sits-on {shape} {s} t c h within inside does owes =
+    let one = does-stepped h.limits t h.sound h.shown c inside does owes in
+    record {
+      limits = h.limits;
+      sound = one.sound;
+      shown = shown-on h.shown (λ b may. leads-by (one.leads b may));
+      filled = call-filled shape s t c within does h.filled;
+    }
 
 -- a turn of some steps is one of more
 more-left : {i : ℕ} (ss ts : List Step) → HasTurn i ss → HasTurn i (ss ++ ts)
@@ -113,7 +129,7 @@ more-right ss ts h = record {
 }
 
 -- what is said by one call
-said-turns : (c : Call) → IsWithin c → (w : World) (later : List Step) → said_by c w later
+pub said-turns : (c : Call) → IsWithin c → (w : World) (later : List Step) → said_by c w later
     → AreTurns w later
 said-turns (On i (Act e r)) within w later so = absurd within
 said-turns (On i (Work scans slots work r)) within w later so = so.0.1
@@ -121,33 +137,29 @@ said-turns (On i d) within w later so = so.1
 said-turns (Store i e others) within w later so = so.1
 said-turns c within w later so = absurd within
 
-said-worked : (c : Call) (i scans slots : ℕ) (work : CWork) (w : World) (later : List Step)
-    → (0 < scans) × (0 < slots) → On i (Work scans slots work (Ok tt)) ≡ c → said_by c w later
+said-worked : {i : ℕ} {calls : List Call} (c : Call) (w : World) (later : List Step)
+    (h : HasWorked i calls) → On i (Work h.scans h.slots h.work (Ok tt)) ≡ c → said_by c w later
     → HasTurn i later
-said-worked c i scans slots work w later some is so =
-    (subst (λ (z : Call). said_by z w later) (sym is) so).1 refl some.0 some.1
+said-worked c w later h is so =
+    (subst (λ (z : Call). said_by z w later) (sym is) so).1 refl h.some.0 h.some.1
 
-calls-came : {shape : Shaped} → IsShape shape → (calls : List Call) (s t : System) → IsSound s
-    → AllShown shape s → AllByRecursion IsWithin calls → Goes shape s calls t
-    → TurnCame shape s calls t
-calls-came {shape} limits [] s t sound shown within same =
+calls-came : {shape : Shaped} (calls : List Call) (s t : System) → Sits shape s
+    → AllByRecursion IsWithin calls → Goes shape s calls t → TurnCame shape s calls t
+calls-came {shape} [] s t h within same =
     subst (TurnCame shape s []) (sym same)
     (record {
-      sound = sound;
-      shown = shown;
+      sits = h;
       leads = λ c may. record {
         before = c;
         may = may;
         goes_on = λ w h. ([], h, (tt, λ i worked. absurd worked.there));
       };
     })
-calls-came {shape} limits (c ∷ cs) s t sound shown within (next, inside, does, owes, rest) =
-    let one = does-stepped limits next sound shown c inside does owes in
-    let leads = λ (b : Choice) (may : MayFind next b). leads-by (one.leads b may) in
-    let end = calls-came limits cs next t one.sound (shown-on shown leads) within.1 rest in
+calls-came {shape} (c ∷ cs) s t h within (next, inside, does, owes, rest) =
+    let one = does-stepped h.limits next h.sound h.shown c inside does owes in
+    let end = calls-came cs next t (sits-on next c h within.0 inside does owes) within.1 rest in
     record {
-      sound = end.sound;
-      shown = end.shown;
+      sits = end.sits;
       leads = λ b may.
           let two = end.leads b may in
           let first = one.leads two.before two.may in
@@ -172,7 +184,7 @@ calls-came {shape} limits (c ∷ cs) s t sound shown within (next, inside, does,
         → HasTurn i (ss ++ ts)
     by w ss ts so later i h =
         ⊎_elim (λ (is : On i (Work h.scans h.slots h.work (Ok tt)) ≡ c).
-        more-left ss ts (said-worked c i h.scans h.slots h.work w ss h.some is so))
+        more-left ss ts (said-worked c w ss h is so))
         (λ (more : Among (On i (Work h.scans h.slots h.work (Ok tt))) cs).
         more-right ss ts (later i (record {
           scans = h.scans;
@@ -193,7 +205,7 @@ module _ {shape : Shaped} {s : System} {choice : Choice} {w : World}
       subst (λ (o : Option LoneNode). Holds o (node_at w.saved i) (node_at w.current i))
       (filled i inside).1 (shown.each i inside).holds
 
-  sent-shown : (from to : ℕ) → from < shape.nodes
+  pub sent-shown : (from to : ℕ) → from < shape.nodes
       → sent_by (s.places from).handle to ≡ length (sent_to (node_at w.current from) to)
   sent-shown from to inside =
       let n = filled from inside in
@@ -206,7 +218,7 @@ module _ {shape : Shaped} {s : System} {choice : Choice} {w : World}
       ap (λ (o : Option LoneNode). sent_by o to) n.1
       ∙ (let e : l.base + length l.unacknowledged ≡ length xs = omega (arith, within, long) in e)
 
-  received-shown : (to from : ℕ) → to < shape.nodes
+  pub received-shown : (to from : ℕ) → to < shape.nodes
       → received_by (s.places to).handle from ≡ got_from (node_at w.current to).local from
   received-shown to from inside =
       let n = filled to inside in
@@ -249,40 +261,39 @@ record RoundsLead (shape : Shaped) (s : System) (rounds : List (List Call)) (t :
       → (rs : List (List Step)) × (length rs ≡ length rounds) × AreRounds shape.nodes w rs
       × IsShown shape t c (after_rounds w rs)
 
-rounds-lead : {shape : Shaped} → IsShape shape → (rounds : List (List Call)) (s t : System)
-    → IsSound s → AllShown shape s → AreFilled shape s → AreCallRounds shape s rounds t
-    → (c : Choice) → MayFind t c → RoundsLead shape s rounds t c
-rounds-lead {shape} limits [] s t sound shown filled same c may =
+rounds-lead : {shape : Shaped} (rounds : List (List Call)) (s t : System) → Sits shape s
+    → AreCallRounds shape s rounds t → (c : Choice) → MayFind t c
+    → RoundsLead shape s rounds t c
+rounds-lead {shape} [] s t h same c may =
     subst (λ (z : System). MayFind z c → RoundsLead shape s [] z c) (sym same)
     (λ here. record {
       before = c;
       may = here;
-      goes_on = λ w h. ([], refl, tt, h);
+      goes_on = λ w shown. ([], refl, tt, shown);
     }) may
-rounds-lead {shape} limits (calls ∷ rest) s t sound shown filled (next, round, rounds) c may =
-    let one = calls-came limits calls s next sound shown round.within round.goes in
-    let full = calls-filled shape calls s next round.within round.goes filled in
-    let end = rounds-lead limits rest next t one.sound one.shown full rounds c may in
+rounds-lead {shape} (calls ∷ rest) s t h (next, round, rounds) c may =
+    let one = calls-came calls s next h round.within round.goes in
+    let end = rounds-lead rest next t one.sits rounds c may in
     let first = one.leads end.before end.may in
     record {
       before = first.before;
       may = first.may;
-      goes_on = λ w h.
-          let mid = first.goes_on w h in
+      goes_on = λ w shown.
+          let mid = first.goes_on w shown in
           let last = end.goes_on (run w mid.0) mid.1 in (
             mid.0 ∷ last.0,
             ap suc last.1,
-            (round-of w mid.0 round filled full h mid.1 mid.2, last.2),
+            (round-of w mid.0 round h.filled one.sits.filled shown mid.1 mid.2, last.2),
             subst (IsShown shape t c) (sym (run-append w mid.0 (steps_in last.0))) last.3,
           );
     }
 
--- the handles are full after all rounds
-rounds-filled : (shape : Shaped) (rounds : List (List Call)) (s t : System)
-    → AreCallRounds shape s rounds t → AreFilled shape s → AreFilled shape t
-rounds-filled shape [] s t same filled = subst (AreFilled shape) (sym same) filled
-rounds-filled shape (calls ∷ rest) s t (next, round, rounds) filled =
-    rounds-filled shape rest next t rounds (calls-filled shape calls s next round.within round.goes filled)
+-- what holds of the handles after rounds
+rounds-sit : {shape : Shaped} (rounds : List (List Call)) (s t : System) → Sits shape s
+    → AreCallRounds shape s rounds t → Sits shape t
+rounds-sit {shape} [] s t h same = subst (Sits shape) (sym same) h
+rounds-sit (calls ∷ rest) s t h (next, round, rounds) =
+    rounds-sit rest next t (calls-came calls s next h round.within round.goes).sits rounds
 
 -- ---- the statements
 
@@ -296,8 +307,8 @@ after-rounds : (needed : ℕ → World → ℕ) (Holds_of : Shaped → System �
     → AfterRounds needed Holds_of
 after-rounds needed Holds_of P law holds shape s t rounds reachable filled are choice may =
     let limits = reachable.limits in
-    let here = came limits reachable.calls s reachable.goes in
-    let l = rounds-lead limits rounds s t here.sound here.shown filled are choice may in (
+    let h = sits-at-first reachable filled in
+    let l = rounds-lead rounds s t h are choice may in (
       l.before,
       l.may,
       λ w shown enough.
@@ -308,12 +319,12 @@ after-rounds needed Holds_of P law holds shape s t rounds reachable filled are c
           → P shape.nodes (current_cycle z) (after_rounds z rs)) (sym shown.reached)
           (law shape limits shown.steps) in
           holds shape t choice (after_rounds w end.0) (current_cycle w) limits end.3
-          (rounds-filled shape rounds s t are filled)
+          (rounds-sit rounds s t h are).filled
           (all end.0 end.2 (omega (arith, enough, many)))),
     )
 
 -- the node in a handle is as shown
-held-local : {shape : Shaped} {s : System} {c : Choice} {w : World} (i : ℕ) (n : LoneNode)
+pub held-local : {shape : Shaped} {s : System} {c : Choice} {w : World} (i : ℕ) (n : LoneNode)
     → IsShown shape s c w → i < shape.nodes → (s.places i).handle ≡ Some n
     → n.node.core.local ≡ (node_at w.current i).local
 held-local {w = w} i n shown inside held =
@@ -341,16 +352,6 @@ calls-end-cycle =
 
 -- ---- garbage
 
--- what holds of the handles after rounds
-rounds-came : {shape : Shaped} → IsShape shape → (rounds : List (List Call)) (s t : System)
-    → IsSound s → AllShown shape s → AreCallRounds shape s rounds t
-    → IsSound t × AllShown shape t
-rounds-came {shape} limits [] s t sound shown same =
-    subst (λ (z : System). IsSound z × AllShown shape z) (sym same) (sound, shown)
-rounds-came limits (calls ∷ rest) s t sound shown (next, round, rounds) =
-    let one = calls-came limits calls s next sound shown round.within round.goes in
-    rounds-came limits rest next t one.sound one.shown rounds
-
 -- the step by which node 0 begins a cycle
 begin-step : {a : Answer} {w : World} {later : List Step}
     → EventSteps 0 event.Begin (Ok a) w later
@@ -374,11 +375,10 @@ calls-free-garbage shape s u v t rounds more a reachable filled are does later c
     let limits = reachable.limits in
     let n : ℕ = shape.nodes in
     let first_inside : 0 < n = (let many = limits.least_nodes in omega (arith, many)) in
-    let here = came limits reachable.calls s reachable.goes in
-    let there = rounds-came limits rounds s u here.sound here.shown are in
-    let full = rounds-filled shape rounds s u are filled in
-    let one = does-stepped limits v there.0 there.1 (On 0 (Act event.Begin (Ok a))) first_inside
-    does (record {
+    let h = sits-at-first reachable filled in
+    let there = rounds-sit rounds s u h are in
+    let begin : Call = On 0 (Act event.Begin (Ok a)) in
+    let one = does-stepped limits v there.sound there.shown begin first_inside does (record {
       of_space = tt;
       one_holder = tt;
       made_once = tt;
@@ -386,12 +386,15 @@ calls-free-garbage shape s u v t rounds more a reachable filled are does later c
       in_order = tt;
       stored_first = tt;
     }) in
-    let shown_then = shown-on there.1 (λ c m. leads-by (one.leads c m)) in
-    let full_then = deed-filled shape (Act event.Begin (Ok a)) does full in
-    let end = rounds-lead limits more v t one.sound shown_then full_then later choice may in
+    let begun_sits : Sits shape v = record {
+      limits = limits;
+      sound = one.sound;
+      shown = shown-on there.shown (λ c m. leads-by (one.leads c m));
+      filled = deed-filled shape (Act event.Begin (Ok a)) does there.filled;
+    } in
+    let end = rounds-lead more v t begun_sits later choice may in
     let mid = one.leads end.before end.may in
-    let start =
-    rounds-lead limits rounds s u here.sound here.shown filled are mid.before mid.may in (
+    let start = rounds-lead rounds s u h are mid.before mid.may in (
       start.before,
       start.may,
       λ w shown.

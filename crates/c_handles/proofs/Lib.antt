@@ -23,12 +23,16 @@ pub mod Handles
 pub mod Scans
 pub mod Trails
 pub mod Says
+pub mod Acked
+pub mod Carries
 pub mod Systems
 pub mod Advances
 pub mod Saving
 pub mod Calls
 pub mod Deeds
 pub mod Fairness
+pub mod Grown
+pub mod Turns
 pub mod Theorems
 pub mod Entered
 pub mod Went

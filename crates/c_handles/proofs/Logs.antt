@@ -157,7 +157,7 @@ at_push_if P [] (suc k) x d p q h = q
 at_push_if P (a ∷ xs) zero x d p q h = h
 at_push_if P (a ∷ xs) (suc k) x d p q h = at_push_if P xs k x d (λ e. p (ap suc e)) q h
 
-counts-length : (n : NodeView) (k : ℕ) → length (counts_below n k) ≡ k
+pub counts-length : (n : NodeView) (k : ℕ) → length (counts_below n k) ≡ k
 counts-length n zero = refl
 counts-length n (suc k) =
     omega (

@@ -1,8 +1,12 @@
 -- Callers who do nothing but work, save and carry frames come to the end of the cycle, in whatever
 -- order they do it.
-use Rattle.std.specs.Prelude.{◌≡◌, ℕ, ◌+◌, ◌<◌, ◌≤◌, List, [], ◌∷◌, length, Option, Some, None, Ok, ◌⊎◌}
+use Rattle.std.specs.Prelude.{◌≡◌, ◌≢◌, ℕ, ◌+◌, ◌<◌, ◌≤◌, List, [], ◌∷◌, ◌++◌, length, option_to_list, Option, Some, None, Ok, ◌⊎◌}
 use Rattle.std.specs.List.{AllByRecursion}
 use Rattle.ids.specs.Limits.{Shaped}
+use Rattle.ids.specs.declared.limits.TheConstants.{WINDOW}
+use Rattle.msg.specs.Frames.{Plain}
+use Rattle.frames.specs.Grammar.{Fits, spelling}
+use Rattle.node.specs.Frames.{acknowledgement}
 use Rattle.ids.specs.declared.names.Ref.{Ref}
 use Rattle.model.specs.Cuts.{Among}
 use Rattle.model.specs.declared.event.Answer.{Answer}
@@ -17,7 +21,7 @@ use Rattle.laws.specs.Statements.{Garbage}
 use Rattle.laws.specs.Strategy.{now}
 use Rattle.c_values.specs.declared.fields.CWork.{CWork}
 use Rattle.c_handles.specs.Laws.{IsReachable}
-use Rattle.c_handles.specs.Programs.{Act, Call, Choice, Deed, Does, Goes, IsShown, MayFind, On, Store, System, Work}
+use Rattle.c_handles.specs.Programs.{Act, Call, Choice, Deed, Does, Goes, IsShown, Keep, MayFind, On, Store, Stored, System, Take, TakeBatch, TakeImage, Work, window_of}
 use Rattle.c_handles.specs.declared.lone.LoneNode.{LoneNode}
 
 -- ---- rounds of calls
@@ -124,3 +128,72 @@ CallsFreeGarbage =
     → (middle : Choice) × (x : World) × IsShown shape v middle x
     × (cycle_rounds shape.nodes (now x) ≤ length more → (r : Ref) → r.node < shape.nodes
     → OldGarbage w r ⊎ Garbage w r → IsInHandle t r → ⊥))
+
+-- ---- turns, one node after the other
+
+-- The node takes these frames in this order, and answers each. Other calls may come between.
+pub data TakesIn (i : ℕ) : List Plain → List Call → Type 0 where
+  has_taken : (calls : List Call) → TakesIn i [] calls
+  takes : (f : Plain) (fs : List Plain) (bytes : List ℕ) (a : Answer) (calls : List Call) → Fits f
+      → bytes ≡ spelling f → TakesIn i fs calls
+      → TakesIn i (f ∷ fs) (On i (Take bytes (Ok a)) ∷ calls)
+  passes_by : (fs : List Plain) (c : Call) (calls : List Call) → TakesIn i fs calls
+      → TakesIn i fs (c ∷ calls)
+
+-- the frames that a node has for another one: those in the window, and the acknowledgement
+abbrev pub frames_for : LoneNode → ℕ → List Plain
+frames_for n to =
+    window_of n.node.core to WINDOW ++ option_to_list (acknowledgement n.node.core to)
+
+-- an image or a batch was taken, with this mark
+abbrev pub GaveMark : Deed → ℕ → Type 0
+GaveMark (TakeImage (Ok mark) old new before needed) given = mark ≡ given
+GaveMark (TakeBatch (Ok mark) old new before needed) given = mark ≡ given
+GaveMark d given = ⊥
+
+-- A node's turn: it works; an image or a batch is taken, stored, and counts as saved; and then each
+-- frame that it has for another node is given to that node.
+pub record IsTurnOf (shape : Shaped) (i : ℕ) (s : System) (calls : List Call) (t : System) : Type 0
+  where
+    pub scans : ℕ
+    pub slots : ℕ
+    pub work : CWork
+    pub some : (0 < scans) × (0 < slots)
+    pub deed : Deed
+    pub mark : ℕ
+    pub marks : GaveMark deed mark
+    pub stored : Stored
+    pub middle : System
+    pub saves : Goes shape s
+        (On i (Work scans slots work (Ok tt)) ∷ On i deed ∷ Store i stored []
+        ∷ On i (Keep mark (Ok tt)) ∷ []) middle
+    pub node : LoneNode
+    pub held : (middle.places i).handle ≡ Some node
+    pub gives : List Call
+    pub gives_on : Goes shape middle gives t
+    pub within : AllByRecursion IsWithin gives
+    pub carries : (j : ℕ) → j < shape.nodes → j ≢ i → TakesIn j (frames_for node j) gives
+    pub is : calls
+        ≡ On i (Work scans slots work (Ok tt)) ∷ On i deed ∷ Store i stored []
+        ∷ On i (Keep mark (Ok tt)) ∷ gives
+
+-- turns of these nodes, in this order
+abbrev pub HaveTurns : Shaped → List ℕ → System → List Call → System → Type 0
+HaveTurns shape [] s calls t = (calls ≡ []) × (t ≡ s)
+HaveTurns shape (i ∷ is) s calls t =
+    (next : System) × (turn : List Call) × (rest : List Call) × (calls ≡ turn ++ rest)
+    × (i < shape.nodes) × IsTurnOf shape i s turn next × HaveTurns shape is next rest t
+
+-- each node has a turn, in any order
+pub record HaveAllTurns (shape : Shaped) (s : System) (calls : List Call) (t : System) : Type 0
+  where
+    pub order : List ℕ
+    pub turns : HaveTurns shape order s calls t
+    pub all : (i : ℕ) → i < shape.nodes → Among i order
+
+-- If each node has a turn twice, messages come in. So that is a round.
+abbrev pub TurnsAreRounds : Type 0
+TurnsAreRounds =
+    (shape : Shaped) (s u t : System) (first more : List Call) → IsReachable shape s
+    → AreFilled shape s → HaveAllTurns shape s first u → HaveAllTurns shape u more t
+    → IsCallRound shape s (first ++ more) t

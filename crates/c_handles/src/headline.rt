@@ -4,7 +4,7 @@ ghost use Rattle.laws.specs.Fairness.{RoundsEndCycle, RoundsEndMarking, RoundsFr
 ghost use Rattle.laws.specs.Privacy.{PrivateIsUnknown};
 ghost use Rattle.laws.specs.Progress.{CycleCanEnd, EndIsFoundSoon, GarbageCanGo, MarkingCanEnd};
 ghost use Rattle.laws.specs.Statements.{AcknowledgedIsTakenIn, BalancesAddUp, CutsExtend, GarbageGoes, NetGrows, NodesAgree, NoneBeyond, OldGarbageGoes, ReachIsLive, ReachResolves, TargetsAreLive};
-ghost use Rattle.c_handles.specs.Fairness.{CallsEndCycle, CallsEndMarking, CallsFreeGarbage};
+ghost use Rattle.c_handles.specs.Fairness.{CallsEndCycle, CallsEndMarking, CallsFreeGarbage, TurnsAreRounds};
 ghost use Rattle.c_handles.specs.Lists.{ListsAreExact};
 ghost use Rattle.c_handles.specs.Laws.{
   CallsGoOn,
@@ -41,7 +41,8 @@ ghost use Rattle.c_handles.specs.Laws.{
 ///
 /// No clause says that anyone carries frames or stores images, nor that a node takes every
 /// acknowledgement. But if callers go on in rounds, so that every node works and messages come in,
-/// the cycle ends and garbage goes (`calls_end_marking` and what follows).
+/// the cycle ends and garbage goes (`calls_end_marking` and what follows). They do if each node has
+/// its turns (`turns_are_rounds`).
 ///
 /// The function does nothing; its contract states the theorems.
 pub fn laws()
@@ -108,4 +109,7 @@ pub fn laws()
     ensures calls_end_cycle { CallsEndCycle }
     // Node 0 begins another cycle, and after enough rounds again garbage is in no handle.
     ensures calls_free_garbage { CallsFreeGarbage }
+    // It is such a round if each node has a turn twice, in any order: it works, an image or a batch
+    // is stored, and then each frame that it has for another node is given to that node.
+    ensures turns_are_rounds { TurnsAreRounds }
 {}

@@ -4,7 +4,7 @@ mod Flights
 mod HeapWork
 mod Hearing
 pub mod Choices
-mod Heard
+pub mod Heard
 pub mod Spaces
 mod Falls
 mod Stages

@@ -33,7 +33,7 @@ use Rattle.laws.proofs.progress.Idling.{unjoined, unjoined_one, Quiet, MarkStep,
 use Rattle.laws.proofs.progress.Listed.{AllRest, rest-same, rest-excuse}
 use Rattle.laws.proofs.progress.Resting.{rest_left, Busy, waits, ready, Rests, rests-ended, rest-step, Turned, turned-on, RestRun, all_rest, left_less, rest-run}
 use Rattle.laws.proofs.progress.Marching.{Marks, Over, Idly, Went, over, less, idle, sweeps-most, over-run, went, quiet-start, idle-quiet-run, RingRun, stood, moved, ring-run, stood-never}
-use Rattle.laws.proofs.progress.Theorems.{begun-costs, reached-now, is_resolving, gone}
+use Rattle.laws.proofs.progress.Theorems.{begun-costs, reached-now, is_resolving, gone-after}
 
 turned : {n : ℕ} {w : World} {ss : List Step} → IsRound n w ss → Turned w ss
 turned r = record { turns = r.turns; numbered = r.numbered }
@@ -497,7 +497,7 @@ rounds-free-garbage shape limits steps rs ts first begins second enough =
       all,
       λ r.
           subst (λ (z : World). IsGone w (run z (saves n)) r) same
-          (gone shape limits steps later (current_cycle w + 1) (omega arith)
+          (gone-after shape limits steps later (current_cycle w + 1) (omega arith)
           (subst (λ (z : World). IsSwept n (current_cycle w + 1) (now z)) (sym same) all)
           (λ i. all_of (λ s. s ≢ step.Restart i) (turns-stay i) (λ e. absurd cc))
           (all_of (λ s. is_resolving s ≡ false) turns-leave refl) r),

@@ -361,14 +361,14 @@ saves-resolve_none : (is : List ℕ)
 saves-resolve_none [] = tt
 saves-resolve_none (i ∷ is) = (refl, saves-resolve_none is)
 
-pub gone : (shape : Shaped) (limits : IsShape shape) (steps later : List Step) (cycle : ℕ)
+pub gone-after : (shape : Shaped) (limits : IsShape shape) (steps later : List Step) (cycle : ℕ)
     → current_cycle (run (new_world shape) steps) < cycle
     → IsSwept shape.nodes cycle (now (run (run (new_world shape) steps) later))
     → ((i : ℕ) → StaysUp i later)
     → AllByRecursion (λ s. is_resolving s ≡ false) later → (r : Ref)
     → IsGone (run (new_world shape) steps)
     (run (run (run (new_world shape) steps) later) (saves shape.nodes)) r
-gone shape limits steps later cycle before swept stays leaves r dead choice live =
+gone-after shape limits steps later cycle before swept stays leaves r dead choice live =
     let n : ℕ = shape.nodes in
     let w : World = run (new_world shape) steps in
     let v : World = run w later in
@@ -412,6 +412,18 @@ gone shape limits steps later cycle before swept stays leaves r dead choice live
     }))
     dead
 
+-- after the collector's steps alone
+pub gone : (shape : Shaped) (limits : IsShape shape) (steps later : List Step) (cycle : ℕ)
+    → current_cycle (run (new_world shape) steps) < cycle
+    → IsSwept shape.nodes cycle (now (run (run (new_world shape) steps) later))
+    → ((i : ℕ) → StaysUp i later)
+    → AllByRecursion (λ s. is_collectors s ≡ true) later → (r : Ref)
+    → IsGone (run (new_world shape) steps)
+    (run (run (run (new_world shape) steps) later) (saves shape.nodes)) r
+gone shape limits steps later cycle before swept stays collects =
+    gone-after shape limits steps later cycle before swept stays
+    (collectors-resolve_none later collects)
+
 pub garbage-can-go : OfSpaces GarbageCanGo
 garbage-can-go shape limits steps below room =
     let w : World = run (new_world shape) steps in
@@ -426,8 +438,7 @@ garbage-can-go shape limits steps below room =
       holds = (
         c.holds,
         gone shape limits steps (played n c.moves w) (current_cycle w + 1) (omega arith) c.holds
-            (played-stays n c.moves w)
-            (collectors-resolve_none (played n c.moves w) c.played.collectors),
+            (played-stays n c.moves w) c.played.collectors,
       );
     }
 

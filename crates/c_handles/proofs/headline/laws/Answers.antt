@@ -7,6 +7,7 @@ use Rattle.laws.proofs.Privacy.{private-is-unknown}
 use Rattle.laws.proofs.Resolves.{reach-resolves}
 use Rattle.laws.specs.Fairness.{RoundsEndCycle, RoundsEndMarking, RoundsFreeGarbage, RoundsLetBegin}
 use Rattle.laws.proofs.progress.Rounded.{rounds-end-cycle, rounds-end-marking, rounds-free-garbage, rounds-let-begin}
+use Rattle.c_handles.proofs.Turns.{turns-are-rounds}
 use Rattle.c_handles.proofs.Fairness.{calls-end-cycle, calls-end-marking, calls-free-garbage}
 use Rattle.laws.specs.Privacy.{PrivateIsUnknown}
 use Rattle.laws.specs.Progress.{CycleCanEnd, EndIsFoundSoon, GarbageCanGo, MarkingCanEnd}
@@ -121,3 +122,6 @@ returns-clause-calls_end_cycle c = calls-end-cycle
 
 pub returns-clause-calls_free_garbage : goal.returns-clause-calls_free_garbage
 returns-clause-calls_free_garbage c = calls-free-garbage
+
+pub returns-clause-turns_are_rounds : goal.returns-clause-turns_are_rounds
+returns-clause-turns_are_rounds c = turns-are-rounds
