@@ -10,6 +10,7 @@ ghost use Rattle.ids.specs.declared.refusal.Refusal.TheVariants.{Memory, ImageTo
 
 use crate::piece::Piece;
 use ids::Refusal;
+use std::alloc::Global;
 use std::mem;
 
 /// What happened to the bytes that a writer was given.
@@ -65,6 +66,35 @@ impl Writer {
             bytes,
             limit,
             kept: Kept::All,
+        }
+    }
+
+    /// A writer that keeps nothing, and only counts.
+    pub fn counting(alloc: Global, limit: Option<u32>) -> Writer {
+        Writer {
+            bytes: Vec::new(alloc),
+            limit,
+            kept: Kept::Counted(0),
+        }
+    }
+
+    /// Counts as many bytes more.
+    pub fn skip(&mut self, more: u64) {
+        if let Kept::Counted(count) = self.kept {
+            if allows(self.limit, count, more as usize) {
+                self.lose(count, more as usize);
+            } else {
+                self.give_up(Kept::TooMany);
+            }
+        }
+    }
+
+    /// How many bytes it was given.
+    pub fn counted(self) -> Result<usize, Refusal> {
+        match (self.kept, self.limit) {
+            (Kept::Counted(count), _) => Ok(count),
+            (Kept::TooMany, None) => Err(Refusal::Memory),
+            _ => Err(Refusal::ImageTooLarge),
         }
     }
 
@@ -218,7 +248,10 @@ impl Writer {
     {
         match self.limit {
             Some(_limit) => self.give_up(Kept::Counted(count + more)),
-            None => self.give_up(Kept::TooMany),
+            None => match count.checked_add(more) {
+                Some(count) => self.give_up(Kept::Counted(count)),
+                None => self.give_up(Kept::TooMany),
+            },
         }
     }
 

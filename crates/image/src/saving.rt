@@ -10,7 +10,7 @@ ghost use Rattle.image.specs.Images.{IsTooLarge};
 ghost use Rattle.image.specs.Logged.{IsLoggedOf, logged_image};
 ghost use Rattle.image.specs.Saving.{WritesImage};
 
-use crate::writing::put_node;
+use crate::writing::{count_node, put_node};
 use codec::Writer;
 use ids::{GREATEST_IMAGE, Refusal, Shape};
 use image_parts::{LOGGED, WIDE_LOGGED};
@@ -110,4 +110,13 @@ fn with_version(bytes: Vec<u8>, at: usize, number: u8) -> Vec<u8>
         bytes[at + 2] = number;
     }
     bytes
+}
+
+/// The length of the node's image.
+pub fn size(alloc: Global, node: &Node) -> Result<usize, Refusal> {
+    let core = node.core();
+    let limit = limit_behind(core.state().shape, 0);
+    let mut out = Writer::counting(alloc, limit);
+    count_node(&mut out, core);
+    out.counted()
 }

@@ -9,7 +9,7 @@ ghost use Rattle.image.specs.Images.{stored_by};
 
 use codec::Writer;
 use image_parts::{
-    Head, Layout, put_front, put_others, put_registers, put_reports, put_slots, put_start,
+    Head, Layout, put_front, put_others, put_registers, put_reports, put_slots, put_start, slots_size,
 };
 use node::Core;
 
@@ -56,4 +56,23 @@ pub(crate) fn put_node(out: &mut Writer, node: &Core)
 {
     put_start(out, Layout::of(node.state().shape));
     put_stored(out, node);
+}
+
+/// Counts the bytes of the image of the node.
+pub(crate) fn count_node(out: &mut Writer, node: &Core) {
+    put_start(out, Layout::of(node.state().shape));
+    let heap = node.heap();
+    let state = node.state();
+    let head = Head {
+        nodes: node.links().width(),
+        own: state.own,
+        registers: heap.registers().len() as u16,
+        slots: state.shape.slots(),
+    };
+    let wide = state.shape.is_wide();
+    put_front(out, &head, node.phases(), node.ring());
+    put_others_reports(out, node);
+    put_registers(out, heap.registers());
+    out.skip(slots_size(wide, heap));
+    put_others(out, wide, &head, node.asked(), heap, node.links());
 }

@@ -20,5 +20,6 @@ pub use layout::Layout;
 pub use lists::put_registers;
 pub use parts::{Head, PhasesParts, StoredLink, StoredNode};
 pub use reading::{begins_logged, is_too_long, whole, whole_logged};
+pub use slots::slots_size;
 pub use tags::{LOGGED, WIDE_LOGGED};
 pub use writing::{put_front, put_others, put_reports, put_slots, put_start};

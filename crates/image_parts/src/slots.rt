@@ -171,6 +171,20 @@ pub(crate) fn put_free_list(out: &mut Writer, heap: &Heap)
     }
 }
 
+// How many bytes an object takes at least, in a plain space and in a wide one; and the other slots.
+const PLAIN: u64 = 26;
+const WIDE: u64 = 30;
+const VACANT: u64 = 9;
+
+/// How many bytes the slots take, with their number, and those that are free, and grey.
+pub fn slots_size(wide: bool, heap: &Heap) -> u64 {
+    let (live, vacant) = (u64::from(heap.live()), u64::from(heap.vacant()));
+    let retired = u64::from(heap.slots()) - live - vacant;
+    let each = if wide { WIDE } else { PLAIN };
+    let listed = vacant + heap.grey() as u64;
+    12 + live * each + heap.weight() + vacant * VACANT + retired + 4 * listed
+}
+
 // ---- letters
 
 fn letter_at(heap: &Heap, number: usize) -> &Letter

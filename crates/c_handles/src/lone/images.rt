@@ -11,6 +11,7 @@ use super::LoneNode;
 use crate::Marked;
 use c_values::{Fault, put};
 use disk_shelf::{HEAD, Persist};
+use image::size;
 use ids::Refusal;
 use node::{Core, Node};
 use node_store::Images;
@@ -68,8 +69,7 @@ impl LoneNode {
     pub fn image_size(&self, alloc: Global) -> Result<usize, Fault>
         ensures { SizedAs self.now.node.core (image_in self.now) result }
     {
-        let bytes = self.image_behind(alloc)?;
-        Ok(bytes.len() - HEAD)
+        Ok(size(alloc, &self.node)?)
     }
 
     /// Writes the node's image and returns its mark. Fails with `ImageTooLarge`, with `Memory`, and

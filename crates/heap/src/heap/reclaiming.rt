@@ -18,6 +18,7 @@ ghost use Rattle.model.specs.Collecting.{free_one, places_in};
 ghost use Rattle.model.specs.Reclaiming.{is_shared, is_recent, is_in_scope, is_occupied, left_grey};
 ghost use Rattle.model.specs.Searching.{Begins, Finds, Rooted, Tells, is_found, is_new, new_search, sought, is_sought, is_missed};
 ghost use Rattle.heap.specs.Growing.{AllWait, IsGrown};
+ghost use Rattle.heap.specs.Weights.{slot_weight};
 ghost use Rattle.heap.specs.Heap.{KeepsRoom, freed_unless, heap_reclaim, slot_of};
 
 use super::Heap;
@@ -219,6 +220,7 @@ impl Heap {
     // whether it did.
     #[inline(always)]
     fn free_lost(&mut self, scope: Scope, needed: bool, slot: u32) -> bool
+        requires { slot < length self.old.heap.slots }
         ensures done { (freed : ℕ) → free_one (is_missed scope (λ _. needed)) slot
             (record { heap = self.old.heap; freed = freed })
             ≡ record { heap = self.new.heap; freed = cond result (freed + 1) freed } }
@@ -231,7 +233,23 @@ impl Heap {
         if !self.is_sought(scope, slot) {
             return false;
         }
-        self.objects.discard(slot)
+        // (The sum changes last, since that takes fewer instructions.)
+        let weight = self.weight_in(slot);
+        let freed = self.objects.empty(slot);
+        self.weight -= u64::from(weight);
+        freed
+    }
+
+    // The weight of the object in a slot, or 0 if there is none.
+    #[inline(always)]
+    fn weight_in(&self, slot: u32) -> u32
+        requires { slot < length self.now.heap.slots }
+        ensures { result ≡ slot_weight (slot_at self.now.heap slot) }
+    {
+        match self.objects.value_in(slot) {
+            Some(object) => object.weight(),
+            None => 0,
+        }
     }
 
     // Freed objects leave the list of the grey ones.
