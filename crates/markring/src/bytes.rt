@@ -1,5 +1,5 @@
 //! Lines of `run` about bytes of objects and of letters. Only wide spaces have them.
-ghost use Rattle.std.specs.Prelude.{IfOk, string_bytes};
+ghost use Rattle.std.specs.Prelude.{◌≡◌, IfOk, string_bytes, vec_len};
 ghost use Rattle.commands.specs.Script.{hex_bytes};
 ghost use Rattle.markring.specs.Told.{IsLetter, IsSpelled, IsWritten, Spells, SpellsSome};
 
@@ -74,10 +74,18 @@ fn text<R: Wait, D: Disk + Drop>(
     if count > program.bytes_len(rt, object)? {
         return Err(Refusal::NoBytes);
     }
-    let mut buffer = Vec::new(alloc);
-    buffer.resize(count as usize, 0)?;
+    let mut buffer = zeros(alloc, count as usize)?;
     program.bytes(rt, object, offset, buffer.as_mut_slice())?;
     Ok(text_of_bytes(alloc, buffer.as_slice())?)
+}
+
+// This many zeros.
+fn zeros(alloc: Global, count: usize) -> Result<Vec<u8>, Refusal>
+    ensures { IfOk result (λ bytes. vec_len bytes ≡ count) }
+{
+    let mut bytes = Vec::new(alloc);
+    bytes.resize(count, 0)?;
+    Ok(bytes)
 }
 
 /// The text of the bytes of a node's oldest letter, or why they can't be read.
@@ -108,8 +116,7 @@ fn letter_text<R: Wait, D: Disk + Drop>(
     };
     // No other thread accepts letters, so the oldest one is the same in both calls.
     let letter = program.letter(rt)?;
-    let mut buffer = Vec::new(alloc);
-    buffer.resize(letter.length, 0)?;
+    let mut buffer = zeros(alloc, letter.length)?;
     program.letter_bytes(rt, buffer.as_mut_slice())?;
     Ok(text_of_bytes(alloc, buffer.as_slice())?)
 }

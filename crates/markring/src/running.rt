@@ -493,17 +493,25 @@ fn print_told<W: Write>(out: &mut W, number: usize, told: &Told) -> io::Result<(
     ensures { OnOk result
         (Appends (W.contents out.old) (W.contents out.new) (told_text number told.now)) }
 {
-    match told {
-        Told::Nothing => {}
-        Told::Outcome(outcome) => writeln!(out, "{}", OutcomeText(*outcome))?,
-        Told::Trace(texts) => print_texts(out, texts.as_slice())?,
-        Told::Bytes(text) => writeln!(out, "{text}")?,
-        Told::Refused(refusal) => writeln!(out, "refused {refusal}")?,
-        Told::NotAccepted(last) => writeln!(out, "refused {}", last.refusal())?,
-        Told::NoVerdict(_) => writeln!(out, "no verdict")?,
-        Told::NoCommand => writeln!(out, "line {number}: not a command")?,
-    }
+    write_told(out, number, told)?;
     out.flush()
+}
+
+// The same, but what is written may stay in a buffer.
+fn write_told<W: Write>(out: &mut W, number: usize, told: &Told) -> io::Result<()>
+    ensures { OnOk result
+        (Appends (W.contents out.old) (W.contents out.new) (told_text number told.now)) }
+{
+    match told {
+        Told::Nothing => Ok(()),
+        Told::Outcome(outcome) => writeln!(out, "{}", OutcomeText(*outcome)),
+        Told::Trace(texts) => print_texts(out, texts.as_slice()),
+        Told::Bytes(text) => writeln!(out, "{text}"),
+        Told::Refused(refusal) => writeln!(out, "refused {refusal}"),
+        Told::NotAccepted(last) => writeln!(out, "refused {}", last.refusal()),
+        Told::NoVerdict(_) => writeln!(out, "no verdict"),
+        Told::NoCommand => writeln!(out, "line {number}: not a command"),
+    }
 }
 
 // Prints texts, one on each line, or `-` if there aren't any.

@@ -3,6 +3,7 @@ pub mod Fronts
 pub mod Numbers
 pub mod OneDigit
 pub mod Own
+pub mod Readers
 pub mod Readings
 pub mod Reports
 pub mod Shapes

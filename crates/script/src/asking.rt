@@ -1,7 +1,7 @@
 //! What a line asks of a node, by the number of operands after its verb and by the verb. The
 //! function for each verb builds the line in place. A part that was returned would be copied, so
 //! the functions that fill in a part are always inlined.
-ghost use Rattle.std.specs.Prelude.{◌≡◌, Some, decimal, option_map};
+ghost use Rattle.std.specs.Prelude.{◌≡◌, None, Some, cond, decimal, option_map};
 ghost use Rattle.model.specs.declared.event.Event.TheVariants as event;
 ghost use Rattle.script.specs.Grammar.{acted, alone, of_two, of_three, plain, u8_of, u16_of, u32_of, u64_of, with_none, with_one, with_two, with_three};
 ghost use Rattle.script.specs.Operands.{read};
@@ -32,6 +32,17 @@ pub(crate) fn say<'a>(line: &mut Line<'a>, said: Line<'a>) -> Option<()>
 {
     mem::forget(mem::replace(line, said));
     Some(())
+}
+
+/// The same if what was read is right.
+#[inline(always)]
+pub(crate) fn say_if<'a>(line: &mut Line<'a>, right: bool, said: Line<'a>) -> Option<()>
+    ensures { read result line.new ≡ cond right (Some (plain said.entry)) None }
+{
+    if !right {
+        return None;
+    }
+    say(line, said)
 }
 
 /// The line that asks a node for an event.

@@ -9,6 +9,7 @@ mod front;
 mod line;
 mod operands;
 mod printing;
+mod reader;
 mod run_line;
 mod text;
 

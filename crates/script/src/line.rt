@@ -8,11 +8,12 @@ ghost use Rattle.script.specs.Operands.{read, spelled};
 ghost use Rattle.script.specs.declared.line.Line.TheVariants as said;
 ghost use Rattle.script.specs.Words.{IsTrimmed, behind, starts_number, word_of};
 
-use crate::asking::{alone, say, with_one, with_three, with_two};
+use crate::asking::{alone, say, say_if, with_one, with_three, with_two};
 use crate::front::{
     behind_word, first_number, first_word, is_word, next_word, past_spaces, read_u64,
 };
 use crate::operands::{Operands, to_u8, to_u16, to_u32};
+use crate::reader::Reader;
 use ids::Ref;
 use model::{Scope, Step};
 
@@ -226,162 +227,111 @@ fn reclaim(line: &mut Line, node: u8, text: &str) -> Option<()>
     requires { IsTrimmed text.now }
     ensures { read result line.new ≡ reclaim_of node (words_of text.now) }
 {
-    let Some((word, text)) = next_word(text) else {
+    let Some((word, rest)) = next_word(text) else {
         let scope = Scope::All;
         return say(line, Line::Reclaim { node, scope });
     };
-    if word != "young" || next_word(text).is_some() {
-        return None;
-    }
-    let scope = Scope::Young;
-    say(line, Line::Reclaim { node, scope })
+    let (right, scope) = ((word == "young") & rest.is_empty(), Scope::Young);
+    say_if(line, right, Line::Reclaim { node, scope })
 }
 
-#[tactic(auto, unfolding(crate::specs::Grammar::set_bytes_of))]
 fn set_bytes<'a>(line: &mut Line<'a>, node: u8, text: &'a str) -> Option<()>
     requires { IsTrimmed text.now }
     ensures { read result line.new ≡ set_bytes_of node (words_of text.now) }
 {
-    let (object, text) = next_word(text)?;
-    let (hex, text) = next_word(text)?;
-    if next_word(text).is_some() {
-        return None;
-    }
-    let object = read_u16(object)?;
-    say(line, Line::SetBytes { node, object, hex })
+    let mut words = Reader::new(text);
+    let (object, hex) = (words.u16(), words.word());
+    let said = Line::SetBytes { node, object, hex };
+    say_if(line, words.is_done(), said)
 }
 
-#[tactic(auto, unfolding(crate::specs::Grammar::patch_of))]
 fn patch<'a>(line: &mut Line<'a>, node: u8, text: &'a str) -> Option<()>
     requires { IsTrimmed text.now }
     ensures { read result line.new ≡ patch_of node (words_of text.now) }
 {
-    let (object, text) = next_word(text)?;
-    let (offset, text) = next_word(text)?;
-    let (hex, text) = next_word(text)?;
-    if next_word(text).is_some() {
-        return None;
-    }
-    let (object, offset) = (read_u16(object)?, read_u32(offset)?);
-    say(
-        line,
-        Line::Patch {
-            node,
-            object,
-            offset,
-            hex,
-        },
-    )
+    let mut words = Reader::new(text);
+    let (object, offset) = (words.u16(), words.u32());
+    let hex = words.word();
+    let said = Line::Patch {
+        node,
+        object,
+        offset,
+        hex,
+    };
+    say_if(line, words.is_done(), said)
 }
 
-#[tactic(auto, unfolding(crate::specs::Grammar::bytes_of))]
 fn bytes(line: &mut Line, node: u8, text: &str) -> Option<()>
     requires { IsTrimmed text.now }
     ensures { read result line.new ≡ bytes_of node (words_of text.now) }
 {
-    let (object, text) = next_word(text)?;
-    let (offset, text) = next_word(text)?;
-    let (count, text) = next_word(text)?;
-    if next_word(text).is_some() {
-        return None;
-    }
-    let (object, offset) = (read_u16(object)?, read_u32(offset)?);
-    let count = read_u32(count)?;
-    say(
-        line,
-        Line::Bytes {
-            node,
-            object,
-            offset,
-            count,
-        },
-    )
+    let mut words = Reader::new(text);
+    let object = words.u16();
+    let (offset, count) = (words.u32(), words.u32());
+    let said = Line::Bytes {
+        node,
+        object,
+        offset,
+        count,
+    };
+    say_if(line, words.is_done(), said)
 }
 
-#[tactic(auto, unfolding(crate::specs::Grammar::post_of))]
 fn post<'a>(line: &mut Line<'a>, node: u8, text: &'a str) -> Option<()>
     requires { IsTrimmed text.now }
     ensures { read result line.new ≡ post_of node (words_of text.now) }
 {
-    let (to, text) = next_word(text)?;
-    let (label, text) = next_word(text)?;
-    let (first, text) = next_word(text)?;
-    let (count, text) = next_word(text)?;
-    let (hex, text) = next_word(text)?;
-    if next_word(text).is_some() {
-        return None;
-    }
-    let (to, label) = (read_u8(to)?, read_u32(label)?);
-    let (first, count) = (read_u16(first)?, read_u8(count)?);
-    say(
-        line,
-        Line::Post {
-            node,
-            to,
-            label,
-            first,
-            count,
-            hex,
-        },
-    )
+    let mut words = Reader::new(text);
+    let (to, label) = (words.u8(), words.u32());
+    let (first, count) = (words.u16(), words.u8());
+    let hex = words.word();
+    let said = Line::Post {
+        node,
+        to,
+        label,
+        first,
+        count,
+        hex,
+    };
+    say_if(line, words.is_done(), said)
 }
 
-#[tactic(auto, unfolding(crate::specs::Grammar::fetch_of))]
 fn fetch(line: &mut Line, node: u8, text: &str) -> Option<()>
     requires { IsTrimmed text.now }
     ensures { read result line.new ≡ fetch_of node (words_of text.now) }
 {
-    let (object, text) = next_word(text)?;
-    let (label, text) = next_word(text)?;
-    let (offset, text) = next_word(text)?;
-    let (count, text) = next_word(text)?;
-    if next_word(text).is_some() {
-        return None;
-    }
-    let (object, label) = (read_u16(object)?, read_u32(label)?);
-    let (offset, count) = (read_u32(offset)?, read_u32(count)?);
-    say(
-        line,
-        Line::Fetch {
-            node,
-            object,
-            label,
-            offset,
-            count,
-        },
-    )
+    let mut words = Reader::new(text);
+    let (object, label) = (words.u16(), words.u32());
+    let (offset, count) = (words.u32(), words.u32());
+    let said = Line::Fetch {
+        node,
+        object,
+        label,
+        offset,
+        count,
+    };
+    say_if(line, words.is_done(), said)
 }
 
-#[tactic(auto, unfolding(crate::specs::Grammar::resolve_of))]
 fn resolve(line: &mut Line, node: u8, text: &str) -> Option<()>
     requires { IsTrimmed text.now }
     ensures { read result line.new ≡ resolve_of node (words_of text.now) }
 {
-    let (register, text) = next_word(text)?;
-    let (reference, text) = next_word(text)?;
-    if next_word(text).is_some() {
-        return None;
-    }
-    let (register, reference) = (read_u16(register)?, read_reference(reference)?);
-    say(
-        line,
-        Line::Resolve {
-            node,
-            register,
-            reference,
-        },
-    )
+    let mut words = Reader::new(text);
+    let (register, reference) = (words.u16(), words.reference());
+    let said = Line::Resolve {
+        node,
+        register,
+        reference,
+    };
+    say_if(line, words.is_done(), said)
 }
 
-#[tactic(auto, unfolding(crate::specs::Grammar::letter_of))]
 fn letter(line: &mut Line, node: u8, text: &str) -> Option<()>
     requires { IsTrimmed text.now }
     ensures { read result line.new ≡ letter_of node (words_of text.now) }
 {
-    if next_word(text).is_some() {
-        return None;
-    }
-    say(line, Line::Letter(node))
+    say_if(line, text.is_empty(), Line::Letter(node))
 }
 
 /// The meaning of a line whose first word isn't a number. (The most frequent words are looked for
@@ -440,31 +390,21 @@ fn space(line: &mut Line, operands: Operands) -> Option<()>
     )
 }
 
-#[tactic(auto, unfolding(crate::specs::Grammar::wide_of))]
 fn wide(line: &mut Line, text: &str) -> Option<()>
     requires { IsTrimmed text.now }
     ensures { read result line.new ≡ wide_of (words_of text.now) }
 {
-    let (nodes, text) = next_word(text)?;
-    let (registers, text) = next_word(text)?;
-    let (slots, text) = next_word(text)?;
-    let (places, text) = next_word(text)?;
-    let (bytes, text) = next_word(text)?;
-    if next_word(text).is_some() {
-        return None;
-    }
-    let (nodes, registers) = (read_u8(nodes)?, read_u16(registers)?);
-    let (slots, places, bytes) = (read_u32(slots)?, read_u8(places)?, read_u32(bytes)?);
-    say(
-        line,
-        Line::Wide {
-            nodes,
-            registers,
-            slots,
-            places,
-            bytes,
-        },
-    )
+    let mut words = Reader::new(text);
+    let (nodes, registers) = (words.u8(), words.u16());
+    let (slots, places, bytes) = (words.u32(), words.u8(), words.u32());
+    let said = Line::Wide {
+        nodes,
+        registers,
+        slots,
+        places,
+        bytes,
+    };
+    say_if(line, words.is_done(), said)
 }
 
 #[tactic(auto, using(crate::proofs::Spelling::u64_of_decimal), unfolding(crate::specs::Grammar::delivery_of))]
@@ -516,7 +456,7 @@ pub fn read_u16(word: &str) -> Option<u16>
 }
 
 #[tactic(auto, unfolding(crate::specs::Grammar::u32_of, crate::specs::Grammar::u64_of))]
-fn read_u32(word: &str) -> Option<u32>
+pub(crate) fn read_u32(word: &str) -> Option<u32>
     ensures { result ≡ u32_of word.now }
 {
     u32::try_from(read_u64(word)?).ok()
@@ -524,7 +464,7 @@ fn read_u32(word: &str) -> Option<u32>
 
 /// The reference that the word spells: its node, slot and generation, separated by dots.
 #[tactic(auto, unfolding(crate::specs::Grammar::reference_of))]
-fn read_reference(word: &str) -> Option<Ref>
+pub(crate) fn read_reference(word: &str) -> Option<Ref>
     ensures { result ≡ reference_of word.now }
 {
     let (node, rest) = at_dot(word);

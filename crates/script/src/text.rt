@@ -16,8 +16,8 @@ use msg::{Colour, Token};
 use std::alloc::Global;
 use std::{fmt, str};
 
-/// The most bytes that the outcome of a step takes.
-const LONGEST: usize = 176;
+/// The most bytes that the outcome of a step takes, or the body of a message.
+pub(crate) const LONGEST: usize = 176;
 
 /// The text of a step's outcome, one of these:
 ///

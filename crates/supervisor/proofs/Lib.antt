@@ -4,3 +4,4 @@ pub mod Watches
 pub mod Backs
 pub mod Teams
 pub mod Keys
+pub mod Faults

@@ -37,6 +37,14 @@ pub record HaveOpened {D : Type 0} (seen : D → Areas) (shape : Shaped) (disks 
   pub made : IsMade (world_of (cores (map (λ c. c.node) desks))) WATCHES wire
       (map (λ c. c.seat) desks) watches
 
+-- why a space isn't opened if its cells aren't
+abbrev pub fault_of : Unopened → OpenFault
+fault_of unopened.Disks = fault.Disks
+fault_of (unopened.Another node) = fault.Another node
+fault_of (unopened.Ages sender receiver) = fault.Ages sender receiver
+fault_of (unopened.Failed node e) = fault.Failed node e
+fault_of unopened.Memory = fault.Memory
+
 -- what holds of the fault of opening cells; the configuration has been read
 abbrev pub IfUnopened : (Unopened → Type 0) → OpenFault → Type 0
 IfUnopened P fault.Config = ⊥

@@ -21,7 +21,7 @@ ghost use Rattle.cell.specs.Reached.{IsReached};
 ghost use Rattle.cell.specs.Shares.{first_of};
 ghost use Rattle.cell.specs.Theorems.{AreFresh, AreHeldOn, AreLeftOn};
 ghost use Rattle.supervisor.specs.declared.fault.OpenFault.TheVariants as fault;
-ghost use Rattle.supervisor.specs.Opened.{AreInPlace, AreSeats, AreWatches, IfUnopened};
+ghost use Rattle.supervisor.specs.Opened.{AreInPlace, AreSeats, AreWatches, IfUnopened, fault_of};
 ghost use Rattle.supervisor.specs.declared.cells.TheConstants.{WATCHES};
 
 use crate::OpenFault;
@@ -137,11 +137,20 @@ pub(crate) fn open_alone<D: Disk + Drop>(
 {
     match cell::open(alloc, shape, disks, WATCHES, saves) {
         Ok(opened) => Ok(opened),
-        Err(Unopened::Disks) => Err(OpenFault::Disks),
-        Err(Unopened::Another { node }) => Err(OpenFault::Another { node }),
-        Err(Unopened::Ages { sender, receiver }) => Err(OpenFault::Ages { sender, receiver }),
-        Err(Unopened::Failed { node, refusal }) => Err(OpenFault::Failed { node, refusal }),
-        Err(Unopened::Memory) => Err(OpenFault::Memory),
+        Err(why) => Err(fault_of(why)),
+    }
+}
+
+// Why a space isn't opened if its cells aren't.
+fn fault_of(why: Unopened) -> OpenFault
+    ensures { result ≡ fault_of why }
+{
+    match why {
+        Unopened::Disks => OpenFault::Disks,
+        Unopened::Another { node } => OpenFault::Another { node },
+        Unopened::Ages { sender, receiver } => OpenFault::Ages { sender, receiver },
+        Unopened::Failed { node, refusal } => OpenFault::Failed { node, refusal },
+        Unopened::Memory => OpenFault::Memory,
     }
 }
 
