@@ -3,27 +3,21 @@
 //     requests URL SPACE OBJECTS SECONDS
 //
 // It makes a list of OBJECTS objects at node 0. Then it sends one request after another: each has
-// one SetWord, and every twentieth 128 objects that are dropped at once. It prints how many there
-// were, and quantiles and the worst in milliseconds.
+// one SetWord, and one every 50 ms has 128 objects that are dropped at once. (So a faster machine
+// makes no more garbage between two cycles, for which a node with 1,000,000 objects has few slots.)
+// It prints how many there were, and quantiles and the worst in milliseconds.
 #define _POSIX_C_SOURCE 200809L
+#include "quantiles.h"
+
 #include <markring_remote.h>
 
-#include <stdio.h>
-#include <stdlib.h>
-#include <time.h>
+#include <stdbool.h>
 
-enum { MOST = 256, WAIT = 20000, SAMPLES = 1 << 22 };
+enum { MOST = 256, WAIT = 20000, SAMPLES = 1 << 22, GARBAGE_EACH = 50 };
 
 static markring_remote *program;
 static markring_event events[MOST];
 static markring_result results[MOST];
-
-static double now(void)
-{
-    struct timespec it;
-    clock_gettime(CLOCK_MONOTONIC, &it);
-    return 1e3 * (double)it.tv_sec + 1e-6 * (double)it.tv_nsec;
-}
 
 static void must(int status)
 {
@@ -64,9 +58,9 @@ static void make_list(long objects)
     }
 }
 
-static size_t next_request(size_t number)
+static size_t next_request(size_t number, bool makes_garbage)
 {
-    if (number % 20 != 19) {
+    if (!makes_garbage) {
         events[0] = (markring_event){.kind = MARKRING_EVENT_SET_WORD, .word = number};
         return 1;
     }
@@ -77,10 +71,22 @@ static size_t next_request(size_t number)
     return MOST;
 }
 
-static int compare(const void *a, const void *b)
+// Sends requests one after another until then. Returns how many.
+static size_t send_requests(double *took, double end)
 {
-    double x = *(const double *)a, y = *(const double *)b;
-    return (x > y) - (x < y);
+    size_t done = 0;
+    double began = now_ms(), garbage_at = began;
+    for (; began < end && done < SAMPLES; done++) {
+        bool makes_garbage = began >= garbage_at;
+        garbage_at += makes_garbage ? GARBAGE_EACH : 0;
+        size_t count = next_request(done, makes_garbage);
+        began = now_ms();
+        perform(count);
+        double after = now_ms();
+        took[done] = after - began;
+        began = after;
+    }
+    return done;
 }
 
 int main(int count, char **given)
@@ -94,18 +100,12 @@ int main(int count, char **given)
     must(markring_remote_connect(&space, &options, given[2]));
     must(markring_remote_open(&program, space, 0, 0, 5000, NULL));
     make_list(atol(given[3]));
-    double *took = malloc(SAMPLES * sizeof *took), end = now() + 1e3 * atof(given[4]);
-    size_t done = 0;
-    for (; now() < end && done < SAMPLES; done++) {
-        double began = now();
-        perform(next_request(done));
-        took[done] = now() - began;
+    double *took = malloc(SAMPLES * sizeof *took);
+    size_t done = took != NULL ? send_requests(took, now_ms() + 1e3 * atof(given[4])) : 0;
+    if (done == 0) {
+        fputs("requests: there was no time, or no memory\n", stderr);
+        return 1;
     }
-    qsort(took, done, sizeof *took, compare);
-    printf("request\t%zu", done);
-    for (double rest = 0.5; rest > 5e-5; rest = rest == 0.5 ? 0.01 : rest / 10) {
-        printf("\t%.2f", took[(size_t)((double)(done - 1) * (1 - rest))]);
-    }
-    printf("\t%.2f\n", took[done - 1]);
+    print_times("request", took, done);
     return 0;
 }

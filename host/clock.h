@@ -19,6 +19,14 @@ static inline uint64_t now_ms(void)
     return clock_ms(CLOCK_MONOTONIC);
 }
 
+// The same in microseconds.
+static inline uint64_t now_us(void)
+{
+    struct timespec now;
+    clock_gettime(CLOCK_MONOTONIC, &now);
+    return (uint64_t)now.tv_sec * 1000000 + (uint64_t)now.tv_nsec / 1000;
+}
+
 // One that goes on while the machine is suspended.
 static inline uint64_t boot_ms(void)
 {

@@ -327,24 +327,49 @@ static void clear_older(database *it)
     }
 }
 
-// Writes a save in one transaction, which makes the row `to`.
-static database_status write_save(
-    database *it, const database_row *to, bool is_entry, store_bytes what)
+// Begins a save with the next number.
+static void begin_next(database *it, store_value *value)
+{
+    uint64_t number = ++it->number;
+    it->what = value->is_entry ? store_seal_entry(value, number, it->seal)
+                               : store_seal_whole(value, number);
+    it->to = it->row;
+    it->to.number = number;
+    it->to.base = value->is_entry ? it->to.base : number;
+}
+
+// Asks for the save that was begun, which has one piece. Returns whether all was sent.
+static bool ask_for(database *it, bool is_entry)
+{
+    const database_calls *calls = &it->calls;
+    database_piece piece = {it->to.number, 0, is_entry, false, it->what.bytes, it->what.length};
+    it->is_asked = true;
+    return calls->ask(calls->context, &it->row, &it->to, &piece);
+}
+
+static database_status take_answer(database *it)
+{
+    it->is_asked = false;
+    return it->calls.answer(it->calls.context);
+}
+
+// Writes the save that was begun in one transaction.
+static database_status write_save(database *it, bool is_entry)
 {
     const database_calls *calls = &it->calls;
     if (!it->is_connected) {
         return DATABASE_LOST;
     }
-    if (what.length <= PIECE_MOST) {
-        database_piece piece = {to->number, 0, is_entry, false, what.bytes, what.length};
-        return calls->save(calls->context, &it->row, to, &piece);
+    if (it->what.length <= PIECE_MOST) {
+        (void)ask_for(it, is_entry);
+        return take_answer(it);
     }
     database_status status = calls->begin(calls->context);
     if (status == DATABASE_DONE) {
-        status = calls->move(calls->context, &it->row, to);
+        status = calls->move(calls->context, &it->row, &it->to);
     }
     if (status == DATABASE_DONE) {
-        status = put_pieces(it, to->number, is_entry, what);
+        status = put_pieces(it, it->to.number, is_entry, it->what);
     }
     return status == DATABASE_DONE ? calls->commit(calls->context) : status;
 }
@@ -359,42 +384,69 @@ static database_status look_for(database *it, uint64_t number, store_status *kno
 }
 
 // A save counts.
-static void note_saved(database *it, const store_value *value, const store_bytes *what)
+static void note_saved(database *it, const store_value *value)
 {
-    it->seal = what->seal;
-    it->added += value->is_entry ? what->length : 0;
+    it->seal = it->what.seal;
+    it->added += value->is_entry ? it->what.length : 0;
     it->has_older = it->has_older || !value->is_entry;
     if (it->has_older) {
         clear_older(it);
     }
 }
 
+// Begins a save and comes to the end of it, or of the one that was asked for.
+static database_status try_save(database *it, store_value *value)
+{
+    if (it->is_asked) {
+        return take_answer(it);
+    }
+    begin_next(it, value);
+    return write_save(it, value->is_entry);
+}
+
 store_status database_save(database *it, store_value *value)
 {
     for (;;) {
-        uint64_t number = ++it->number;
-        store_bytes what = value->is_entry ? store_seal_entry(value, number, it->seal)
-                                           : store_seal_whole(value, number);
-        database_row to = it->row;
-        to.number = number;
-        to.base = value->is_entry ? to.base : number;
-        database_status status = write_save(it, &to, value->is_entry, what);
+        database_status status = try_save(it, value);
         if (status == DATABASE_LOST) {
             store_status known;
-            status = look_for(it, number, &known);
+            status = look_for(it, it->to.number, &known);
             if (known != STORE_OK) {
                 return known;
             }
         } else if (status == DATABASE_DONE) {
-            it->row = to;
+            it->row = it->to;
         }
         if (status == DATABASE_DONE) {
-            note_saved(it, value, &what);
+            note_saved(it, value);
         }
         if (status != DATABASE_LOST) {
             return status == DATABASE_MEMORY ? STORE_FAILED : store_status_of(status);
         }
     }
+}
+
+// What deletes older pieces waits.
+bool database_can_ask(const database *it, const store_value *value)
+{
+    return it->is_connected && !it->has_older && value->is_entry && value->length <= ASKED_MOST;
+}
+
+bool database_ask(database *it, store_value *value)
+{
+    begin_next(it, value);
+    return ask_for(it, value->is_entry);
+}
+
+database_news database_hear(database *it, const store_value *value)
+{
+    database_news news = it->calls.hear(it->calls.context);
+    if (news == NEWS_DONE) {
+        (void)take_answer(it);
+        it->row = it->to;
+        note_saved(it, value);
+    }
+    return news;
 }
 
 // ## Rewrites
@@ -463,8 +515,7 @@ store_status database_rewrite_write(database_rewrite *it, store_value *whole)
 
 // Makes the rewrite the base, with an entry, in one transaction. `*lacks` says that pieces of the
 // rewrite aren't there.
-static database_status write_switch(
-    database *it, const database_row *to, const database_rewrite *with, store_bytes what, bool *lacks)
+static database_status write_switch(database *it, const database_rewrite *with, bool *lacks)
 {
     const database_calls *calls = &it->calls;
     if (!it->is_connected) {
@@ -472,14 +523,14 @@ static database_status write_switch(
     }
     database_status status = calls->begin(calls->context);
     if (status == DATABASE_DONE) {
-        status = calls->move(calls->context, &it->row, to);
+        status = calls->move(calls->context, &it->row, &it->to);
     }
     if (status == DATABASE_DONE) {
         status = calls->find_parts(calls->context, with->number, with->parts);
         *lacks = status == DATABASE_NONE;
     }
     if (status == DATABASE_DONE) {
-        status = put_pieces(it, to->number, true, what);
+        status = put_pieces(it, it->to.number, true, it->what);
     }
     return status == DATABASE_DONE ? calls->commit(calls->context) : status;
 }
@@ -488,26 +539,23 @@ store_status database_rewrite_end(
     database *it, const database_rewrite *with, store_value *entry, bool *is_done)
 {
     bool lacks = false;
-    uint64_t number = ++it->number;
-    store_bytes what = store_seal_entry(entry, number, it->seal);
-    database_row to = it->row;
-    to.number = number;
-    to.base = with->number;
-    database_status status = write_switch(it, &to, with, what, &lacks);
+    begin_next(it, entry);
+    it->to.base = with->number;
+    database_status status = write_switch(it, with, &lacks);
     if (status == DATABASE_LOST) {
         store_status known;
-        status = look_for(it, number, &known);
+        status = look_for(it, it->to.number, &known);
         if (known != STORE_OK) {
             *is_done = false;
             return known;
         }
     } else if (status == DATABASE_DONE) {
-        it->row = to;
+        it->row = it->to;
     }
     *is_done = status == DATABASE_DONE;
     if (*is_done) {
         it->has_older = true;
-        note_saved(it, entry, &what);
+        note_saved(it, entry);
         return STORE_OK;
     }
     return status == DATABASE_NONE && !lacks ? STORE_TAKEN : database_save(it, entry);
@@ -528,6 +576,9 @@ store_status database_renew(database *it)
 
 void database_close(database *it)
 {
+    if (it->is_asked && take_answer(it) == DATABASE_DONE) {
+        it->row = it->to;
+    }
     if (it->is_connected) {
         database_row free_row = it->row;
         free_row.holder = 0;

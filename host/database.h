@@ -14,7 +14,8 @@
 
 #include <stdbool.h>
 
-enum { PIECE_MOST = 1 << 20 };
+// The bytes of a piece, and of an entry that is saved without waiting, at most.
+enum { PIECE_MOST = 1 << 20, ASKED_MOST = 1 << 16 };
 
 typedef enum database_status {
     DATABASE_DONE,
@@ -40,6 +41,13 @@ typedef struct database_piece {
     size_t length;
 } database_piece;
 
+// What is known of a save that was asked for.
+typedef enum database_news {
+    NEWS_NONE,
+    NEWS_DONE,
+    NEWS_OTHER // no answer comes, or another one, which `answer` says
+} database_news;
+
 // Takes a piece that was read. Returns whether there was memory.
 typedef bool (*database_taker)(void *to, const database_piece *piece);
 
@@ -61,9 +69,15 @@ typedef struct database_calls {
     // beat changes too.
     database_status (*move)(void *context, const database_row *from, const database_row *to);
     database_status (*put)(void *context, const database_piece *piece);
-    // Both in a transaction of their own.
-    database_status (*save)(void *context, const database_row *from, const database_row *to,
+    // Asks for both in a transaction of their own, without waiting. Until `answer` nothing else is
+    // asked for. Returns whether all was sent: if not, `answer` sends the rest.
+    bool (*ask)(void *context, const database_row *from, const database_row *to,
         const database_piece *piece);
+    // What has come of the answer, without waiting; and what is readable once more has come.
+    database_news (*hear)(void *context);
+    int (*descriptor)(void *context);
+    // Waits for the answer, as of `move`.
+    database_status (*answer)(void *context);
     // Deletes the pieces with lower numbers than the base, for this holder and session.
     database_status (*clear)(void *context, const database_row *row);
     // Puts a piece of a rewrite in a transaction of its own, if this is the holder; else
@@ -93,6 +107,11 @@ typedef struct database {
     bool has_older; // pieces of saves before the base
     bool was_held;  // another process held the node when it was opened
     size_t added;   // the bytes of all entries that this process has saved
+    // The save that is under way: the row that it makes, and its bytes. `is_asked`: it was asked
+    // for, and its answer wasn't taken yet.
+    database_row to;
+    store_bytes what;
+    bool is_asked;
 } database;
 
 // Makes a new node, whose first save has the number after this one. After any other status than
@@ -111,9 +130,25 @@ store_status database_open(
 store_status database_look(const database_calls *calls, store_value *value, database_row *row);
 
 // Saves a value or adds an entry. A save of which no answer came is looked for until the server
-// says whether it counts; if it doesn't, it is tried again with the next number. STORE_TAKEN;
+// says whether it counts; if it doesn't, it is tried again with the next number. If the value was
+// asked for by database_ask, this comes to the end of that. STORE_TAKEN;
 // STORE_FAILED: the server refused, and it doesn't count; STORE_UNKNOWN: `pause` gave up.
 store_status database_save(database *it, store_value *value);
+
+// ## Saves without waiting
+//
+// A thread that may not wait asks for the save of an entry and hears of it later. Whatever isn't
+// done at once, database_save comes to the end of, with the same value. Nothing else may be called
+// meanwhile.
+
+// Whether the value can be saved so.
+bool database_can_ask(const database *it, const store_value *value);
+
+// Returns whether all was sent: if not, only database_save goes on.
+bool database_ask(database *it, store_value *value);
+
+// NEWS_DONE: it is saved. NEWS_OTHER: only database_save goes on.
+database_news database_hear(database *it, const store_value *value);
 
 // ## Whole values while entries are added
 //

@@ -5,10 +5,19 @@
 #include <stdio.h>
 #include <stdlib.h>
 
-// What moves at least before the image is looked at; and as many messages as may be early. An image
-// without a limit is looked at only while it has no more bytes than this, since nobody should wait
-// for it.
-enum { LEAST_MOVED = 4096, EARLY = 32, LOOKED_AT = 1 << 20 };
+// What moves at least before the image is looked at; and as many messages as may be early. To look
+// at an image with more bytes than LOOKED_AT takes longer than anybody should wait. So that is done
+// only if it may exceed a limit; and not again before a PART of it may be new or gone, or
+// LOOK_AGAIN milliseconds are over. A SHARE of it has come, at least, before a rewrite is asked for
+// its size.
+enum {
+    LEAST_MOVED = 4096,
+    EARLY = 32,
+    LOOKED_AT = 1 << 20,
+    PART = 64,
+    SHARE = 16,
+    LOOK_AGAIN = 1000
+};
 
 void end_with(host *it, host_end end, const char *format, ...)
 {
@@ -24,7 +33,7 @@ void end_with(host *it, host_end end, const char *format, ...)
 
 uint64_t due_image(const host *it)
 {
-    return it->changed ? it->images + 1 : it->images;
+    return markring_images_due(&it->images);
 }
 
 bool copy_reply(char *to, const char *reply)
@@ -72,21 +81,45 @@ static void measure(host *it)
         it->measured = it->size = size;
     }
     it->is_measured = true;
+    it->measured_at = it->turn_at;
     it->moved = 0;
+}
+
+static bool is_large(const host *it)
+{
+    return it->measured > LOOKED_AT;
+}
+
+// Whether it is worth its time to look at the image again.
+static bool may_look(const host *it)
+{
+    bool is_due = it->moved > it->measured / PART || it->turn_at - it->measured_at >= LOOK_AGAIN;
+    return !it->is_measured && (!is_large(it) || is_due);
 }
 
 // Whether the image may have more bytes than this.
 static bool may_exceed(host *it, size_t most)
 {
-    if (it->size > most && !it->is_measured) {
+    if (it->size > most && may_look(it)) {
         measure(it);
     }
     return it->size > most;
 }
 
+// While little of a large image has moved, what was found last counts: no program is refused for an
+// estimate.
 bool is_full(host *it)
 {
-    return may_exceed(it, it->options.image_most);
+    size_t most = it->options.image_most;
+    bool may_be = may_exceed(it, most);
+    bool is_known = is_large(it) && it->moved <= it->measured / PART;
+    return may_be && (it->measured > most || !is_known);
+}
+
+static void grow(host *it, size_t bytes)
+{
+    it->size += bytes;
+    it->grown += bytes;
 }
 
 // How many bytes the image grows by, at most, if the node joins the next cycle.
@@ -104,7 +137,7 @@ static void note_joining(host *it, const markring_state *state)
     size_t letters = it->letters + EARLY > state->letters ? it->letters + EARLY : state->letters;
     if (state->cycle != it->joined) {
         it->joined = state->cycle;
-        it->size += JOINING * (letters + state->registers);
+        grow(it, JOINING * (letters + state->registers));
         it->moved += JOINING * (letters + state->registers);
     }
     it->letters = state->letters;
@@ -133,22 +166,27 @@ bool takes_messages(host *it)
         && it->letter_bytes < it->options.letter_bytes_most && !is_tight(it);
 }
 
-// A turn begins. The image is looked at if half of it may be new or gone, so that this takes no
+// A turn begins. A small image is looked at if half of it may be new or gone, so that this takes no
 // more time than the events did.
-static void begin_measuring(host *it)
+static void begin_measuring(host *it, uint64_t now)
 {
+    it->turn_at = now;
     it->is_measured = it->moved == 0;
-    bool may_look = has_limit(it) || it->measured <= LOOKED_AT;
-    if (may_look && it->moved > it->measured / 2 + LEAST_MOVED) {
+    if (!is_large(it) && it->moved > it->measured / 2 + LEAST_MOVED) {
         measure(it);
     }
 }
 
 void note_change(host *it, size_t grown, size_t gone)
 {
-    it->changed = true;
-    it->size += grown;
+    markring_images_change(&it->images);
+    grow(it, grown);
     it->moved += 1 + grown + gone;
+}
+
+void note_loss(host *it, size_t bytes)
+{
+    it->size -= bytes < it->size ? bytes : it->size;
 }
 
 void host_changed(host *it)
@@ -292,7 +330,7 @@ int host_open(host **opened, const store_value *value, uint64_t number, uint64_t
     it->cycle_at = now + options->cycle_every;
     it->objects_after = UINT64_MAX;
     // Each process begins with a save, whose number is its own.
-    it->changed = true;
+    markring_images_change(&it->images);
     it->has_work = true;
     forget_line(it);
     int status = read_saved(it, value);
@@ -375,18 +413,33 @@ static bool has_room(const host *it, size_t length, size_t times)
     return it->entries <= most && STORE_HEAD + length + STORE_TAIL <= most - it->entries;
 }
 
+// Whether half of the way to the next limit of the image is gone, as far as is known. A rewrite
+// shows how many bytes it has, and nobody waits for that.
+static bool is_size_due(const host *it)
+{
+    size_t most = it->measured < it->options.image_most ? it->options.image_most
+                                                        : it->options.image_tight;
+    if (!is_large(it) || it->measured >= most || it->size <= it->measured) {
+        return false;
+    }
+    size_t half = (most - it->measured) / 2, least = it->measured / SHARE;
+    return it->size - it->measured > (half > least ? half : least);
+}
+
 // Whether an entry of this length may be added. If there are many, a whole value takes their place,
 // which the caller makes while more are added, if it can.
 static bool may_add(host *it, size_t length)
 {
-    if (has_room(it, length, 1)) {
+    bool has_few = has_room(it, length, 1);
+    if (has_few && !is_size_due(it)) {
         return true;
     }
     if (it->calls.rewrite == NULL || !has_room(it, length, 2)) {
-        return false;
+        return has_few;
     }
     if (!it->rewriting && !it->rewrite_failed) {
         it->rewriting = true;
+        it->grown_rewritten = it->grown_saved;
         it->calls.rewrite(it->calls.context);
     }
     return true;
@@ -445,7 +498,7 @@ static int take_image(host *it)
 
 static void save(host *it, uint64_t now)
 {
-    if (!it->changed || it->saving || now < it->save_at) {
+    if (markring_images_may_begin(&it->images) == 0 || now < it->save_at) {
         return;
     }
     int status = take_batch(it);
@@ -468,9 +521,8 @@ static void save(host *it, uint64_t now)
             markring_status_text(status));
         return;
     }
-    it->changed = false;
-    it->saving = true;
-    it->images++;
+    (void)markring_images_begin(&it->images);
+    it->grown_saved = it->grown;
     it->save_began = now;
     it->calls.save(it->calls.context, &it->value);
 }
@@ -493,6 +545,18 @@ static void note_length(host *it)
     }
 }
 
+// A rewrite has made a value of this many bytes: the image had no more then, and since then has got
+// at most what has come.
+static void note_whole(host *it, size_t whole)
+{
+    size_t since = it->grown - it->grown_rewritten;
+    if (is_large(it) || !has_limit(it)) {
+        it->measured = whole;
+        it->size = whole + since < it->size ? whole + since : it->size;
+        it->moved = since < it->moved ? since : it->moved;
+    }
+}
+
 void host_rewritten(host *it, store_status status, size_t whole, size_t entries)
 {
     if (it->end != HOST_RUNS || !it->rewriting) {
@@ -502,7 +566,7 @@ void host_rewritten(host *it, store_status status, size_t whole, size_t entries)
     if (status == STORE_OK) {
         it->whole = whole;
         it->entries = entries;
-        it->measured = has_limit(it) ? it->measured : whole;
+        note_whole(it, whole);
     } else if (status == STORE_UNKNOWN) {
         end_unsure(it);
     } else {
@@ -554,13 +618,12 @@ void host_unreachable(host *it, uint64_t now, bool is_unreachable)
 
 void host_saved(host *it, uint64_t now, store_status status, uint64_t number)
 {
-    if (it->end != HOST_RUNS || !it->saving) {
+    if (it->end != HOST_RUNS || it->images.saving == 0) {
         return;
     }
-    it->saving = false;
     if (status == STORE_FAILED) {
         it->counts.failed_saves++;
-        it->changed = true;
+        markring_images_failed(&it->images);
         it->save_at = now + RETRY;
     } else if (status == STORE_TAKEN) {
         host_taken(it);
@@ -570,7 +633,7 @@ void host_saved(host *it, uint64_t now, store_status status, uint64_t number)
         end_with(it, HOST_BROKEN, "the library refused the mark of an image or a batch");
     } else {
         it->counts.saves++;
-        it->kept = it->images;
+        markring_images_stored(&it->images);
         note_length(it);
         it->stored = number;
         it->saved_at = now;
@@ -585,7 +648,7 @@ void host_saved(host *it, uint64_t now, store_status status, uint64_t number)
 // Whether all is saved and answered.
 static bool is_settled(const host *it)
 {
-    return !it->saving && !it->changed && it->kept > 0;
+    return it->images.saving == 0 && it->images.changed == 0 && it->images.kept > 0;
 }
 
 // The other nodes hear of the last save before this one leaves.
@@ -615,7 +678,7 @@ void host_turn(host *it, uint64_t now)
     if (it->end != HOST_RUNS) {
         return;
     }
-    begin_measuring(it);
+    begin_measuring(it, now);
     if (!it->stopping) {
         collect(it, now);
         bound_lists(it);
@@ -624,7 +687,7 @@ void host_turn(host *it, uint64_t now)
         save(it, now);
     }
     // Before the first save, other nodes couldn't know this process from an earlier one.
-    if (it->end == HOST_RUNS && it->kept > 0) {
+    if (it->end == HOST_RUNS && it->images.kept > 0) {
         answer_programs(it, now);
         if (it->stopping && is_settled(it)) {
             tell_all(it);
@@ -652,7 +715,7 @@ uint64_t host_wait(host *it, uint64_t now)
     if (it->has_work && !it->stopping) {
         wait = sooner(wait, now, it->work_at);
     }
-    if (it->changed && !it->saving) {
+    if (markring_images_may_begin(&it->images) == 1) {
         wait = sooner(wait, now, it->save_at);
     }
     if (it->options.cycle_every > 0 && it->shape.own == 0 && !it->asked) {
@@ -673,7 +736,9 @@ uint64_t host_wait(host *it, uint64_t now)
 // next one, or now.
 void host_leave(host *it)
 {
-    it->changed = it->changed || (!it->stopping && knows_more(it));
+    if (!it->stopping && knows_more(it)) {
+        markring_images_change(&it->images);
+    }
     it->stopping = true;
 }
 

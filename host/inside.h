@@ -4,6 +4,9 @@
 
 #include "showing.h"
 
+#include <markring_lineage.h>
+#include <markring_programs.h>
+
 enum {
     NODES = 64,
     // Milliseconds: the first resending, the longest pause between two, and how soon a failed save
@@ -18,14 +21,24 @@ enum {
     // What the collector does in one turn, at most.
     SCANS = 256,
     SWEEPS = 4096,
+    // A node with more objects leaves a reclaim of all to a cycle, which goes in steps.
+    RECLAIM_MOST = 32768,
     // What any event adds to an image, at most, if the node doesn't join a cycle and the object
     // has at most PLAIN_PLACES; what a message from another node does; and what joining does, for
     // each register and each letter. Bytes that an event writes into an object come on top.
     GROWTH = 640,
     MESSAGE_GROWTH = 128,
     JOINING = 40,
-    // What a place of an object adds, at most, if the object is scanned.
+    // What a place of an object adds, at most, if the object is scanned: a message that asks
+    // another node to mark. What an object adds that becomes grey.
     SCAN_GROWTH = 40,
+    GREY_BYTES = 4,
+    // What is gone, at least, with an object that is freed: one that is made in its slot adds as
+    // much less. What a register loses that becomes empty.
+    FREED_BYTES = 13,
+    DROPPED_BYTES = 13,
+    // What a message has in an image, at least.
+    LEAST_MESSAGE = 9,
     // What a reference in a letter adds, at most.
     REFERENCE_BYTES = 14,
     // What an object without bytes and a message have in an image, about.
@@ -45,15 +58,6 @@ enum {
     // Milliseconds without an answer, after which a node is late, or lost.
     SILENCE = 10000
 };
-
-// The session of a program that the operator has forgotten. No process has it.
-#define FORGOTTEN UINT64_MAX
-
-// A process that ran this node, and the number of its first save. If the nonce is 0, nobody knows
-// any more which processes ran it from that save on.
-typedef struct ancestor {
-    uint64_t nonce, run;
-} ancestor;
 
 // What was noted of another node: whether messages wait for it; when it was heard, and when it
 // acknowledged something.
@@ -118,17 +122,14 @@ typedef struct peer {
 } peer;
 
 typedef struct program {
-    // `round`: how many processes have opened it. `number`: of its last request.
-    uint64_t session, round, number;
-    // What the last save holds of these.
-    uint64_t saved_session, saved_round, saved_number;
+    markring_program now, saved; // who speaks for it, and its last request; and in the last save
     uint8_t *results; // those of the last request
     uint16_t count;
     uint8_t *letters; // that it accepted with their bytes
     size_t letters_length;
     // The registers that it has for itself, if any. They are given once.
     uint16_t first_register, registers;
-    uint64_t due; // the image that holds the last request
+    uint64_t due; // the image that holds the program as it is now
     bool waits;   // somebody waits for the answer, to a request of this kind
     uint8_t kind;
     uint64_t asked_at;
@@ -179,20 +180,18 @@ struct markring_host {
     size_t held_count, held_bytes;
     freed_list freed;
     uint64_t nonce, run, stored; // of this process: its number, its first save, its last one
-    // The processes that ran this node, up to this one. The first element has neither nonce nor
-    // run. `line_saved`: the last save holds it.
-    ancestor line[LINE];
+    // The processes that ran this node, up to this one. `line_saved`: the last save holds it.
+    markring_ancestor line[LINE];
     size_t line_count;
     bool line_saved;
-    // Images are numbered by this host. `images` were taken, and what the one numbered `kept`
-    // holds is stored.
-    uint64_t images, kept, mark;
+    markring_images images; // that this process has taken for saves
+    uint64_t mark;          // of the last one
     // Room for the frames of a packet, and for a packet.
     uint8_t *window, *packet;
     size_t window_room, packet_room;
     // The bytes of letters that wait, as far as this process has received them.
     size_t letter_bytes;
-    bool changed, saving, stopping, has_work;
+    bool stopping, has_work;
     uint64_t save_at, work_at; // not before these times
     store_value value;
     // The bytes of the last whole value, and of the entries behind it; and how many saves have to
@@ -206,6 +205,12 @@ struct markring_host {
     // something has happened.
     size_t measured, size, moved;
     bool is_measured;
+    uint64_t measured_at, turn_at; // when it was looked at, and when the last turn began
+    // How many bytes have come in all, at most: now, when the last save was taken, and when that
+    // was taken whose size the rewrite under way will tell.
+    size_t grown, grown_saved, grown_rewritten;
+    // Slots that are free, at least: those that were freed and not used again since.
+    uint64_t spare;
     // The cycle and the letters, when this was looked at last.
     uint64_t joined, letters;
     uint32_t told_live; // as last told to node 0
@@ -261,6 +266,9 @@ bool is_over_byte_limit(const host *it, uint8_t to);
 // `gone`, about how many it has lost.
 void note_change(host *it, size_t grown, size_t gone);
 
+// This many bytes of the image are gone for sure. (`note_change` says about how many are gone.)
+void note_loss(host *it, size_t bytes);
+
 bool copy_reply(char *to, const char *reply);
 
 // This process is the last one in the line.
@@ -269,6 +277,8 @@ void begin_line(host *it);
 void forget_line(host *it);
 
 void collect(host *it, uint64_t now);
+// Node 0 begins a cycle soon.
+void ask_for_cycle(host *it);
 // Receives the messages that were early, and whose turn has come. Returns whether it got all.
 bool receive_all_early(host *it);
 // Frees private garbage of a node that is full. Returns whether it has slots again.

@@ -178,6 +178,31 @@ store_status keeper_renew(keeper *it)
     return it->is_database ? database_renew(&it->base) : STORE_OK;
 }
 
+bool keeper_can_ask(const keeper *it, const store_value *value)
+{
+    return it->is_database && database_can_ask(&it->base, value);
+}
+
+bool keeper_ask(keeper *it, store_value *value)
+{
+    return database_ask(&it->base, value);
+}
+
+database_news keeper_hear(keeper *it, const store_value *value)
+{
+    return database_hear(&it->base, value);
+}
+
+bool keeper_is_asked(const keeper *it)
+{
+    return it->is_database && it->base.is_asked;
+}
+
+int keeper_descriptor(const keeper *it)
+{
+    return it->base.calls.descriptor(it->base.calls.context);
+}
+
 uint64_t keeper_number(const keeper *it)
 {
     return it->is_database ? it->base.number : it->folder.number;

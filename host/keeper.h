@@ -37,6 +37,20 @@ store_status keeper_open(keeper *it, store_value *value);
 // As for a store; in a database STORE_TAKEN too.
 store_status keeper_save(keeper *it, store_value *value);
 
+// ## Saves without waiting, as in a database
+//
+// Whatever isn't done at once, keeper_save comes to the end of.
+
+bool keeper_can_ask(const keeper *it, const store_value *value);
+bool keeper_ask(keeper *it, store_value *value);
+database_news keeper_hear(keeper *it, const store_value *value);
+
+// Whether a save was asked for that hasn't come to its end.
+bool keeper_is_asked(const keeper *it);
+
+// What is readable once there may be news.
+int keeper_descriptor(const keeper *it);
+
 // ## Whole values while entries are added, as in a store
 //
 // Begin and end a rewrite in the thread that saves; the calls between may be made by another one.

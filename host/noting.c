@@ -204,7 +204,7 @@ void note_saved(host *it, uint64_t now)
 static void note_saving(host *it, uint64_t now)
 {
     notes *at = &it->notes;
-    if (it->saving && now - it->save_began >= SLOW) {
+    if (it->images.saving != 0 && now - it->save_began >= SLOW) {
         note_slow(it, now - it->save_began, now);
     } else if (at->is_slow && now - at->slow_at >= MINUTE) {
         note(it, (host_note){
@@ -221,11 +221,12 @@ static void note_limits(host *it, const markring_state *state)
     notes *at = &it->notes;
     note_limit(it, &at->has_many_letters, state->letters, it->options.letters_most,
         (host_note){.limit = LIMIT_LETTERS});
-    // (the size may be an estimate, which this corrects)
-    (void)is_full(it);
-    if (it->options.image_most < SIZE_MAX) {
-        note_limit(it, &at->is_full, it->size, it->options.image_most + (uint64_t)1,
-            (host_note){.limit = LIMIT_IMAGE});
+    uint64_t most = it->options.image_most, beyond = most + (uint64_t)1;
+    // (the size is an estimate, which this corrects)
+    bool is_beyond = is_full(it);
+    if (most < SIZE_MAX) {
+        uint64_t size = !is_beyond && it->size > most ? most : it->size;
+        note_limit(it, &at->is_full, size, beyond, (host_note){.limit = LIMIT_IMAGE});
     }
 }
 

@@ -5,6 +5,7 @@
 
 #include "bytes.h"
 
+#include <markring_lineage.h>
 #include <markring_remote.h>
 
 enum {
@@ -55,11 +56,8 @@ _Static_assert(FREED_IN_ANSWER * FREED_RECORD <= BYTES_MOST
         && OBJECTS_IN_ANSWER * OBJECT_RECORD <= BYTES_MOST,
     "no answer is longer");
 
-// A process that runs a node: a random number, the number of the first save that it made, and that
-// of the last one. All are 0 if nothing is known.
-typedef struct process {
-    uint64_t nonce, run, saves;
-} process;
+// A process that runs a node.
+typedef markring_process process;
 
 // The head of a packet from one node to another. Frames follow, each after its length.
 typedef struct packet_head {

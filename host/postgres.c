@@ -138,11 +138,24 @@ static bool load_libpq(libpq *it)
 
 // ## A server
 
+// Takes what is in a result. Returns whether there was memory.
+typedef bool (*result_taker)(postgres *it, pg_result *result, void *to);
+
+// What has come of the results of what was sent.
+typedef struct results {
+    result_taker take; // of each that is no failure; or NULL
+    void *to;
+    database_status status;
+    bool is_over; // no other one comes
+} results;
+
 struct postgres {
     libpq pq;
     char *server;
     pg_conn *connection;
     bool in_transaction, looks;
+    results asked;    // those of a save
+    uint64_t changed; // the rows that it changed
     char space[ADDRESS_NAME + 1], node[DIGITS];
     postgres_reason reason;
     char text[TEXT];
@@ -242,10 +255,15 @@ static void disconnect(void *context)
     it->in_transaction = it->looks = false;
 }
 
-static database_status lose(postgres *it)
+static void note_loss(postgres *it)
 {
     const char *text = it->connection != NULL ? it->pq.error(it->connection) : "";
     note_text(it, POSTGRES_AWAY, *text != 0 ? text : "the server gives no answer");
+}
+
+static database_status lose(postgres *it)
+{
+    note_loss(it);
     disconnect(it);
     return DATABASE_LOST;
 }
@@ -306,34 +324,53 @@ static database_status judge(postgres *it, const pg_result *result)
         : DATABASE_REFUSED;
 }
 
-typedef bool (*result_taker)(postgres *it, pg_result *result, void *to);
-
-// Takes all results of what was sent.
-static database_status take_results(postgres *it, result_taker take, void *to)
+// The connection is lost, perhaps before all was sent.
+static void break_off(postgres *it, results *of)
 {
-    database_status status = DATABASE_DONE;
-    for (bool lost = false;;) {
+    note_loss(it);
+    of->status = DATABASE_LOST;
+    of->is_over = true;
+}
+
+// Takes a result; NULL behind the last one.
+static void take_result(postgres *it, pg_result *result, results *of)
+{
+    if (result == NULL) {
+        of->is_over = true;
+        return;
+    }
+    database_status each = judge(it, result);
+    if (each == DATABASE_DONE && of->take != NULL && !of->take(it, result, of->to)) {
+        each = DATABASE_MEMORY;
+    }
+    it->pq.clear(result);
+    of->status = of->status == DATABASE_DONE ? each : of->status;
+    // (without memory, what else comes goes with the connection)
+    of->is_over = of->status == DATABASE_MEMORY;
+}
+
+// Waits for all results of what was sent.
+static database_status await_results(postgres *it, results *of)
+{
+    while (!of->is_over) {
+        bool lost = false;
         pg_result *result = next_result(it, &lost);
         if (lost) {
-            return lose(it);
-        }
-        if (result == NULL) {
-            break;
-        }
-        database_status each = judge(it, result);
-        if (each == DATABASE_DONE && take != NULL && !take(it, result, to)) {
-            each = DATABASE_MEMORY;
-        }
-        it->pq.clear(result);
-        status = status == DATABASE_DONE ? each : status;
-        if (status == DATABASE_MEMORY) {
-            break; // (what else comes goes with the connection)
+            break_off(it, of);
+        } else {
+            take_result(it, result, of);
         }
     }
-    if (status == DATABASE_LOST || status == DATABASE_MEMORY) {
+    if (of->status == DATABASE_LOST || of->status == DATABASE_MEMORY) {
         disconnect(it);
     }
-    return status;
+    return of->status;
+}
+
+static database_status take_results(postgres *it, result_taker take, void *to)
+{
+    results all = {take, to, DATABASE_DONE, false};
+    return await_results(it, &all);
 }
 
 // Sends a text of statements without words, and takes its results.
@@ -359,13 +396,19 @@ static database_status end_if_failed(postgres *it, database_status status)
     return status;
 }
 
+// Sends a statement. Returns whether there is a connection.
+static bool send_statement(postgres *it, statement which, const words *with)
+{
+    int form = which == READ;
+    return it->connection != NULL
+        && it->pq.send_prepared(it->connection, NAME[which], with->count, with->values,
+            with->lengths, with->formats, form);
+}
+
 static database_status run(
     postgres *it, statement which, const words *with, result_taker take, void *to)
 {
-    int form = which == READ;
-    if (it->connection == NULL
-        || !it->pq.send_prepared(it->connection, NAME[which], with->count, with->values,
-            with->lengths, with->formats, form)) {
+    if (!send_statement(it, which, with)) {
         return lose(it);
     }
     if (which == READ) {
@@ -482,17 +525,50 @@ static database_status move(void *context, const database_row *from, const datab
     return change(it, MOVE, &with);
 }
 
-static database_status save(
+static bool ask_for_save(
     void *context, const database_row *from, const database_row *to, const database_piece *piece)
 {
     postgres *it = context;
     words with;
+    it->changed = 0;
+    it->asked = (results){take_changed, &it->changed, DATABASE_DONE, false};
     begin_move(&with, it, from);
     add_number(&with, to->number);
     add_number(&with, to->base);
     add_number(&with, piece->is_entry ? ENTRY : WHOLE);
     add_bytes(&with, piece->bytes, piece->length);
-    return change(it, SAVE, &with);
+    if (!send_statement(it, SAVE, &with)) {
+        break_off(it, &it->asked);
+        return false;
+    }
+    return it->pq.flush(it->connection) == 0;
+}
+
+static database_news hear(void *context)
+{
+    postgres *it = context;
+    results *of = &it->asked;
+    if (!of->is_over && !it->pq.consume(it->connection)) {
+        break_off(it, of);
+    }
+    while (!of->is_over && !it->pq.is_busy(it->connection)) {
+        take_result(it, it->pq.get_result(it->connection), of);
+    }
+    bool is_done = of->status == DATABASE_DONE && it->changed == 1;
+    return !of->is_over ? NEWS_NONE : is_done ? NEWS_DONE : NEWS_OTHER;
+}
+
+static int descriptor(void *context)
+{
+    const postgres *it = context;
+    return it->connection != NULL ? it->pq.socket(it->connection) : -1;
+}
+
+static database_status take_answer(void *context)
+{
+    postgres *it = context;
+    database_status status = await_results(it, &it->asked);
+    return status == DATABASE_DONE && it->changed != 1 ? DATABASE_NONE : status;
 }
 
 static void begin_piece(words *to, const postgres *it, const database_piece *piece)
@@ -831,7 +907,8 @@ static bool is_own(void *context, const store_value *value)
 database_calls postgres_calls(postgres *it)
 {
     return (database_calls){it, connect_server, disconnect, begin, commit, lock, add, move, put,
-        save, clear, put_apart, find_parts, sweep, is_own, read_pieces, pause_for, note};
+        ask_for_save, hear, descriptor, take_answer, clear, put_apart, find_parts, sweep, is_own,
+        read_pieces, pause_for, note};
 }
 
 // ## Looking

@@ -12,8 +12,8 @@ void fill_head(const host *it, const request_head *request, answer_head *head)
     head->session = request->session;
     head->number = request->number;
     if (request->program < PROGRAMS) {
-        head->last = it->programs[request->program].number;
-        head->round = it->programs[request->program].round;
+        head->last = it->programs[request->program].now.number;
+        head->round = it->programs[request->program].now.round;
     }
     head->nodes = it->shape.nodes;
     head->own = it->shape.own;
@@ -73,6 +73,26 @@ bool give_registers(host *it, uint8_t number, uint16_t first, uint16_t count)
     return true;
 }
 
+// What the library says of an opening or a request, as an answer says it.
+static verdict verdict_of(int judged)
+{
+    switch (judged) {
+    case MARKRING_PROGRAM_NEXT:
+    case MARKRING_PROGRAM_REPEATED: return VERDICT_DONE;
+    case MARKRING_PROGRAM_STALE: return VERDICT_STALE;
+    case MARKRING_PROGRAM_AHEAD: return VERDICT_AHEAD;
+    case MARKRING_PROGRAM_SUPERSEDED: return VERDICT_SUPERSEDED;
+    default: return VERDICT_MALFORMED;
+    }
+}
+
+// The program has changed.
+static void note_program(host *it, program *at)
+{
+    markring_images_change(&it->images);
+    at->due = due_image(it);
+}
+
 // Whether this may be an opening of the program now. Its registers are given at the first one;
 // later ones may name the same.
 static verdict judge_opening(host *it, const request_head *request, reader *from)
@@ -82,16 +102,16 @@ static verdict judge_opening(host *it, const request_head *request, reader *from
         request->kind == REQUEST_OPEN_APART || request->kind == REQUEST_OPEN_APART_LETTERS;
     uint16_t first = is_apart ? (uint16_t)read_number(from, 2) : 0;
     uint16_t count = is_apart ? (uint16_t)read_number(from, 2) : 0;
-    bool is_session = request->session != 0 && request->session != FORGOTTEN;
-    if (!is_session || (is_apart && (!from->ok || from->left > 0 || count == 0))) {
+    verdict why = verdict_of(
+        markring_program_judge_opening(&at->now, request->session, request->number));
+    if (is_apart && (!from->ok || from->left > 0 || count == 0)) {
         return VERDICT_MALFORMED;
     }
-    // A late opening of an earlier process has a number that was used.
-    if (at->session != request->session && request->number != at->round + 1) {
-        return VERDICT_STALE;
+    if (why != VERDICT_DONE) {
+        return why;
     }
     bool is_right = !is_apart || (at->first_register == first && at->registers == count)
-        || (at->round == 0 && give_registers(it, request->program, first, count));
+        || (at->now.round == 0 && give_registers(it, request->program, first, count));
     return is_right ? VERDICT_DONE : VERDICT_REGISTERS;
 }
 
@@ -104,11 +124,10 @@ static void open_program(host *it, const request_head *request, reader *from, co
         refuse(it, request, why, reply);
         return;
     }
-    if (at->session != request->session) {
-        at->session = request->session;
-        at->round++;
+    if (markring_program_open(&at->now, request->session, request->number)
+        == MARKRING_PROGRAM_NEXT) {
         at->waits = false;
-        it->changed = true;
+        note_program(it, at);
     }
     if (has_apart(it)) {
         end_lists(it);
@@ -140,8 +159,8 @@ static bool is_accept(uint8_t kind)
 }
 
 // How many bytes an event of a program adds to the image, at most, and how many of it may be gone:
-// a reference has 13, a letter up to 19, an object without references up to 34. Loading may add a
-// request to mark.
+// a reference has 13, a letter up to 19, an object without references up to 34. A new one has 30
+// without its places, and the register's reference. Loading may add a request to mark.
 typedef struct moves {
     uint8_t grown, gone;
 } moves;
@@ -149,7 +168,7 @@ typedef struct moves {
 static moves moves_of(uint8_t kind)
 {
     switch (kind) {
-    case MARKRING_EVENT_ALLOC: return (moves){64, 0};
+    case MARKRING_EVENT_ALLOC: return (moves){43, 0};
     case MARKRING_EVENT_COPY:
     case MARKRING_EVENT_RESOLVE: return (moves){16, 0};
     case MARKRING_EVENT_DROP: return (moves){0, 16};
@@ -167,10 +186,10 @@ static moves moves_of(uint8_t kind)
     }
 }
 
-// How many more bytes a new object has than one of a plain space, at most: each place has one.
-static size_t more_places(const markring_event *event)
+// How many bytes the places of a new object have: each has one.
+static size_t new_places(const markring_event *event)
 {
-    return event->kind == MARKRING_EVENT_ALLOC && event->place > PLAIN_PLACES ? event->place : 0;
+    return event->kind == MARKRING_EVENT_ALLOC ? event->place : 0;
 }
 
 // What a letter with bytes has in an image, about.
@@ -186,7 +205,7 @@ static size_t growth_of(const markring_remote_event *event)
     size_t bytes = kind == MARKRING_REMOTE_SET_BYTES ? event->length
         : kind == MARKRING_REMOTE_POST               ? parcel_of(event)
                                                      : 0;
-    return moves_of(kind).grown + more_places(&event->event) + bytes;
+    return moves_of(kind).grown + new_places(&event->event) + bytes;
 }
 
 // How many bytes the event replaces, if it replaces those of an object.
@@ -197,17 +216,6 @@ static size_t replaced_by(host *it, const markring_remote_event *event)
         (void)markring_node_bytes_length(&it->node, event->event.object, &length);
     }
     return length;
-}
-
-static void note_full(host *it)
-{
-    markring_state state;
-    if (markring_node_state(&it->node, &state) == MARKRING_OK && !it->needs_cycle) {
-        it->needs_cycle = true;
-        it->needed_in = state.cycle;
-        it->peers[0].due = it->shape.own != 0;
-    }
-    it->asked = it->asked || it->shape.own == 0;
 }
 
 // Whether the program may use the register: it is its own, or is nobody's and the program has none.
@@ -330,6 +338,19 @@ static size_t letter_of(host *it, uint8_t kind, const markring_answer *answer)
     return bytes;
 }
 
+// What is known better of some events once they are done: a new object took a slot that was freed,
+// if there was one; and a register that is dropped wasn't empty.
+static void note_done(host *it, uint8_t kind)
+{
+    if (kind == MARKRING_EVENT_ALLOC && it->spare > 0) {
+        it->spare--;
+        note_loss(it, FREED_BYTES);
+    }
+    if (kind == MARKRING_EVENT_DROP) {
+        note_loss(it, DROPPED_BYTES);
+    }
+}
+
 static int perform_event(host *it, uint8_t number, const markring_remote_event *event,
     uint16_t result, growing *letters, markring_answer *answer)
 {
@@ -358,9 +379,10 @@ static int perform_event(host *it, uint8_t number, const markring_remote_event *
     }
     if (status == MARKRING_OK && kind != MARKRING_EVENT_WORD) {
         note_change(it, growth, gone + letter_of(it, kind, answer));
+        note_done(it, kind);
     }
     if (status == MARKRING_ARENA_FULL) {
-        note_full(it);
+        ask_for_cycle(it);
     }
     return status;
 }
@@ -404,29 +426,14 @@ static void perform(host *it, const request_head *request, reader *from)
     at->letters = letters.bytes;
     at->letters_length = letters.length;
     at->count = request->count;
-    at->number = request->number;
-    it->changed = true;
-    at->due = due_image(it);
+    (void)markring_program_perform(&at->now, request->session, request->number);
+    note_program(it, at);
     it->counts.requests++;
 }
 
 bool speaks_for(const program *at, const request_head *request)
 {
-    return at->session == request->session && request->session != 0
-        && request->session != FORGOTTEN;
-}
-
-static verdict judge(const program *at, const request_head *request)
-{
-    if (!speaks_for(at, request)) {
-        return VERDICT_SUPERSEDED;
-    }
-    if (request->number == 0) {
-        return VERDICT_MALFORMED;
-    }
-    return request->number < at->number    ? VERDICT_STALE
-        : request->number > at->number + 1 ? VERDICT_AHEAD
-                                           : VERDICT_DONE;
+    return markring_program_speaks_for(&at->now, request->session) == 1;
 }
 
 // Whether the bytes are this many events, and nothing else. No event is performed before that is
@@ -450,7 +457,8 @@ static void perform_once(host *it, uint64_t now, const request_head *request, re
     const char *reply)
 {
     program *at = &it->programs[request->program];
-    verdict why = judge(at, request);
+    int judged = markring_program_judge_request(&at->now, request->session, request->number);
+    verdict why = verdict_of(judged);
     if (why == VERDICT_DONE) {
         why = judge_events(request, *from);
     }
@@ -458,14 +466,14 @@ static void perform_once(host *it, uint64_t now, const request_head *request, re
         refuse(it, request, why, reply);
         return;
     }
-    if (request->number == at->number) {
+    if (judged == MARKRING_PROGRAM_REPEATED) {
         it->counts.repeated_requests++;
     } else {
         perform(it, request, from);
         at->waits = false;
     }
     at->asked_at = at->waits ? at->asked_at : now;
-    at->waits = at->number == request->number && copy_reply(at->reply, reply);
+    at->waits = at->now.number == request->number && copy_reply(at->reply, reply);
     at->kind = request->kind;
 }
 
@@ -632,12 +640,18 @@ static void announce_letters(host *it)
     }
 }
 
+// Whether an answer may leave that shows what this image holds.
+static bool may_leave(const host *it, uint64_t due)
+{
+    return markring_images_may_leave(&it->images, due) == 1;
+}
+
 static void answer_held(host *it)
 {
     held **at = &it->first;
     while (*at != NULL) {
         held *answer = *at;
-        if (answer->due > it->kept) {
+        if (!may_leave(it, answer->due)) {
             at = &answer->next;
             continue;
         }
@@ -656,10 +670,10 @@ void answer_programs(host *it, uint64_t now)
     answer_held(it);
     for (uint8_t i = 0; i < PROGRAMS; i++) {
         program *at = &it->programs[i];
-        if (!at->waits || at->due > it->kept) {
+        if (!at->waits || !may_leave(it, at->due)) {
             continue;
         }
-        request_head request = {at->kind, i, at->session, at->number, at->count};
+        request_head request = {at->kind, i, at->now.session, at->now.number, at->count};
         size_t length = 0;
         uint8_t *bytes = make_last(it, &request, true, &length);
         if (bytes == NULL) {
@@ -688,8 +702,9 @@ static void forget_program(host *it, uint8_t number, const char *reply)
             note_change(it, 0, moves_of(MARKRING_EVENT_DROP).gone);
         }
     }
-    at->session = FORGOTTEN;
-    it->changed = true;
+    markring_program_forget(&at->now);
+    at->waits = false;
+    note_program(it, at);
     int length = snprintf(
         text, sizeof text, "{\"forgotten\": %d, \"registers\": %d}", number, at->registers);
     hold_answer(it, due_image(it), reply, (const uint8_t *)text, (size_t)length);

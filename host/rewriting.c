@@ -8,7 +8,8 @@
 #define XXH_INLINE_ALL
 #include <xxhash.h>
 
-enum { ENTRY_HEAD = STORE_ENTRY_HEAD };
+// The saver's syncs wait for what this one has written. So that is never more than a PART.
+enum { ENTRY_HEAD = STORE_ENTRY_HEAD, PART = 1 << 20 };
 
 void store_rewrite_begin(const store *it, store_rewrite *to)
 {
@@ -39,6 +40,19 @@ store_status store_rewrite_read(store_rewrite *it, store_value *value)
     return STORE_OK;
 }
 
+// Writes and syncs, one part after another.
+static store_status write_parts(
+    store *it, int file, const uint8_t *bytes, size_t length, uint64_t offset)
+{
+    store_status status = STORE_OK;
+    for (size_t at = 0; at < length && status == STORE_OK; at += PART) {
+        size_t count = length - at < PART ? length - at : PART;
+        status = store_write_all(it, file, bytes + at, count, offset + at);
+        status = status == STORE_OK ? store_sync(it, file) : status;
+    }
+    return status;
+}
+
 // The head is written last: without it, the slot isn't whole.
 store_status store_rewrite_write(store_rewrite *it, store_value *whole)
 {
@@ -48,11 +62,10 @@ store_status store_rewrite_write(store_rewrite *it, store_value *whole)
     store_bytes sealed = store_seal_whole(whole, from->number);
     memcpy(it->head, sealed.bytes, sizeof it->head);
     memcpy(sealed.bytes, none, sizeof none);
-    store_status status = store_write_all(from, to, sealed.bytes, sealed.length, 0);
     it->base = it->seal = sealed.seal;
     it->length = whole->length;
     it->end = sealed.length;
-    return status == STORE_OK ? store_sync(from, to) : status;
+    return write_parts(from, to, sealed.bytes, sealed.length, 0);
 }
 
 bool store_seal_again(uint8_t *bytes, size_t length, uint64_t *old, uint64_t *new)
@@ -79,7 +92,11 @@ bool store_seal_again(uint8_t *bytes, size_t length, uint64_t *old, uint64_t *ne
     return true;
 }
 
-store_status store_rewrite_follow(store_rewrite *it, uint64_t end)
+// How bytes are written: with syncs or without.
+typedef store_status (*writing)(
+    store *it, int file, const uint8_t *bytes, size_t length, uint64_t offset);
+
+static store_status follow(store_rewrite *it, uint64_t end, writing write)
 {
     store *from = &it->from;
     size_t length = (size_t)(end - from->end);
@@ -97,7 +114,7 @@ store_status store_rewrite_follow(store_rewrite *it, uint64_t end)
         status = STORE_DAMAGED;
     }
     if (status == STORE_OK) {
-        status = store_write_all(from, from->slots[1 - from->counts], bytes, length, it->end);
+        status = write(from, from->slots[1 - from->counts], bytes, length, it->end);
     }
     if (status == STORE_OK) {
         from->seal = old;
@@ -107,6 +124,11 @@ store_status store_rewrite_follow(store_rewrite *it, uint64_t end)
     }
     free(bytes);
     return status;
+}
+
+store_status store_rewrite_follow(store_rewrite *it, uint64_t end)
+{
+    return follow(it, end, write_parts);
 }
 
 // Writes the rest, and only then the head.
@@ -125,7 +147,7 @@ static store_status finish(store *it, store_rewrite *with, const store_bytes *en
 
 store_status store_rewrite_end(store *it, store_rewrite *with, store_value *entry)
 {
-    store_status status = store_rewrite_follow(with, it->end);
+    store_status status = follow(with, it->end, store_write_all);
     it->number++;
     if (status != STORE_OK) {
         it->cause = with->from.cause;

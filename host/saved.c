@@ -17,13 +17,13 @@ static size_t program_size(const program *at)
 
 static bool is_opened(const program *at)
 {
-    return at->session != 0;
+    return at->now.session != 0;
 }
 
 static bool is_program_new(const program *at)
 {
-    return at->session != at->saved_session || at->round != at->saved_round
-        || at->number != at->saved_number;
+    return at->now.session != at->saved.session || at->now.round != at->saved.round
+        || at->now.number != at->saved.number;
 }
 
 static bool is_known_new(const peer *at)
@@ -84,9 +84,9 @@ static void write_programs(const host *it, writer *to, bool (*meets)(const progr
         const program *at = &it->programs[i];
         if (meets(at)) {
             write_number(to, (uint64_t)i, 1);
-            write_number(to, at->session, 8);
-            write_number(to, at->round, 8);
-            write_number(to, at->number, 8);
+            write_number(to, at->now.session, 8);
+            write_number(to, at->now.round, 8);
+            write_number(to, at->now.number, 8);
             write_number(to, at->first_register, 2);
             write_number(to, at->registers, 2);
             write_number(to, at->count, 2);
@@ -121,10 +121,7 @@ static void note_written(host *it)
         it->peers[i].saved_known = it->peers[i].known;
     }
     for (int i = 0; i < PROGRAMS; i++) {
-        program *at = &it->programs[i];
-        at->saved_session = at->session;
-        at->saved_round = at->round;
-        at->saved_number = at->number;
+        it->programs[i].saved = it->programs[i].now;
     }
 }
 
@@ -245,7 +242,7 @@ static int read_line(host *it, reader *from)
         if (!from->ok || run <= it->line[i - 1].run || run >= it->run) {
             return MARKRING_BAD_IMAGE;
         }
-        it->line[i] = (ancestor){nonce, run};
+        it->line[i] = (markring_ancestor){nonce, run};
     }
     it->line_count = count > 0 ? count + 1 : it->line_count;
     return from->ok ? MARKRING_OK : MARKRING_BAD_IMAGE;
@@ -294,13 +291,13 @@ static int read_program(host *it, version of, reader *from)
     if (number >= PROGRAMS) {
         return MARKRING_BAD_IMAGE;
     }
-    at->session = read_number(from, 8);
-    at->round = read_number(from, 8);
-    at->number = read_number(from, 8);
+    at->now.session = read_number(from, 8);
+    at->now.round = read_number(from, 8);
+    at->now.number = read_number(from, 8);
     at->first_register = of != FIRST ? (uint16_t)read_number(from, 2) : 0;
     at->registers = of != FIRST ? (uint16_t)read_number(from, 2) : 0;
     int status = read_results(at, of, from);
-    return status == MARKRING_OK && at->session == 0 ? MARKRING_BAD_IMAGE : status;
+    return status == MARKRING_OK && at->now.session == 0 ? MARKRING_BAD_IMAGE : status;
 }
 
 static int read_programs(host *it, version of, reader *from)

@@ -154,6 +154,7 @@ static void note_acknowledged(host *it, peer *at, uint64_t number)
     at->is_blocked = false;
     trim_queue(&at->queue, number);
     it->moved += MESSAGE_BYTES * (size_t)(number - at->acknowledged) + bytes - at->queue.bytes;
+    note_loss(it, LEAST_MESSAGE * (size_t)(number - at->acknowledged));
     at->acknowledged = number;
 }
 
@@ -243,6 +244,17 @@ static bool is_cycle_due(const host *it, uint64_t objects, uint64_t now)
         && objects >= 2 * after;
 }
 
+void ask_for_cycle(host *it)
+{
+    markring_state state;
+    if (markring_node_state(&it->node, &state) == MARKRING_OK && !it->needs_cycle) {
+        it->needs_cycle = true;
+        it->needed_in = state.cycle;
+        it->peers[0].due = it->shape.own != 0;
+    }
+    it->asked = it->asked || it->shape.own == 0;
+}
+
 // Begins a cycle at node 0, if one is due. While another runs, it stays due. Returns whether the
 // image has to become smaller first.
 static bool begin_if_due(host *it, uint64_t now)
@@ -304,7 +316,7 @@ static size_t places_growth(const host *it)
 // of the other one.
 static uint32_t scans_of(host *it)
 {
-    if (is_tight(it) || (is_full(it) && count_unacknowledged(it) >= SCAN_MESSAGES)) {
+    if (is_tight(it) || (count_unacknowledged(it) >= SCAN_MESSAGES && is_full(it))) {
         return 0;
     }
     size_t room = it->options.image_tight - least_size(it->size, it->options.image_tight);
@@ -320,6 +332,14 @@ static size_t freed_bytes(const host *it, uint32_t count, bool is_last)
     return OBJECT_BYTES * (size_t)count + bytes;
 }
 
+// Objects were freed. `is_last`: the last ones of a sweep or a reclaim.
+static void note_freed(host *it, uint32_t count, bool is_last)
+{
+    note_change(it, 0, freed_bytes(it, count, is_last));
+    note_loss(it, FREED_BYTES * (size_t)count);
+    it->spare += count;
+}
+
 static uint32_t least_of(uint32_t a, uint32_t b)
 {
     return (uint32_t)least_size(a, b);
@@ -333,7 +353,7 @@ static bool reclaim(host *it, uint8_t kind)
     markring_state state;
     bool any = markring_node_act(&it->node, &event, &answer) == MARKRING_OK && answer.count > 0;
     if (any) {
-        note_change(it, 0, freed_bytes(it, answer.count, true));
+        note_freed(it, answer.count, true);
         it->counts.reclaimed += answer.count;
     }
     if (markring_node_state(&it->node, &state) == MARKRING_OK) {
@@ -354,8 +374,20 @@ bool reclaim_if_full(host *it)
     return any;
 }
 
-// Reclaims the young, if many objects were made since the last time. Then it reclaims all, if there
-// are twice as many as after the last time that it did.
+// Whether a cycle is to free what a reclaim of all would: nobody waits for a cycle, but it needs
+// all nodes.
+static bool is_for_cycle(const host *it, uint32_t live)
+{
+    for (int node = 0; node < it->shape.nodes; node++) {
+        if (it->peers[node].notes.is_lost) {
+            return false;
+        }
+    }
+    return live > RECLAIM_MOST;
+}
+
+// Reclaims the young, if many objects were made since the last time. Then it reclaims all, or asks
+// for a cycle, if there are twice as many as after the last time that it did.
 static void reclaim_if_due(host *it)
 {
     markring_state state;
@@ -371,21 +403,63 @@ static void reclaim_if_due(host *it)
         (void)reclaim(it, MARKRING_EVENT_RECLAIM_YOUNG);
         state.live = it->objects_kept;
     }
-    if (state.live >= least && state.live / 2 >= it->objects_kept_by_all) {
+    if (state.live < least || state.live / 2 < it->objects_kept_by_all) {
+        return;
+    }
+    if (is_for_cycle(it, state.live)) {
+        it->objects_kept_by_all = state.live;
+        ask_for_cycle(it);
+    } else {
         (void)reclaim(it, MARKRING_EVENT_RECLAIM);
     }
 }
 
-// What the collector did has changed the image.
-static void note_work(host *it, const markring_work *work)
+// What marking adds to: how many messages were ever appended, and how many objects are grey.
+typedef struct progress {
+    uint64_t appended, grey;
+} progress;
+
+static progress progress_of(host *it)
 {
-    size_t grown = GROWTH * (size_t)(work->scanned + work->passed);
-    if (work->scanned > 0 || work->passed) {
-        note_change(it, grown, 0);
-        it->size += places_growth(it) * (size_t)work->scanned;
+    markring_state state;
+    progress found = {0, 0};
+    for (uint8_t to = 0; to < it->shape.nodes; to++) {
+        markring_link link;
+        if (markring_node_link(&it->node, to, &link) == MARKRING_OK) {
+            found.appended += link.appended;
+        }
+    }
+    if (markring_node_state(&it->node, &state) == MARKRING_OK) {
+        found.grey = state.grey;
+    }
+    return found;
+}
+
+// Objects were scanned since then.
+static void note_marking(host *it, const progress *before)
+{
+    progress now = progress_of(it);
+    size_t asked = SCAN_GROWTH * (size_t)(now.appended - before->appended);
+    if (now.grey > before->grey) {
+        note_change(it, asked + GREY_BYTES * (size_t)(now.grey - before->grey), 0);
+    } else {
+        note_change(it, asked, 0);
+        note_loss(it, GREY_BYTES * (size_t)(before->grey - now.grey));
+    }
+}
+
+// What the collector did has changed the image.
+static void note_work(host *it, const markring_work *work, const progress *before)
+{
+    if (work->scanned > 0) {
+        note_marking(it, before);
+    }
+    if (work->passed) {
+        note_change(it, GROWTH, 0);
     }
     if (work->swept) {
-        note_change(it, MESSAGE_BYTES, freed_bytes(it, work->freed, !work->more));
+        note_change(it, MESSAGE_BYTES, 0);
+        note_freed(it, work->freed, !work->more);
         it->counts.freed += work->freed;
     }
 }
@@ -398,9 +472,10 @@ void collect(host *it, uint64_t now)
     // (the library would receive what was early too, and say nothing of its bytes)
     bool received = receive_all_early(it);
     uint32_t scans = scans_of(it);
+    progress before = progress_of(it);
     int status =
         received ? markring_node_work(&it->node, scans, SWEEPS, &work) : MARKRING_MEMORY;
-    note_work(it, &work);
+    note_work(it, &work, &before);
     bool is_stuck = scans == 0 && work.more && !work.swept;
     bool refused = is_late || is_stuck || status == MARKRING_MEMORY;
     it->has_work = refused || (status == MARKRING_OK && work.more);

@@ -9,44 +9,32 @@ enum { FRAME_NUMBER = FRAME_ADDRESSES, FRAME_TAG = 19, POST = 9, FETCH = 10, FET
 
 // ## The processes that ran this node
 //
-// Each process begins with a save, so the numbers of saves are one line, in which each process has
-// a part: from its first save on, up to the first one of the next process. The folder has that
-// line. So another node's word, "I know the process n, which made save s", is true only if save s
-// is in the part of n. Otherwise the folder is an older copy, which another process continued, even
-// if this one has made more saves since. Nothing leaves a process before its first save is stored,
-// and with it the line up to this process; so no word is wrong of a folder that is the newest one.
+// The library judges what other nodes say of them (markring_lineage.h). Nothing leaves a process
+// before its first save is stored, and with it the line up to this process; so no word is wrong of
+// a folder that is the newest one.
 //
 // Once all other nodes know this process, the line before it may be forgotten: any older word is
-// that of a node that has forgotten the newer one. If the line becomes too long before, its middle
-// is forgotten: what shows a copy are the processes that began right after it, and the last ones.
+// that of a node that has forgotten the newer one.
 
 void forget_line(host *it)
 {
-    it->line[0] = (ancestor){0, 0};
+    it->line[0] = (markring_ancestor){0, 0};
     it->line_count = 1;
     it->line_saved = false;
 }
 
 void begin_line(host *it)
 {
-    if (it->line_count == LINE) {
-        ancestor *middle = &it->line[LINE / 2];
-        middle->nonce = 0;
-        memmove(middle + 1, middle + 2, (LINE - LINE / 2 - 2) * sizeof *middle);
-        it->line_count--;
-    }
-    it->line[it->line_count++] = (ancestor){it->nonce, it->run};
+    const markring_ancestor own = {it->nonce, it->run};
+    it->line_count = markring_lineage_begin(it->line, LINE, it->line_count, &own);
     it->line_saved = false;
 }
 
-// Whether a process with this nonce made this save, as far as the folder knows.
-static bool is_in_line(const host *it, uint64_t nonce, uint64_t save)
+static void forget_earlier(host *it)
 {
-    size_t at = it->line_count - 1;
-    while (at > 0 && it->line[at].run > save) {
-        at--;
-    }
-    return it->line[at].nonce == 0 || it->line[at].nonce == nonce;
+    const markring_ancestor own = {it->nonce, it->run};
+    it->line_count = markring_lineage_forget(it->line, LINE, &own);
+    it->line_saved = false;
 }
 
 // Another node knows this process.
@@ -61,16 +49,8 @@ static void note_known(host *it, peer *by)
         all = all && (node == it->shape.own || it->peers[node].knows_this);
     }
     if (all) {
-        forget_line(it);
-        begin_line(it);
+        forget_earlier(it);
     }
-}
-
-// What a node knows of another node's process, as one number. Nonces are random, so two of these
-// numbers are hardly ever the same, nor NO_WORD or 0.
-static uint64_t word_on_process(uint64_t nonce, uint64_t saves)
-{
-    return nonce ^ saves;
 }
 
 // That node doesn't know this process yet, and takes nothing of it before it hears that its word
@@ -78,7 +58,8 @@ static uint64_t word_on_process(uint64_t nonce, uint64_t saves)
 static void note_word(host *it, const packet_head *head)
 {
     peer *from = &it->peers[head->from];
-    uint64_t word = word_on_process(head->known_nonce, head->known_saves);
+    const process known = {head->known_nonce, 0, head->known_saves};
+    uint64_t word = markring_lineage_word(&known);
     if (from->heard != word && !from->knows_this) {
         send_again(it, head->from);
     }
@@ -89,15 +70,11 @@ static void note_word(host *it, const packet_head *head)
 // What another node knows of this one shows whether this process may go on.
 static bool may_go_on(host *it, const packet_head *head)
 {
-    bool is_own = head->known_nonce == it->nonce;
-    if (is_own && head->known_saves <= it->stored) {
-        note_known(it, &it->peers[head->from]);
-        return true;
-    }
-    if (head->known_nonce == 0
-        || (!is_own && is_in_line(it, head->known_nonce, head->known_saves))) {
-        note_word(it, head);
-        return true;
+    switch (markring_lineage_judge(it->line, it->line_count, it->nonce, it->stored,
+        head->known_nonce, head->known_saves)) {
+    case MARKRING_LINEAGE_KNOWN: note_known(it, &it->peers[head->from]); return true;
+    case MARKRING_LINEAGE_FITS: note_word(it, head); return true;
+    default: break;
     }
     if (it->options.trusts_folder) {
         return true;
@@ -108,46 +85,32 @@ static bool may_go_on(host *it, const packet_head *head)
         "node, or restore the folders of all nodes from one moment. If neither is so, node %d is "
         "wrong: `run --trust-folder` once, on both, makes that node forget it and this one go on",
         head->from, (unsigned long long)head->known_saves,
-        is_own ? "this process hasn't made" : "a process made that this folder doesn't know",
+        head->known_nonce == it->nonce ? "this process hasn't made"
+                                       : "a process made that this folder doesn't know",
         head->from);
     return false;
 }
 
 // ## The processes that run other nodes
 
-// Whether the process is later than the one that is known. One of this version also has to show
-// that what is known fits its folder.
-static bool is_later(const process *known, const packet_head *head)
-{
-    return head->sender.run > known->saves
-        && (known->nonce == 0 || head->fits == 0
-            || head->fits == word_on_process(known->nonce, known->saves));
-}
-
 // Whether the packet is from the latest process of that node that is known. If a later one shows
 // itself, that one is known from now on.
 static bool is_latest(host *it, const packet_head *head)
 {
     peer *from = &it->peers[head->from];
-    if (head->sender.nonce == from->known.nonce) {
-        if (head->sender.saves > from->known.saves) {
-            from->known.saves = head->sender.saves;
-        } else if (head->sender.saves < from->known.saves) {
-            // A late packet, or an older state of that process, which has to hear of it. (Two that
-            // trust their folders don't answer each other for ever.)
-            from->due = from->due || !it->options.trusts_folder;
-        }
+    switch (markring_lineage_meet(&from->known, &head->sender, head->fits)) {
+    case MARKRING_LINEAGE_LATEST: return true;
+    case MARKRING_LINEAGE_BEHIND:
+        // It has to hear of it. (Two that trust their folders don't answer each other for ever.)
+        from->due = from->due || !it->options.trusts_folder;
         return true;
+    case MARKRING_LINEAGE_LATER: send_again(it, head->from); return true;
+    default:
+        // The answer says to that process what is known.
+        it->counts.outdated += head->sender.run <= from->known.saves;
+        from->due = true;
+        return false;
     }
-    if (is_later(&from->known, head)) {
-        from->known = head->sender;
-        send_again(it, head->from);
-        return true;
-    }
-    // The answer says to that process what is known.
-    it->counts.outdated += head->sender.run <= from->known.saves;
-    from->due = true;
-    return false;
 }
 
 static bool is_for_us(const host *it, uint8_t from, const packet_head *head)

@@ -9,7 +9,8 @@ enum { LEAST_ROOM = 1024 }; // entries
 bool has_apart(const host *it)
 {
     for (int i = 0; i < PROGRAMS; i++) {
-        if (it->programs[i].registers > 0 && it->programs[i].session != FORGOTTEN) {
+        const program *at = &it->programs[i];
+        if (at->registers > 0 && at->now.session != MARKRING_PROGRAM_FORGOTTEN) {
             return true;
         }
     }
@@ -200,7 +201,7 @@ void track_freed(host *it, const request_head *request, reader *from, const char
     markring_result found = {MARKRING_OK,
         {.number = at->had, .sum = (int64_t)at->list, .done = at->is_list_new}};
     write_one(it, request, &found, &to);
-    hold_answer(it, it->kept, reply, bytes, to.length);
+    hold_answer(it, at->due, reply, bytes, to.length);
 }
 
 // The program has all entries of its list up to one. Returns whether it has such a list.
@@ -215,8 +216,8 @@ static bool note_had(host *it, program *at, uint64_t list, uint64_t had)
     return true;
 }
 
-// The entries behind those that the program has. No crash takes them back, so the answer waits for
-// no save.
+// The entries behind those that the program has. No crash takes them back, so the answer waits only
+// until the numbers of the program in its head are stored.
 static void write_entries(host *it, const request_head *request, uint32_t most, const char *reply)
 {
     const program *at = &it->programs[request->program];
@@ -238,7 +239,7 @@ static void write_entries(host *it, const request_head *request, uint32_t most, 
     for (size_t i = 0; i < count; i++) {
         write_freed_record(&to, &next[i]);
     }
-    hold_answer(it, it->kept, reply, bytes, to.length);
+    hold_answer(it, at->due, reply, bytes, to.length);
     free(bytes);
 }
 

@@ -382,15 +382,17 @@ typedef struct markring_host_options {
     // least this many; 0 for never.
     uint32_t cycle_objects;
     // The node reclaims the young when this many objects were made since the last time; and all,
-    // when it has twice as many as after the last time that it did so, and at least this many. It
-    // does both when a program finds it full. 0 for never.
+    // when it has twice as many as after the last time that it did so, and at least this many. (If
+    // it has more than 32,768, it asks for a cycle in place of that, which goes in steps, unless
+    // another node is lost.) It does both when a program finds it full. 0 for never.
     uint32_t reclaim_objects;
     // While this many letters wait, or letters with this many bytes, the node takes no messages; 0
     // for MARKRING_HOST_LETTERS_MOST and MARKRING_HOST_LETTER_BYTES_MOST.
     uint64_t letters_most;
     size_t letter_bytes_most;
     // While the node's image has more bytes, events of programs that make it grow are refused; 0
-    // for MARKRING_HOST_IMAGE_MOST, or in a wide space for no limit.
+    // for MARKRING_HOST_IMAGE_MOST, or in a wide space for no limit. (If the image has more than
+    // 1 MiB, that is found out once a 64th of it may have changed, or after a second.)
     size_t image_most;
     // While it has more, or could have more by joining a cycle, the node takes no messages; 0 for
     // MARKRING_HOST_IMAGE_TIGHT, or in a wide space for no limit.

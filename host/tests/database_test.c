@@ -1,7 +1,7 @@
 // A node in a database, over a model of the server. In each run one thing happens at one call: the
 // connection is lost before it was done, after it, or so that it is done later; the server refuses;
-// another process takes over; the process dies. Then the node is opened again. The same with a
-// rewrite, whose value another connection puts there.
+// another process takes over; the process dies. Then the node is opened again. The same with saves
+// that are asked for without waiting, and with a rewrite, whose value another connection puts there.
 //
 //     database_test
 #include "rows.h"
@@ -106,14 +106,31 @@ static store_status create(rows_client *client)
     return status;
 }
 
+// How entries are saved: at once, or by asking, of which the answer is heard of or never is.
+typedef enum saving { SAVES_AT_ONCE, SAVES_HEARD, SAVES_NEVER_HEARD, SAVINGS } saving;
+
+static saving how;
+
+static store_status save(database *at, rows_client *client, store_value *value)
+{
+    if (how != SAVES_AT_ONCE && database_can_ask(at, value)) {
+        client->silent = how == SAVES_HEARD ? 0 : 1000;
+        bool is_sent = database_ask(at, value);
+        if (is_sent && database_hear(at, value) == NEWS_DONE) {
+            return STORE_OK;
+        }
+    }
+    return database_save(at, value);
+}
+
 static void save_all(database *at, rows_client *client, outcome *to)
 {
     for (int i = 0; i < SAVES && !to->is_taken && !client->dead; i++) {
         store_value value = value_of(PLANS[i].is_entry, PLANS[i].length, i + 1);
         to->perhaps = next_content(to->sure, i);
-        store_status status = database_save(at, &value);
+        store_status status = save(at, client, &value);
         while (status == STORE_FAILED && !client->dead) {
-            status = database_save(at, &value);
+            status = save(at, client, &value);
         }
         free(value.buffer);
         to->is_taken = status == STORE_TAKEN;
@@ -207,7 +224,7 @@ static void test_each_call(rows_fault fault, bool in_maker)
         calls = which->calls > calls ? which->calls : calls;
         HOLDS(!was.is_taken || fault == ROWS_TAKES);
         taken += was.is_taken;
-        HOLDS(maker.used_twice == 0 && client.used_twice == 0);
+        HOLDS(maker.used_twice == 0 && client.used_twice == 0 && client.misused == 0);
         rows_kill(&client);
         open_again(&server, &was);
         rows_free(&server);
@@ -279,9 +296,9 @@ static void save_one(database *at, rows_client *client, outcome *to, int index)
     }
     to->perhaps = to->sure;
     to->perhaps.entries[to->perhaps.count++] = index;
-    store_status status = database_save(at, &value);
+    store_status status = save(at, client, &value);
     while (status == STORE_FAILED && !client->dead) {
-        status = database_save(at, &value);
+        status = save(at, client, &value);
     }
     to->is_taken = status == STORE_TAKEN;
     HOLDS(status == STORE_OK || to->is_taken || client->dead);
@@ -382,7 +399,7 @@ static void test_each_rewrite(rows_fault fault, bool in_other, bool dies)
         outcome was;
         done += rewrite_all(&server, &client, &other, &was);
         calls = which->calls > calls ? which->calls : calls;
-        HOLDS(client.used_twice == 0 && other.used_twice == 0);
+        HOLDS(client.used_twice == 0 && other.used_twice == 0 && client.misused == 0);
         HOLDS(!was.is_taken || fault == ROWS_TAKES);
         rows_kill(&client);
         rows_kill(&other);
@@ -590,22 +607,96 @@ static void test_pauses(void)
     rows_free(&server);
 }
 
-int main(void)
+// ## Saves without waiting
+
+// A database with a node, which this process has, and nothing older in it.
+static void open_made(database *at, rows_client *client)
+{
+    database_calls calls = rows_calls(client);
+    store_value value = {NULL, 0, 0, false, 0, 0}, first = value_of(true, 100, 1);
+    HOLDS(create(client) == STORE_OK);
+    HOLDS(database_open(at, &calls, HOLDER, &value) == STORE_OK);
+    free(value.buffer);
+    HOLDS(!database_can_ask(at, &first));
+    HOLDS(database_save(at, &first) == STORE_OK);
+    free(first.buffer);
+}
+
+// What has to wait isn't asked for: a whole value, what is large, and all without a connection.
+static void test_what_is_asked(void)
+{
+    rows server = {.seed = &seed};
+    rows_client client = {.server = &server};
+    database at;
+    open_made(&at, &client);
+    store_value whole = value_of(false, 50, 1), entry = value_of(true, ASKED_MOST, 2);
+    HOLDS(!database_can_ask(&at, &whole) && database_can_ask(&at, &entry));
+    entry.length++;
+    HOLDS(!database_can_ask(&at, &entry));
+    entry.length = 50;
+    HOLDS(database_ask(&at, &entry) && database_hear(&at, &entry) == NEWS_DONE);
+    HOLDS(!at.is_asked && at.row.number == 7 && at.number == 7);
+    HOLDS(at.added == 2 * (size_t)(STORE_ENTRY_HEAD + STORE_TAIL) + 150);
+    client.is_connected = false;
+    at.is_connected = false;
+    HOLDS(!database_can_ask(&at, &entry));
+    HOLDS(database_save(&at, &entry) == STORE_OK && database_can_ask(&at, &entry));
+    free(whole.buffer);
+    free(entry.buffer);
+    database_close(&at);
+    rows_free(&server);
+}
+
+// The save that was asked for counts once, whoever comes to the end of it.
+static void test_ends_of_asked(void)
+{
+    for (int way = 0; way < 3; way++) {
+        rows server = {.seed = &seed};
+        rows_client client = {.server = &server};
+        database at;
+        open_made(&at, &client);
+        store_value entry = value_of(true, 30, 2);
+        client.silent = 1000;
+        HOLDS(database_ask(&at, &entry) && database_hear(&at, &entry) == NEWS_NONE && at.is_asked);
+        if (way == 0) {
+            HOLDS(database_save(&at, &entry) == STORE_OK && at.number == 7);
+        } else if (way == 1) {
+            rows_take(&server, &client);
+            HOLDS(database_save(&at, &entry) == STORE_OK && at.number == 7);
+            HOLDS(database_save(&at, &entry) == STORE_TAKEN);
+        }
+        HOLDS(server.table.row.number == 7 && server.table.count == 3);
+        database_close(&at);
+        HOLDS((server.table.row.holder == 0) == (way != 1) && server.table.row.number == 7);
+        HOLDS(client.misused == 0 && client.used_twice == 0);
+        free(entry.buffer);
+        rows_free(&server);
+    }
+}
+
+static void test_faults(void)
 {
     static const rows_fault faults[] = {
         ROWS_NO_FAULT, ROWS_BEFORE, ROWS_AFTER, ROWS_LATER, ROWS_REFUSES, ROWS_TAKES};
     for (size_t i = 0; i < sizeof faults / sizeof *faults; i++) {
         test_each_call(faults[i], false);
         test_each_call(faults[i], true);
-    }
-    test_deaths();
-    test_taken();
-    for (size_t i = 0; i < sizeof faults / sizeof *faults; i++) {
         test_each_rewrite(faults[i], false, false);
         test_each_rewrite(faults[i], true, false);
     }
+    test_deaths();
     test_each_rewrite(ROWS_NO_FAULT, false, true);
     test_each_rewrite(ROWS_NO_FAULT, true, true);
+}
+
+int main(void)
+{
+    for (how = SAVES_AT_ONCE; how < SAVINGS; how++) {
+        test_faults();
+    }
+    test_taken();
+    test_what_is_asked();
+    test_ends_of_asked();
     test_lost_pieces();
     test_damage(false);
     test_damage(true);

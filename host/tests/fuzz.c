@@ -186,8 +186,8 @@ static void try_request(host *it, uint64_t now)
     }
     bool opens = is_apart || kind == REQUEST_OPEN || kind == REQUEST_OPEN_LETTERS;
     request_head head = {kind, (uint8_t)(below(9) == 0 ? below(256) : 0),
-        below(2) ? program->session : 1 + below(3),
-        opens ? program->round + 1 : program->number + below(3), count};
+        below(2) ? program->now.session : 1 + below(3),
+        opens ? program->now.round + 1 : program->now.number + below(3), count};
     write_request_head(&to, &head);
     if (is_apart) {
         write_number(&to, below(9), 2);

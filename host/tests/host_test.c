@@ -589,7 +589,7 @@ static void test_old_folder(void)
     for (int i = 0; i < 2; i++) {
         open_host(&at);
         HOLDS(is_process(&at.host->peers[1].known, 9, 5, 7));
-        HOLDS(at.host->programs[3].number == 1 && at.host->programs[3].session == 100);
+        HOLDS(at.host->programs[3].now.number == 1 && at.host->programs[3].now.session == 100);
         HOLDS(at.host->programs[3].count == 1 && at.host->line_count == 2u + (unsigned)i);
         markring_state state = {0};
         HOLDS(markring_node_state(host_node(at.host), &state) == MARKRING_OK && state.live == 1);
@@ -787,6 +787,75 @@ static void test_order(void)
     free(at.stored);
 }
 
+// Says a request that has nothing behind its head.
+static void say_head(station *at, request_head request)
+{
+    uint8_t bytes[REQUEST_HEAD];
+    writer to = writer_of(bytes, sizeof bytes);
+    write_request_head(&to, &request);
+    host_request(at->host, at->now, bytes, to.length, "r");
+}
+
+// The last request was performed, and is stored. A process that has just opened the program asks
+// for it again, and for what is freed. It is answered once its opening is stored: else a crash
+// would take back that it speaks for the program, and that there was another round.
+static void test_taken_over_program(void)
+{
+    for (int way = 0; way < 2; way++) {
+        station at;
+        answer_head head;
+        make(&at);
+        settle(&at, STORE_OK);
+        HOLDS(ask(&at, (request_head){REQUEST_OPEN, 3, 100, 1, 0}, -1, &head) == 1);
+        HOLDS(ask(&at, (request_head){REQUEST_PERFORM, 3, 100, 1, 0}, -1, &head) == 1);
+        at.answers = 0;
+        say_head(&at, (request_head){REQUEST_OPEN, 3, 200, 2, 0});
+        say_head(&at, (request_head){REQUEST_PERFORM, 3, 200, 1, 0});
+        say_head(&at, (request_head){REQUEST_TRACK_FREED, 3, 200, 5, 1});
+        host_turn(at.host, at.now += 10);
+        HOLDS(at.answers == 0 && at.job != NULL);
+        if (way == 0) {
+            finish_save(&at, STORE_OK);
+            settle(&at, STORE_OK);
+            HOLDS(at.answers == 3);
+        } else {
+            at.job = NULL;
+        }
+        drop(&at);
+        open_host(&at);
+        HOLDS(at.host->programs[3].now.round == (way == 0 ? 2 : 1));
+        HOLDS(at.host->programs[3].now.session == (way == 0 ? 200 : 100));
+        drop(&at);
+        free(at.stored);
+    }
+}
+
+// The numbers of a program never begin again: after the greatest, nothing is next.
+static void test_greatest_numbers(void)
+{
+    station at;
+    answer_head head;
+    make(&at);
+    settle(&at, STORE_OK);
+    HOLDS(ask(&at, (request_head){REQUEST_OPEN, 3, 100, 1, 0}, -1, &head) == 1);
+    HOLDS(head.verdict == VERDICT_DONE);
+    at.host->programs[3].now.number = UINT64_MAX;
+    HOLDS(ask(&at, (request_head){REQUEST_PERFORM, 3, 100, 1, 0}, -1, &head) == 1);
+    HOLDS(head.verdict == VERDICT_STALE);
+    HOLDS(ask(&at, (request_head){REQUEST_PERFORM, 3, 100, UINT64_MAX, 0}, -1, &head) == 1);
+    HOLDS(head.verdict == VERDICT_DONE && head.last == UINT64_MAX);
+    HOLDS(ask(&at, (request_head){REQUEST_PERFORM, 3, 100, 0, 0}, -1, &head) == 1);
+    HOLDS(head.verdict == VERDICT_MALFORMED);
+    at.host->programs[3].now.round = UINT64_MAX;
+    for (uint64_t number = 0; number < 2; number++) {
+        HOLDS(ask(&at, (request_head){REQUEST_OPEN, 3, 200, number, 0}, -1, &head) == 1);
+        HOLDS(head.verdict == VERDICT_STALE && head.round == UINT64_MAX);
+    }
+    HOLDS(at.host->programs[3].now.session == 100);
+    drop(&at);
+    free(at.stored);
+}
+
 // The next process knows what was done, from whole values and from entries: programs, and objects.
 static void test_restarts(void)
 {
@@ -869,7 +938,7 @@ static int open_apart(station *at, uint8_t number, uint64_t session, uint16_t fi
     uint8_t bytes[REQUEST_HEAD + 4];
     writer to = writer_of(bytes, sizeof bytes);
     answer_head head = {0};
-    uint64_t round = at->host->programs[number].round + 1;
+    uint64_t round = at->host->programs[number].now.round + 1;
     write_request_head(&to, &(request_head){REQUEST_OPEN_APART, number, session, round, 0});
     write_number(&to, first, 2);
     write_number(&to, count, 2);
@@ -884,7 +953,7 @@ static int perform_bytes(
     static uint8_t bytes[LONGEST_REQUEST + EVENT_BYTES];
     writer to = writer_of(bytes, sizeof bytes);
     answer_head head = {0};
-    uint64_t next = at->host->programs[number].number + 1;
+    uint64_t next = at->host->programs[number].now.number + 1;
     write_request_head(&to, &(request_head){REQUEST_PERFORM, number, session, next, 1});
     write_remote_event(&to, event);
     HOLDS(say(at, &to, &head));
@@ -1004,6 +1073,9 @@ static void test_forgetting(void)
         }
         HOLDS(read_one(&at, 3, 2) == MARKRING_OK);
         at.answers = 0;
+        // (whoever waits for its last answer isn't answered for nobody)
+        uint64_t last = at.host->programs[3].now.number;
+        say_head(&at, (request_head){REQUEST_PERFORM, 3, 103, last, 0});
         host_control(at.host, at.now, "forget 3", 8, "r");
         HOLDS(at.answers == 0);
         settle(&at, STORE_OK);
@@ -1843,6 +1915,259 @@ static void test_old_reclaims(void)
     free(at.stored);
 }
 
+// ## Large images
+//
+// Nobody waits for a look at an image of more than 1 MiB.
+
+enum { LARGE = 50000, LARGE_IMAGE = 40 * LARGE };
+
+// A node with a list of LARGE objects in register 0, whose size it knows, and a program that has the
+// registers 1 and 2. In a wide space, objects have at most this many places; 0 for a plain space. Its
+// entries never become a whole value because of their number.
+static void make_large(station *at, uint8_t places)
+{
+    markring_answer answer;
+    slots = 1048576;
+    wide_places = places;
+    make_node(at, 0, 3, true);
+    slots = 64;
+    wide_places = 0;
+    settle(at, STORE_OK);
+    markring_node *node = host_node(at->host);
+    bool all = markring_node_alloc(node, 0, 1, &answer) == MARKRING_OK;
+    for (int i = 1; i < LARGE; i++) {
+        all = all && markring_node_alloc(node, 1, 1, &answer) == MARKRING_OK
+            && markring_node_store(node, 1, 0, 0, &answer) == MARKRING_OK
+            && markring_node_copy(node, 0, 1, &answer) == MARKRING_OK;
+    }
+    HOLDS(all && markring_node_drop(node, 1, &answer) == MARKRING_OK);
+    host_changed(at->host);
+    settle(at, STORE_OK);
+    drop(at);
+    options.entries_least = 100000000;
+    open_host(at);
+    options.entries_least = 0;
+    settle(at, STORE_OK);
+    HOLDS(open_apart(at, 3, 103, 1, 2) == VERDICT_DONE);
+    HOLDS(at->host->measured > LARGE_IMAGE && at->host->measured < 2 * LARGE_IMAGE);
+    looks = 0;
+}
+
+static size_t true_size(station *at)
+{
+    size_t size = 0;
+    HOLDS(__real_markring_node_image_size(host_node(at->host), &size) == MARKRING_OK);
+    return size;
+}
+
+static void end_large(station *at)
+{
+    drop(at);
+    free(at->stored);
+}
+
+// Makes a list in register 2, whose objects refer to another one first: while it is marked, most of
+// these are grey at one time.
+static void make_leaves(station *at, int count)
+{
+    markring_answer answer;
+    markring_node *node = host_node(at->host);
+    bool all = true;
+    for (int i = 0; i < count; i++) {
+        all = all && markring_node_alloc(node, 1, 2, &answer) == MARKRING_OK
+            && markring_node_alloc(node, 3, 1, &answer) == MARKRING_OK
+            && markring_node_store(node, 1, 0, 3, &answer) == MARKRING_OK
+            && (i == 0 || markring_node_store(node, 1, 1, 2, &answer) == MARKRING_OK)
+            && markring_node_copy(node, 2, 1, &answer) == MARKRING_OK;
+    }
+    HOLDS(all);
+    host_changed(at->host);
+    settle(at, STORE_OK);
+    options.entries_least = 100000000;
+    open_again(at);
+    options.entries_least = 0;
+}
+
+// Marking adds nothing to an image that refers to no other node, and the host reckons so.
+static void test_large_marking(void)
+{
+    enum { LEAVES = 10000 };
+    station at;
+    markring_state state = {.grey = 1};
+    uint64_t most = 0;
+    make_large(&at, 0);
+    make_leaves(&at, LEAVES);
+    looks = 0;
+    host_control(at.host, at.now, "begin", 5, "r");
+    for (int i = 0; i < LARGE && state.grey > 0; i++) {
+        turn(&at, 10, STORE_OK);
+        HOLDS(markring_node_state(host_node(at.host), &state) == MARKRING_OK);
+        most = state.grey > most ? state.grey : most;
+        if (i % 20 == 0) {
+            expect_bound(&at);
+        }
+    }
+    HOLDS(state.cycle == 1 && state.grey == 0 && most > LEAVES / 2 && looks == 0);
+    expect_bound(&at);
+    HOLDS(at.host->size < true_size(&at) + 4 * GROWTH);
+    end_large(&at);
+}
+
+// Garbage that comes and goes doesn't let the reckoned size grow.
+static void test_large_churn(void)
+{
+    enum { ROUNDS = 3000, EACH = 4 };
+    station at;
+    options.reclaim_objects = 500;
+    make_large(&at, 8);
+    size_t reckoned = at.host->size;
+    for (int i = 0; i < ROUNDS; i++) {
+        HOLDS(perform_one(&at, 3, 103, (markring_event){.kind = MARKRING_EVENT_ALLOC, .reg = 1})
+            == MARKRING_OK);
+        HOLDS(perform_one(&at, 3, 103, (markring_event){.kind = MARKRING_EVENT_DROP, .reg = 1})
+            == MARKRING_OK);
+    }
+    // (the young are reclaimed as many times; those that are there now were all in fresh slots once)
+    HOLDS(number_of(&at, "reclaimed") >= ROUNDS - 500 && looks == 0);
+    expect_bound(&at);
+    HOLDS(at.host->size < reckoned + 500 * 40 + ROUNDS * EACH);
+    // Fresh slots are reckoned as such, after those that were freed.
+    for (int i = 0; i < ROUNDS; i++) {
+        markring_event alloc = {.kind = MARKRING_EVENT_ALLOC, .reg = 1, .place = 8};
+        at.host->objects_kept = UINT32_MAX; // (no reclaim now)
+        HOLDS(perform_one(&at, 3, 103, alloc) == MARKRING_OK);
+        HOLDS(perform_one(&at, 3, 103, (markring_event){.kind = MARKRING_EVENT_DROP, .reg = 1})
+            == MARKRING_OK);
+        HOLDS(i % 50 > 0 || at.host->size >= true_size(&at));
+    }
+    options.reclaim_objects = 0;
+    end_large(&at);
+}
+
+// Of many objects the old ones are left to a cycle, for which nobody waits; but not while a node that
+// it needs is lost.
+static void test_large_reclaims(void)
+{
+    for (int way = 0; way < 2; way++) {
+        station at;
+        markring_answer answer;
+        options.reclaim_objects = 500;
+        make_large(&at, 8);
+        at.host->peers[1].notes.is_lost = way == 1;
+        at.host->objects_kept_by_all = LARGE / 2 + 1;
+        settle(&at, STORE_OK);
+        bool all = markring_node_drop(host_node(at.host), 0, &answer) == MARKRING_OK;
+        for (int i = 0; i < 10; i++) {
+            all = all && markring_node_alloc(host_node(at.host), 3, 0, &answer) == MARKRING_OK;
+        }
+        host_changed(at.host);
+        // (a cycle is under way, and the next one waits for its end)
+        HOLDS(number_of(&at, "cycle") == 1);
+        at.host->asked = at.host->needs_cycle = false;
+        settle(&at, STORE_OK);
+        HOLDS(all && number_of(&at, "reclaimed") >= (way == 1 ? LARGE : 0));
+        HOLDS(way == 1 || number_of(&at, "reclaimed") < 1000);
+        HOLDS(at.host->asked == (way == 0));
+        at.host->asked = at.host->needs_cycle = false;
+        host_changed(at.host);
+        settle(&at, STORE_OK);
+        HOLDS(!at.host->asked);
+        options.reclaim_objects = 0;
+        end_large(&at);
+    }
+}
+
+// No program is refused for an estimate; and one that is refused again and again doesn't make the
+// host look again each time.
+static void test_large_limit(void)
+{
+    enum { HEADROOM = 20000, MORE = 300 };
+    station at;
+    markring_event alloc = {.kind = MARKRING_EVENT_ALLOC, .reg = 1, .place = 1};
+    make_large(&at, 0);
+    size_t most = at.host->options.image_most = true_size(&at) + HEADROOM;
+    // What comes in one turn is counted, since the image isn't looked at twice.
+    host_changed(at.host);
+    turn(&at, 10, STORE_OK);
+    looks = 0;
+    for (int i = 0; i < 2; i++) {
+        host_wrote(at.host, LARGE_IMAGE / 32);
+        HOLDS(is_full(at.host) == (i == 1) && looks == 1);
+    }
+    turn(&at, 10, STORE_OK);
+    HOLDS(!is_full(at.host) && looks == 2);
+    int status = MARKRING_OK;
+    uint64_t began = at.now;
+    for (int i = 0; i < HEADROOM && status == MARKRING_OK; i++) {
+        status = perform_one(&at, 3, 103, alloc);
+    }
+    HOLDS(status == MARKRING_IMAGE_TOO_LARGE && true_size(&at) > most);
+    HOLDS(true_size(&at) < most + LARGE_IMAGE / 32);
+    HOLDS(looks > 0 && (uint64_t)looks < 2 + (at.now - began) / 1000);
+    // (a change that adds nothing is done, and may be a loss)
+    looks = 0;
+    began = at.now;
+    markring_event set = {.kind = MARKRING_EVENT_SET_WORD, .object = 1, .word = 1};
+    for (int i = 0; i < MORE; i++) {
+        HOLDS(perform_one(&at, 3, 103, set) == MARKRING_OK);
+        HOLDS(perform_one(&at, 3, 103, alloc) == MARKRING_IMAGE_TOO_LARGE);
+    }
+    HOLDS((uint64_t)looks <= 1 + (at.now - began) / 1000 && looks > 0);
+    // Many changes at once are looked at at once.
+    looks = 0;
+    host_wrote(at.host, LARGE_IMAGE / 16);
+    turn(&at, 10, STORE_OK);
+    HOLDS(perform_one(&at, 3, 103, alloc) == MARKRING_IMAGE_TOO_LARGE && looks == 1);
+    at.host->options.image_most = 0;
+    end_large(&at);
+}
+
+// A node whose messages filled its image takes some again, though the estimate was wrong.
+static void test_large_tight(void)
+{
+    station at;
+    make_large(&at, 0);
+    at.host->options.image_tight = true_size(&at) + 1000;
+    host_wrote(at.host, 2000);
+    HOLDS(is_tight(at.host) == (looks == 0));
+    for (int i = 0; i < 150; i++) {
+        turn(&at, 10, STORE_OK);
+    }
+    HOLDS(!is_tight(at.host) && looks > 0 && looks <= 2);
+    end_large(&at);
+}
+
+// Before the image may be too large, a rewrite is asked for, and shows how many bytes it has.
+static void test_size_by_rewrite(void)
+{
+    enum { HEADROOM = LARGE_IMAGE / 2 };
+    station at;
+    rewrites = true;
+    asked = 0;
+    make_large(&at, 0);
+    size_t size = true_size(&at);
+    at.host->options.image_most = size + HEADROOM;
+    host_wrote(at.host, HEADROOM / 2 - 3 * GROWTH);
+    turn(&at, 10, STORE_OK);
+    HOLDS(asked == 0);
+    host_wrote(at.host, 3 * GROWTH);
+    turn(&at, 10, STORE_OK);
+    HOLDS(asked == 1 && at.host->size > size + HEADROOM / 2);
+    // What came before the save that asked isn't in what is written again.
+    host_wrote(at.host, 5000);
+    turn(&at, 10, STORE_OK);
+    host_rewritten(at.host, STORE_OK, size + 200, 0);
+    HOLDS(at.host->size >= size + 200 + 5000 + 4 * GROWTH && at.host->size < size + 5000 + 8 * GROWTH);
+    HOLDS(at.host->measured == size + 200 && looks == 0);
+    for (int i = 0; i < 20; i++) {
+        host_changed(at.host);
+        turn(&at, 10, STORE_OK);
+    }
+    HOLDS(asked == 1 && at.wholes == 0);
+    end_large(&at);
+    rewrites = false;
+}
+
 // The status says how many bytes the image has, and that stays so when events change none of them.
 static void test_image(void)
 {
@@ -1882,7 +2207,7 @@ static void test_results(void)
         HOLDS(ask(&at, (request_head){REQUEST_OPEN, 3, 100, 1, 0}, -1, &head) == 1);
         at.host->programs[3].results = calloc(count, RESULT_BYTES);
         at.host->programs[3].count = count;
-        at.host->programs[3].number++;
+        at.host->programs[3].now.number++;
         host_changed(at.host);
         settle(&at, STORE_OK);
         drop(&at);
@@ -2174,6 +2499,24 @@ static void test_tight(void)
     drop_pair();
 }
 
+// Messages that were acknowledged aren't reckoned for ever.
+static void test_acknowledged_size(void)
+{
+    make_pair();
+    go_on(20, 10);
+    for (uint32_t label = 0; label < LETTERS; label++) {
+        give(0, label);
+    }
+    // (nobody looks at a large image)
+    size_t reckoned = pair[0].host->size;
+    pair[0].host->measured = (1 << 20) + 1;
+    go_on(300, 10);
+    HOLDS(acknowledged(0) == LETTERS);
+    expect_bound(&pair[0]);
+    HOLDS(pair[0].host->size + 9 * LETTERS < reckoned + GROWTH);
+    drop_pair();
+}
+
 // Letters that nobody accepts are as many as fit, and then come one after another as there is room.
 static void test_room(void)
 {
@@ -2282,6 +2625,8 @@ int main(void)
     test_telling();
     test_requests();
     test_order();
+    test_taken_over_program();
+    test_greatest_numbers();
     test_restarts();
     test_held();
     test_apart();
@@ -2292,6 +2637,12 @@ int main(void)
     test_wide_size();
     test_reclaims();
     test_old_reclaims();
+    test_large_marking();
+    test_large_churn();
+    test_large_reclaims();
+    test_large_limit();
+    test_large_tight();
+    test_size_by_rewrite();
     test_bytes();
     test_byte_refusals();
     test_byte_requests();
@@ -2310,6 +2661,7 @@ int main(void)
     test_cycle();
     test_letters();
     test_tight();
+    test_acknowledged_size();
     test_room();
     test_gets();
     test_waiting();

@@ -374,7 +374,7 @@ static reader open_with(uint8_t kind, answer_head *head)
 {
     uint8_t bytes[REQUEST_HEAD + 4];
     writer to = writer_of(bytes, sizeof bytes);
-    uint64_t round = pair[1].host->programs[3].round + 1;
+    uint64_t round = pair[1].host->programs[3].now.round + 1;
     write_request_head(&to, &(request_head){kind, 3, 200 + round, round, 0});
     if (kind == REQUEST_OPEN_APART || kind == REQUEST_OPEN_APART_LETTERS) {
         write_number(&to, 1, 2);
@@ -417,7 +417,7 @@ static void test_last_letters(void)
     // The next request has none.
     answer_head head;
     (void)open_with(REQUEST_OPEN_LETTERS, &head);
-    uint64_t session = pair[1].host->programs[3].session;
+    uint64_t session = pair[1].host->programs[3].now.session;
     HOLDS(perform_one(&pair[1], 3, session, (markring_event){.kind = MARKRING_EVENT_COPY})
         != MARKRING_OK);
     reader rest = open_with(REQUEST_OPEN_LETTERS, &head);
@@ -437,7 +437,7 @@ static void test_several(void)
     go_on(20, 10);
     for (int way = 0; way < 2; way++) {
         writer to = writer_of(bytes, sizeof bytes);
-        uint64_t next = pair[1].host->programs[3].number + 1;
+        uint64_t next = pair[1].host->programs[3].now.number + 1;
         write_request_head(&to, &(request_head){REQUEST_PERFORM, 3, 103, next, 4});
         for (uint16_t i = 0; i < 4; i++) {
             // (the second one is another event)

@@ -38,6 +38,7 @@ static carrier_options carrier = {"nats://none", NULL, NULL, NULL, NULL};
 static char heard[HEARD][SUBJECT];
 static int heard_count;
 static unsigned long published;
+static bool is_slow; // to publish takes longer than a turn takes messages
 
 static void on_published(const char *subject, const char *reply, const void *bytes, int length)
 {
@@ -45,6 +46,9 @@ static void on_published(const char *subject, const char *reply, const void *byt
     (void)bytes;
     (void)length;
     published++;
+    if (is_slow) {
+        (void)sleep_ms(2);
+    }
     if (strncmp(subject, "markring.", 9) != 0 && heard_count < HEARD) {
         snprintf(heard[heard_count++], SUBJECT, "%s", subject);
     }
@@ -293,10 +297,45 @@ static void test_floods(void)
     (void)go_round(&at);
     HOLDS(at.waiting == INBOX_MOST - HOST_TAKES);
     listen();
-    GO_ON_UNTIL(at.waiting == 0);
+    GO_ON_UNTIL(at.waiting == 0 && at.taken == NULL);
     (void)go_on(2 * CYCLE);
     HOLDS(at.waiting == 0 && published >= INBOX_MOST && published < INBOX_MOST + 100);
     HOLDS(model.kept_messages == INBOX_MOST && model.kept_bytes == INBOX_BYTES);
+}
+
+// Rounds, while messages wait of which each takes longer than a turn takes messages: each round takes
+// one, and none is lost. Returns whether they took less time than if each had waited for a cycle. (On
+// a busy machine they may take longer.)
+static bool takes_in_turns(int messages)
+{
+    char reply[SUBJECT];
+    listen();
+    for (int i = 0; i < messages; i++) {
+        snprintf(reply, sizeof reply, "_INBOX.turn.%d", i);
+        model_deliver("markring.test.node.0.control", reply, "words", 5);
+    }
+    uint64_t began = now_ms();
+    for (int i = 0; i < messages; i++) {
+        (void)go_round(&at);
+        HOLDS(heard_count == i + 1 && at.waiting == 0);
+    }
+    uint64_t took = now_ms() - began;
+    for (int i = 0; i < messages; i++) {
+        snprintf(reply, sizeof reply, "_INBOX.turn.%d", i);
+        HOLDS(strcmp(heard[i], reply) == 0);
+    }
+    return took < (uint64_t)messages * CYCLE / 2;
+}
+
+static void test_turns(void)
+{
+    bool is_quick = false;
+    is_slow = true;
+    for (int i = 0; i < 10 && !is_quick; i++) {
+        is_quick = takes_in_turns(5);
+    }
+    is_slow = false;
+    HOLDS(is_quick && at.taken == NULL);
 }
 
 // Messages of the greatest size that a server takes: as many bytes as the node keeps, to the last.
@@ -315,7 +354,7 @@ static void test_long_messages(void)
         HOLDS(at.waiting == (size_t)most);
         model_deliver("markring.test.node.0.program", "_INBOX.long", bytes, 1);
         HOLDS(at.waiting == (size_t)most + 1 && at.waiting_bytes == INBOX_BYTES);
-        GO_ON_UNTIL(at.waiting == 0);
+        GO_ON_UNTIL(at.waiting == 0 && at.taken == NULL);
         HOLDS(at.waiting == 0 && at.waiting_bytes == 0);
     }
     listen();
@@ -741,7 +780,7 @@ int main(void)
     HOLDS(start_threads(&at, &saves, &rewrites, &signals));
     start();
     static void (*const tests[])(void) = {test_addresses, test_denials, test_late_calls,
-        test_refusals, test_payload, test_floods, test_long_messages, test_openings,
+        test_refusals, test_payload, test_floods, test_turns, test_long_messages, test_openings,
         test_openings_of_databases, test_words,
         test_wide_words, test_create_options, test_connection_lines, test_looks, test_options, test_restore, test_saves, test_signal};
     for (size_t i = 0; i < sizeof tests / sizeof *tests; i++) {

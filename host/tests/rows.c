@@ -163,7 +163,7 @@ static void end_transaction(rows_client *it)
 static database_status lose(rows_client *it)
 {
     end_transaction(it);
-    it->is_connected = false;
+    it->is_connected = it->is_asked = false;
     it->lost++;
     return DATABASE_LOST;
 }
@@ -180,6 +180,7 @@ static rows_fault random_fault(rows_client *it)
 static rows_fault enter(rows_client *it)
 {
     it->calls++;
+    it->misused += it->is_asked;
     if (it->dead || !it->is_connected) {
         return ROWS_BEFORE;
     }
@@ -228,6 +229,7 @@ static database_status connect_client(void *context)
     rows_client *it = context;
     end_transaction(it);
     it->is_connected = true;
+    it->is_asked = false;
     rows_fault fault = enter(it);
     return fault == ROWS_NO_FAULT ? DATABASE_DONE : fault == ROWS_REFUSES ? refuse(it) : lose(it);
 }
@@ -236,7 +238,7 @@ static void disconnect(void *context)
 {
     rows_client *it = context;
     end_transaction(it);
-    it->is_connected = false;
+    it->is_connected = it->is_asked = false;
 }
 
 static database_status begin(void *context)
@@ -389,10 +391,10 @@ static database_status sweep(void *context, uint64_t base)
     return DATABASE_DONE;
 }
 
-static database_status save(
-    void *context, const database_row *from, const database_row *to, const database_piece *piece)
+// What a save comes to, of which the answer isn't known yet.
+static database_status save(rows_client *it, const database_row *from, const database_row *to,
+    const database_piece *piece)
 {
-    rows_client *it = context;
     rows_piece held = piece_of(piece);
     rows_fault fault = enter(it);
     if (fault == ROWS_REFUSES) {
@@ -410,6 +412,47 @@ static database_status save(
         return refuse(it);
     }
     return answer(it, fault, is_done);
+}
+
+// (what is lost while it is sent isn't sent as a whole)
+static bool ask(
+    void *context, const database_row *from, const database_row *to, const database_piece *piece)
+{
+    rows_client *it = context;
+    it->answer = save(it, from, to, piece);
+    it->is_asked = true;
+    it->is_heard = false;
+    return it->answer != DATABASE_LOST || below_number(it->server->seed, 2) == 0;
+}
+
+static database_news hear(void *context)
+{
+    rows_client *it = context;
+    if (below_number(it->server->seed, 1000) < it->silent) {
+        return NEWS_NONE;
+    }
+    it->is_heard = it->is_asked && it->answer == DATABASE_DONE;
+    return it->is_heard ? NEWS_DONE : NEWS_OTHER;
+}
+
+static int descriptor(void *context)
+{
+    (void)context;
+    return -1;
+}
+
+// The answer may be lost, unless it was heard.
+static database_status take_answer(void *context)
+{
+    rows_client *it = context;
+    it->misused += !it->is_asked;
+    it->is_asked = false;
+    if (it->is_heard) {
+        return DATABASE_DONE;
+    }
+    rows_fault fault = enter(it);
+    bool is_lost = fault == ROWS_BEFORE || fault == ROWS_AFTER || fault == ROWS_LATER;
+    return is_lost && it->is_connected ? lose(it) : it->answer;
 }
 
 static database_status clear(void *context, const database_row *row)
@@ -466,14 +509,14 @@ static void note(void *context, bool is_lost)
 
 database_calls rows_calls(rows_client *it)
 {
-    return (database_calls){it, connect_client, disconnect, begin, commit, lock, add, move, put, save,
-        clear, put_apart, find_parts, sweep, NULL, read_pieces, pause_client, note};
+    return (database_calls){it, connect_client, disconnect, begin, commit, lock, add, move, put, ask,
+        hear, descriptor, take_answer, clear, put_apart, find_parts, sweep, NULL, read_pieces, pause_client, note};
 }
 
 void rows_kill(rows_client *it)
 {
     end_transaction(it);
-    it->is_connected = it->dead = false;
+    it->is_connected = it->dead = it->is_asked = false;
     it->dies_in = 0;
 }
 

@@ -58,6 +58,11 @@ typedef struct rows_client {
     rows_fault fault;
     unsigned long fault_at, dies_in;
     bool dead;
+    // A save that was asked for, and what its answer is. Of 1,000 looks, that many find none.
+    bool is_asked, is_heard;
+    database_status answer;
+    uint32_t silent;
+    unsigned long misused; // calls between a save that was asked for and its answer
     unsigned long calls, lost, refused, pauses, notes;
     unsigned long pauses_most; // after which `pause` gives up; 0 for never
     // The checksum of each number that this process has saved, and how often another one came.

@@ -261,6 +261,9 @@ typedef struct station {
     store store;
     store_value *job; // a save that is under way
     uint64_t job_ends;
+    // It was asked for then, by a process that had the node in its database or hadn't.
+    uint64_t asked_at;
+    bool had_node;
     // A rewrite of what the folder has; from when on its long part is done.
     enum { REWRITE_NONE, REWRITE_ASKED, REWRITE_BEGUN, REWRITE_WRITTEN } stage;
     uint64_t rewrite_at;
@@ -320,7 +323,7 @@ static uint64_t now, limit;
 static bool is_apart; // programs have registers for themselves
 static bool is_wide;
 static bool is_kept_in_database;
-static unsigned long rewrites, rewrites_apart, fenced, rewrites_failed, takeovers, surprised, doubtful, overtaken;
+static unsigned long rewrites, rewrites_apart, fenced, rewrites_failed, takeovers, surprised, doubtful, overtaken, asked, heard;
 static bool is_calm;  // no faults
 static bool is_draining; // weak tables are being compared
 static bool is_quick; // saves take a few milliseconds
@@ -390,13 +393,19 @@ static void on_answer(void *context, const char *reply, const uint8_t *bytes, si
     if (!is_dead(at) && reply[0] == 's') {
         // All is saved, and no save is under way.
         uint8_t unsaved = 1;
-        HOLDS(at->job == NULL && !at->host->changed && at->host->kept > 0);
+        HOLDS(at->job == NULL && at->host->images.changed == 0 && at->host->images.kept > 0);
         HOLDS(markring_node_unsaved(&at->host->node, &unsaved) == MARKRING_OK && unsaved == 0);
         stopped++;
     }
     if (!is_dead(at) && reply[0] == 'p') {
         put_in_net(2, at->node, (uint8_t)strtoul(reply + 1, NULL, 10), bytes, length);
     }
+}
+
+// Whether its process has the node in its database.
+static bool is_holder(const station *at)
+{
+    return at->client.server->table.row.holder == at->base.row.holder;
 }
 
 static void on_save(void *context, store_value *value)
@@ -406,6 +415,13 @@ static void on_save(void *context, store_value *value)
     HOLDS(at->job == NULL);
     at->job = value;
     at->job_ends = now + (is_quick ? below(10) : below(3) == 0 ? below(60) : 0);
+    bool has_rewrite = at->stage == REWRITE_ASKED || at->stage == REWRITE_WRITTEN;
+    if (is_kept_in_database && !has_rewrite && below(2) == 0 && database_can_ask(&at->base, value)) {
+        at->had_node = is_holder(at);
+        at->asked_at = now;
+        at->client.silent = 300;
+        (void)database_ask(&at->base, value);
+    }
 }
 
 static void on_rewrite(void *context)
@@ -592,9 +608,15 @@ static store_status save_in_folder(station *at, store_value *value)
     return store_rewrite_end(&at->store, &at->again, value);
 }
 
-// A save in a database, which may begin or end a rewrite.
+// A save in a database, which may begin or end a rewrite, unless it was asked for.
 static store_status save_in_database(station *at, store_value *value)
 {
+    if (at->base.is_asked) {
+        asked++;
+        bool is_done = database_hear(&at->base, value) == NEWS_DONE;
+        heard += is_done;
+        return is_done ? STORE_OK : database_save(&at->base, value);
+    }
     if (at->stage == REWRITE_ASKED && value->is_entry) {
         at->apart = (rows_client){.server = at->client.server};
         database_calls calls = rows_calls(&at->apart);
@@ -620,14 +642,16 @@ static store_status save_in_place(station *at, store_value *value)
         return save_in_folder(at, value);
     }
     const rows *in = at->client.server;
-    bool is_holder = in->table.row.holder == at->base.row.holder;
-    uint64_t session = at->base.session;
+    bool has_node = is_holder(at), had_node = at->base.is_asked && at->had_node;
+    uint64_t session = at->base.session, began = at->base.is_asked ? at->asked_at : now;
     store_status status = save_in_database(at, value);
-    HOLDS(is_dead(at) || status != STORE_OK || (is_holder && in->table.row.number == at->base.number));
-    HOLDS(is_dead(at) || is_holder == (status != STORE_TAKEN));
-    HOLDS(at->client.used_twice == 0);
+    HOLDS(is_dead(at) || status != STORE_OK || has_node || had_node);
+    HOLDS(is_dead(at) || status != STORE_OK || !has_node || in->table.row.number == at->base.number);
+    HOLDS(is_dead(at) || !has_node || status != STORE_TAKEN);
+    HOLDS(is_dead(at) || has_node || had_node || status == STORE_TAKEN);
+    HOLDS(at->client.used_twice == 0 && at->client.misused == 0);
     doubtful += at->base.session != session;
-    at->sure_until = status == STORE_OK ? now + SURE_FOR : at->sure_until;
+    at->sure_until = status == STORE_OK ? began + SURE_FOR : at->sure_until;
     return status;
 }
 
@@ -759,7 +783,8 @@ static void take_over(uint8_t node)
         return;
     }
     *ghost = (station){.node = node, .client = at->client, .base = at->base, .host = at->host,
-        .job = at->job, .job_ends = now + below(500), .renew_at = at->renew_at,
+        .job = at->job, .job_ends = now + below(500), .asked_at = at->asked_at,
+        .had_node = at->had_node, .renew_at = at->renew_at,
         .serves_at = at->serves_at, .sure_until = at->sure_until, .stage = at->stage,
         .rewrite_at = now + below(500), .again_apart = at->again_apart, .apart = at->apart};
     ghost->disk.seed = &seed;
@@ -784,7 +809,7 @@ static void end_ghost(station *ghost)
 }
 
 // The other connection of a process that was taken over puts no pieces of a rewrite any more.
-static void haunt_apart(station *ghost, bool is_holder)
+static void haunt_apart(station *ghost, bool has_node)
 {
     const rows *in = ghost->client.server;
     size_t before = in->table.count;
@@ -793,7 +818,7 @@ static void haunt_apart(station *ghost, bool is_holder)
     }
     ghost->stage = REWRITE_NONE;
     store_status status = write_again(ghost);
-    HOLDS(is_holder || (status != STORE_OK && in->table.count == before));
+    HOLDS(has_node || (status != STORE_OK && in->table.count == before));
     fenced += status == STORE_TAKEN;
     host_rewritten(ghost->host, status == STORE_OK ? STORE_FAILED : status, 0, 0);
 }
@@ -801,14 +826,13 @@ static void haunt_apart(station *ghost, bool is_holder)
 // A turn of a process that was taken over. It ends as soon as it has to save or to renew.
 static void haunt(station *ghost)
 {
-    rows *in = ghost->client.server;
     if (ghost->host == NULL) {
         return;
     }
-    bool is_holder = in->table.row.holder == ghost->base.row.holder;
+    bool has_node = is_holder(ghost);
     in_host = true;
     ghost->client.losing = is_calm ? 0 : below(3) == 0 ? 100 : 0;
-    haunt_apart(ghost, is_holder);
+    haunt_apart(ghost, has_node);
     if (ghost->job != NULL && now >= ghost->job_ends) {
         store_value *job = ghost->job;
         ghost->job = NULL;
@@ -823,7 +847,7 @@ static void haunt(station *ghost)
     host_turn(ghost->host, now);
     in_host = false;
     if (host_ended(ghost->host) != HOST_RUNS) {
-        HOLDS(host_ended(ghost->host) == HOST_OLDER && !is_holder);
+        HOLDS(host_ended(ghost->host) == HOST_OLDER && !has_node);
         surprised++;
         end_ghost(ghost);
     }
@@ -1822,10 +1846,10 @@ static bool is_quiet(void)
         uint8_t unsaved = 0;
         host *it = stations[node].host;
         // The host notices all changes that the library knows of.
-        HOLDS(it == NULL || it->changed || it->saving || it->kept == 0
+        HOLDS(it == NULL || it->images.changed != 0 || it->images.saving != 0 || it->images.kept == 0
             || (markring_node_unsaved(&it->node, &unsaved) == MARKRING_OK && unsaved == 0));
         if (stations[node].host == NULL || stations[node].job != NULL
-            || stations[node].host->changed || parts[node][0].asks || parts[node][1].asks
+            || stations[node].host->images.changed != 0 || parts[node][0].asks || parts[node][1].asks
             || !parts[node][0].opened || !parts[node][1].opened) {
             return false;
         }
@@ -2132,8 +2156,7 @@ static void restore_memory(station *at, const process *was)
     }
     it->nonce = was->nonce;
     it->run = was->run;
-    it->kept = it->images = 1;
-    it->changed = false;
+    it->images = (markring_images){1, 1, 0, 0};
     it->line_count--;
     snapshots++;
 }
@@ -2201,7 +2224,7 @@ static void mix_up(uint8_t node, mixing how)
 static void keep_copy(uint8_t node)
 {
     station *at = &stations[node];
-    if (at->host != NULL && at->job == NULL && at->host->kept > 0) {
+    if (at->host != NULL && at->job == NULL && at->host->images.kept > 0) {
         disk_copy(&at->copy, &at->disk);
         at->copy_number = at->store.number;
         at->copied = (process){at->host->nonce, at->host->run, at->host->stored};
@@ -2218,7 +2241,7 @@ static void mix_up_at_rest(uint8_t node)
     is_calm = is_still = true;
     keep_copy(node);
     for (uint32_t i = 0; i < saves && at->host != NULL; i++) {
-        at->host->changed = true;
+        at->host->images.changed = 1;
         pass_time(i + 1 == saves ? 1100 : 100);
     }
     HOLDS(at->host != NULL && at->has_copy && is_known(node, at->copy_number + saves - 1));
@@ -2642,19 +2665,20 @@ int main(int count, char **given)
            "unseen), %lu floods, %lu Gets refused, %lu absences, %lu takeovers, %lu noticed, %lu commits in "
            "doubt, %lu of them overtaken, %lu rewrites, %lu in databases, %lu given up, %lu of nodes "
            "that were taken over, %lu objects resolved, %lu not, %lu listed as freed, %lu found gone, "
-           "%lu lists lost, %lu questions refused beside programs apart\n",
+           "%lu lists lost, %lu questions refused beside programs apart, %lu saves asked for, %lu of "
+           "them done at once\n",
         run_seed - first, requests, answered, crashes, powers, failed_saves, failed_calls, refused,
         lost, cycles, checkpoints, mixed, full, tight, readings, byte_readings, byte_events, posted,
         fetched, no_rooms, stopped, stops, barely, again, snapshots, unseen, floods, congested, absences, takeovers, surprised, doubtful,
         overtaken, rewrites, rewrites_apart, rewrites_failed, fenced, resolved, unresolved,
-        freed_entries, missed, lists_lost, refused_apart);
+        freed_entries, missed, lists_lost, refused_apart, asked, heard);
     bool all = failures == 0
         && (seeds < 40
             || (crashes && powers && failed_saves && refused && mixed && lost && full && tight
                 && readings && byte_readings && byte_events && posted && fetched && no_rooms
                 && stopped && barely && again
                 && snapshots > 10 * unseen && floods && congested && absences && surprised && doubtful
-                && overtaken && rewrites && rewrites_apart && rewrites_failed && fenced
+                && overtaken && asked > heard && heard && rewrites && rewrites_apart && rewrites_failed && fenced
                 && resolved && unresolved && freed_entries && missed && lists_lost && refused_apart));
     printf("%lu passed, %d failed\n", run_seed - first - (failures != 0), !all);
     free(objects);

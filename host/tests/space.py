@@ -123,6 +123,15 @@ class Server:
         time.sleep(seconds)
         self.process.send_signal(signal.SIGCONT)
 
+    def admit(self, user: str) -> str:
+        """Lets a user do anything, and starts the server again. Returns the user's URL."""
+        self.passwords[user] = user
+        text = self.config.read_text()
+        self.config.write_text(text.replace("users = [", f'users = [\n    {{user: "{user}", password: "{user}"}}'))
+        self.kill()
+        self.start()
+        return self.url(user)
+
     def url(self, user: str) -> str:
         return f"nats://{user}:{self.passwords[user]}@{self.address}:{self.port}"
 

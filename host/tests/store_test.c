@@ -697,6 +697,59 @@ static void test_rewrite_of_rot(void)
     disk_free(&it);
 }
 
+// ## What the saver waits for
+
+static size_t unsynced, most_unsynced;
+static uint64_t written_up_to;
+
+static int64_t count_write(
+    void *context, int file, const uint8_t *bytes, size_t length, uint64_t offset)
+{
+    (void)context;
+    (void)bytes;
+    HOLDS(file == 1 && offset == written_up_to);
+    written_up_to += length;
+    unsynced += length;
+    most_unsynced = unsynced > most_unsynced ? unsynced : most_unsynced;
+    return (int64_t)length;
+}
+
+static int64_t read_entry(void *context, int file, uint8_t *bytes, size_t length, uint64_t offset)
+{
+    HOLDS(file == 0);
+    memcpy(bytes, (const uint8_t *)context + offset, length);
+    return (int64_t)length;
+}
+
+static int count_sync(void *context, int file)
+{
+    (void)context;
+    HOLDS(file == 1);
+    unsynced = 0;
+    return 0;
+}
+
+// While a rewrite goes on, it leaves never more than 1 MiB to be synced, for which a save would wait.
+static void test_parts(void)
+{
+    enum { LONG = 7 << 19, MOST = 1 << 20, ROOM = STORE_HEAD + LONG + STORE_TAIL };
+    store_value value = {calloc(1, ROOM), LONG, ROOM, false, 0, 0};
+    store_rewrite again;
+    store at = {.slots = {0, 1}};
+    at.calls.write_at = count_write;
+    at.calls.read_at = read_entry;
+    at.calls.sync = count_sync;
+    store_rewrite_begin(&at, &again);
+    HOLDS(store_rewrite_write(&again, &value) == STORE_OK);
+    HOLDS(unsynced == 0 && most_unsynced <= MOST && again.end == ROOM);
+    store_bytes entry = store_seal_entry(&value, 1, 0);
+    again.from.calls.context = entry.bytes;
+    most_unsynced = 0;
+    HOLDS(store_rewrite_follow(&again, entry.length) == STORE_OK);
+    HOLDS(unsynced == 0 && most_unsynced <= MOST && again.end == ROOM + entry.length);
+    free(value.buffer);
+}
+
 static int64_t (*real_write)(void *, int, const uint8_t *, size_t, uint64_t);
 
 // A write that doesn't fail while all other calls do.
@@ -864,6 +917,7 @@ int main(int count, char **given)
     test_rewrites(times);
     test_rewritten();
     test_rewrite_of_rot();
+    test_parts();
     test_failed_sync(times);
     test_failed_write();
     test_versions();

@@ -49,7 +49,7 @@ static void restart(void)
 
 static uint64_t session_of(uint8_t number)
 {
-    return one.host->programs[number].session;
+    return one.host->programs[number].now.session;
 }
 
 static int act(uint8_t number, markring_event event)
@@ -488,9 +488,10 @@ static void test_beside_apart(bool has_entries)
     HOLDS(resolve(SHARER, 2, there) == MARKRING_NO_REGISTER);
     HOLDS(hear(READER, since, 64, &it) == VERDICT_LOST);
     // Nobody speaks for it until it is opened again.
-    HOLDS(perform_one(&one, APART, FORGOTTEN, (markring_event){.kind = MARKRING_EVENT_ALLOC,
+    const uint64_t forgotten = MARKRING_PROGRAM_FORGOTTEN;
+    HOLDS(perform_one(&one, APART, forgotten, (markring_event){.kind = MARKRING_EVENT_ALLOC,
                                                   .reg = 2}) == -1 - VERDICT_SUPERSEDED);
-    HOLDS(ask(&one, (request_head){REQUEST_OPEN, APART, FORGOTTEN, 3, 0}, -1, &head) == 1);
+    HOLDS(ask(&one, (request_head){REQUEST_OPEN, APART, forgotten, 3, 0}, -1, &head) == 1);
     HOLDS(head.verdict == VERDICT_MALFORMED);
     restart();
     expect_all(true, there);
@@ -547,7 +548,7 @@ static void test_resolve(bool has_entries)
     drop_object(3);
     // It is done once: asked again after the register is emptied, it says the same, also by the
     // next process of the node.
-    uint64_t next = one.host->programs[SHARER].number + 1;
+    uint64_t next = one.host->programs[SHARER].now.number + 1;
     HOLDS(resolve_numbered(next, 4, other).status == MARKRING_OK);
     markring_answer answer;
     HOLDS(markring_node_drop(host_node(one.host), 4, &answer) == MARKRING_OK);
@@ -582,7 +583,7 @@ static void test_resolve_while_marking(void)
     uint8_t bytes[REQUEST_HEAD + EVENT_BYTES];
     for (int i = 0; i < 2; i++) {
         writer to = writer_of(bytes, sizeof bytes);
-        uint64_t next = one.host->programs[SHARER].number + 1;
+        uint64_t next = one.host->programs[SHARER].now.number + 1;
         write_request_head(
             &to, &(request_head){REQUEST_PERFORM, SHARER, session_of(SHARER), next, 1});
         write_event(&to, &(markring_event){.kind = MARKRING_EVENT_RESOLVE,

@@ -87,13 +87,15 @@ module _ {T : Type 0} where
         occupied_ones = rw (slots_more es.items s, before.occupied_ones)
             (sym (sum_by_push (λ (x : Slot T). cond (is_occupied x) 1 0) ss s));
         vacant_ones = rw before.vacant_ones
-            (sym (sum_by_push (λ (e : Entry T). cond (is_unlinked e) 1 0) es.items (unlinked_of s)));
+            (sym (sum_by_push (λ (e : Entry T). cond (is_unlinked e) 1 0) es.items
+            (unlinked_of s)));
         all_born = rw (slots_more es.items s) (
           λ both.
               let two = and_parts born b both in
               each_push IsBorn tt ss s (before.all_born.0 two.0) (is.0 two.1),
           λ all.
-              and_from born b (before.all_born.1 (born_before ss s all)) (is.1 (born_last ss s all)),
+              and_from born b (before.all_born.1 (born_before ss s all))
+              (is.1 (born_last ss s all)),
         );
         within = omega (
           arith,
@@ -213,7 +215,8 @@ module _ {T : Type 0} where
         };
         slots = map-set_same slot_of es k e Retired (slot-linked (entry_at es k) first);
         counted =
-            let one = sum_by-set (λ (x : Entry T). cond (is_unlinked x) 1 0) es k e Retired within in
+            let one = sum_by-set (λ (x : Entry T). cond (is_unlinked x) 1 0) es k e Retired
+            within in
             let apart : is_unlinked e ≡ false = linked_apart (entry_at es k) first linking.below in
             omega (arith, rw (unlinked, apart) at one);
       }

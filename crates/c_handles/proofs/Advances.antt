@@ -169,7 +169,8 @@ advances-on within {i = i} {x = x} {m = m} both a b = record {
       let v : World = run w one.later in
       let saved = ap (λ (l : List NodeState). node_at l i) one.saved in
       let two = b.moves (a.early given) v (later-world within is one.later)
-      (subst (λ (s : NodeState). IsCarried s (node_at v.current i) x.node.core) (sym saved) one.carried) in
+      (subst (λ (s : NodeState). IsCarried s (node_at v.current i) x.node.core) (sym saved)
+      one.carried) in
       let end = run-append w one.later two.later in
       record {
         later = one.later ++ two.later;

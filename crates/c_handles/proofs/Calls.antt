@@ -85,14 +85,19 @@ stepped-not {shape} {s} {t} same sound =
     subst (λ (z : System). Stepped shape s z quietly) (sym same)
     (record { sound = sound; leads = tells-not s })
 
--- at one node
-pub stepped-at : {shape : Shaped} → IsShape shape → {s t : System} {i : ℕ} {p : Place}
-    {given : List Plain} {so : Says} → i < shape.nodes → IsSound s → Becomes s t i p given
+-- A call at the node of this number: what holds before it.
+pub record Site (shape : Shaped) (s : System) (i : ℕ) : Type 0 where
+  pub limits : IsShape shape
+  pub inside : i < shape.nodes
+  pub sound : IsSound s
+
+pub stepped-at : {shape : Shaped} {s t : System} {i : ℕ} {p : Place} {given : List Plain}
+    {so : Says} → Site shape s i → Becomes s t i p given
     → IsSoundIn s.frames (newest p) p.handle
     → ((e : Stored) → Among e (choices_of p) → IsStoredAcked s.frames e)
     → ((e : Stored) → Among e (choices_of p) → Follows shape s i p given so e)
     → Stepped shape s t so
-stepped-at within {s} {t} {i} {p} {given} inside sound becomes here stored follows = record {
+stepped-at {s = s} {t} {i} {p} {given} site becomes here stored follows = record {
   sound = record {
     stored = λ k e among image batches m is of.
         subst (λ (fs : List Plain). AreAcked fs m.core) (sym becomes.frames)
@@ -103,7 +108,7 @@ stepped-at within {s} {t} {i} {p} {given} inside sound becomes here stored follo
         (subst (λ (q : Place). Among e (choices_of q)) becomes.here
         (subst (λ (j : ℕ). Among e (choices_of (t.places j))) same among)) image batches m is of)
         (λ (other : k ≢ i).
-        sound.stored k e
+        site.sound.stored k e
         (subst (λ (q : Place). Among e (choices_of q)) (becomes.others k other) among)
         image batches m is of)
         (cases_eq k i)));
@@ -120,10 +125,10 @@ stepped-at within {s} {t} {i} {p} {given} inside sound becomes here stored follo
         (λ (other : k ≢ i).
         subst (λ (q : Place). IsSoundIn (s.frames ++ given) (newest q) q.handle)
         (sym (becomes.others k other))
-        (sound-more s.frames given (newest (s.places k)) (s.places k).handle (sound.each k)))
+        (sound-more s.frames given (newest (s.places k)) (s.places k).handle (site.sound.each k)))
         (cases_eq k i));
   };
-  leads = tells-at within becomes inside follows;
+  leads = tells-at site.limits becomes site.inside follows;
 }
 
 -- what was taken is stored with the node as it was saved then
@@ -165,8 +170,26 @@ still here out = record {
   frames = out;
 }
 
-module _ {shape : Shaped} (within : IsShape shape) {s : System} (t : System) {i : ℕ}
-    (inside : i < shape.nodes) (sound : IsSound s) where
+-- More of the node counts as saved: what was taken with these counts.
+pub record IsKept (n m : LoneNode) (counts : Vec Counts) : Type 0 where
+  pub has : n.counts ≡ Some counts
+  pub same : m.counts ≡ n.counts
+  pub now : m.node ≡ keeps counts.items n.node
+  pub logs : KeepsLog n m
+
+-- An image or a batch of the node in the handle was taken, with these counts.
+pub record HasTaken (s : System) (i : ℕ) (n m : LoneNode) (counts : Vec Counts) : Type 0 where
+  pub held : (s.places i).handle ≡ Some n
+  pub same : m.node ≡ n.node
+  pub are : counts.items ≡ counts_of n.node.core
+  pub has : m.counts ≡ Some counts
+  pub wide : IsCounted n
+
+-- the place then
+abbrev after : System → ℕ → LoneNode → Stored → Place
+after s i m e = record (s.places i) { handle = Some m; taken = (s.places i).taken ++ e ∷ [] }
+
+module _ {shape : Shaped} {s : System} {i : ℕ} (site : Site shape s i) where
   abbrev Carries : World → LoneNode → Type 0
   Carries w n = IsCarried (node_at w.saved i) (node_at w.current i) n.node.core
 
@@ -182,12 +205,12 @@ module _ {shape : Shaped} (within : IsShape shape) {s : System} (t : System) {i 
 
   pub sound-node : {n : LoneNode} → (s.places i).handle ≡ Some n
       → IsSoundNode s.frames (newest (s.places i)) n
-  sound-node held = subst (IsSoundIn s.frames (newest (s.places i))) held (sound.each i)
+  sound-node held = subst (IsSoundIn s.frames (newest (s.places i))) held (site.sound.each i)
 
   -- ---- calls that store nothing
 
   -- the node goes on with events, or gives out frames
-  pub advances-stepped : {n m : LoneNode} {given : List Plain} {so : Says}
+  pub advances-stepped : {n m : LoneNode} {given : List Plain} {so : Says} {t : System}
       → (s.places i).handle ≡ Some n → Advances shape s.frames i so n m
       → Becomes s t i (record (s.places i) { handle = Some m }) given
       → ((w : World) → IsWorld shape s.frames w → Carries w n → (f : Plain) → Among f given
@@ -195,13 +218,13 @@ module _ {shape : Shaped} (within : IsShape shape) {s : System} (t : System) {i 
       → Stepped shape s t so
   advances-stepped {n} {m} {given} held a becomes out =
       let was = sound-node held in
-      stepped-at within inside sound becomes
+      stepped-at site becomes
       (record {
         early = a.early was.early;
         acked = a.acked was.acked;
         log = continues-on (newest (s.places i)) n m a.logs was.log;
       })
-      (sound.stored i)
+      (site.sound.stored i)
       (λ e among. record {
         before = e;
         may = among;
@@ -221,7 +244,7 @@ module _ {shape : Shaped} (within : IsShape shape) {s : System} (t : System) {i 
                     (counted (node_at w.saved i) held (place.counts same));
               });
               frames = λ f given_out.
-                  stays-in-net within is went.later f
+                  stays-in-net site.limits is went.later f
                   (out w is (carries w held place) f given_out);
             });
       })
@@ -230,16 +253,17 @@ module _ {shape : Shaped} (within : IsShape shape) {s : System} (t : System) {i 
 
   own-is : {w : World} (n : LoneNode) → IsWorld shape s.frames w → Carries w n
       → n.node.core.local.own ≡ i
-  own-is n is h = ap (λ (p : LocalState). p.own) h.shows.local ∙ owns within is inside
+  own-is n is h = ap (λ (p : LocalState). p.own) h.shows.local ∙ owns site.limits is site.inside
 
   nodes-are : {w : World} (n : LoneNode) → IsWorld shape s.frames w → Carries w n
       → n.node.core.local.shape.nodes ≡ shape.nodes
-  nodes-are n is h = ap (λ (p : LocalState). p.shape.nodes) h.shows.local ∙ nodes within is inside
+  nodes-are n is h = ap (λ (p : LocalState). p.shape.nodes) h.shows.local
+      ∙ nodes site.limits is site.inside
 
-  pub released-out : (n : LoneNode) (to place : ℕ) (w : World) → IsWorld shape s.frames w
+  pub released-out : (n : LoneNode) (to place : ℕ) {w : World} → IsWorld shape s.frames w
       → Carries w n → (f : Plain)
       → Among f (option_to_list (released_frame n.node.core to place)) → IsInNet w f
-  released-out n to place w is h f =
+  released-out n to place {w} is h f =
       let c : NodeView = n.node.core in
       let number : ℕ = (link_to c to).base + 1 + place in
       cond_both (is_other c.local to)
@@ -251,7 +275,8 @@ module _ {shape : Shaped} (within : IsShape shape) {s : System} (t : System) {i 
       by : is_other n.node.core.local to ≡ true → (o : Option Message)
           → released_at (link_to n.node.core to) place ≡ o
           → Among f (option_to_list
-          (option_map (frame_of n.node.core.local.own to ((link_to n.node.core to).base + 1 + place)) o))
+          (option_map (frame_of n.node.core.local.own to
+          ((link_to n.node.core to).base + 1 + place)) o))
           → IsInNet w f
       by other None there never = absurd never
       by other (Some x) there (inl same) =
@@ -263,21 +288,21 @@ module _ {shape : Shaped} (within : IsShape shape) {s : System} (t : System) {i 
           (λ e. apart n.node.core.local to other (sym e ∙ sym (own-is n is h))) there))
       by other (Some x) there (inr never) = absurd never
 
-  pub window-out : (n : LoneNode) (to count : ℕ) (w : World) → IsWorld shape s.frames w
+  pub window-out : (n : LoneNode) (to count : ℕ) {w : World} → IsWorld shape s.frames w
       → Carries w n → (f : Plain) → Among f (window_of n.node.core to count) → IsInNet w f
-  window-out n to zero w is h f never = absurd never
-  window-out n to (suc place) w is h f among =
+  window-out n to zero is h f never = absurd never
+  window-out n to (suc place) {w} is h f among =
       ⊎_elim {C = IsInNet w f}
       (λ (before : Among f (window_of n.node.core to place)).
-      window-out n to place w is h f before)
+      window-out n to place is h f before)
       (λ (here : Among f (option_to_list (released_frame n.node.core to place))).
-      released-out n to place w is h f here)
+      released-out n to place is h f here)
       (among-append f (window_of n.node.core to place)
       (option_to_list (released_frame n.node.core to place)) among)
 
-  pub ack-out : (n : LoneNode) (from : ℕ) (w : World) → IsWorld shape s.frames w → Carries w n
+  pub ack-out : (n : LoneNode) (from : ℕ) {w : World} → IsWorld shape s.frames w → Carries w n
       → (f : Plain) → Among f (option_to_list (acknowledgement n.node.core from)) → IsInNet w f
-  ack-out n from w is h f =
+  ack-out n from {w} is h f =
       let c : NodeView = n.node.core in
       let ack : Plain = ack_frame c.local.own from (get_or c.acks from 0) in
       cond_both (is_other c.local from) (Some ack) None
@@ -287,7 +312,7 @@ module _ {shape : Shaped} (within : IsShape shape) {s : System} (t : System) {i 
       subst (IsInNet w) (sym same)
       (subst (λ (k : ℕ). IsInNet w (ack_frame k from (get_or c.acks from 0)))
       (sym (own-is n is h))
-      (ack-in-net i h (world-grown is) from (below within is inside)
+      (ack-in-net i h (world-grown is) from (below site.limits is site.inside)
       (let other_inside = within_shape c.local from other in
       let count = world-count is in
       let many = nodes-are n is h in
@@ -299,15 +324,15 @@ module _ {shape : Shaped} (within : IsShape shape) {s : System} (t : System) {i 
   -- ---- calls that end a handle, or only store
 
   -- the handle is freed, or its process ends
-  pub ended-stepped : Becomes s t i (record (s.places i) { handle = None }) []
+  pub ended-stepped : {t : System} → Becomes s t i (record (s.places i) { handle = None }) []
       → Stepped shape s t (tells nothing_told)
   ended-stepped becomes =
-      stepped-at within inside sound becomes tt (sound.stored i)
+      stepped-at site becomes tt (site.sound.stored i)
       (λ e among. record {
         before = e;
         may = among;
         next = λ w is place.
-            (let moved = restart-moves w i (below within is inside) in
+            (let moved = restart-moves w i (below site.limits is site.inside) in
             let saved = ap (λ (l : List NodeState). node_at l i) moved.saved in
             record {
               later = step.Restart i ∷ [];
@@ -321,7 +346,7 @@ module _ {shape : Shaped} (within : IsShape shape) {s : System} (t : System) {i 
       })
 
   -- an image or a batch is stored
-  pub stored-stepped : {e : Stored} {others : List Stored} (earlier : List Stored)
+  pub stored-stepped : {e : Stored} {others : List Stored} {t : System} (earlier : List Stored)
       → (s.places i).taken ≡ earlier ++ e ∷ others
       → Becomes s t i (record (s.places i) { stored = e; taken = others }) []
       → Stepped shape s t quietly
@@ -330,10 +355,10 @@ module _ {shape : Shaped} (within : IsShape shape) {s : System} (t : System) {i 
       let same : newest p ≡ newest (record p { stored = e; taken = others }) =
       ap (λ (l : List Stored). last_of p.stored l) taken
       ∙ newest-left p.stored earlier e others in
-      stepped-at within inside sound becomes
-      (subst (λ (z : Stored). IsSoundIn s.frames z p.handle) same (sound.each i))
+      stepped-at site becomes
+      (subst (λ (z : Stored). IsSoundIn s.frames z p.handle) same (site.sound.each i))
       (λ x among.
-      sound.stored i x
+      site.sound.stored i x
       (inr (subst (Among x) (sym taken) (among-left earlier x e others among))))
       (λ x among. record {
         before = x;
@@ -355,7 +380,7 @@ module _ {shape : Shaped} (within : IsShape shape) {s : System} (t : System) {i 
       → Finds shape i e (node_at w.current i)
       → HasCounts p.handle (node_at w.current i) → Next shape w i e p [] quietly
   saves {w} is holds finds counts =
-      let saved = save-saves w i (world-grown is) (below within is inside) in
+      let saved = save-saves w i (world-grown is) (below site.limits is site.inside) in
       record {
         later = step.Save i ∷ [];
         says = (
@@ -364,7 +389,7 @@ module _ {shape : Shaped} (within : IsShape shape) {s : System} (t : System) {i 
             (
               refl,
               λ e. absurd
-                  (let done = save-step w i (below within is inside) in
+                  (let done = save-step w i (below site.limits is site.inside) in
                   let never = sym (ap outcome_of done) ∙ e in cc),
             ),
             tt,
@@ -378,23 +403,22 @@ module _ {shape : Shaped} (within : IsShape shape) {s : System} (t : System) {i 
       }
 
   -- more counts as saved, now that what was taken last is stored
-  pub kept-stepped : {n m : LoneNode} (counts : Vec Counts) → (s.places i).handle ≡ Some n
-      → n.counts ≡ Some counts → m.counts ≡ n.counts → m.node ≡ keeps counts.items n.node
-      → KeepsLog n m → (s.places i).taken ≡ []
+  pub kept-stepped : {n m : LoneNode} {counts : Vec Counts} {t : System}
+      → (s.places i).handle ≡ Some n → IsKept n m counts → (s.places i).taken ≡ []
       → Becomes s t i (record (s.places i) { handle = Some m }) [] → Stepped shape s t quietly
-  kept-stepped {n} {m} counts held has same is_now logs none becomes =
+  kept-stepped {n} {m} {counts} held kept none becomes =
       let p : Place = s.places i in
       let was = sound-node held in
-      stepped-at within inside sound becomes
+      stepped-at site becomes
       (record {
         early = subst (AreGiven s.frames)
-            (sym (ap (λ (x : WholeNode). x.early) is_now ∙ kept-early counts.items n.node))
+            (sym (ap (λ (x : WholeNode). x.early) kept.now ∙ kept-early counts.items n.node))
             was.early;
-        acked = subst (λ (x : WholeNode). AreAcked s.frames x.core) (sym is_now)
+        acked = subst (λ (x : WholeNode). AreAcked s.frames x.core) (sym kept.now)
             (keeps-acked counts.items n.node was.acked);
-        log = continues-on (newest p) n m logs was.log;
+        log = continues-on (newest p) n m kept.logs was.log;
       })
-      (sound.stored i)
+      (site.sound.stored i)
       (λ e among. record {
         before = e;
         may = among;
@@ -410,23 +434,23 @@ module _ {shape : Shaped} (within : IsShape shape) {s : System} (t : System) {i 
             still
             (record {
               holds = subst (λ (x : WholeNode).
-                  IsCarried (node_at w.saved i) (node_at w.current i) x.core) (sym is_now)
+                  IsCarried (node_at w.saved i) (node_at w.current i) x.core) (sym kept.now)
                   (kept-carried counts n.node
-                  (subst (λ c. AreIn c (node_at w.saved i)) has are) (carries w held place));
+                  (subst (λ c. AreIn c (node_at w.saved i)) kept.has are) (carries w held place));
               finds = place.finds;
-              counts = λ _. subst (λ c. AreIn c (node_at w.saved i)) (sym same) are;
+              counts = λ _. subst (λ c. AreIn c (node_at w.saved i)) (sym kept.same) are;
             })
             (λ f never. absurd never));
       })
 
   -- everything counts as saved, without an image
-  pub released-stepped : {n : LoneNode} → (s.places i).handle ≡ Some n → IsCounted n
+  pub released-stepped : {n : LoneNode} {t : System} → (s.places i).handle ≡ Some n → IsCounted n
       → Becomes s t i (record { handle = Some (released n); stored = Lost; taken = [] }) []
       → Stepped shape s t quietly
   released-stepped {n} held wide becomes =
       let p : Place = s.places i in
       let was = sound-node held in
-      stepped-at within inside sound becomes
+      stepped-at site becomes
       (record { early = was.early; acked = kept-acked n.node.core wide was.acked; log = tt })
       (λ e among image batches m is of.
       absurd (⊎_elim (λ (lost : e ≡ Lost). let both = sym lost ∙ is in cc) (λ never. never) among))
@@ -442,28 +466,27 @@ module _ {shape : Shaped} (within : IsShape shape) {s : System} (t : System) {i 
             quietly)
             (sym lost)
             (saves is (carried-kept h.shows) tt
-            (are-later n.counts (node_at w.saved i) (node_at w.current i) ((world-grown is).sent i) (world-heard is i)
+            (are-later n.counts (node_at w.saved i) (node_at w.current i) ((world-grown is).sent i)
+            (world-heard is i)
             (counted (node_at w.saved i) held (place.counts refl)))));
       })
 
   -- a handle is filled with what is stored
-  pub opened-stepped : {n : LoneNode} → (s.places i).handle ≡ None
+  pub opened-stepped : {n : LoneNode} {t : System} → (s.places i).handle ≡ None
       → ((x : NodeState) → Finds shape i (s.places i).stored x → IsCarried x x n.node.core)
-      → AreGiven s.frames n.node.early → AreAcked s.frames n.node.core
-      → Continues (s.places i).stored n → n.counts ≡ None
+      → IsSoundNode s.frames (s.places i).stored n → n.counts ≡ None
       → Becomes s t i (record {
         handle = Some n;
         stored = (s.places i).stored;
         taken = [];
       }) []
       → Stepped shape s t quietly
-  opened-stepped {n} empty carried early acked log none becomes =
+  opened-stepped {n} empty carried sound none becomes =
       let p : Place = s.places i in
       let q : Place = record { handle = Some n; stored = p.stored; taken = [] } in
-      stepped-at within inside sound becomes
-      (record { early = early; acked = acked; log = log })
+      stepped-at site becomes sound
       (λ e among.
-      sound.stored i e
+      site.sound.stored i e
       (⊎_elim (λ (is_it : e ≡ p.stored). inl is_it) (λ never. absurd never) among))
       (λ e among. record {
         before = p.stored;
@@ -486,12 +509,7 @@ module _ {shape : Shaped} (within : IsShape shape) {s : System} (t : System) {i 
       })
 
   -- an image or a batch was taken, which may be stored
-  module _ (n m : LoneNode) (counts : Vec Counts) (held : (s.places i).handle ≡ Some n)
-      (same : m.node ≡ n.node) (are : counts.items ≡ counts_of n.node.core)
-      (has : m.counts ≡ Some counts) (wide : IsCounted n) where
-    abbrev After : Stored → Place
-    After e = record (s.places i) { handle = Some m; taken = (s.places i).taken ++ e ∷ [] }
-
+  module _ {n m : LoneNode} {counts : Vec Counts} (took : HasTaken s i n m counts) where
     of-acked : (e : Stored) → IsOf e n.node → AreAcked s.frames n.node.core
         → IsStoredAcked s.frames e
     of-acked Nothing of all = absurd of
@@ -503,9 +521,9 @@ module _ {shape : Shaped} (within : IsShape shape) {s : System} (t : System) {i 
         let b : batches ≡ batches_is = cc in
         subst (λ (l : List ℕ). IsStored l batches x) (sym a)
         (subst (λ (l : List ℕ). IsStored image_is l x) (sym b) stored)))
-        (kept-acked n.node.core wide all)
+        (kept-acked n.node.core took.wide all)
 
-    after-newest : (e : Stored) → newest (After e) ≡ e
+    after-newest : (e : Stored) → newest (after s i m e) ≡ e
     after-newest e = newest-last (s.places i).stored (s.places i).taken e
 
     finds-of : (e : Stored) → IsOf e n.node → {x : NodeState} → Shows n.node.core x
@@ -515,33 +533,34 @@ module _ {shape : Shaped} (within : IsShape shape) {s : System} (t : System) {i 
     finds-of Lost of shows = tt
 
     -- it is what is found: the node is saved
-    taken-now : (e x : Stored) → IsOf e n.node → x ≡ e → Follows shape s i (After e) [] quietly x
+    taken-now : (e x : Stored) → IsOf e n.node → x ≡ e
+        → Follows shape s i (after s i m e) [] quietly x
     taken-now e x of now = record {
       before = newest (s.places i);
       may = newest-among (s.places i).stored (s.places i).taken;
       next = λ w is place.
-          (let h : Carries w n = carries w held place in
-          subst (λ (z : Stored). Next shape w i z (After e) [] quietly) (sym now)
+          (let h : Carries w n = carries w took.held place in
+          subst (λ (z : Stored). Next shape w i z (after s i m e) [] quietly) (sym now)
           (saves is
           (subst (λ (z : WholeNode).
-          IsCarried (node_at w.current i) (node_at w.current i) z.core) (sym same)
+          IsCarried (node_at w.current i) (node_at w.current i) z.core) (sym took.same)
           (carried-saved ((world-grown is).sent i) (world-heard is i) h))
-          (finds-of e of h.shows) (taken-in counts are has h.shows)));
+          (finds-of e of h.shows) (taken-in counts took.are took.has h.shows)));
     }
 
     -- it isn't: nothing happened to the node yet
     taken-before : (e x : Stored) → Among x (choices_of (s.places i))
         → ((z : NodeState) → Finds shape i x z → x ≡ e → AreIn m.counts z)
-        → Follows shape s i (After e) [] quietly x
+        → Follows shape s i (after s i m e) [] quietly x
     taken-before e x among counted_in = record {
       before = x;
       may = among;
       next = λ w is place.
-          (let h : Carries w n = carries w held place in
+          (let h : Carries w n = carries w took.held place in
           still
           (record {
             holds = subst (λ (z : WholeNode).
-                IsCarried (node_at w.saved i) (node_at w.current i) z.core) (sym same) h;
+                IsCarried (node_at w.saved i) (node_at w.current i) z.core) (sym took.same) h;
             finds = place.finds;
             counts = λ now.
                 counted_in (node_at w.saved i) place.finds (now ∙ after-newest e);
@@ -550,12 +569,12 @@ module _ {shape : Shaped} (within : IsShape shape) {s : System} (t : System) {i 
     }
 
     taken-else : (e x : Stored) → IsOf e n.node → Among x (choices_of (s.places i))
-        → Follows shape s i (After e) [] quietly x
+        → Follows shape s i (after s i m e) [] quietly x
     taken-else Nothing x of among = absurd of
     taken-else (Image image batches) x of among =
         taken-before (Image image batches) x among
         (λ z found now.
-        found-in n.node counts are has of
+        found-in n.node counts took.are took.has of
         (subst (λ (y : Stored). Finds shape i y z) now found))
     taken-else Lost Nothing of among =
         taken-before Lost Nothing among (λ z found now. absurd cc)
@@ -563,30 +582,30 @@ module _ {shape : Shaped} (within : IsShape shape) {s : System} (t : System) {i 
         taken-before Lost (Image image batches) among (λ z found now. absurd cc)
     taken-else Lost Lost of among = taken-now Lost Lost of refl
 
-    pub taken-stepped : (e : Stored) → IsOf e n.node → Continues e m
-        → Becomes s t i (After e) [] → Stepped shape s t quietly
+    pub taken-stepped : {t : System} (e : Stored) → IsOf e n.node → Continues e m
+        → Becomes s t i (after s i m e) [] → Stepped shape s t quietly
     taken-stepped e of log becomes =
-        stepped-at within inside sound becomes
+        stepped-at site becomes
         (record {
-          early = subst (λ (z : WholeNode). AreGiven s.frames z.early) (sym same)
-              (sound-node held).early;
-          acked = subst (λ (z : WholeNode). AreAcked s.frames z.core) (sym same)
-              (sound-node held).acked;
+          early = subst (λ (z : WholeNode). AreGiven s.frames z.early) (sym took.same)
+              (sound-node took.held).early;
+          acked = subst (λ (z : WholeNode). AreAcked s.frames z.core) (sym took.same)
+              (sound-node took.held).acked;
           log = subst (λ (z : Stored). Continues z m) (sym (after-newest e)) log;
         })
         (λ x among.
         ⊎_elim {C = IsStoredAcked s.frames x}
-        (λ (old : Among x (choices_of (s.places i))). sound.stored i x old)
+        (λ (old : Among x (choices_of (s.places i))). site.sound.stored i x old)
         (λ (new : Among x (e ∷ [])).
         ⊎_elim {C = IsStoredAcked s.frames x}
         (λ (now : x ≡ e).
-        subst (IsStoredAcked s.frames) (sym now) (of-acked e of (sound-node held).acked))
+        subst (IsStoredAcked s.frames) (sym now) (of-acked e of (sound-node took.held).acked))
         (λ never. absurd never) new)
         (among-append x (choices_of (s.places i)) (e ∷ []) among))
         (λ x among.
-        ⊎_elim {C = Follows shape s i (After e) [] quietly x}
+        ⊎_elim {C = Follows shape s i (after s i m e) [] quietly x}
         (λ (old : Among x (choices_of (s.places i))). taken-else e x of old)
         (λ (new : Among x (e ∷ [])).
-        ⊎_elim {C = Follows shape s i (After e) [] quietly x}
+        ⊎_elim {C = Follows shape s i (after s i m e) [] quietly x}
         (λ (now : x ≡ e). taken-now e x of now) (λ never. absurd never) new)
         (among-append x (choices_of (s.places i)) (e ∷ []) among))

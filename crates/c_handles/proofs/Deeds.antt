@@ -35,11 +35,11 @@ use Rattle.c_handles.specs.Lone.{Made, Read, is_congested, lone}
 use Rattle.c_handles.specs.declared.lone.images.Counts.{Counts}
 use Rattle.c_handles.specs.declared.lone.LoneNode.{LoneNode}
 use Rattle.c_handles.specs.Programs.{Becomes, Call, Choice, Deed, Does, Finds, Goes, Holds, IsShown, MayFind, Opening, Owes, Place, Stored, System, behind, gives, new_system, newest, place_after, place_of}
-use Rattle.c_handles.specs.Programs.{Act, Take, Work, FrameAt, AckFor, Frames, TakeImage, TakeBatch, Keep, Release, Log, Track, Freed, Open, On, End, Store, New, FromImage, FromBatches, Nothing, Image, Lost, Meets, Opens, GoesOn, IsMadeOnce, IsStoredFirst, IsOfSpace}
+use Rattle.c_handles.specs.Programs.{Act, Take, Work, FrameAt, AckFor, Frames, TakeImage, TakeBatch, Keep, Release, Log, Track, Freed, Open, On, End, Store, New, FromImage, FromBatches, Nothing, Image, Lost, Meets, Opens, GoesOn, IsMadeOnce}
 use Rattle.c_handles.proofs.Advances.{AreGiven, acts-advances, advances-not, advances-same, took-advances, works-advances}
 use Rattle.c_handles.proofs.Acked.{AreAcked, none_yet}
 use Rattle.c_handles.proofs.Says.{quietly, said_by}
-use Rattle.c_handles.proofs.Calls.{IsCounted, IsOf, IsSound, Stepped, ack-out, advances-stepped, ended-stepped, kept-stepped, opened-stepped, released-out, released-stepped, sound-node, stepped-not, stored-stepped, taken-stepped, window-out}
+use Rattle.c_handles.proofs.Calls.{IsCounted, IsOf, IsSound, Site, Stepped, ack-out, advances-stepped, ended-stepped, kept-stepped, opened-stepped, released-out, released-stepped, sound-node, stepped-not, stored-stepped, taken-stepped, window-out}
 use Rattle.c_handles.proofs.Logs.{if_none}
 use Rattle.c_handles.proofs.Saving.{Continues, at-front, continues-from, continues-none, found-carried, read-one, stored-alone, stored-quiet}
 use Rattle.c_handles.proofs.Systems.{IsWorld, Leads, leads-by, leads-nowhere, leads-on, newest-among}
@@ -48,49 +48,78 @@ use Rattle.c_handles.proofs.Systems.{IsWorld, Leads, leads-by, leads-nowhere, le
 abbrev pub AllShown : Shaped → System → Type 0
 AllShown shape s = (c : Choice) → MayFind s c → (w : World) × IsShown shape s c w
 
-module _ {shape : Shaped} (within : IsShape shape) {s : System} (t : System) {i : ℕ}
-    (inside : i < shape.nodes) (sound : IsSound s) where
+-- what was written is at the front of a buffer
+front-of : (bytes old new : List ℕ) (needed : ℕ)
+    → (length bytes ≤ length old) × (new ≡ bytes ++ drop (length bytes) old)
+    × (needed ≡ length bytes)
+    → take needed new ≡ bytes
+front-of bytes old new needed wrote =
+    ap (take needed) wrote.1 ∙ at-front bytes (drop (length bytes) old) needed wrote.2
+
+-- a buffer and the number that is needed, before and after a call
+record Written : Type 0 where
+  old : List ℕ
+  new : List ℕ
+  before : ℕ
+  needed : ℕ
+
+-- What is known of a node in a handle: it counts what it received on each of its links, and what is
+-- newest of it is there to be found.
+record Known (s : System) (i : ℕ) (n : LoneNode) : Type 0 where
+  held : (s.places i).handle ≡ Some n
+  wide : IsCounted n
+  found : (image batches : List ℕ) → newest (s.places i) ≡ Image image batches
+      → (first : WholeNode) × IsStored image batches first
+
+-- What a call to keep an image or a batch does, whose mark is the last one or isn't.
+record Keeping (s : System) (i mark : ℕ) (n m : LoneNode) (counts : Option (Vec Counts))
+    (same : Bool) : Type 0 where
+  held : (s.places i).handle ≡ Some n
+  has : n.counts ≡ counts
+  is : (mark == n.mark) ≡ same
+  now : m ≡ after_kept counts same n
+  logs : KeepsLog n m
+  first : mark ≡ n.mark → (s.places i).taken ≡ []
+
+module _ {shape : Shaped} {s : System} {i : ℕ} (site : Site shape s i) where
   abbrev p : Place
   p = s.places i
 
   -- a call that leaves the node as it was, and gives nothing out
-  same-stepped : {n m : LoneNode} → p.handle ≡ Some n → m ≡ n
+  same-stepped : {n m : LoneNode} {t : System} → p.handle ≡ Some n → m ≡ n
       → Becomes s t i (record p { handle = Some m }) [] → Stepped shape s t quietly
   same-stepped {n} held same becomes =
-      advances-stepped within t inside sound held (advances-not same) becomes
+      advances-stepped site held (advances-not same) becomes
       (λ w is h f never. absurd never)
 
   -- ---- images and batches
 
-  front-of : (bytes old new : List ℕ) (needed : ℕ)
-      → (length bytes ≤ length old) × (new ≡ bytes ++ drop (length bytes) old)
-      × (needed ≡ length bytes)
-      → take needed new ≡ bytes
-  front-of bytes old new needed wrote =
-      ap (take needed) wrote.1 ∙ at-front bytes (drop (length bytes) old) needed wrote.2
-
-  image-stepped : (n m : LoneNode) (old new : List ℕ) (before needed : ℕ) (r : Result ℕ Fault)
-      → p.handle ≡ Some n → IsCounted n → Imaged n m r old new before needed
-      → Becomes s t i (place_after (TakeImage r old new before needed) m p) []
+  image-stepped : {n : LoneNode} {t : System} (m : LoneNode) (w : Written) (r : Result ℕ Fault)
+      → p.handle ≡ Some n → IsCounted n → Imaged n m r w.old w.new w.before w.needed
+      → Becomes s t i (place_after (TakeImage r w.old w.new w.before w.needed) m p) []
       → Stepped shape s t quietly
-  image-stepped n m old new before needed (Ok mark) held wide (took, wrote) becomes =
+  image-stepped {n} m w (Ok mark) held wide (took, wrote) becomes =
       let bytes : List ℕ = image_in n in
-      let front : take needed new ≡ bytes = front-of bytes old new needed wrote in
+      let front : take w.needed w.new ≡ bytes = front-of bytes w.old w.new w.needed wrote in
       let stored : IsStored bytes [] (saved_whole n.node) =
       stored-alone bytes (saved_whole n.node) took.read in
-      taken-stepped within t inside sound n m took.counts held
-      (ap (λ (x : LoneNode). x.node) took.stays) took.counted
-      (ap (λ (x : LoneNode). x.counts) took.stays) wide
-      (Image (take needed new) [])
+      taken-stepped site (record {
+        held = held;
+        same = ap (λ (x : LoneNode). x.node) took.stays;
+        are = took.counted;
+        has = ap (λ (x : LoneNode). x.counts) took.stays;
+        wide = wide;
+      })
+      (Image (take w.needed w.new) [])
       (subst (λ (l : List ℕ). IsStored l [] (saved_whole n.node)) (sym front) stored)
       (subst (λ (l : List ℕ). Continues (Image l []) m) (sym front)
       (continues-from m (saved_whole n.node) stored took.logs))
       becomes
-  image-stepped n m old new before needed (Err fault.ShortBuffer) held wide h becomes =
+  image-stepped m w (Err fault.ShortBuffer) held wide h becomes =
       same-stepped held h.0 becomes
-  image-stepped n m old new before needed (Err (fault.Refused e)) held wide h becomes =
+  image-stepped m w (Err (fault.Refused e)) held wide h becomes =
       same-stepped held h.0 becomes
-  image-stepped n m old new before needed (Err e) held wide h becomes = absurd h
+  image-stepped m w (Err e) held wide h becomes = absurd h
 
   batch-of : {n m : LoneNode} {mark : ℕ} {bytes : List ℕ} (e : Stored)
       → GaveBatch n m mark bytes → Continues e n
@@ -110,55 +139,49 @@ module _ {shape : Shaped} (within : IsShape shape) {s : System} (t : System) {i 
       (stored, continues-from m (saved_whole n.node) stored gave.logs))
       (λ _. (tt, tt))
 
-  batch-stepped : (n m : LoneNode) (old new : List ℕ) (before needed : ℕ) (r : Result ℕ Fault)
-      (b : Option (List ℕ)) → p.handle ≡ Some n → IsCounted n
-      → BatchOr b n m r old new before needed
-      → Continues (newest p) n
-      → ((image batches : List ℕ) → newest p ≡ Image image batches
-      → (first : WholeNode) × IsStored image batches first)
-      → Becomes s t i (place_after (TakeBatch r old new before needed) m p) []
+  batch-stepped : {n : LoneNode} {t : System} (m : LoneNode) (w : Written) (r : Result ℕ Fault)
+      (b : Option (List ℕ)) → Known s i n → BatchOr b n m r w.old w.new w.before w.needed
+      → Becomes s t i (place_after (TakeBatch r w.old w.new w.before w.needed) m p) []
       → Stepped shape s t quietly
-  batch-stepped n m old new before needed (Ok mark) (Some bytes) held wide (gave, wrote) log
-      found becomes =
-      let front : take needed new ≡ record_of bytes =
-      front-of (record_of bytes) old new needed wrote in
-      let both = batch-of (newest p) gave log found in
-      taken-stepped within t inside sound n m gave.counts held
-      (ap (λ (x : LoneNode). x.node) gave.stays) gave.counted
-      (ap (λ (x : LoneNode). x.counts) gave.stays) wide
-      (behind (newest p) (take needed new))
+  batch-stepped {n} m w (Ok mark) (Some bytes) known (gave, wrote)
+      becomes =
+      let front : take w.needed w.new ≡ record_of bytes =
+      front-of (record_of bytes) w.old w.new w.needed wrote in
+      let both = batch-of (newest p) gave (sound-node site known.held).log known.found in
+      taken-stepped site (record {
+        held = known.held;
+        same = ap (λ (x : LoneNode). x.node) gave.stays;
+        are = gave.counted;
+        has = ap (λ (x : LoneNode). x.counts) gave.stays;
+        wide = known.wide;
+      })
+      (behind (newest p) (take w.needed w.new))
       (subst (λ (l : List ℕ). IsOf (behind (newest p) l) n.node) (sym front) both.0)
       (subst (λ (l : List ℕ). Continues (behind (newest p) l) m) (sym front) both.1)
       becomes
-  batch-stepped n m old new before needed (Err fault.ShortBuffer) (Some bytes) held wide h log
-      found becomes =
-      same-stepped held h.0 becomes
-  batch-stepped n m old new before needed (Err (fault.Refused refusal.Memory)) (Some bytes) held
-      wide h log found becomes =
-      same-stepped held h.0 becomes
-  batch-stepped n m old new before needed (Err (fault.Refused e)) (Some bytes) held wide h log
-      found becomes = absurd h
-  batch-stepped n m old new before needed (Err e) (Some bytes) held wide h log found becomes =
-      absurd h
-  batch-stepped n m old new before needed (Ok mark) None held wide h log found becomes =
-      absurd (let never = h.0 in cc)
-  batch-stepped n m old new before needed (Err e) None held wide h log found becomes =
-      same-stepped held h.1 becomes
+  batch-stepped m w (Err fault.ShortBuffer) (Some bytes) known h becomes =
+      same-stepped known.held h.0 becomes
+  batch-stepped m w (Err (fault.Refused refusal.Memory)) (Some bytes) known h becomes =
+      same-stepped known.held h.0 becomes
+  batch-stepped m w (Err (fault.Refused e)) (Some bytes) known h becomes = absurd h
+  batch-stepped m w (Err e) (Some bytes) known h becomes = absurd h
+  batch-stepped m w (Ok mark) None known h becomes = absurd (let never = h.0 in cc)
+  batch-stepped m w (Err e) None known h becomes = same-stepped known.held h.1 becomes
 
   -- ---- what counts as saved
 
-  keep-stepped : {n m : LoneNode} (mark : ℕ) (counts : Option (Vec Counts)) (same : Bool)
-      → n.counts ≡ counts → (mark == n.mark) ≡ same → p.handle ≡ Some n
-      → m ≡ after_kept counts same n → KeepsLog n m → (mark ≡ n.mark → p.taken ≡ [])
+  keep-stepped : {mark : ℕ} {n m : LoneNode} {t : System} (counts : Option (Vec Counts))
+      (same : Bool) → Keeping s i mark n m counts same
       → Becomes s t i (record p { handle = Some m }) [] → Stepped shape s t quietly
-  keep-stepped mark None same has is held now logs first becomes =
-      same-stepped held now becomes
-  keep-stepped mark (Some counts) false has is held now logs first becomes =
-      same-stepped held now becomes
-  keep-stepped {n} {m} mark (Some counts) true has is held now logs first becomes =
-      kept-stepped within t inside sound counts held has
-      (ap (λ (x : LoneNode). x.counts) now) (ap (λ (x : LoneNode). x.node) now) logs
-      (first (eqb-true mark n.mark is)) becomes
+  keep-stepped None same k becomes = same-stepped k.held k.now becomes
+  keep-stepped (Some counts) false k becomes = same-stepped k.held k.now becomes
+  keep-stepped {mark} {n} (Some counts) true k becomes =
+      kept-stepped site k.held (record {
+        has = k.has;
+        same = ap (λ (x : LoneNode). x.counts) k.now;
+        now = ap (λ (x : LoneNode). x.node) k.now;
+        logs = k.logs;
+      }) (k.first (eqb-true mark n.mark k.is)) becomes
 
   -- ---- the log
 
@@ -180,20 +203,21 @@ module _ {shape : Shaped} (within : IsShape shape) {s : System} (t : System) {i 
       (λ (m : LoneNode). m.counts ≡ n.counts) (λ _. refl) (λ _. refl)
   logging-counts n false = refl
 
-  log-stepped : {n m : LoneNode} (on : Bool) → p.handle ≡ Some n → m ≡ logging on n
+  log-stepped : {n m : LoneNode} {t : System} (on : Bool) → p.handle ≡ Some n → m ≡ logging on n
       → Becomes s t i (record p { handle = Some m }) [] → Stepped shape s t quietly
   log-stepped {n} {m} on held now becomes =
-      advances-stepped within t inside sound held
+      advances-stepped site held
       (advances-same (ap (λ (x : LoneNode). x.node) now ∙ logging-node n on)
       (ap (λ (x : LoneNode). x.counts) now ∙ logging-counts n on)
       (subst (KeepsLog n) (sym now) (logging-keeps n on)))
       becomes (λ w is h f never. absurd never)
 
   -- only the list of what is gone changes
-  gone-stepped : {n m : LoneNode} (gone : GoneView) → p.handle ≡ Some n → m ≡ record n { gone = gone }
+  gone-stepped : {n m : LoneNode} {t : System} (gone : GoneView) → p.handle ≡ Some n
+      → m ≡ record n { gone = gone }
       → Becomes s t i (record p { handle = Some m }) [] → Stepped shape s t quietly
   gone-stepped {n} gone held now becomes =
-      advances-stepped within t inside sound held
+      advances-stepped site held
       (advances-same (ap (λ (x : LoneNode). x.node) now) (ap (λ (x : LoneNode). x.counts) now)
       (subst (KeepsLog n) (sym now) (λ first led. led)))
       becomes (λ w is h f never. absurd never)
@@ -201,65 +225,67 @@ module _ {shape : Shaped} (within : IsShape shape) {s : System} (t : System) {i 
   -- ---- each call on a handle
 
   -- it gives out these frames, if it is answered
-  gives-stepped : {n m : LoneNode} {given : List Plain} → p.handle ≡ Some n → m ≡ n
+  gives-stepped : {n m : LoneNode} {given : List Plain} {t : System} → p.handle ≡ Some n → m ≡ n
       → ((w : World) → IsWorld shape s.frames w
       → IsCarried (node_at w.saved i) (node_at w.current i) n.node.core → (f : Plain)
       → Among f given → IsInNet w f)
       → Becomes s t i (record p { handle = Some m }) given → Stepped shape s t quietly
   gives-stepped held same out becomes =
-      advances-stepped within t inside sound held (advances-not same) becomes out
+      advances-stepped site held (advances-not same) becomes out
 
-  deed-stepped : {n : LoneNode} (m : LoneNode) (d : Deed) → p.handle ≡ Some n → Meets d n m
-      → Becomes s t i (place_after d m p) (gives d n) → IsOfSpace s (On i d)
-      → IsStoredFirst s (On i d) → IsCounted n → Continues (newest p) n
-      → ((image batches : List ℕ) → newest p ≡ Image image batches
-      → (first : WholeNode) × IsStored image batches first)
+  deed-stepped : {n : LoneNode} {t : System} (m : LoneNode) (d : Deed) → Known s i n
+      → Meets d n m → Becomes s t i (place_after d m p) (gives d n) → Owes shape s (On i d)
       → Stepped shape s t (said_by (On i d))
-  deed-stepped {n} m (Act e r) held meets becomes space first wide log found =
-      advances-stepped within t inside sound held
-      (acts-advances within inside (is_congested n e) e r meets.0 meets.1) becomes
+  deed-stepped {n} m (Act e r) known meets becomes owes =
+      advances-stepped site known.held
+      (acts-advances site.limits site.inside (is_congested n e) e r meets.0 meets.1) becomes
       (λ w is h f never. absurd never)
-  deed-stepped {n} m (Take bytes r) held meets becomes space first wide log found =
-      advances-stepped within t inside sound held (took-advances within inside space meets) becomes
+  deed-stepped m (Take bytes r) known meets becomes owes =
+      advances-stepped site known.held
+      (took-advances site.limits site.inside owes.of_space meets) becomes
       (λ w is h f never. absurd never)
-  deed-stepped {n} m (Work scans slots work r) held meets becomes space first wide log found =
-      advances-stepped within t inside sound held
-      (works-advances within inside scans slots work r meets) becomes
+  deed-stepped m (Work scans slots work r) known meets becomes owes =
+      advances-stepped site known.held
+      (works-advances site.limits site.inside scans slots work r meets) becomes
       (λ w is h f never. absurd never)
-  deed-stepped {n} m (FrameAt to place (Ok u) old new before needed) held meets becomes space first
-      wide log found =
-      gives-stepped held meets.1 (released-out within t inside sound n to place) becomes
-  deed-stepped {n} m (FrameAt to place (Err e) old new before needed) held meets becomes space first
-      wide log found = same-stepped held meets.1 becomes
-  deed-stepped {n} m (AckFor from (Ok u) old new before needed) held meets becomes space first
-      wide log found =
-      gives-stepped held meets.1 (ack-out within t inside sound n from) becomes
-  deed-stepped {n} m (AckFor from (Err e) old new before needed) held meets becomes space first
-      wide log found = same-stepped held meets.1 becomes
-  deed-stepped {n} m (Frames to after (Ok count) old new before needed) held meets becomes space
-      first wide log found =
-      gives-stepped held meets.1 (window-out within t inside sound n to WINDOW) becomes
-  deed-stepped {n} m (Frames to after (Err e) old new before needed) held meets becomes space first
-      wide log found = same-stepped held meets.1 becomes
-  deed-stepped {n} m (TakeImage r old new before needed) held meets becomes space first
-      wide log found =
-      image-stepped n m old new before needed r held wide meets becomes
-  deed-stepped {n} m (TakeBatch r old new before needed) held meets becomes space first
-      wide log found =
-      batch-stepped n m old new before needed r (batch_of n) held wide meets log found becomes
-  deed-stepped {n} m (Keep mark r) held meets becomes space first wide log found =
-      keep-stepped mark n.counts (mark == n.mark) refl refl held meets.0 meets.2 (first n held)
+  deed-stepped {n} m (FrameAt to place (Ok u) old new before needed) known meets becomes owes =
+      gives-stepped known.held meets.1 (λ w. released-out site n to place {w = w}) becomes
+  deed-stepped m (FrameAt to place (Err e) old new before needed) known meets becomes owes =
+      same-stepped known.held meets.1 becomes
+  deed-stepped {n} m (AckFor from (Ok u) old new before needed) known meets becomes owes =
+      gives-stepped known.held meets.1 (λ w. ack-out site n from {w = w}) becomes
+  deed-stepped m (AckFor from (Err e) old new before needed) known meets becomes owes =
+      same-stepped known.held meets.1 becomes
+  deed-stepped {n} m (Frames to after (Ok count) old new before needed) known meets becomes owes =
+      gives-stepped known.held meets.1 (λ w. window-out site n to WINDOW {w = w}) becomes
+  deed-stepped m (Frames to after (Err e) old new before needed) known meets becomes owes =
+      same-stepped known.held meets.1 becomes
+  deed-stepped m (TakeImage r old new before needed) known meets becomes owes =
+      image-stepped m
+      (record { old = old; new = new; before = before; needed = needed }) r known.held known.wide
+      meets becomes
+  deed-stepped {n} m (TakeBatch r old new before needed) known meets becomes owes =
+      batch-stepped m
+      (record { old = old; new = new; before = before; needed = needed }) r (batch_of n) known meets
       becomes
-  deed-stepped {n} m (Release r) held meets becomes space first wide log found =
-      released-stepped within t inside sound held wide
+  deed-stepped {n} m (Keep mark r) known meets becomes owes =
+      keep-stepped {mark = mark} n.counts (mark == n.mark) (record {
+        held = known.held;
+        has = refl;
+        is = refl;
+        now = meets.0;
+        logs = meets.2;
+        first = owes.stored_first n known.held;
+      }) becomes
+  deed-stepped {t = t} m (Release r) known meets becomes owes =
+      released-stepped site known.held known.wide
       (subst (λ (x : LoneNode).
       Becomes s t i (record { handle = Some x; stored = Lost; taken = [] }) []) meets.0 becomes)
-  deed-stepped {n} m (Log on r) held meets becomes space first wide log found =
-      log-stepped on held meets.0 becomes
-  deed-stepped {n} m (Track on r) held meets becomes space first wide log found =
-      gone-stepped (tracking on n.gone) held meets.0 becomes
-  deed-stepped {n} m (Freed count old new) held meets becomes space first wide log found =
-      gone-stepped m.gone held meets.stays becomes
+  deed-stepped m (Log on r) known meets becomes owes = log-stepped on known.held meets.0 becomes
+  deed-stepped {n} m (Track on r) known meets becomes owes =
+      gone-stepped (tracking on n.gone) known.held meets.0 becomes
+  deed-stepped m (Freed count old new) known meets becomes owes =
+      gone-stepped m.gone known.held meets.stays becomes
 
   -- ---- openings
 
@@ -272,60 +298,66 @@ module _ {shape : Shaped} (within : IsShape shape) {s : System} (t : System) {i 
   no-log n off first = if_none n.logs n.log off
 
   -- the node of this number, of this shape
-  made-stepped : {n : LoneNode} (limit : ℕ) → n ≡ lone (new_whole shape i) limit
+  made-stepped : {n : LoneNode} {t : System} (limit : ℕ) → n ≡ lone (new_whole shape i) limit
       → p.stored ≡ Nothing → p.handle ≡ None
       → Becomes s t i (record { handle = Some n; stored = p.stored; taken = [] }) []
       → Stepped shape s t quietly
   made-stepped {n} limit is nothing empty becomes =
       let same : n.node ≡ new_whole shape i = ap (λ (x : LoneNode). x.node) is in
-      opened-stepped within t inside sound empty
+      opened-stepped site empty
       (λ x found.
       subst (λ (y : WholeNode). IsCarried x x y.core) (sym same)
       (subst (λ (y : NodeState). IsCarried y y (new_view shape i))
       (sym (subst (λ (e : Stored). Finds shape i e x) nothing found))
       (carried-whole (new-kept shape i) (new-shown shape i))))
-      (subst (λ (y : WholeNode). AreGiven s.frames y.early) (sym same)
-      (of-none (λ from d. Among (plain_data d) s.frames) shape.nodes))
-      (subst (λ (y : WholeNode). AreAcked s.frames y.core) (sym same)
       (record {
-        each = λ j. none_yet (ap base_of (get_or-replicate_any {A = Link} shape.nodes j no_link));
-        wide = length-replicate shape.nodes 0
-            ∙ sym (length-replicate {A = Link} shape.nodes no_link);
-      }))
-      (continues-none p.stored n (no-log n (ap (λ (x : LoneNode). x.logs) is)))
+        early = subst (λ (y : WholeNode). AreGiven s.frames y.early) (sym same)
+            (of-none (λ from d. Among (plain_data d) s.frames) shape.nodes);
+        acked = subst (λ (y : WholeNode). AreAcked s.frames y.core) (sym same) (record {
+          each = λ j. none_yet (ap base_of (get_or-replicate_any {A = Link} shape.nodes j no_link));
+          wide = length-replicate shape.nodes 0
+              ∙ sym (length-replicate {A = Link} shape.nodes no_link);
+        });
+        log = continues-none p.stored n (no-log n (ap (λ (x : LoneNode). x.logs) is));
+      })
       (ap (λ (x : LoneNode). x.counts) is) becomes
 
-  read-stepped : {n : LoneNode} (bytes : List ℕ) (limit : ℕ) → Read bytes limit (Ok n)
+  read-stepped : {n : LoneNode} {t : System} (bytes : List ℕ) (limit : ℕ) → Read bytes limit (Ok n)
       → p.stored ≡ Image bytes [] → p.handle ≡ None
       → Becomes s t i (record { handle = Some n; stored = p.stored; taken = [] }) []
       → Stepped shape s t quietly
   read-stepped {n} bytes limit (image, is) stored empty becomes =
       let same : n.node ≡ alone n.node.core = ap (λ (x : LoneNode). x.node) is in
-      opened-stepped within t inside sound empty
+      opened-stepped site empty
       (λ x found.
       let node = subst (λ (e : Stored). Finds shape i e x) stored found in
       subst (λ (y : WholeNode). IsCarried x x y.core)
       (read-one bytes n.node.core node.node image node.stored)
       (carried-whole node.saved node.shows))
-      (alone-given n.node same)
-      (sound.stored i p.stored (inl refl) bytes [] (alone n.node.core) stored
-      (stored-alone bytes (alone n.node.core) (any_of bytes (alone n.node.core) (image, refl))))
-      (continues-none p.stored n (no-log n (ap (λ (x : LoneNode). x.logs) is)))
+      (record {
+        early = alone-given n.node same;
+        acked = site.sound.stored i p.stored (inl refl) bytes [] (alone n.node.core) stored
+            (stored-alone bytes (alone n.node.core)
+            (any_of bytes (alone n.node.core) (image, refl)));
+        log = continues-none p.stored n (no-log n (ap (λ (x : LoneNode). x.logs) is));
+      })
       (ap (λ (x : LoneNode). x.counts) is) becomes
 
-  reopened-stepped : {n : LoneNode} (image batches : List ℕ) (limit : ℕ)
+  reopened-stepped : {n : LoneNode} {t : System} (image batches : List ℕ) (limit : ℕ)
       → Reopened image batches limit (Ok n) → p.stored ≡ Image image batches → p.handle ≡ None
       → Becomes s t i (record { handle = Some n; stored = p.stored; taken = [] }) []
       → Stepped shape s t quietly
   reopened-stepped {n} image batches limit (of, is, logs) stored empty becomes =
-      opened-stepped within t inside sound empty
+      opened-stepped site empty
       (λ x found. found-carried (subst (λ (e : Stored). Finds shape i e x) stored found) of)
-      (alone-given n.node (stored-quiet of))
-      (sound.stored i p.stored (inl refl) image batches n.node stored of)
-      (subst (λ (e : Stored). Continues e n) (sym stored) (continues-from n n.node of logs))
+      (record {
+        early = alone-given n.node (stored-quiet of);
+        acked = site.sound.stored i p.stored (inl refl) image batches n.node stored of;
+        log = subst (λ (e : Stored). Continues e n) (sym stored) (continues-from n n.node of logs);
+      })
       (ap (λ (x : LoneNode). x.counts) is) becomes
 
-  open-stepped : {n : LoneNode} (how : Opening) (limit : ℕ) → Opens how limit (Ok n)
+  open-stepped : {n : LoneNode} {t : System} (how : Opening) (limit : ℕ) → Opens how limit (Ok n)
       → IsMadeOnce shape s (Open i how limit (Ok n)) → GoesOn s (Open i how limit (Ok n))
       → p.handle ≡ None
       → Becomes s t i (record { handle = Some n; stored = p.stored; taken = [] }) []
@@ -341,8 +373,7 @@ module _ {shape : Shaped} (within : IsShape shape) {s : System} (t : System) {i 
 
 -- ---- each call
 
-module _ {shape : Shaped} (within : IsShape shape) {s : System} (t : System) (sound : IsSound s)
-    (shown : AllShown shape s) where
+module _ {shape : Shaped} {s : System} (shown : AllShown shape s) where
   -- what is newest of a node is there to be found
   newest-found : (i : ℕ) → i < shape.nodes → (image batches : List ℕ)
       → newest (s.places i) ≡ Image image batches
@@ -355,9 +386,9 @@ module _ {shape : Shaped} (within : IsShape shape) {s : System} (t : System) (so
       (node.node, node.stored)
 
   -- a held node counts what it received on each of its links
-  got-counted : (i : ℕ) → i < shape.nodes → {n : LoneNode} → (s.places i).handle ≡ Some n
-      → IsCounted n
-  got-counted i inside {n} held =
+  got-counted : (i : ℕ) → IsShape shape → i < shape.nodes → {n : LoneNode}
+      → (s.places i).handle ≡ Some n → IsCounted n
+  got-counted i within inside {n} held =
       let found = shown (λ k. newest (s.places k))
       (λ k. newest-among (s.places k).stored (s.places k).taken) in
       let w : World = found.0 in
@@ -369,19 +400,25 @@ module _ {shape : Shaped} (within : IsShape shape) {s : System} (t : System) (so
       ap (λ (q : LocalState). length q.got) carried.shows.local ∙ base.heard i inside
       ∙ sym (base.width i inside) ∙ sym carried.shows.width
 
-  pub does-stepped : (c : Call) → place_of c < shape.nodes → Does c s t → Owes shape s c
-      → Stepped shape s t (said_by c)
-  does-stepped (Open i how limit (Ok n)) inside does owes =
-      open-stepped within t inside sound how limit does.0 owes.made_once owes.goes_on
-      owes.one_holder does.1
-  does-stepped (Open i how limit (Err f)) inside does owes = stepped-not does.1 sound
-  does-stepped (On i d) inside does owes =
-      deed-stepped within t inside sound does.new d does.held does.meets does.becomes owes.of_space
-      owes.stored_first (got-counted i inside does.held)
-      (sound-node within t inside sound does.held).log (newest-found i inside)
-  does-stepped (End i) inside does owes = ended-stepped within t inside sound does
-  does-stepped (Store i e others) inside does owes =
-      stored-stepped within t inside sound owes.in_order.0 owes.in_order.1 does
+  pub does-stepped : {t : System} → IsShape shape → IsSound s → (c : Call)
+      → place_of c < shape.nodes → Does c s t → Owes shape s c → Stepped shape s t (said_by c)
+  does-stepped within sound (Open i how limit (Ok n)) inside does owes =
+      open-stepped (record { limits = within; inside = inside; sound = sound }) how limit does.0
+      owes.made_once owes.goes_on owes.one_holder does.1
+  does-stepped within sound (Open i how limit (Err f)) inside does owes = stepped-not does.1 sound
+  does-stepped within sound (On i d) inside does owes =
+      deed-stepped (record { limits = within; inside = inside; sound = sound }) does.new d
+      (record {
+        held = does.held;
+        wide = got-counted i within inside does.held;
+        found = newest-found i inside;
+      })
+      does.meets does.becomes owes
+  does-stepped within sound (End i) inside does owes =
+      ended-stepped (record { limits = within; inside = inside; sound = sound }) does
+  does-stepped within sound (Store i e others) inside does owes =
+      stored-stepped (record { limits = within; inside = inside; sound = sound })
+      owes.in_order.0 owes.in_order.1 does
 
 -- ---- all calls
 
@@ -404,7 +441,7 @@ goes-came {shape} within [] s t sound shown same =
     subst (Came shape s) (sym same)
     (record { sound = sound; shown = shown; leads = leads-nowhere s })
 goes-came within (c ∷ cs) s t sound shown (next, inside, does, owes, rest) =
-    let one = does-stepped within next sound shown c inside does owes in
+    let one = does-stepped shown within sound c inside does owes in
     let leads = λ (c : Choice) (may : MayFind next c). leads-by (one.leads c may) in
     let end = goes-came within cs next t one.sound (shown-on shown leads) rest in
     record {

@@ -1,10 +1,10 @@
 -- The entries of what is gone from a heap: just the objects that the later one doesn't have, each
 -- once.
-use Rattle.std.proofs.Common.{◌≡◌, ℕ, zero, suc, ◌+◌, ◌<◌, ◌≤◌, ◌⊎◌, ◌==◌, Bool, true, false, not, cond, List, [], ◌∷◌, ◌++◌, length, inl, inr, refl, sym, ap, ◌∙◌, subst, ⊎_elim, arith, le_refl}
-use Rattle.std.proofs.lemmas.Bool.{both_ways, cases_Bool, cases_lt, cond-true, cond_both, eq-eqb, eqb-true, not-false}
+use Rattle.std.proofs.Common.{◌≡◌, ℕ, zero, suc, ◌+◌, ◌<◌, ◌≤◌, ◌⊎◌, true, not, List, [], ◌∷◌, ◌++◌, length, inl, inr, refl, sym, ap, ◌∙◌, subst, ⊎_elim, arith}
+use Rattle.std.proofs.lemmas.Bool.{both_ways, cases_Bool, cases_lt, cond-true, cond_both, eq-eqb, eqb-true}
 use Rattle.ids.specs.declared.names.Ref.{Ref}
 use Rattle.model.specs.Cuts.{Among}
-use Rattle.model.specs.State.{Object, Slot, Free, Occupied, Retired, Heap, slot_at}
+use Rattle.model.specs.State.{Slot, Free, Occupied, Retired, Heap, slot_at}
 use Rattle.model.proofs.Searching.{among-parts}
 use Rattle.model.proofs.Slots.{occupied-within}
 use Rattle.laws.proofs.Freeing.{Has, slot-has}
@@ -16,7 +16,8 @@ use Rattle.c_handles.proofs.Entries.{Test}
 
 -- ---- lists of references
 
-pub references-append : (xs ys : List CFreed) → references (xs ++ ys) ≡ references xs ++ references ys
+pub references-append : (xs ys : List CFreed) → references (xs ++ ys) ≡ references xs
+    ++ references ys
 references-append [] ys = refl
 references-append (x ∷ xs) ys =
     ap (λ (rs : List Ref). reference_of x ∷ rs) (references-append xs ys)
@@ -194,7 +195,8 @@ gone-is : (later : Heap) (k : ℕ) (s : Slot) (e : ℕ) → Has s e
 gone-is later k (Free g) e has none = absurd has
 gone-is later k (Occupied g o) e has none =
     ⊎_elim {C = not (has_generation g (slot_at later k)) ≡ true}
-    (λ is. absurd (none (subst (Has (slot_at later k)) has (generation-has (slot_at later k) g is))))
+    (λ is. absurd
+    (none (subst (Has (slot_at later k)) has (generation-has (slot_at later k) g is))))
     (λ isnt. ap not isnt)
     (cases_Bool (has_generation g (slot_at later k)))
 gone-is later k Retired e has none = absurd has

@@ -243,7 +243,8 @@ lists-gone {passes} {h} {later} {k} {n} own l =
           let far : k + n ≤ last = within in
           ap (entries_from (is_gone later) own h 0) (sym first)
           ∙ entries-jump (is_gone later) own h 0 k last (omega arith) (omega (arith, far))
-          (λ j from to. outside _ (λ is. (let at = (l.all j is).0 in absurd (omega (arith, at, to)))))
+          (λ j from to. outside _
+          (λ is. (let at = (l.all j is).0 in absurd (omega (arith, at, to)))))
           ∙ ap (entries_from (is_gone later) own h k) (sym rest)
           ∙ entries-more (is_gone later) own h k n (last - (k + n))
           ∙ ap (λ (es : List CFreed). entries_from (is_gone later) own h k n ++ es)

@@ -1,14 +1,8 @@
 -- How the calls end that give a node or a cell an event or a frame: a lemma for each way.
-use Rattle.std.proofs.Common.{◌≡◌, ◌≢◌, ◌∙◌, true, false, Err, IfErr, IfOk, IsTrue, List, ℕ, Ok, OnErr}
-use Rattle.std.proofs.Common.{None, Option, Result, Some, ap, inl, refl, subst, sym}
-use Rattle.std.proofs.lemmas.Bool.{true≢false}
+use Rattle.std.proofs.Common.{◌≡◌, ◌∙◌, Bool, true, false, Err, List, ℕ, Ok, OnErr, Result, ap, inl, refl, subst}
+use Rattle.std.specs.Prelude.{◌||◌}
 use Rattle.ids.specs.declared.refusal.Refusal.{Refusal}
-use Rattle.ids.specs.declared.refusal.Refusal.TheVariants.{Memory}
-use Rattle.model.specs.State.{NodeState}
-use Rattle.model.specs.Steps.{act, is_memory_free, is_shading}
-use Rattle.model.specs.View.{Follows, Leaves, Performs, Shows, view_act}
 use Rattle.model.specs.declared.event.Answer.{Answer}
-use Rattle.model.specs.declared.event.Answer.TheVariants as answer
 use Rattle.model.specs.declared.event.Event.{Event}
 use Rattle.model.specs.declared.event.Event.TheVariants as events
 use Rattle.c_values.specs.declared.fault.Fault.{Fault}
@@ -16,144 +10,71 @@ use Rattle.frames.specs.Grammar.{Fits, spelling}
 use Rattle.msg.specs.Frames.{plain}
 use Rattle.msg.specs.declared.frame.Ack.{Ack}
 use Rattle.msg.specs.declared.frame.Frame.{Frame}
-use Rattle.node.specs.Keeping.{WholeNode, early_after, met}
-use Rattle.node_log.specs.Noted.{Noted}
-use Rattle.node_store.specs.Acting.{Acts}
-use Rattle.node_store.proofs.Quiet.{quiet-same}
-use Rattle.model.specs.Effects.{is_change}
-use Rattle.c_handles.specs.Logs.{Led}
-use Rattle.c_handles.specs.Lone.{Gave, Handled, Heard, TookIn}
+use Rattle.node_store.specs.Acting.{Acted, has_changed}
+use Rattle.node_store.specs.declared.logged.LoggedNode.{LoggedNode}
+use Rattle.node_store.proofs.Noting.{leads_on}
+use Rattle.c_handles.specs.Logs.{KeepsLog, Led}
+use Rattle.c_handles.specs.Lone.{Gave, Handled, Heard, TookIn, marked_by}
 use Rattle.c_handles.specs.declared.lone.LoneNode.{LoneNode}
-use Rattle.c_handles.proofs.Logs.{ack_now, after_counted, after_uncounted, if_kept, if_none, led_noted}
+use Rattle.c_handles.proofs.Logs.{led_more}
 
--- what the node's own call says
-pub acts_by : {old new : WholeNode} {e : Event} {r : Result Answer Refusal}
-    → Performs (is_shading (met old.early e)) r new.core (view_act old.core (met old.early e))
-    → ((s : NodeState) → Shows old.core s
-    → Follows (met old.early e) r new.core (act s (met old.early e)))
-    → OnErr r (new.core ≡ old.core) → Leaves old.core new.core (met old.early e)
-    → (IsTrue (is_memory_free old.core.local (met old.early e)) → IfErr r (λ f. f ≢ Memory))
-    → new.early ≡ early_after old.core.local old.early e r
-    → (met old.early e ≢ e → IfOk r (λ a. a ≡ answer.Received)) → Acts old new e r
-acts_by performs states unchanged leaves memory_free early turn = record {
-  performs = performs;
-  states = states;
-  unchanged = unchanged;
-  leaves = leaves;
-  memory_free = memory_free;
-  early = early;
-  turn = turn;
-}
+-- the node of a handle with its log, and the handle with another one
+abbrev pub logged_of : LoneNode → LoggedNode
+logged_of n = record { node = n.node; logs = n.logs; log = n.log }
 
-keeps_none : {log : Option (List ℕ)} {bytes : List ℕ} → log ≡ None → log ≡ Some bytes → ⊥
-keeps_none lost is = absurd cc
+abbrev pub with_logged : LoneNode → LoggedNode → LoneNode
+with_logged n l = record n { node = l.node; logs = l.logs; log = l.log }
 
-module _ {old : LoneNode} {node : WholeNode} {e : Event} where
-  -- the event is refused
-  pub gave_refusal : {f : Refusal} → Acts old.node node e (Err f)
-      → Gave old (record old { node = node }) e (Err f)
-  gave_refusal acts = record {
-    acts = acts;
-    stays = after_uncounted old node false refl;
-    logs = λ first led bytes is.
-        subst (λ n. Led bytes first n old.counts) (sym acts.unchanged) (led bytes is);
-    quiet = λ none. refl;
+or-false : (b : Bool) → (b || false) ≡ b
+or-false true = refl
+or-false false = refl
+
+unmarked : (n : LoneNode) → marked_by false n ≡ n
+unmarked n =
+    ap (λ (b : Bool). record n { is_changed = b; is_unsaved = n.is_unsaved || false })
+    (or-false n.is_changed)
+    ∙ ap (λ (b : Bool). record n { is_unsaved = b }) (or-false n.is_unsaved)
+
+leads : (old : LoneNode) (logged : LoggedNode) {e : Event} {r : Result Answer Refusal}
+    → Acted (logged_of old) logged e r → KeepsLog old (with_logged old logged)
+leads old logged {r = r} acted first =
+    leads_on (λ bytes n. Led bytes first n old.counts)
+    (λ bytes n m e fits done led. led_more e fits done led) r acted
+
+-- The node was given an event.
+module _ {old : LoneNode} {logged : LoggedNode} where
+  pub gave : {e : Event} (r : Result Answer Refusal) → Acted (logged_of old) logged e r
+      → Gave old (marked_by (has_changed r) (with_logged old logged)) e r
+  gave r acted = record {
+    acts = acted.acts;
+    stays = ap (λ (b : Bool). marked_by (has_changed r)
+        (record old { node = logged.node; logs = b; log = logged.log })) acted.logs;
+    logs = leads old logged acted;
+    quiet = acted.quiet;
   }
 
-  -- it changes nothing
-  pub gave_same : {a : Answer} → Acts old.node node e (Ok a) → is_change a ≡ false
-      → Gave old (record old { node = node }) e (Ok a)
-  gave_same {a} acts counts =
-      let same : node.core ≡ old.node.core =
-      quiet-same old.node.core node.core (met old.node.early e) a acts.performs counts in
-      record {
-        acts = acts;
-        stays = after_uncounted old node (is_change a) counts;
-        logs = λ first led bytes is.
-            subst (λ n. Led bytes first n old.counts) (sym same) (led bytes is);
-        quiet = λ none. refl;
-      }
+  -- it refused the event
+  pub gave_refusal : {e : Event} {f : Refusal} → Acted (logged_of old) logged e (Err f)
+      → Gave old (with_logged old logged) e (Err f)
+  gave_refusal {e} {f} acted =
+      subst (λ n. Gave old n e (Err f)) (unmarked (with_logged old logged)) (gave (Err f) acted)
 
-  -- what it means is noted
-  pub gave_noted : {a : Answer} {log : Option (List ℕ)} {meant : Event}
-      → Acts old.node node e (Ok a) → is_change a ≡ true → meant ≡ met old.node.early e
-      → Noted old.log log meant
-      → Gave old
-      (record old { node = node; is_changed = true; is_unsaved = true; log = log }) e (Ok a)
-  gave_noted {a} {log} {meant} acts counts means noted = record {
-    acts = acts;
-    stays = after_counted old node log (is_change a) counts;
-    logs = λ first. if_kept old.logs old.log log (led_noted (record {
-      event = meant;
-      answer = a;
-      acts = ap (view_act old.node.core) means ∙ acts.performs;
-      now = counts;
-      noted = noted;
-    }));
-    quiet = λ none. absurd (true≢false (sym counts ∙ none));
+  -- the event was an acknowledgement
+  pub heard : {ack : Ack} (r : Result Answer Refusal)
+      → Acted (logged_of old) logged (events.Ack ack) r
+      → Heard old (with_logged old logged) ack r
+  heard r acted = record {
+    acts = acted.acts;
+    stays = ap (λ (b : Bool). record old { node = logged.node; logs = b; log = logged.log })
+        acted.logs;
+    logs = leads old logged acted;
+    still = still r acted.quiet;
   }
-
-  -- there is no memory for what it means, and the log is lost
-  pub gave_lost : {a : Answer} {log : Option (List ℕ)} → Acts old.node node e (Ok a)
-      → is_change a ≡ true → log ≡ None
-      → Gave old
-      (record old { node = node; is_changed = true; is_unsaved = true; log = log }) e (Ok a)
-  gave_lost {a} {log} acts counts lost = record {
-    acts = acts;
-    stays = after_counted old node log (is_change a) counts;
-    logs = λ first. if_kept old.logs old.log log (λ led bytes is. absurd (keeps_none lost is));
-    quiet = λ none. absurd (true≢false (sym counts ∙ none));
-  }
-
-  -- no log is kept
-  pub gave_unlogged : {a : Answer} → Acts old.node node e (Ok a) → is_change a ≡ true
-      → old.logs ≡ false
-      → Gave old (record old { node = node; is_changed = true; is_unsaved = true }) e (Ok a)
-  gave_unlogged {a} acts counts off = record {
-    acts = acts;
-    stays = after_counted old node old.log (is_change a) counts;
-    logs = λ first led. if_none old.logs old.log off;
-    quiet = λ none. refl;
-  }
-
-module _ {old : LoneNode} {node : WholeNode} {ack : Ack} {a : Answer} where
-  -- an acknowledgement that drops messages is noted
-  pub heard_noted : {log : Option (List ℕ)} → Acts old.node node (events.Ack ack) (Ok a)
-      → Noted old.log log (events.Ack ack)
-      → Heard old (record old { node = node; log = log }) ack (Ok a)
-  heard_noted {log} acts noted = record {
-    acts = acts;
-    stays = refl;
-    logs = λ first. if_kept old.logs old.log log (led_noted (record {
-      event = events.Ack ack;
-      answer = a;
-      acts = acts.performs;
-      now = ack_now old.node.core node.core ack a acts.performs;
-      noted = noted;
-    }));
-    still = tt;
-  }
-
-  -- no log is kept
-  pub heard_unlogged : Acts old.node node (events.Ack ack) (Ok a) → old.logs ≡ false
-      → Heard old (record old { node = node }) ack (Ok a)
-  heard_unlogged acts off = record {
-    acts = acts;
-    stays = refl;
-    logs = λ first led. if_none old.logs old.log off;
-    still = tt;
-  }
-
-  -- any other changes nothing
-  pub heard_same : Acts old.node node (events.Ack ack) (Ok a) → node.core ≡ old.node.core
-      → Heard old (record old { node = node }) ack (Ok a)
-  heard_same acts same = record {
-    acts = acts;
-    stays = refl;
-    logs = λ first led bytes is.
-        subst (λ n. Led bytes first n old.counts) (sym same) (led bytes is);
-    still = tt;
-  }
+    where
+      still : (r : Result Answer Refusal)
+          → (has_changed r ≡ false → logged.log ≡ old.log) → OnErr r (logged.log ≡ old.log)
+      still (Ok a) quiet = tt
+      still (Err f) quiet = quiet refl
 
 -- bytes that spell a frame were taken in
 pub took_frame : (f : Frame) {bytes : List ℕ} {old new : LoneNode} {r : Result Answer Fault}

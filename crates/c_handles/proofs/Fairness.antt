@@ -103,7 +103,7 @@ record TurnCame (shape : Shaped) (s : System) (calls : List Call) (t : System) :
 pub sits-on : {shape : Shaped} {s : System} (t : System) (c : Call) → Sits shape s → IsWithin c
     → place_of c < shape.nodes → Does c s t → Owes shape s c → Sits shape t
 sits-on {shape} {s} t c h within inside does owes =
-    let one = does-stepped h.limits t h.sound h.shown c inside does owes in
+    let one = does-stepped h.shown {t = t} h.limits h.sound c inside does owes in
     record {
       limits = h.limits;
       sound = one.sound;
@@ -156,7 +156,7 @@ calls-came {shape} [] s t h within same =
       };
     })
 calls-came {shape} (c ∷ cs) s t h within (next, inside, does, owes, rest) =
-    let one = does-stepped h.limits next h.sound h.shown c inside does owes in
+    let one = does-stepped h.shown {t = next} h.limits h.sound c inside does owes in
     let end = calls-came cs next t (sits-on next c h within.0 inside does owes) within.1 rest in
     record {
       sits = end.sits;
@@ -378,7 +378,7 @@ calls-free-garbage shape s u v t rounds more a reachable filled are does later c
     let h = sits-at-first reachable filled in
     let there = rounds-sit rounds s u h are in
     let begin : Call = On 0 (Act event.Begin (Ok a)) in
-    let one = does-stepped limits v there.sound there.shown begin first_inside does (record {
+    let one = does-stepped there.shown {t = v} limits there.sound begin first_inside does (record {
       of_space = tt;
       one_holder = tt;
       made_once = tt;

@@ -8,7 +8,7 @@ use Rattle.ids.specs.declared.refusal.Refusal.{Refusal}
 use Rattle.ids.specs.declared.refusal.Refusal.TheVariants.{LinkSpent, Memory}
 use Rattle.model.specs.Checks.{AllPass, IsFirstRefusal, IsOkOrSpent, by_memory, guarded}
 use Rattle.model.specs.Collecting.{Sweeping, free_one, free_some, generation_in, is_garbage, looked_at, sweeping, swept_slots, vacated, vacated_slot}
-use Rattle.model.specs.Effects.{Effect, is_change}
+use Rattle.model.specs.Effects.{Effect}
 use Rattle.model.specs.Reclaiming.{freed_within, is_in_scope, is_lost, is_needed, reclaimed, seen}
 use Rattle.model.specs.Searching.{is_sought}
 use Rattle.model.specs.State.{Object, Slot, Free, Occupied, Retired, Heap, LocalState, slot_at}
@@ -169,16 +169,6 @@ answered n new e a h =
           ∙ ap (λ (z : Effect). z.local) (sym same);
       answer = found.3 ∙ ap (λ (z : Effect). z.answer) (sym same);
     }
-
--- it changed the node
-pub freeing-change : (n new : NodeView) (e : Event) (a : Answer) → frees e ≡ true
-    → view_act n e ≡ Ok (new, a) → is_change a ≡ true
-unfolding swept_slots
-freeing-change n new (event.Sweep count) a is h =
-    ap is_change (answered n new (event.Sweep count) a h).answer
-freeing-change n new (event.Reclaim scope) a is h =
-    ap is_change (answered n new (event.Reclaim scope) a h).answer
-freeing-change n new e a is h = absurd cc
 
 -- what was listed before the event, without what the node still has
 pub listed-gone : (n new : NodeView) (e : Event) (a : Answer) → frees e ≡ true

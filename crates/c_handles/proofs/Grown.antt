@@ -187,7 +187,7 @@ call-bases t c h within inside does owes i j = absurd within
 pub call-grown : {shape : Shaped} {s : System} (t : System) (c : Call) → Sits shape s
     → IsWithin c → place_of c < shape.nodes → Does c s t → Owes shape s c → Grown shape s t
 call-grown {shape} {s} t c h within inside does owes =
-    let one = does-stepped h.limits t h.sound h.shown c inside does owes in
+    let one = does-stepped h.shown {t = t} h.limits h.sound c inside does owes in
     let full = call-filled shape s t c within does h.filled in
     let last : Choice = λ k. newest (t.places k) in
     let l = one.leads last (λ k. newest-among (t.places k).stored (t.places k).taken) in

@@ -20,7 +20,6 @@ pub mod Listing
 pub mod Leaving
 pub mod Moves
 pub mod Handles
-pub mod Scans
 pub mod Trails
 pub mod Says
 pub mod Acked
@@ -32,6 +31,7 @@ pub mod Calls
 pub mod Deeds
 pub mod Fairness
 pub mod Grown
+pub mod Taking
 pub mod Turns
 pub mod Theorems
 pub mod Entered

@@ -1,5 +1,5 @@
 -- How the calls end that give a node an event, if a list of what is gone may be kept.
-use Rattle.std.proofs.Common.{◌≡◌, ◌∙◌, ◌&&◌, ◌++◌, ◌+◌, ◌≤◌, Bool, true, false, Err, List, ℕ, Ok, Option, length, take, drop, ap, arith, inl, inr, refl, subst, sym}
+use Rattle.std.proofs.Common.{◌≡◌, ◌∙◌, ◌&&◌, ◌++◌, ◌+◌, ◌≤◌, Bool, true, false, Err, List, ℕ, Ok, length, take, drop, ap, arith, inl, inr, refl, subst, sym}
 use Rattle.std.specs.Prelude.{filter}
 use Rattle.std.proofs.lemmas.Bool.{cond-false, cond-true}
 use Rattle.std.proofs.lemmas.List.{length-append}
@@ -11,8 +11,8 @@ use Rattle.model.specs.declared.event.Answer.{Answer}
 use Rattle.model.specs.declared.event.Event.{Event}
 use Rattle.model.specs.declared.event.Event.TheVariants as event
 use Rattle.node.specs.Keeping.{WholeNode, met}
-use Rattle.node_log.specs.Noted.{Noted}
-use Rattle.node_store.specs.Acting.{Acts}
+use Rattle.node_store.specs.Acting.{Acted}
+use Rattle.node_store.specs.declared.logged.LoggedNode.{LoggedNode}
 use Rattle.node_store.specs.Logs.{is_turn}
 use Rattle.node_store.proofs.Turns.{met_same}
 use Rattle.c_values.specs.declared.fault.Fault.TheVariants as fault
@@ -20,10 +20,10 @@ use Rattle.c_values.specs.declared.fields.CFreed.{CFreed}
 use Rattle.c_handles.specs.Candidates.{ActsListing, AreFreed, Expects, candidates, confirming, is_left_out}
 use Rattle.model.specs.Steps.{frees}
 use Rattle.c_handles.specs.Gone.{GoneView, IsUnlisted, gone, list_after, listing}
-use Rattle.c_handles.specs.Lone.{Gave, Given, listed}
+use Rattle.c_handles.specs.Lone.{Gave, Given, listed, marked_by}
 use Rattle.c_handles.specs.declared.lone.LoneNode.{LoneNode}
-use Rattle.c_handles.proofs.Exits.{gave_noted, gave_refusal, gave_unlogged}
-use Rattle.c_handles.proofs.Frees.{freed-all, freeing-change, listed-gone, memory-first}
+use Rattle.c_handles.proofs.Exits.{gave, gave_refusal, logged_of, with_logged}
+use Rattle.c_handles.proofs.Frees.{freed-all, listed-gone, memory-first}
 
 frees_turn : (e : Event) → frees e ≡ true → is_turn e ≡ false
 frees_turn (event.Next from) is = absurd cc
@@ -83,7 +83,8 @@ module _ (n : NodeView) (e : Event) (v : GoneView) {w : GoneView} {before : ℕ}
         let p = n.local in
         let h = new.local.heap in
         let both : (frees e && v.tracks) ≡ true = ap (λ (b : Bool). b && v.tracks) is ∙ tracks in
-        ap (λ (es : List CFreed). record w { list = es ++ filter (is_left_out h) (drop before w.list) })
+        ap (λ (es : List CFreed). record w
+        { list = es ++ filter (is_left_out h) (drop before w.list) })
         ahead
         ∙ ap (λ (es : List CFreed). record w { list = v.list ++ filter (is_left_out h) es }) behind
         ∙ ap (λ (es : List CFreed). record w { list = v.list ++ es })
@@ -99,21 +100,6 @@ freeing_view old e is performs =
 
 module _ (old : WholeNode) (v : GoneView) {e : Event} (is : frees e ≡ true)
     (tracks : v.tracks ≡ true) where
-  pub freeing_act : {new : WholeNode} {a : Answer} → Acts old new e (Ok a)
-      → view_act old.core e ≡ Ok (new.core, a)
-  freeing_act acts = freeing_view old e is acts.performs
-
-  pub listing_ok : {new : WholeNode} {w u : GoneView} {a : Answer} {before : ℕ}
-      → Acts old new e (Ok a) → Expects old.core.local e v w (Ok before)
-      → u ≡ confirming before new.core.local.heap w → ActsListing old v new u e (Ok a)
-  listing_ok acts expects now =
-      (acts, now ∙ confirmed old.core e v expects (freeing_act acts) is tracks)
-
-  pub listing_err : {new : WholeNode} {w u : GoneView} {f : Refusal} {before : ℕ}
-      → Acts old new e (Err f) → Expects old.core.local e v w (Ok before)
-      → u ≡ record w { list = take before w.list } → ActsListing old v new u e (Err f)
-  listing_err acts expects now = (now ∙ withdrawn old.core e v expects, inl acts)
-
   -- there is no memory for the list
   pub unlisted : {w : GoneView} {f : Refusal} → Expects old.core.local e v w (Err f)
       → IsUnlisted v old.core e f
@@ -124,9 +110,26 @@ module _ (old : WholeNode) (v : GoneView) {e : Event} (is : frees e ≡ true)
     passes = memory-first old.core e is expects.2;
   }
 
-  pub listing_memory : {w : GoneView} {f : Refusal} → Expects old.core.local e v w (Err f)
+module _ (old : LoggedNode) (v : GoneView) {e : Event} (is : frees e ≡ true)
+    (tracks : v.tracks ≡ true) where
+  pub freeing_act : {new : LoggedNode} {a : Answer} → Acted old new e (Ok a)
+      → view_act old.node.core e ≡ Ok (new.node.core, a)
+  freeing_act acted = freeing_view old.node e is acted.acts.performs
+
+  pub listing_ok : {new : LoggedNode} {w u : GoneView} {a : Answer} {before : ℕ}
+      → Acted old new e (Ok a) → Expects old.node.core.local e v w (Ok before)
+      → u ≡ confirming before new.node.core.local.heap w → ActsListing old v new u e (Ok a)
+  listing_ok acted expects now =
+      (acted, now ∙ confirmed old.node.core e v expects (freeing_act acted) is tracks)
+
+  pub listing_err : {new : LoggedNode} {w u : GoneView} {f : Refusal} {before : ℕ}
+      → Acted old new e (Err f) → Expects old.node.core.local e v w (Ok before)
+      → u ≡ record w { list = take before w.list } → ActsListing old v new u e (Err f)
+  listing_err acted expects now = (now ∙ withdrawn old.node.core e v expects, inl acted)
+
+  pub listing_memory : {w : GoneView} {f : Refusal} → Expects old.node.core.local e v w (Err f)
       → ActsListing old v old w e (Err f)
-  listing_memory expects = (expects.0, inr (refl, unlisted expects))
+  listing_memory expects = (expects.0, inr (refl, unlisted old.node v is tracks expects))
 
 -- ---- Giving it to the node of a handle
 
@@ -141,45 +144,25 @@ given_plain {old} {new} {e} {a} off gave =
     old.gone off)) gave
 
 -- the event is refused, or there is no memory for the list
-pub listing_refused : {old : LoneNode} {node : WholeNode} {gone : GoneView} {e : Event}
-    {f : Refusal} → ActsListing old.node old.gone node gone e (Err f)
-    → Given false old (record old { node = node; gone = gone }) e (Err (fault.Refused f))
-listing_refused {old} {node} {gone} {e} {f} (same, inl acts) =
-    inl (subst (λ (v : GoneView). Gave old (record old { node = node; gone = v }) e (Err f))
-    (sym same) (gave_refusal acts))
-listing_refused {old} {node} {gone} {e} {f} (same, inr (unchanged, unlisted)) =
+pub listing_refused : {old : LoneNode} {logged : LoggedNode} {gone : GoneView} {e : Event}
+    {f : Refusal} → ActsListing (logged_of old) old.gone logged gone e (Err f)
+    → Given false old (record (with_logged old logged) { gone = gone }) e (Err (fault.Refused f))
+listing_refused {old} {logged} {gone} {e} {f} (same, inl acted) =
+    inl (subst (λ (v : GoneView). Gave old (record (with_logged old logged) { gone = v }) e (Err f))
+    (sym same) (gave_refusal acted))
+listing_refused {old} {logged} {gone} {e} {f} (same, inr (unchanged, unlisted)) =
     inr (record {
       unlisted = unlisted;
-      same = ap (λ (n : WholeNode). record old { node = n; gone = gone }) unchanged
+      same = ap (λ (n : LoggedNode). record (with_logged old n) { gone = gone }) unchanged
           ∙ ap (λ (v : GoneView). record old { gone = v }) same;
     })
 
-module _ (old : LoneNode) {node : WholeNode} {gone : GoneView} {e : Event} {a : Answer}
-    (is : frees e ≡ true) (acts : ActsListing old.node old.gone node gone e (Ok a)) where
-  same : met old.node.early e ≡ e
-  same = met_same old.node.early e (frees_turn e is)
-
-  counts : is_change a ≡ true
-  counts =
-      freeing-change old.node.core node.core e a is
-      (sym (ap (view_act old.node.core) same) ∙ acts.0.performs)
-
-  -- what it freed is listed, and it is noted
-  pub listing_noted : {log : Option (List ℕ)} → Noted old.log log e
-      → Given false old
-      (record old { node = node; gone = gone; is_changed = true; is_unsaved = true; log = log })
-      e (Ok a)
-  listing_noted {log} noted =
-      subst (λ (v : GoneView). Gave (listed old node.core e)
-      (record old { node = node; gone = v; is_changed = true; is_unsaved = true; log = log }) e
-      (Ok a)) (sym acts.1)
-      (gave_noted {old = listed old node.core e} acts.0 counts (sym same) noted)
-
-  -- what it freed is listed, and no log is kept
-  pub listing_unlogged : old.logs ≡ false
-      → Given false old
-      (record old { node = node; gone = gone; is_changed = true; is_unsaved = true }) e (Ok a)
-  listing_unlogged off =
-      subst (λ (v : GoneView). Gave (listed old node.core e)
-      (record old { node = node; gone = v; is_changed = true; is_unsaved = true }) e (Ok a))
-      (sym acts.1) (gave_unlogged {old = listed old node.core e} acts.0 counts off)
+-- what it freed is listed
+pub listing_gave : (old : LoneNode) {logged : LoggedNode} {gone : GoneView} {e : Event}
+    {a : Answer} → ActsListing (logged_of old) old.gone logged gone e (Ok a)
+    → Given false old (marked_by (is_change a) (record (with_logged old logged) { gone = gone })) e
+    (Ok a)
+listing_gave old {logged} {gone} {e} {a} (acted, now) =
+    subst (λ (v : GoneView). Gave (listed old logged.node.core e)
+    (marked_by (is_change a) (record (with_logged old logged) { gone = v })) e (Ok a)) (sym now)
+    (gave {old = listed old logged.node.core e} (Ok a) acted)

@@ -1,24 +1,21 @@
 -- What becomes of a log.
-use Rattle.std.proofs.Common.{◌≡◌, ℕ, zero, suc, ◌+◌, ◌%◌, ◌^◌, ◌≤◌, Bool, true, false, cond, List, [], ◌∷◌, ◌++◌, length, get_or, Option, Some, None, Ok, refl, ap, sym, ◌∙◌, subst, arith}
+use Rattle.std.proofs.Common.{◌≡◌, ℕ, zero, suc, ◌+◌, ◌%◌, ◌^◌, ◌≤◌, Bool, true, false, cond, List, [], ◌∷◌, ◌++◌, length, get_or, Option, Some, None, refl, ap, sym, ◌∙◌, subst, arith}
 use Rattle.std.specs.Global.{Vec}
 use Rattle.std.proofs.Common.{length-append}
 use Rattle.std.proofs.Math.ListN.{get_or-map}
+use Rattle.codec.specs.Formats.{Fits}
+use Rattle.event_bytes.specs.Entries.{entry}
+use Rattle.event_bytes.specs.Events.{entry_of}
 use Rattle.model.specs.declared.event.Event.{Event}
-use Rattle.model.specs.declared.event.Answer.{Answer}
-use Rattle.model.specs.declared.event.Event.TheVariants as events
-use Rattle.msg.specs.declared.frame.Ack.{Ack}
-use Rattle.model.specs.Effects.{is_change}
-use Rattle.model.proofs.Shown.{ack-answer}
 use Rattle.std.proofs.Common.{replicate, drop, take}
-use Rattle.std.specs.Prelude.{◌||◌, ◌&&◌, ◌-◌}
+use Rattle.std.specs.Prelude.{◌-◌}
 use Rattle.std.proofs.lemmas.Bool.{true≢false}
 use Rattle.std.proofs.lemmas.List.{take_all}
 use Rattle.model.specs.State.{got_from}
-use Rattle.model.specs.View.{NodeView, all_kept, kept_of, kept_view, link_to, no_link, used, view_act}
+use Rattle.model.specs.View.{NodeView, all_kept, kept_of, kept_view, link_to, no_link, used}
 use Rattle.node.specs.Invariant.{IsNode}
 use Rattle.node.specs.Keeping.{WholeNode}
 use Rattle.node_store.specs.Logs.{IsDone, Logged}
-use Rattle.node_log.specs.Noted.{Noted}
 use Rattle.node_store.proofs.Ends.{logged_more, logged_none}
 use Rattle.c_handles.specs.declared.lone.images.Counts.{Counts}
 use Rattle.image.specs.Logged.{IsAnyWholeOf}
@@ -29,12 +26,6 @@ use Rattle.c_handles.specs.declared.lone.LoneNode.{LoneNode}
 use Rattle.c_handles.proofs.Behind.{also, behind_all, behind_kept}
 
 -- a log that isn't kept says nothing
-pub if_kept : {first n m : NodeView} {counts others : Option (Vec Counts)} (logs : Bool)
-    (old new : Option (List ℕ)) → (LedIf old first n counts → LedIf new first m others)
-    → LedIf (cond logs old None) first n counts → LedIf (cond logs new None) first m others
-if_kept true old new f = f
-if_kept false old new f = λ led bytes is. absurd cc
-
 pub if_none : {first m : NodeView} {others : Option (Vec Counts)} (logs : Bool)
     (log : Option (List ℕ)) → logs ≡ false → LedIf (cond logs log None) first m others
 if_none true log off = absurd (true≢false off)
@@ -42,82 +33,25 @@ if_none false log off = λ bytes is. absurd cc
 
 -- ---- an event
 
--- what isn't both of two is not the first if it is the second
-pub other_than : (a b : Bool) → (a && b) ≡ false → b ≡ true → a ≡ false
-other_than true b both second = absurd (true≢false (sym second ∙ both))
-other_than false b both second = refl
-
 saved_still : (counts : Option (Vec Counts)) (n m : NodeView)
     → ((i : ℕ) → (link_to m i).kept ≡ (link_to n i).kept) → AreSaved counts n → AreSaved counts m
 saved_still None n m same saved = tt
 saved_still (Some counts) n m same saved = λ peer. omega (arith, same peer, saved peer)
 
--- an event changed the node, and was noted
-pub record WasNoted (n new : NodeView) (log log' : Option (List ℕ)) : Type 0 where
-  pub event : Event
-  pub answer : Answer
-  pub acts : view_act n event ≡ Ok (new, answer)
-  pub now : is_change answer ≡ true
-  pub noted : Noted log log' event
-
-pub led_noted : {first n new : NodeView} {counts : Option (Vec Counts)} {log log' : Option (List ℕ)}
-    → WasNoted n new log log' → LedIf log first n counts → LedIf log' first new counts
-led_noted {first} {n} {new} {counts} event led bytes is =
-    let more = event.noted.more bytes is in
-    let was = led more.1.0 more.1.1 in
-    let next = also n new was.last event.event event.answer was.behind event.acts in
-    let done : IsDone was.last event.event next.after =
+-- one more event
+pub led_more : {first n m : NodeView} {counts : Option (Vec Counts)} {bytes : List ℕ} (e : Event)
+    → Fits entry (entry_of e) → IsDone n e m → Led bytes first n counts
+    → Led (bytes ++ entry.spell (entry_of e)) first m counts
+led_more {n = n} {m = m} {counts = counts} e fits event was =
+    let next = also n m was.last e event.answer was.behind event.acts in
+    let done : IsDone was.last e next.after =
     record { answer = event.answer; acts = next.acts; now = event.now } in
     record {
       last = next.after;
-      logged = subst (λ l. Logged l first next.after) (sym more.1.2)
-          (logged_more event.event more.0 done was.logged);
+      logged = logged_more e fits done was.logged;
       behind = next.behind;
       saved = saved_still counts was.last next.after next.kept was.saved;
     }
-
-or-true : (b : Bool) → (b || true) ≡ true
-or-true true = refl
-or-true false = refl
-
-or-false : (b : Bool) → (b || false) ≡ b
-or-false true = refl
-or-false false = refl
-
--- a node after an event
-abbrev after : LoneNode → WholeNode → Option (List ℕ) → Bool → Bool → LoneNode
-after n node log changed unsaved =
-    record n { node = node; is_changed = changed; is_unsaved = unsaved; log = log }
-
-pub after_counted : (n : LoneNode) (node : WholeNode) (log : Option (List ℕ)) (b : Bool)
-    → b ≡ true → record n { node = node; is_changed = true; is_unsaved = true; log = log }
-    ≡ record n {
-      node = node;
-      is_changed = n.is_changed || b;
-      is_unsaved = n.is_unsaved || b;
-      log = log;
-    }
-after_counted n node log b is =
-    sym (ap (λ (c : Bool). after n node log (n.is_changed || c) (n.is_unsaved || c)) is
-    ∙ ap (λ (c : Bool). after n node log c (n.is_unsaved || true)) (or-true n.is_changed)
-    ∙ ap (λ (c : Bool). after n node log true c) (or-true n.is_unsaved))
-
-pub after_uncounted : (n : LoneNode) (node : WholeNode) (b : Bool)
-    → b ≡ false → record n { node = node }
-    ≡ record n {
-      node = node;
-      is_changed = n.is_changed || b;
-      is_unsaved = n.is_unsaved || b;
-    }
-after_uncounted n node b is =
-    sym (ap (λ (c : Bool). after n node n.log (n.is_changed || c) (n.is_unsaved || c)) is
-    ∙ ap (λ (c : Bool). after n node n.log c (n.is_unsaved || false)) (or-false n.is_changed)
-    ∙ ap (λ (c : Bool). after n node n.log n.is_changed c) (or-false n.is_unsaved))
-
--- an acknowledgement that is answered counts as a change, since the links may change by it
-pub ack_now : (n new : NodeView) (a : Ack) (x : Answer) → view_act n (events.Ack a) ≡ Ok (new, x)
-    → is_change x ≡ true
-ack_now n new a x h = ap is_change (ack-answer n new a x h)
 
 -- ---- more counts as saved
 

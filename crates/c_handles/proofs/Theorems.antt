@@ -55,7 +55,8 @@ programs-go-on shape s t calls reachable goes choice may =
 pub calls-go-on : CallsGoOn
 calls-go-on shape s t c reachable inside does owes choice may =
     let here = came reachable.limits reachable.calls s reachable.goes in
-    let l = (does-stepped reachable.limits t here.sound here.shown c inside does owes).leads choice
+    let l = (does-stepped here.shown {t = t} reachable.limits here.sound c inside does owes).leads
+    choice
     may in (
       l.before,
       l.may,
@@ -100,7 +101,8 @@ frees-none e makes law same shape s choice w i n m a h meets =
     × Shows m.node.core t) (same n) (g.acts.states (node_at w.current i) carried.shows) in
     λ saved r current reach own.
     let kept =
-    of-every-shown (Frees e makes) law shape s choice w h.limits h.shown i found.0 a found.1 saved r current
+    of-every-shown (Frees e makes) law shape s choice w h.limits h.shown i found.0 a found.1 saved r
+    current
     reach own in (
       kept.0,
       ap (λ (p : LocalState). slot_at p.heap r.slot) carried.shows.local ∙ kept.1,
@@ -137,7 +139,8 @@ pub handles-drop-old-garbage : HandlesDropOldGarbage
 handles-drop-old-garbage shape s t before choice w later cycle r n o shown h begun old alone swept
     there =
     let local = (held-carried h).shows.local in
-    of-every-shown OldGarbageGoes old-garbage-goes shape s before w h.limits shown later (λ _. false) cycle r
+    of-every-shown OldGarbageGoes old-garbage-goes shape s before w h.limits shown later
+    (λ _. false) cycle r
     begun old alone
     (subst (λ (p : LocalState). cycle ≤ p.phases.swept) local swept)
     (record {
@@ -199,7 +202,8 @@ module _ (shape : Shaped) (s : System) (choice : Choice) (w : World) (i : ℕ) (
       let to_is : d.to ≡ x.to = cc in
       let number_is : d.number ≡ x.number = cc in
       let at : x.to ≡ i = sym to_is ∙ to in
-      let told = of-every-shown NoneRefusedInTurn none-refused-in-turn shape s choice w h.limits h.shown x.from x.to
+      let told = of-every-shown NoneRefusedInTurn none-refused-in-turn shape s choice w h.limits
+      h.shown x.from x.to
       x.number x.stamp x.body e net
       (subst (λ (k : ℕ).
       receive (node_at w.current k) x.from x.to x.number x.stamp x.body ≡ Err e) (sym at)

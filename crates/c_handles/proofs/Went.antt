@@ -1,5 +1,5 @@
 -- What a node's list handed out, with what is still to come, are the objects that went, each once.
-use Rattle.std.proofs.Common.{◌≡◌, ◌≢◌, ℕ, zero, suc, ◌<◌, ◌≤◌, ◌⊎◌, ◌++◌, ◌==◌, ◌&&◌, ◌-◌, ◌+◌, Bool, true, false, cond, List, [], ◌∷◌, length, min, take, drop, Option, Some, None, Result, Ok, Err, inl, inr, refl, sym, ap, ◌∙◌, subst, ⊎_elim, arith, le_refl, append-nil, append_assoc}
+use Rattle.std.proofs.Common.{◌≡◌, ◌≢◌, ℕ, zero, suc, ◌<◌, ◌≤◌, ◌⊎◌, ◌++◌, ◌==◌, ◌&&◌, Bool, true, false, cond, List, [], ◌∷◌, length, min, take, drop, Option, Some, None, Result, Ok, Err, inl, inr, refl, sym, ap, ◌∙◌, subst, ⊎_elim, arith, le_refl, append-nil, append_assoc}
 use Rattle.std.specs.List.{AllByRecursion}
 use Rattle.std.specs.Global.{Vec}
 use Rattle.std.proofs.lemmas.Bool.{cases_Bool, cases_eq, cond-false, cond-true, cond_both, eq-eqb, ne_eqb, false≢true}
@@ -8,7 +8,6 @@ use Rattle.std.proofs.Math.Nat.{min-le_left}
 use Rattle.std.specs.Prelude.{max, slice_index_or, slice_set}
 use Rattle.ids.specs.Limits.{Shaped, IsShape}
 use Rattle.ids.specs.declared.names.Ref.{Ref}
-use Rattle.ids.specs.declared.refusal.Refusal.{Refusal}
 use Rattle.ids.specs.declared.refusal.Refusal.TheVariants.{Memory}
 use Rattle.msg.specs.declared.frame.Data.{Data}
 use Rattle.msg.specs.declared.frame.Frame.{Frame}
@@ -17,7 +16,7 @@ use Rattle.model.specs.Cuts.{Among}
 use Rattle.model.specs.State.{Heap, NodeState, Slot, got_from, node_at, slot_at}
 use Rattle.model.specs.Steps.{act, frees}
 use Rattle.model.specs.View.{NodeView, Shows, is_other, kept_to, link_to}
-use Rattle.model.specs.World.{World, new_world, run}
+use Rattle.model.specs.World.{World}
 use Rattle.model.specs.declared.event.Answer.{Answer}
 use Rattle.model.specs.declared.event.Event.{Event}
 use Rattle.model.specs.declared.event.Event.TheVariants as event
@@ -28,22 +27,22 @@ use Rattle.laws.proofs.Freeing.{Has, Lost, act-keeps, has-kept, lost-freed, lost
 use Rattle.laws.proofs.Invariant.{Tidy}
 use Rattle.laws.proofs.Lasting.{At, Keeps}
 use Rattle.laws.proofs.Live.{all-inv}
-use Rattle.laws.proofs.Past.{PastSlot, occupied-past, past-freed, past-kept}
+use Rattle.laws.proofs.Past.{occupied-past, past-freed, past-kept}
 use Rattle.c_values.specs.declared.fault.Fault.{Fault}
 use Rattle.c_values.specs.declared.fault.Fault.TheVariants as fault
 use Rattle.c_values.specs.declared.fields.CFreed.{CFreed}
 use Rattle.c_handles.specs.Batches.{BatchOr, batch_of}
-use Rattle.c_handles.specs.Gone.{GoneView, covering, gone, keeping, list_after, listing, settling, tracking, untracked, without}
-use Rattle.c_handles.specs.Images.{Imaged, after_kept, keeps, keeps_below, released}
+use Rattle.c_handles.specs.Gone.{GoneView, covering, gone, keeping, listing, settling, tracking, untracked}
+use Rattle.c_handles.specs.Images.{Imaged, after_kept, keeps, keeps_below}
 use Rattle.c_handles.specs.Logs.{logging, no_counts}
-use Rattle.c_handles.specs.Lists.{AreApart, AreWhatWent, HadObject, HasObject, KeepsList, ListsAreExact, handed_by, handed_in, references}
-use Rattle.c_handles.specs.Lone.{Acknowledged, Gave, Given, HandedOut, Handled, TookIn, Unlisted, is_congested, listed}
-use Rattle.c_handles.specs.Programs.{Act, AckFor, Call, Deed, Does, DoesOn, End, FrameAt, Frames, Freed, Goes, Holds, IsShown, Keep, Log, Meets, On, Open, Owes, Place, Release, Store, System, Take, TakeBatch, TakeImage, Track, Work, place_after}
+use Rattle.c_handles.specs.Lists.{AreApart, HadObject, HasObject, KeepsList, ListsAreExact, handed_by, handed_in, references}
+use Rattle.c_handles.specs.Lone.{Gave, Given, HandedOut, Handled, TookIn, Unlisted, is_congested, listed}
+use Rattle.c_handles.specs.Programs.{Act, AckFor, Call, Deed, Does, DoesOn, End, FrameAt, Frames, Freed, Goes, Holds, Keep, Log, Meets, On, Open, Place, Release, Store, System, Take, TakeBatch, TakeImage, Track, Work, place_after}
 use Rattle.c_handles.specs.declared.lone.images.Counts.{Counts}
 use Rattle.c_handles.specs.declared.lone.LoneNode.{LoneNode}
 use Rattle.c_handles.proofs.Calls.{IsSound}
-use Rattle.c_handles.proofs.Deeds.{AllShown, Came, came, goes-came}
-use Rattle.c_handles.proofs.Entered.{HasGone, among-both, among-first, among-gone, among-second, apart-both, gone-among, gone-apart, has-or-not}
+use Rattle.c_handles.proofs.Deeds.{AllShown, came, goes-came}
+use Rattle.c_handles.proofs.Entered.{among-both, among-first, among-gone, among-second, apart-both, gone-among, gone-apart, has-or-not}
 
 -- ---- one call on a node
 
@@ -59,8 +58,8 @@ LostRef n r = At Lost (heap_of n) r.slot r.generation
 abbrev IsBounded : GoneView → Type 0
 IsBounded v = (v.ready ≤ v.covered) × (v.covered ≤ length v.list)
 
--- What a call does to a node that lists what is gone, with what it hands out. The list gets what the
--- node had before and hasn't after it. What is lost stays so.
+-- What a call does to a node that lists what is gone, with what it hands out. The list gets what
+-- the node had before and hasn't after it. What is lost stays so.
 record Turn (i : ℕ) (n m : LoneNode) (given : List CFreed) : Type 0 where
   bound : IsBounded n.gone → IsBounded m.gone
   tracks : m.gone.tracks ≡ n.gone.tracks
@@ -284,7 +283,8 @@ took-turn : {i : ℕ} {n m : LoneNode} (bytes : List ℕ) (r : Result Answer Fau
     → TookIn bytes n m r → n.gone.tracks ≡ true → IsOn i n → Turn i n m []
 took-turn {i} {n} {m} bytes r took tracks on =
     ⊎_elim {C = Turn i n m []} (λ t. acknowledged-turn t.frame r t.handled tracks on)
-    (λ rest. ⊎_elim {C = Turn i n m []} (λ none. turn-same none.same) (λ room. turn-same room.same) rest)
+    (λ rest. ⊎_elim {C = Turn i n m []} (λ none. turn-same none.same) (λ room. turn-same room.same)
+    rest)
     took
 
 -- what an image or a batch covers is the whole list
@@ -349,7 +349,8 @@ log-turn {i} {n} {m} true is =
     cond_both n.logs n (record n { logs = true; log = None })
     (λ (x : LoneNode). m ≡ x → Turn i n m [])
     (λ _ same. turn-same same)
-    (λ _ same. turn-quiet (ap (λ (x : LoneNode). x.node.core) same) (ap (λ (x : LoneNode). x.gone) same))
+    (λ _ same. turn-quiet (ap (λ (x : LoneNode). x.node.core) same)
+    (ap (λ (x : LoneNode). x.gone) same))
     is
 log-turn false is =
     turn-quiet (ap (λ (x : LoneNode). x.node.core) is) (ap (λ (x : LoneNode). x.gone) is)
@@ -366,7 +367,8 @@ freed-turn : {i : ℕ} {n m : LoneNode} (count : ℕ) (old new : List CFreed)
 freed-turn {i} {n} {m} count old new is =
     let v = n.gone in
     let left = is.hands_out.left in
-    let given : handed_by i (On i (Freed count old new)) ≡ take count (take count v.list ++ drop count old) =
+    let given : handed_by i (On i (Freed count old new))
+    ≡ take count (take count v.list ++ drop count old) =
     cond-true (i == i) (take count new) [] (eq-eqb i i refl)
     ∙ ap (take count) is.hands_out.handed in
     let few : IsBounded v → count ≤ length v.list =
@@ -403,8 +405,8 @@ deed-turn (Freed count old new) keeps meets tracks on = freed-turn count old new
 
 -- ---- many calls
 
--- All that was handed out and is listed was had, is lost, and is there once; and all that was had is
--- there, or the node has it.
+-- All that was handed out and is listed was had, is lost, and is there once; and all that was had
+-- is there, or the node has it.
 record Lists (i : ℕ) (handed : List CFreed) (Had : Ref → Type 0) (n : LoneNode) : Type 0 where
   tracks : n.gone.tracks ≡ true
   bound : IsBounded n.gone
@@ -432,7 +434,8 @@ turned : {i : ℕ} {handed given : List CFreed} {Had : Ref → Type 0} {n m : Lo
 turned {i} {handed} {given} {Had} {n} {m} l now t =
     let old : List CFreed = handed ++ n.gone.list in
     let same : (handed ++ given) ++ m.gone.list ≡ old ++ t.more =
-    append_assoc handed given m.gone.list ∙ ap (λ (xs : List CFreed). handed ++ xs) (t.lists l.bound)
+    append_assoc handed given m.gone.list
+    ∙ ap (λ (xs : List CFreed). handed ++ xs) (t.lists l.bound)
     ∙ sym (append_assoc handed n.gone.list t.more) in
     let parts : (r : Ref) → Among r (references ((handed ++ given) ++ m.gone.list))
     → Among r (references old) ⊎ Among r (references t.more) =
@@ -483,7 +486,8 @@ module _ {shape : Shaped} (within : IsShape shape) {i : ℕ} (inside : i < shape
       let inv = all-inv shape within is.steps (λ _. false) in
       record {
         state = node_at w.current i;
-        tidy = subst (λ (v : World). Tidy (node_at v.current i).local) (sym is.reached) (inv.tidy i);
+        tidy = subst (λ (v : World). Tidy (node_at v.current i).local) (sym is.reached)
+            (inv.tidy i);
         shows = carried.shows;
         own = subst (λ (v : World). (node_at v.current i).local.own ≡ i) (sym is.reached)
             (inv.base.own i inside);
@@ -525,7 +529,8 @@ module _ {shape : Shaped} (within : IsShape shape) {i : ℕ} (inside : i < shape
   called : (s t : System) {n : LoneNode} (c : Call) → Does c s t → KeepsList i c
       → AllShown shape s → (s.places i).handle ≡ Some n → n.gone.tracks ≡ true → Called c n t
   called s t (Open j how limit (Ok x)) does keeps shown held tracks =
-      called-other s t (Open j how limit (Ok x)) (does.1.others i (λ same. keeps (sym same))) held refl
+      called-other s t (Open j how limit (Ok x)) (does.1.others i (λ same. keeps (sym same))) held
+      refl
   called s t (Open j how limit (Err f)) does keeps shown held tracks =
       called-other s t (Open j how limit (Err f)) (ap (λ (x : System). x.places i) does.1) held refl
   called s t (End j) does keeps shown held tracks =
@@ -581,12 +586,14 @@ module _ {shape : Shaped} (within : IsShape shape) {i : ℕ} (inside : i < shape
   listed-through [] s t goes handed Before n m sound shown keeps held then now l =
       let same : m ≡ n =
       held-same (sym then ∙ ap (λ (x : System). (x.places i).handle) goes ∙ held) in
-      subst (λ (x : LoneNode). Lists i (handed ++ []) (λ r. Before r ⊎ HasObject s i r) x) (sym same)
+      subst (λ (x : LoneNode). Lists i (handed ++ []) (λ r. Before r ⊎ HasObject s i r) x)
+      (sym same)
       (subst (λ (xs : List CFreed). Lists i xs (λ r. Before r ⊎ HasObject s i r) n)
       (sym (append-nil handed))
       (lists-as (λ r b. inl b)
       (λ r b. ⊎_elim {C = Before r} (λ x. x) (λ has. now r (object-has s held r has)) b) l))
-  listed-through (c ∷ cs) s t (next, place, does, owes, rest) handed Before n m sound shown keeps held
+  listed-through (c ∷ cs) s t (next, place, does, owes, rest) handed Before n m sound shown keeps
+      held
       then now l =
       let call = called s next c does keeps.0 shown held l.tracks in
       let one = goes-came within (c ∷ []) s next sound shown (next, place, does, owes, refl) in

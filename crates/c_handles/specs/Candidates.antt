@@ -10,8 +10,8 @@ use Rattle.model.specs.Steps.{tests}
 use Rattle.model.specs.declared.event.Answer.{Answer}
 use Rattle.model.specs.declared.event.Event.{Event}
 use Rattle.model.specs.declared.event.Event.TheVariants as event
-use Rattle.node.specs.Keeping.{WholeNode}
-use Rattle.node_store.specs.Acting.{Acts}
+use Rattle.node_store.specs.Acting.{Acted}
+use Rattle.node_store.specs.declared.logged.LoggedNode.{LoggedNode}
 use Rattle.c_values.specs.declared.fields.CFreed.{CFreed}
 use Rattle.c_handles.specs.Gone.{GoneView, IsUnlisted, entries_from, has_generation, list_after}
 
@@ -67,9 +67,9 @@ Leaves h place left old count new =
 
 -- The event was given to the node, and what it freed is listed; or there was no memory for the
 -- list, and nothing changed.
-abbrev pub ActsListing : WholeNode → GoneView → WholeNode → GoneView → Event
+abbrev pub ActsListing : LoggedNode → GoneView → LoggedNode → GoneView → Event
     → Result Answer Refusal → Type 0
 ActsListing old v new w e (Ok a) =
-    Acts old new e (Ok a) × (w ≡ list_after v old.core.local new.core.local e)
+    Acted old new e (Ok a) × (w ≡ list_after v old.node.core.local new.node.core.local e)
 ActsListing old v new w e (Err f) =
-    (w ≡ v) × (Acts old new e (Err f) ⊎ ((new ≡ old) × IsUnlisted v old.core e f))
+    (w ≡ v) × (Acted old new e (Err f) ⊎ ((new ≡ old) × IsUnlisted v old.node.core e f))

@@ -34,8 +34,8 @@ abbrev pub IsLetter : Option Plain → Type 0
 IsLetter None = ⊥
 IsLetter (Some f) = is_letter f ≡ true
 
--- The bytes of a frame are written, or it is a fault and nothing is. Memory may run out for a letter
--- with references and bytes.
+-- The bytes of a frame are written, or it is a fault and nothing is. Memory may run out for a
+-- letter with references and bytes.
 abbrev pub WroteFrame : NodeView → ℕ → ℕ → Result (Unit {0}) Fault → List ℕ → List ℕ → ℕ → ℕ
     → Type 0
 WroteFrame n to place r old new before needed =

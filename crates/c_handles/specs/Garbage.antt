@@ -51,9 +51,9 @@ pub record AreQuiet (old new : List (Option SeatedCell)) : Type 0 where
 abbrev pub EachCell : (ℕ → SeatedCell → Type 0) → List (Option SeatedCell) → Type 0
 EachCell Is cells = (k : ℕ) (c : SeatedCell) → cell_at cells k ≡ Some c → Is k c
 
--- The later cells are those of all nodes, in order, of a space whose wire began in this world, which
--- a run reached. The first events led to what the cells knew at an earlier moment, and all of them
--- lead to what they know now.
+-- The later cells are those of all nodes, in order, of a space whose wire began in this world,
+-- which a run reached. The first events led to what the cells knew at an earlier moment, and all of
+-- them lead to what they know now.
 pub record IsHistory (opening : World) (before since : List Step)
     (earlier later : List (Option SeatedCell)) : Type 0 where
   pub reached : IsReached opening
@@ -63,8 +63,8 @@ pub record IsHistory (opening : World) (before since : List Step)
   pub are : EachCell (λ k c. LeadsTo (known c.cell.seat) (before ++ since)) later
 
 -- Take any earlier moment at which node 0 hadn't begun the cycle, since which no cell was reopened
--- or resolved a reference. An object that was reachable in no cut then is gone, whether it was saved
--- or not: neither the current node of a cell has it, nor the saved one.
+-- or resolved a reference. An object that was reachable in no cut then is gone, whether it was
+-- saved or not: neither the current node of a cell has it, nor the saved one.
 abbrev pub GarbageIsGone : ℕ → List (Option SeatedCell) → Type 0
 GarbageIsGone cycle cells =
     (opening : World) (before since : List Step) (earlier : List (Option SeatedCell)) (r : Ref)

@@ -8,7 +8,6 @@ use Rattle.model.specs.State.{Object, Slot, Free, Occupied, Retired, Heap, Local
 use Rattle.model.specs.Steps.{frees}
 use Rattle.model.specs.View.{NodeView, view_act}
 use Rattle.model.specs.declared.event.Event.{Event}
-use Rattle.model.specs.declared.event.Event.TheVariants as event
 use Rattle.c_values.specs.declared.fault.Fault.{Fault}
 use Rattle.c_values.specs.declared.fault.Fault.TheVariants as fault
 use Rattle.c_values.specs.declared.fields.CFreed.{CFreed}

@@ -39,8 +39,8 @@ ProgramsAreShown =
     (shape : Shaped) (s : System) → IsReachable shape s → (choice : Choice) → MayFind s choice
     → (w : World) × IsShown shape s choice w
 
--- For each choice of what is stored after some calls, there is one before them, with which the space
--- that the handles showed goes on to the one that they show.
+-- For each choice of what is stored after some calls, there is one before them, with which the
+-- space that the handles showed goes on to the one that they show.
 abbrev pub ProgramsGoOn : Type 0
 ProgramsGoOn =
     (shape : Shaped) (s t : System) (calls : List Call) → IsReachable shape s
@@ -142,8 +142,8 @@ SweepsFreeNone = (count : ℕ) → FreesNone (event.Sweep count) (λ o. o)
 abbrev pub ReclaimsFreeNone : Type 0
 ReclaimsFreeNone = (scope : Scope) → FreesNone (event.Reclaim scope) aging
 
--- If the node in a handle counts a cycle's marking as ended, it has ended, in each choice of current
--- and saved states that has this node's current one.
+-- If the node in a handle counts a cycle's marking as ended, it has ended, in each choice of
+-- current and saved states that has this node's current one.
 abbrev pub HandlesAgree : Type 0
 HandlesAgree =
     (shape : Shaped) (s : System) (choice : Choice) (w : World) (i cycle : ℕ) (n : LoneNode)
@@ -172,9 +172,9 @@ NoneIsRefusedInTurn =
     → Meets (Take (spelling (plain_data d)) (Err (fault.Refused e))) n m → e ≢ Memory
     → IsSpentOrEarly n.node.core.local d.from d.number e
 
--- The collector can't be seen. What programs were told and received in the run, as far as it belongs
--- to a choice of current and saved states, is a run of a space without a collector, which looks like
--- that choice at its end.
+-- The collector can't be seen. What programs were told and received in the run, as far as it
+-- belongs to a choice of current and saved states, is a run of a space without a collector, which
+-- looks like that choice at its end.
 abbrev pub HandlesAreUnseen : Type 0
 HandlesAreUnseen =
     (shape : Shaped) (s : System) (choice : Choice) (w : World) → IsShape shape
@@ -188,8 +188,8 @@ abbrev pub returned : Result Answer Refusal → Result Answer Fault
 returned (Ok a) = Ok a
 returned (Err e) = Err (fault.Refused e)
 
--- Whatever a program is told about its event, a program of the space without a collector may be told
--- after those sights, unless memory ran out, or the link was congested.
+-- Whatever a program is told about its event, a program of the space without a collector may be
+-- told after those sights, unless memory ran out, or the link was congested.
 abbrev pub HandlesAreToldSo : Type 0
 HandlesAreToldSo =
     (shape : Shaped) (s : System) (choice : Choice) (w : World) (i : ℕ) (n m : LoneNode)

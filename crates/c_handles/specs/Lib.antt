@@ -4,6 +4,7 @@ pub mod Frames
 pub mod Gone
 pub mod Holds
 pub mod Images
+pub mod LoneViews
 pub mod Logs
 pub mod Lone
 pub mod Objects

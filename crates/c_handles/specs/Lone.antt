@@ -10,14 +10,13 @@ use Rattle.frames.specs.Grammar.{Fits, spelling}
 use Rattle.msg.specs.declared.frame.Ack.{Ack}
 use Rattle.msg.specs.declared.frame.Frame.{Frame}
 use Rattle.msg.specs.declared.frame.Frame.TheVariants as frame
-use Rattle.model.specs.Effects.{is_change}
 use Rattle.model.specs.State.{LocalState}
 use Rattle.model.specs.View.{NodeView, link_to}
 use Rattle.model.specs.declared.event.Answer.{Answer}
 use Rattle.model.specs.declared.event.Event.{Event}
 use Rattle.model.specs.declared.event.Event.TheVariants as event
 use Rattle.node.specs.Keeping.{WholeNode, alone, new_whole}
-use Rattle.node_store.specs.Acting.{Acts}
+use Rattle.node_store.specs.Acting.{Acts, has_changed}
 use Rattle.image.specs.Nodes.{IsImageOf}
 use Rattle.c_values.specs.declared.fault.Fault.{Fault}
 use Rattle.c_values.specs.declared.fault.Fault.TheVariants as fault
@@ -94,10 +93,12 @@ is_congested n e =
 
 -- ---- Events
 
--- whether the event changed the node
-abbrev pub has_changed : Result Answer Refusal → Bool
-has_changed (Ok a) = is_change a
-has_changed (Err e) = false
+-- the node has changed, if that is so
+abbrev pub marked_by : Bool → LoneNode → LoneNode
+marked_by changed n = record n {
+  is_changed = n.is_changed || changed;
+  is_unsaved = n.is_unsaved || changed;
+}
 
 -- The event was given to the node, which is changed if the answer says so. The log, if there is
 -- one, leads to the node still; or it is lost, but only by a change.

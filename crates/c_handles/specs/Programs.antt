@@ -67,7 +67,8 @@ last_of e (x ∷ xs) = last_of x xs
 abbrev pub newest : Place → Stored
 newest p = last_of p.stored p.taken
 
--- A batch behind what is stored. Behind anything but an image that a log may follow it is of no use.
+-- A batch behind what is stored. Behind anything but an image that a log may follow it is of no
+-- use.
 abbrev pub behind : Stored → List ℕ → Stored
 behind (Image image batches) bytes =
     cond (begins_logged image) (Image image (batches ++ bytes)) Lost
@@ -137,8 +138,8 @@ gives (AckFor from (Ok u) old new before needed) n =
 gives (Frames to after (Ok count) old new before needed) n = window_of n.node.core to WINDOW
 gives d n = []
 
--- The place after a call on its handle. An image or a batch that was taken may be stored then; after
--- a release, none that was taken before may.
+-- The place after a call on its handle. An image or a batch that was taken may be stored then;
+-- after a release, none that was taken before may.
 abbrev pub place_after : Deed → LoneNode → Place → Place
 place_after (TakeImage (Ok mark) old new before needed) n p =
     record p { handle = Some n; taken = p.taken ++ Image (take needed new) [] ∷ [] }
@@ -147,9 +148,9 @@ place_after (TakeBatch (Ok mark) old new before needed) n p =
 place_after (Release r) n p = record { handle = Some n; stored = Lost; taken = [] }
 place_after d n p = record p { handle = Some n }
 
--- What happens to a node. A call fills its handle, or is made on its handle. The handle is freed, or
--- the process that has it ends, at any moment. Or its caller stores an image or a batch, after which
--- only these others may be stored.
+-- What happens to a node. A call fills its handle, or is made on its handle. The handle is freed,
+-- or the process that has it ends, at any moment. Or its caller stores an image or a batch, after
+-- which only these others may be stored.
 pub data Call : Type 0 where
   Open : (i : ℕ) → Opening → (limit : ℕ) → Result LoneNode Fault → Call
   On : (i : ℕ) → Deed → Call

@@ -145,7 +145,8 @@ TakenTested (Ok u) (Some space) now (Err e) = ⊥
 -- What a call takes out of a space goes into an empty handle. If either handle isn't as the call
 -- needs it, or if there is nothing to take, all stays as it is.
 abbrev pub Moved : {X : Type 0} → (SeatedSpace → SeatedSpace → Result X Fault → Type 0)
-    → Option SeatedSpace → Option SeatedSpace → Option X → Option X → Result (Unit {0}) Fault → Type 0
+    → Option SeatedSpace → Option SeatedSpace → Option X → Option X → Result (Unit {0}) Fault
+    → Type 0
 Moved Takes None space held now r =
     (space ≡ None) × (now ≡ held) × (r ≡ Err fault.NoHandle)
 Moved Takes (Some old) space (Some x) now r =

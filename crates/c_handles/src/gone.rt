@@ -22,7 +22,8 @@ use c_values::{CFreed, CRef};
 use heap::{Object, Slot};
 use ids::{Generation, Refusal};
 use model::{Age, Answer, Event, Scope};
-use node::{Core, Node};
+use node::Core;
+use node_store::LoggedNode;
 use std::alloc::Global;
 use std::collections::VecDeque;
 use std::marker::Model;
@@ -179,15 +180,15 @@ impl GoneList {
 
     /// Gives the node an event that frees objects, and lists these. It fails as the node does, and
     /// with `Memory` if the list can't grow.
-    pub(crate) fn act(&mut self, node: &mut Node, event: &Event) -> Result<Answer, Refusal>
+    pub(crate) fn act(&mut self, logged: &mut LoggedNode, event: &Event) -> Result<Answer, Refusal>
         requires frees { frees event.now ≡ true }
         requires tracks { self.old.tracks ≡ true }
-        ensures { ActsListing node.old self.old node.new self.new event.now result }
+        ensures { ActsListing logged.old self.old logged.new self.new event.now result }
     {
-        let before = self.expect(node.core(), event)?;
-        match node.act(event) {
+        let before = self.expect(logged.node.core(), event)?;
+        match logged.act(event) {
             Ok(answer) => {
-                self.confirm(node.core(), event, before);
+                self.confirm(logged.node.core(), event, before);
                 Ok(answer)
             }
             Err(refusal) => {

@@ -4,7 +4,7 @@
 //!
 //! ```text
 //! C               exports           here          below
-//! markring_node   markring_node_*   NodeHandle    LoneNode: node::Node, a limit, marks
+//! markring_node   markring_node_*   NodeHandle    LoneNode: node_store::LoggedNode, a limit, marks
 //! markring_space  markring_space_*  SpaceHandle   SeatedSpace: images, then cells and watches
 //! markring_cell   markring_cell_*   CellHandle    SeatedCell: cell::Cell, its wire, a mark
 //! markring_watch  markring_watch_*  WatchHandle   SeatedWatch: wire::Watch, its wire

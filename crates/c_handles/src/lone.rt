@@ -1,18 +1,16 @@
 //! A node whose caller moves its frames and stores its images.
 ghost use Rattle.std.specs.Prelude.{◌≡◌, ◌||◌, ◌&&◌, false, None, Ok};
 ghost use Rattle.c_values.specs.Fields.{described};
-ghost use Rattle.model.specs.declared.event.Event.TheVariants as events;
 ghost use Rattle.msg.specs.Frames.{plain};
 ghost use Rattle.node_store.specs.Logs.{is_turn};
 ghost use Rattle.model.specs.Steps.{frees};
 ghost use Rattle.c_handles.specs.Lone.{Acknowledged, Given, Made, Read, TookIn, is_congested};
-ghost use Rattle.c_handles.specs.Lone.{lone, receiver_of, unacknowledged};
+ghost use Rattle.c_handles.specs.Lone.{lone, marked_by, receiver_of, unacknowledged};
 
 mod batches;
 mod freed;
 mod images;
 mod letters;
-mod logging;
 mod objects;
 pub(crate) mod reading;
 pub(crate) mod reopening;
@@ -28,13 +26,15 @@ pub(crate) use images::Counts;
 use model::{Answer, Event};
 use msg::{Ack, Data, Frame};
 use node::Node;
-use node_store::{Log, is_turn};
+use node_store::{Log, LoggedNode, is_turn};
 use std::alloc::Global;
+use std::marker::Model;
 
 /// A node whose caller moves its frames and stores its images.
 #[derive(Drop)]
 pub struct LoneNode {
-    pub(crate) node: Node,
+    // The node, and the events since the last image or batch.
+    logged: LoggedNode,
     // How many of the messages to another node may be unacknowledged for the program to send it
     // another one; 0 if any number.
     limit: u64,
@@ -46,14 +46,29 @@ pub struct LoneNode {
     // was kept; in both cases, since the last release if that came later.
     is_changed: bool,
     is_unsaved: bool,
-    // Whether a log is to be kept, and the log of the events since the last image or batch. If none
-    // is to be kept, what it holds means nothing.
-    logs: bool,
-    log: Log,
     // Whether what the last image or batch holds counts as saved.
     is_kept: bool,
     // The objects that are gone, if a list of them is kept.
     gone: GoneList,
+}
+
+impl Model for LoneNode {
+    ghost use Rattle.c_handles.specs.LoneViews.{LoneView};
+
+    ghost Value = { LoneView };
+
+    ghost view = { λ n. record {
+      node = n.logged.node;
+      limit = n.limit;
+      mark = n.mark;
+      counts = n.counts;
+      is_changed = n.is_changed;
+      is_unsaved = n.is_unsaved;
+      logs = n.logged.logs;
+      log = n.logged.log;
+      is_kept = n.is_kept;
+      gone = n.gone;
+    } };
 }
 
 impl LoneNode {
@@ -63,14 +78,16 @@ impl LoneNode {
         ensures { result ≡ lone node limit }
     {
         LoneNode {
-            node,
+            logged: LoggedNode {
+                node,
+                logs: false,
+                log: Log::new(alloc),
+            },
             limit,
             mark: 0,
             counts: None,
             is_changed: false,
             is_unsaved: false,
-            logs: false,
-            log: Log::new(alloc),
             is_kept: false,
             gone: GoneList::new(alloc),
         }
@@ -100,7 +117,7 @@ impl LoneNode {
     fn unacknowledged(&self, to: u8) -> u64
         ensures { result ≡ unacknowledged self.now.node.core to }
     {
-        let links = self.node.core().links();
+        let links = self.logged.node.core().links();
         if to < links.width() {
             links.used(to) - links.base(to)
         } else {
@@ -116,7 +133,7 @@ impl LoneNode {
             Event::Give { to, .. } | Event::Post { to, .. } => Some(*to),
             Event::Put { object, .. } | Event::Get { object, .. } | Event::Fetch { object, .. } => {
                 let register = usize::from(*object);
-                let held = self.node.core().heap().registers().get(register)?;
+                let held = self.logged.node.core().heap().registers().get(register)?;
                 let reference: Ref = (*held)?;
                 Some(reference.node)
             }
@@ -173,55 +190,57 @@ impl LoneNode {
         if self.lists(&event) {
             return self.perform_listing(&event);
         }
-        if is_turn(&event) && self.logs {
-            self.perform_noting(event)
+        if is_turn(&event) && self.logged.logs {
+            self.perform_noting(&event)
         } else {
             self.perform_plain(event)
         }
     }
 
-    // Gives the node an event that frees nothing that is to be listed, and notes it if the node
-    // keeps a log. An event that isn't `Next` is noted as it is.
+    // Gives the node an event that frees nothing that is to be listed, and that isn't `Next` if the
+    // node keeps a log.
     #[inline(always)]
     fn perform_plain(&mut self, event: Event) -> Result<Answer, Fault>
         requires noted { (is_turn event && self.old.logs) ≡ false }
         requires unlisted { (frees event && self.old.gone.tracks) ≡ false }
         ensures { Given false self.old self.new event.entry result }
     {
-        let answer = self.node.act(&event)?;
-        if !answer.is_change() {
-            drop(event);
-            return Ok(answer);
-        }
-        self.is_changed = true;
-        self.is_unsaved = true;
-        if self.logs {
-            self.note(event);
-        } else {
-            drop(event);
-        }
+        let answer = self.logged.act_plain(event)?;
+        self.mark_changed(answer.is_change());
         Ok(answer)
+    }
+
+    // Gives the node an event that frees nothing that is to be listed.
+    #[inline(never)]
+    fn perform_noting(&mut self, event: &Event) -> Result<Answer, Fault>
+        requires { (frees event.now && self.old.gone.tracks) ≡ false }
+        ensures { Given false self.old self.new event.now result }
+    {
+        let answer = self.logged.act(event)?;
+        self.mark_changed(answer.is_change());
+        Ok(answer)
+    }
+
+    // Records a change of the node, if there was one.
+    #[inline(always)]
+    fn mark_changed(&mut self, has_changed: bool)
+        ensures { self.new ≡ marked_by has_changed self.old }
+    {
+        if has_changed {
+            self.is_changed = true;
+            self.is_unsaved = true;
+        }
     }
 
     // Gives the node an acknowledgement, which changes no state.
     fn acknowledge(&mut self, ack: Ack) -> Result<Answer, Fault>
         ensures { Acknowledged self.old self.new ack result }
     {
-        if self.logs {
-            return self.acknowledge_noting(ack, &Event::Ack(ack));
+        if self.logged.logs {
+            let answer = self.logged.act(&Event::Ack(ack))?;
+            return Ok(answer);
         }
-        self.acknowledge_plain(ack, &Event::Ack(ack))
-    }
-
-    // The same of a node that keeps no log, with the event.
-    #[inline(always)]
-    fn acknowledge_plain(&mut self, ack: Ack, event: &Event) -> Result<Answer, Fault>
-        requires event { event.now ≡ events.Ack ack }
-        requires plain { self.old.logs ≡ false }
-
-        ensures { Acknowledged self.old self.new ack result }
-    {
-        let answer = self.node.act(event)?;
+        let answer = self.logged.act_plain(Event::Ack(ack))?;
         Ok(answer)
     }
 

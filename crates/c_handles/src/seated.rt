@@ -150,8 +150,8 @@ impl SeatedCell {
         Ok(())
     }
 
-    /// Goes back to the cell as it was last saved; see [`Cell::reopen`]. Of what is gone, nothing is
-    /// listed any more.
+    /// Goes back to the cell as it was last saved; see [`Cell::reopen`]. Of what is gone, nothing
+    /// is listed any more.
     pub fn reopen(&mut self) -> Result<(), Fault>
         ensures { Reopened self.old self.new result }
     {

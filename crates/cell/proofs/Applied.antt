@@ -87,7 +87,8 @@ alone-too : (w : World) (reached : IsReached w) (r : Ref) (later : List Step)
     → IsLeftAlone w r later → IsLeftAlone (end_of reached) r later
 alone-too w reached r later alone =
     done-like _ _
-    (λ e has q is choice leads. has q is choice (leads-too (cuts-sym (cuts-end w choice reached)) leads))
+    (λ e has q is choice leads. has q is choice
+    (leads-too (cuts-sym (cuts-end w choice reached)) leads))
     w (end_of reached) later reached.by (heard-end reached) alone
 
 pub old-garbage-goes : OfEveryReached OldGarbageGoes

@@ -1,14 +1,11 @@
 -- Copies of different moments of one run begin a world that a run reaches.
-use Rattle.std.proofs.Common.{◌≡◌, ◌≢◌, ◌<◌, ◌≤◌, ℕ, List, Some, ap, arith, get_or, length, map, refl, slice_get, subst, sym, ◌∙◌}
-use Rattle.std.proofs.Math.ListN.{get_or-map}
+use Rattle.std.proofs.Common.{◌≡◌, ℕ, List, Some, ap, arith, length, refl, slice_get, subst, sym, ◌∙◌}
 use Rattle.std.proofs.lemmas.List.{length-map}
-use Rattle.std.proofs.lemmas.Option.{slice_get_within}
-use Rattle.ids.specs.Limits.{Shaped, IsShape}
-use Rattle.msg.specs.declared.body.Message.{Message}
+use Rattle.ids.specs.Limits.{Shaped}
 use Rattle.model.specs.declared.step.Step.{Step}
 use Rattle.model.specs.State.{LocalState, NodeState, got_from, node_at, sent_to}
-use Rattle.model.specs.View.{NodeView, Shows, ShowsSent, link_to, used}
-use Rattle.model.specs.World.{World, new_world, run}
+use Rattle.model.specs.View.{NodeView, Shows, link_to}
+use Rattle.model.specs.World.{World}
 use Rattle.laws.specs.Copies.{FitTogether}
 use Rattle.laws.proofs.Copies.{copies-go-together}
 use Rattle.disk.specs.Areas.{Areas}

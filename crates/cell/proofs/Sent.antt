@@ -5,8 +5,7 @@ use denote.Struct.Struct.{Struct}
 use denote.Param.Send.{IsSend, IsSync, recorded_send, recorded_sync, struct_send, struct_sync, sendable, view_send}
 use Rattle.std.proofs.Crossing.{crosses, Arc-send}
 use Rattle.ids.proofs.names.Cycle.TheSendSync as Cycle
-use Rattle.node.proofs.node.Node.TheSendSync as Node
-use Rattle.node_log.proofs.log.Log.TheSendSync as Log
+use Rattle.node_store.proofs.logged.LoggedNode.TheSendSync as LoggedNode
 use Rattle.node_store.proofs.store.Store.TheSendSync as Store
 use Rattle.cell.proofs.trace.Trace.TheSendSync as Trace
 use Rattle.wire.proofs.seats.NodeSeat.TheSendSync as Seat
@@ -30,14 +29,14 @@ desk-send =
       (
         search sendable,
         (
-          Node.the_send,
+          LoggedNode.the_field_send,
           (
             search (crosses, sendable),
             (
               Cycle.the_field_send,
               (
                 Seat.the_field_send,
-                (search sendable, (search sendable, (Log.the_send, (search sendable, tt)))),
+                (search sendable, (search sendable, tt)),
               ),
             ),
           ),

@@ -1,5 +1,5 @@
 -- Cells at one moment: what holds of the world of that moment holds of their nodes.
-use Rattle.std.proofs.Common.{◌≡◌, ◌⊎◌, ⊎_elim, ◌<◌, ◌≤◌, ◌++◌, ℕ, false, List, refl, sym, ap, ◌∙◌, subst, length}
+use Rattle.std.proofs.Common.{◌≡◌, ⊎_elim, ◌<◌, ◌≤◌, ◌++◌, ℕ, false, List, refl, sym, ap, ◌∙◌, subst, length}
 use Rattle.ids.specs.declared.names.Ref.{Ref}
 use Rattle.model.specs.declared.step.Step.{Step}
 use Rattle.model.specs.State.{LocalState, NodeState, Object, Occupied, node_at, register_at, slot_at}
@@ -88,7 +88,8 @@ module _ {D : Type 0} (may_leave : D → Areas → Type 0) where
         there = ap (λ (p : LocalState). slot_at p.heap r.slot) there ∙ held;
       } in
       ⊎_elim
-      (λ old. old-garbage-goes w reached since (λ _. false) cycle r was.earlier old was.alone done live)
+      (λ old. old-garbage-goes w reached since (λ _. false) cycle r was.earlier old was.alone done
+      live)
       (λ dead. garbage-goes w reached since (λ _. false) cycle r was.earlier dead.0 was.alone
       dead.1 refl done live)
       was.garbage

@@ -10,22 +10,23 @@ ghost use Rattle.cell.specs.Desks.{
   IsUnsaved,
   StandsAt,
 };
+ghost use Rattle.node_store.specs.Acting.{log_of};
 ghost use Rattle.node_store.specs.Noted.{IsLogged};
 
 use ids::{Cycle, GREATEST_NODES};
 use node::{Core, Node};
-use node_store::Log;
+use node_store::LoggedNode;
 use std::marker::Model;
 use std::snapshot::Snapshot;
 use wire::NodeSeat;
 
-// The current node with the messages that it keeps until their turn, the last saved node, and the
-// seat.
+// The current node with the messages that it keeps until their turn and the events since the last
+// save or reopening, the last saved node, and the seat.
 #[derive(Drop)]
 pub(crate) struct Desk {
     pub(crate) own: u8,
     pub(crate) nodes: u8,
-    pub(crate) node: Node,
+    pub(crate) logged: LoggedNode,
     pub(crate) saved: Snapshot<Core>,
     // The last cycle that the saved state knows to have ended.
     pub(crate) ended: Cycle,
@@ -34,17 +35,13 @@ pub(crate) struct Desk {
     pub(crate) places: [u8; GREATEST_NODES as usize],
     // Whether an event happened since the last save or reopening.
     pub(crate) is_unsaved: bool,
-    // The events since the last save or reopening, unless they were lost.
-    pub(crate) log: Log,
-    // Whether such a log is kept.
-    pub(crate) logs: bool,
     ghost at: { IsSeatAt own nodes seat },
-    ghost stands: { StandsAt own nodes (known seat).pair node.core },
+    ghost stands: { StandsAt own nodes (known seat).pair logged.node.core },
     ghost was: { IsSavedNode own nodes (known seat).pair.saved saved.value },
     ghost ended_is: { ended.number ≡ (known seat).pair.saved.local.phases.ended },
     ghost unsaved: { IsUnsaved is_unsaved (known seat).pair },
-    ghost taken: { AreTaken (known seat).taken node.early },
-    ghost logged: { ∥ IsLogged log saved.value node.core ∥₁ },
+    ghost taken: { AreTaken (known seat).taken logged.node.early },
+    ghost led: { ∥ IsLogged (log_of logged) saved.value logged.node.core ∥₁ },
 }
 
 impl Model for Desk {
@@ -53,7 +50,7 @@ impl Model for Desk {
     ghost Value = { DeskView };
 
     ghost view = { λ d. record {
-      node = d.node;
+      node = d.logged.node;
       saved = d.saved.value;
       seat = d.seat;
       places = d.places;
@@ -68,16 +65,16 @@ impl Desk {
         ensures value { result.now ≡ self.now.node }
         ensures sound { IsSoundAt self.now }
     {
-        &self.node
+        &self.logged.node
     }
 
-    // The events since the last save or reopening. They lead from the saved node to the current
-    // one.
+    // The current node with its log, which leads from the saved node to it.
     #[inline(always)]
-    pub(crate) fn log(&self) -> &Log
-        ensures { ∥ IsLogged result.now self.now.saved self.now.node.core ∥₁ }
+    pub(crate) fn logged(&self) -> &LoggedNode
+        ensures value { result.now.node ≡ self.now.node }
+        ensures led { ∥ IsLogged (log_of result.now) self.now.saved self.now.node.core ∥₁ }
     {
-        &self.log
+        &self.logged
     }
 
     // The number of the node.

@@ -14,7 +14,7 @@ use crate::desk::Desk;
 use crate::entering::{enter_found, enter_save};
 use ids::{Cycle, GREATEST_NODES};
 use node::Node;
-use node_store::Log;
+use node_store::{Log, LoggedNode};
 use std::alloc::Global;
 use std::snapshot::Snapshot;
 use wire::{NodeSeat, Wire};
@@ -37,19 +37,19 @@ impl Desk {
         ensures { result ≡ new_desk node seat }
     {
         let state = node.state();
-        let mut log = Log::new(alloc);
-        log.begin(logs);
         Desk {
             own: state.own,
             nodes: state.shape.nodes(),
             saved: Snapshot::of(node.core()),
             ended: ended_by(&node),
-            node,
+            logged: LoggedNode {
+                node,
+                logs,
+                log: Log::new(alloc),
+            },
             seat,
             places: [0; GREATEST_NODES as usize],
             is_unsaved: false,
-            log,
-            logs,
         }
     }
 
@@ -67,12 +67,12 @@ impl Desk {
           unsaved = false;
         } }
     {
-        self.node.mark_saved();
-        self.saved = Snapshot::of(self.node.core());
-        self.ended = ended_by(&self.node);
+        self.logged.node.mark_saved();
+        self.saved = Snapshot::of(self.logged.node.core());
+        self.ended = ended_by(&self.logged.node);
         enter_save(wire, &mut self.seat);
         self.is_unsaved = false;
-        self.log.begin(self.logs);
+        self.logged.log.clear();
     }
 
     // Takes the node that was found on the disk: the last saved one, or the current one as saved.
@@ -93,9 +93,9 @@ impl Desk {
         enter_found(wire, &mut self.seat, found.core(), &self.saved);
         self.saved = Snapshot::of(found.core());
         self.ended = ended_by(&found);
-        self.node = found;
+        self.logged.node = found;
         self.places = [0; GREATEST_NODES as usize];
         self.is_unsaved = false;
-        self.log.begin(self.logs);
+        self.logged.log.clear();
     }
 }

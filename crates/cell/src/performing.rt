@@ -17,7 +17,6 @@ use crate::desk::Desk;
 use ids::Refusal;
 use model::{Answer, Event};
 use msg::Ack;
-use node_store::act;
 use wire::Wire;
 
 // Whether something is unsaved after an event, which may count.
@@ -45,7 +44,7 @@ impl Desk {
         ensures stays { GoesOnAt self.old self.new }
     {
         // Called for its contract.
-        let _core = self.node.core();
+        let _core = self.logged.node.core();
         self.perform(wire, event)
     }
 
@@ -68,7 +67,7 @@ impl Desk {
         ensures same { IsSame self.old.seat self.new.seat }
         ensures stays { GoesOnAt self.old self.new }
     {
-        let answer = act(&mut self.node, &mut self.log, event)?;
+        let answer = self.logged.act(event)?;
         let counts = wire.enter(&mut self.seat, &answer);
         self.is_unsaved = is_unsaved_after(counts, self.is_unsaved);
         Ok(answer)
@@ -81,6 +80,6 @@ impl Desk {
         ensures memory_free { IfErr result (λ e. e ≢ Memory) }
         ensures stays { self.new ≡ record self.old { node = self.new.node } }
     {
-        act(&mut self.node, &mut self.log, &Event::Ack(ack))
+        self.logged.act(&Event::Ack(ack))
     }
 }

@@ -62,9 +62,9 @@ impl Desk {
             ≡ record self.old { seat = self.new.seat; places = self.new.places } }
     {
         let place = self.places[usize::from(to)];
-        let (frame, next) = due(&self.node, to, place);
+        let (frame, next) = due(&self.logged.node, to, place);
         let bytes = encode(alloc, &frame)?;
-        let is_sent = wire.send(&mut self.seat, &self.node, to, place, bytes);
+        let is_sent = wire.send(&mut self.seat, &self.logged.node, to, place, bytes);
         if is_sent {
             self.places[usize::from(to)] = next;
         }

@@ -43,7 +43,8 @@ tag_alone one most = gains_so (λ _. tt) one most
 pub ruleset gained = (then_more, tag_gained, byte_gained, tag_alone)
 
 -- a piece that is written
-pub piece_written : {v w : Writer} {p text : List ℕ} {most : ℕ} {P : Type 0} → Gains [] p text most P
+pub piece_written : {v w : Writer} {p text : List ℕ} {most : ℕ} {P : Type 0}
+    → Gains [] p text most P
     → Writes v w p ⊤ → Writes v w text P
 piece_written {v = v} {w = w} {P = P} piece wrote =
     so (λ _. piece.known) (subst (λ (t : List ℕ). Writes v w t ⊤) piece.is wrote)

@@ -37,8 +37,9 @@ pub record Reads {A : Type 0} (F : Format A) (old new : Reader) (x : A) : Type 0
 
 -- The same for a function that takes a value. If it takes none, the code returns no value, or the
 -- reader has failed.
-pub record Takes {A : Type 0} (read : codec.Reader A) (old new : Reader) (o : Option A) : Type 0 where
-  pub is : (left old >>= read) ≡ (o >>= λ x. with_rest x (left new))
+pub record Takes {A : Type 0} (read : codec.Reader A) (old new : Reader) (o : Option A) : Type 0
+  where
+    pub is : (left old >>= read) ≡ (o >>= λ x. with_rest x (left new))
 
 -- at least this many bytes
 abbrev pub enough : ℕ → codec.Reader ⊤

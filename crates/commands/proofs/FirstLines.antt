@@ -95,7 +95,8 @@ pub line_only : (text : List ℕ) → 0 < length text → IsFirstByte (is_byte 1
     → lines text ≡ text ∷ []
 line_only text some h =
     let p = λ (b : ℕ). (b == 10) in
-    let none : All (λ (b : ℕ). (b == 10) ≡ false) text = λ j d less. by j d less (get_or text j d == 10) refl in
+    let none : All (λ (b : ℕ). (b == 10) ≡ false) text =
+    λ j d less. by j d less (get_or text j d == 10) refl in
     ap lines_of_parts (slice_split_none p text none)
     ∙ ap (λ t. cond t [] (text ∷ [])) (different (length text) some)
   where

@@ -178,7 +178,8 @@ module _ (script : List ℕ) (start : Option (List ℕ)) (p q : Point)
 
 -- no line is left
 pub printed_all : (script : List ℕ) (start : Option (List ℕ)) (p : Point)
-    → PrintedBefore script start p → length p.rest ≡ 0 → PrintsReplies script p.status start p.output
+    → PrintedBefore script start p → length p.rest ≡ 0
+    → PrintsReplies script p.status start p.output
 printed_all script start p before none =
     record {
       replies = before.replies;

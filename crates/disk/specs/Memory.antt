@@ -26,8 +26,8 @@ filled_by_crash fill d = filled fill d.account.state
 abbrev pub IsFaultless : MemoryDisk → Type 0
 IsFaultless d = (d.plan ≡ Never) × (d.account.failures ≡ 0)
 
--- The disk that a crash leaves if each byte that was written since the last sync became this one. It
--- is one that the crash may leave. Another crash leaves it as it is, and none of its calls fail.
+-- The disk that a crash leaves if each byte that was written since the last sync became this one.
+-- It is one that the crash may leave. Another crash leaves it as it is, and none of its calls fail.
 pub record AfterCrash (fill : ℕ) (before left : MemoryDisk) : Type 0 where
   pub filled : held_by left ≡ filled_by_crash fill before
   pub possible : left_by before (held_by left)

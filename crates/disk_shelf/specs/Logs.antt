@@ -139,7 +139,8 @@ IsBehind logs last held =
     (end : ℕ) → last ≡ Some end → ∥ EndsAt end held ∥₁
     × ((image : List ℕ) → recorded held ≡ Some image → logs image ≡ true)
 
--- a crash leaves what a read gives, this side is selected, it holds an image, and there the log ends
+-- a crash leaves what a read gives, this side is selected, it holds an image, and there the log
+-- ends
 pub record IsKept {D : Type 0} (seen : D → Areas) (may_leave : D → Areas → Type 0)
     (logs : List ℕ → Bool) (disk : D) (in_b : Bool) (last : Option ℕ) : Type 0 where
   pub only : Only (seen disk) (may_leave disk)

@@ -41,8 +41,8 @@ pub record IsHandedBack {D : Type 0} (faults : D → ℕ) (large : Type 0) (disk
   pub unchanged : back.1 ≢ Disk → back.0 ≡ disk
   pub others : IsCreationRefusal back.1
 
--- A save of a store, which was open or closed: `was` and `is` say whether it is open. Only a failure
--- of its disk closes it, and any other refusal changes nothing.
+-- A save of a store, which was open or closed: `was` and `is` say whether it is open. Only a
+-- failure of its disk closes it, and any other refusal changes nothing.
 pub record AfterSave {D T : Type 0} (faults : D → ℕ) (old new : D) (was is : Bool)
     (result : Result T Refusal) : Type 0 where
   pub ready : OnOk result (is ≡ true)

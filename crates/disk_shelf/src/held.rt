@@ -85,8 +85,8 @@ pub fn spelled<P: Persist>(
     Ok(bytes)
 }
 
-/// A disk in memory that holds this image, with nothing behind it, and a crash leaves it so. Fails with
-/// `Memory` if an allocation fails.
+/// A disk in memory that holds this image, with nothing behind it, and a crash leaves it so. Fails
+/// with `Memory` if an allocation fails.
 pub fn disk_of_image(alloc: Global, image: &[u8]) -> Result<MemoryDisk, Refusal>
     ensures held { IfOk result (λ d.
         held_by d ≡ record { select = 0 ∷ []; a = record_of image.now; b = [] }) }

@@ -1,5 +1,5 @@
-//! The disk calls of which saves and openings consist. Each function makes only a few calls, so that
-//! its contract says what a crash leaves after each.
+//! The disk calls of which saves and openings consist. Each function makes only a few calls, so
+//! that its contract says what a crash leaves after each.
 ghost use Rattle.std.specs.Prelude.{◌≡◌, ◌⊎◌, ◌++◌, ◌%◌, ◌==◌, ◌≤◌, ◌-◌, length, drop, take, IfErr, IfOk, IsErr};
 ghost use Rattle.std.specs.Prelude.{IsErrOf, IsTrue, OnOk, Some, None, false, not, ◌<◌, ◌^◌, ◌↔◌};
 ghost use Rattle.disk.specs.Areas.{Changes, Holds, IsBlank, part, Torn};

@@ -18,7 +18,8 @@ use Rattle.event_bytes.specs.Events.{entry_of, received_of}
 -- what an event says is within the limits
 pub entry_within : (e : Event) → entry.IsWithin (entry_of e)
 unfolding entry reference sent known head number2 number4 number8 bytes4
-entry_within (event.Data d) = (((tt, (tt, tt)), (tt, any_body true Second d.body (in_wide d.body))), d.fits)
+entry_within (event.Data d) =
+    (((tt, (tt, tt)), (tt, any_body true Second d.body (in_wide d.body))), d.fits)
 entry_within (event.Ack a) = ((tt, (tt, tt)), a.fits)
 entry_within (event.Alloc register places) = (tt, tt)
 entry_within (event.Copy register source) = (tt, tt)

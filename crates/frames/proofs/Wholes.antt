@@ -26,7 +26,8 @@ use Rattle.frames.proofs.Written.{parts}
 
 -- ---- to the end
 
-module _ {A : Type 0} (read : codec.Reader A) (a b : Reader) (o : Option A) (took : Takes read a b o) where
+module _ {A : Type 0} (read : codec.Reader A) (a b : Reader) (o : Option A)
+    (took : Takes read a b o) where
   pub left_read : is_whole b ≡ true → (left a >>= whole_at read) ≡ o
   left_read whole = by (left a) refl where
     none : (o : Option A) (q : Option (List ℕ)) → None ≡ (o >>= λ x. with_rest x q)

@@ -10,8 +10,8 @@ use Rattle.msg.specs.Frames.{Plain, plain}
 use Rattle.frames.specs.Formats.{Head, head}
 use Rattle.frames.specs.Grammar.{Fits, spelling, is_letter, data_at, ack_at}
 
--- What a function returned is the frame that is to be read, or it refused bytes that spell no frame.
--- Memory runs out only at a letter with references and bytes.
+-- What a function returned is the frame that is to be read, or it refused bytes that spell no
+-- frame. Memory runs out only at a letter with references and bytes.
 abbrev pub Decodes : Result Frame Refusal → Option Plain → Type 0
 Decodes (Ok f) read = read ≡ Some (plain f)
 Decodes (Err e) None = e ≡ BadFrame

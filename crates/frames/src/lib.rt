@@ -17,8 +17,11 @@
 //! | 6 | Get | a reference, a place in one byte, and a label in four bytes |
 //! | 7 | Ended | |
 //! | 8 | Swept | |
-//! | 9 | Post | a label in four bytes, how many references in one byte, each of them optional, how many bytes in four bytes, and these |
+//! | 9 | Post | a label in four bytes, two lists, and their items |
 //! | 10 | Fetch | a reference, and a label, an offset and a count in four bytes each |
+//!
+//! A Post has after its label how many references follow, in one byte, each of them optional; then
+//! how many bytes follow, in four bytes, and these.
 //!
 //! A reference is its node in one byte, its slot in four and its generation in eight. An optional
 //! reference is the byte 0, or the byte 1 and a reference. In the first [`Version`], which only

@@ -28,7 +28,9 @@ is_said = refl
 
 is_spelled : image_of new
     ≡ (0x4D ∷ 0x52 ∷ 2 ∷ 2 ∷ 1 ∷ 0 ∷ 1 ∷ 0 ∷ 0 ∷ 0 ∷ 2 ∷ []) ++ replicate 87 0
-unfolding spelling image_format stored_format layout_format front_format head_format start_format nodes_format phases_format ring_format held_format lists_format told_format slots_format others_format link_format number2 number4 number8 signed8 colour token optional
+unfolding spelling image_format stored_format layout_format front_format head_format start_format
+    nodes_format phases_format ring_format held_format lists_format told_format slots_format
+    others_format link_format number2 number4 number8 signed8 colour token optional
 is_spelled = refl
 
 -- the same of a wide space, whose objects have at most 9 places and 16 bytes
@@ -41,7 +43,9 @@ is_said_wide = refl
 is_spelled_wide : image_of new_wide
     ≡ (0x4D ∷ 0x52 ∷ 4 ∷ 9 ∷ 0 ∷ 0 ∷ 0 ∷ 16 ∷ 2 ∷ 1 ∷ 0 ∷ 1 ∷ 0 ∷ 0 ∷ 0 ∷ 2 ∷ [])
     ++ replicate 87 0
-unfolding spelling image_format stored_format layout_format front_format head_format start_format nodes_format phases_format ring_format held_format lists_format told_format slots_format others_format link_format number2 number4 number8 signed8 colour token optional
+unfolding spelling image_format stored_format layout_format front_format head_format start_format
+    nodes_format phases_format ring_format held_format lists_format told_format slots_format
+    others_format link_format number2 number4 number8 signed8 colour token optional
 is_spelled_wide = refl
 
 -- an object with one place, in a slot of its first generation

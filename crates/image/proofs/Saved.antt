@@ -323,7 +323,8 @@ module _ (n : NodeView) (is : IsNode n) where
       (shape_again p.shape is.shape p.own))
 
   sized : (front_format Second).IsWithin (front_of (stored_by n))
-  unfolding front_format head_format nodes_format phases_format ring_format number2 number4 number8 signed8
+  unfolding front_format head_format nodes_format phases_format ring_format number2 number4 number8
+      signed8
   sized =
       let ring = n.local.ring in
       let placed = and_from _ _ (lt-ltb _ _ is.own) (le-leb _ _ is.shape.most_nodes) in (

@@ -18,8 +18,10 @@ empty_spelled : (xs : List (Option Ref)) → list_all is_none xs ≡ true
 unfolding optional
 empty_spelled [] all = (refl, tt)
 empty_spelled (None ∷ xs) all =
-    let others = empty_spelled xs all in
-    (flat_map-cons (optional Second).spell None xs ∙ ap (λ (t : List ℕ). 0 ∷ t) others.0, (tt, others.1))
+    let others = empty_spelled xs all in (
+      flat_map-cons (optional Second).spell None xs ∙ ap (λ (t : List ℕ). 0 ∷ t) others.0,
+      (tt, others.1),
+    )
 empty_spelled (Some r ∷ xs) all = absurd cc
 
 -- that many zeros spell these registers, if all are empty

@@ -134,7 +134,8 @@ numbered-in sent k number x is there =
     ∙ ap (slice_get sent) (let before : number - 1 ≡ k = omega (arith, is) in before)
     ∙ there
 
-module _ {w : World} (i : ℕ) {n : NodeView} (h : IsCarried (node_at w.saved i) (node_at w.current i) n)
+module _ {w : World} (i : ℕ) {n : NodeView}
+    (h : IsCarried (node_at w.saved i) (node_at w.current i) n)
     (grown : KeepsSent w) where
   -- the saved state sent a message that is in a released place
   saved-place : (to place : ℕ) (x : Message) → released_at (link_to n to) place ≡ Some x

@@ -157,7 +157,8 @@ cut-acted P {i = i} {e = e} {t = t} {a = a} w choice x has =
       has,
     ))
 
-cut-received : (P : Event → Type 0) {m : Delivery} {t : NodeState} {a : Answer} {d : Cut} (w : World)
+cut-received : (P : Event → Type 0) {m : Delivery} {t : NodeState} {a : Answer} {d : Cut}
+    (w : World)
     (choice : ℕ → Bool)
     → KeepsSent w → Delivered w m t a → IsTurnOf (node_at w.current m.to) m → choice m.to ≡ false
     → Becomes (cut w choice) d m.to t → (s : PlainStep (cut w choice) d) × HasEvent P s

@@ -468,7 +468,8 @@ own-answers {s = s} p counts (event.Resolve register reference) is d =
       refl,
       thing_of x.object,
       subst (λ (z : ℕ).
-          s.objects (own_reference z reference.slot reference.generation) ≡ Some (thing_of x.object))
+          s.objects (own_reference z reference.slot reference.generation)
+          ≡ Some (thing_of x.object))
           (sym x.own) (d.here.lives reference.slot reference.generation x.object x.there),
     )
 own-answers p counts (event.Reclaim scope) never d = absurd cc

@@ -235,7 +235,8 @@ pub flows-sent : {shape : Shaped} {c d : Cut} {i : ℕ} {q : LocalState} {ms : L
     → SendsCounted shape c d i q ms → Flows shape.nodes c → Flows shape.nodes d
 flows-sent {shape = shape} {c = c} {d = d} {ms = ms} h flows =
     let cycle : ℕ = cycle_of c 0 in
-    let counted = load-sends (λ x. cond (is_counted cycle x) 1 0) h.base h.inside h.turn h.got h.all in
+    let counted = load-sends (λ x. cond (is_counted cycle x) 1 0) h.base h.inside h.turn h.got
+    h.all in
     let fresh = load-sends (λ x. cond (is_fresh cycle x) 1 0) h.base h.inside h.turn h.got h.all in
     let owed = total-turn shape.nodes (balance cycle) _ h.turn h.inside h.counted in
     let new = total-turn shape.nodes (fresh_balance cycle) _ h.turn h.inside h.fresh in
@@ -262,8 +263,10 @@ pub flows-taken : {shape : Shaped} {c d : Cut} {i : ℕ} {q : LocalState} {j : �
 flows-taken {shape = shape} {c = c} {d = d} {i = i} {q = q} {j = j} {x = x} h flows =
     let cycle : ℕ = cycle_of c 0 in
     let sender = (flight-inside j i (taken c j i) x h.base h.flight).0 in
-    let counted = load-takes (λ x. cond (is_counted cycle x) 1 0) h.base h.inside sender h.turn h.flight h.got in
-    let fresh = load-takes (λ x. cond (is_fresh cycle x) 1 0) h.base h.inside sender h.turn h.flight h.got in
+    let counted = load-takes (λ x. cond (is_counted cycle x) 1 0) h.base h.inside sender h.turn
+    h.flight h.got in
+    let fresh = load-takes (λ x. cond (is_fresh cycle x) 1 0) h.base h.inside sender h.turn h.flight
+    h.got in
     let k : ℤ = pos (cond (is_counted cycle x) 1 0) in
     let l : ℤ = pos (cond (is_fresh cycle x) 1 0) in
     let owed : total shape.nodes (λ a. balance cycle (d a).local)

@@ -147,7 +147,8 @@ happening-keeps : {Q : Slot → ℕ → Type 0} {s : Step} → IsKept Q → (w v
 happening-keeps kept w v nothing tidy n k e spares x = x
 happening-keeps kept w v (acted i ev t a is did) tidy n k e spares x =
     kept-changed w i t n k e
-    (own-keeps kept (node_at w.current i) ev t a did.own did.answered (spares.freed i ev is) (tidy i))
+    (own-keeps kept (node_at w.current i) ev t a did.own did.answered (spares.freed i ev is)
+    (tidy i))
     x
 happening-keeps kept w v (delivered m t a did) tidy n k e spares x =
     let s : NodeState = node_at w.current m.to in

@@ -96,7 +96,8 @@ post-is-good : {G : Ref → Type 0} {since : ℕ} (stamp label : ℕ) (rs : List
     (bytes : List ℕ) → ((r : Ref) → Among r (filled rs) → G r)
     → GoodMessage G since (record { stamp = stamp; body = body.Post label rs bytes })
 post-is-good stamp label rs bytes all =
-    reference-good (record { stamp = stamp; body = body.Post label rs bytes }) (λ r e. absurd cc) all
+    reference-good (record { stamp = stamp; body = body.Post label rs bytes }) (λ r e. absurd cc)
+    all
 
 fetch-good : {G : Ref → Type 0} {since : ℕ} (stamp : ℕ) (target : Ref) (label offset count : ℕ)
     → G target
@@ -464,5 +465,6 @@ taken-good {G = G} {since = since} p from number x r =
     fits (body.Get target place label) h =
         let q : LocalState = (joined p x.stamp).local in
         h ∙ sym (joined-walks stands-walks.moves.collects p x.stamp).own
-        ∙ sym (carried-walks stands-walks.moves.collects x.stamp (body.Get target place label) q).own
+        ∙ sym (carried-walks stands-walks.moves.collects x.stamp (body.Get target place label)
+        q).own
     fits b h = tt

@@ -1,6 +1,7 @@
 -- What a node's moves keep of a slot. Take a property of a slot and a generation that is kept when
 -- an object is rewritten and when one is made. Then every message keeps it, and every event that
--- frees nothing; also those that free objects, if it is kept when one goes and when one becomes old.
+-- frees nothing; also those that free objects, if it is kept when one goes and when one becomes
+-- old.
 use Rattle.std.proofs.Common.{◌≡◌, ℕ, ◌<◌, ◌==◌, cond, true, List, [], ◌∷◌, ◌++◌, length, length-set, length-append, get_or, set, sym, subst, refl, ⊎_elim, arith}
 use Rattle.std.proofs.lemmas.Bool.{cond_both}
 use Rattle.std.proofs.lemmas.List.{get_or_append_left, length-map}
@@ -59,7 +60,8 @@ module _ {Q : Slot → ℕ → Type 0} (kept : IsKept Q) where
         x.holds;
   }
 
-  pub keeps-rewritten : (h : Heap) (r : Ref) (f : Object → Object) → Keeps Q h (with_rewritten h r f)
+  pub keeps-rewritten : (h : Heap) (r : Ref) (f : Object → Object)
+      → Keeps Q h (with_rewritten h r f)
   keeps-rewritten h r f =
       keeps-set h r.slot (rewritten f r.generation (slot_at h r.slot))
       (kept.rewritten f r.generation (slot_at h r.slot))

@@ -284,7 +284,8 @@ body-inside from stamp (body.Get target place label) p k n inside past =
 body-inside from stamp (body.Post label references bytes) p k n inside past = refl
 body-inside from stamp (body.Fetch target label offset count) p k n inside past =
     one-inside from
-    (stamped p (body.Post label [] (fetched (object_at p.heap target) offset count))) n k inside past
+    (stamped p (body.Post label [] (fetched (object_at p.heap target) offset count))) n k inside
+    past
 body-inside from stamp (body.Mark target) p k n inside past =
     quiet-posts k _ (quiet-walks calm-collects from stamp (body.Mark target) p refl).quiet
 body-inside from stamp b p k n inside past = refl

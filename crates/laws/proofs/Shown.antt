@@ -295,7 +295,8 @@ tells-walks = record {
   moves = record {
     collects = tells-collects;
     roots = λ p registers letters.
-        tells-quiet p _ refl (ages-walks.moves.roots p registers letters) refl (λ k g past shown. shown);
+        tells-quiet p _ refl (ages-walks.moves.roots p registers letters) refl
+        (λ k g past shown. shown);
     rewrites = λ p r f quiet. tells-rewritten p r f (quiet-shared quiet);
     places = place-walks tells-collects tells-rewritten;
     makes = λ p register places free.

@@ -236,7 +236,8 @@ happening w (step.Act i e) =
     (λ within. cond_both (is_own e) _ _ (λ r. Happening w s (world_after w r))
     (λ own.
     moved-happening w s i (act (node_at w.current i) e)
-    (λ t a h. acted i e t a refl (record { within = ltb-true _ _ within; own = own; answered = h })))
+    (λ t a h. acted i e t a refl
+    (record { within = ltb-true _ _ within; own = own; answered = h })))
     (λ _. nothing))
     (λ _. nothing)
 happening w (step.Save i) =

@@ -30,9 +30,9 @@ sum_to (suc n) f = sum_to n f + f n
 --   its Mark in the next cycle.
 -- * A Get may make the receiver send a Mark of what it reads, which costs 2, and a Give, which
 --   costs 8: its own 7, and its number on its link.
--- * A Post costs as much as a Give for each of its references, except that it is received once; as a
---   letter without any, if it has none. A Fetch carries one reference, and may make the receiver send a
---   Post without references, which costs as much as a Give.
+-- * A Post costs as much as a Give for each of its references, except that it is received once; as
+--   a letter without any, if it has none. A Fetch carries one reference, and may make the receiver
+--   send a Post without references, which costs as much as a Give.
 abbrev pub cost_of : Body → ℕ
 cost_of body.Begin = 1
 cost_of (body.Token token) = 0

@@ -85,8 +85,8 @@ IsTrace (told.Trace texts) = Unit {0}
 IsTrace (told.Refused e) = Unit {0}
 IsTrace t = ⊥
 
--- Bytes that a word spells were written or sent, or there was no memory for them. If the word spells
--- none, the line is outside the grammar.
+-- Bytes that a word spells were written or sent, or there was no memory for them. If the word
+-- spells none, the line is outside the grammar.
 abbrev pub IsWritten : Result (List ℕ) FromHexError → Told → Type 0
 IsWritten (Ok bytes) t = IsAnswer t
 IsWritten (Err e) t = (t ≡ told.NoCommand) ⊎ (t ≡ told.Refused refusal.Memory)
@@ -143,7 +143,8 @@ abbrev pub IsTold : Bool → List ℕ → Told → Type 0
 IsTold wide line t = IsToldOf (run_line_of wide (words_of line)) t
 
 -- a line has such an outcome, which is printed, and the status is that of the outcome
-pub record PrintsLine (wide : Bool) (line : List ℕ) (number : ℕ) (old new : Option (List ℕ)) (status : ℕ)
+pub record PrintsLine (wide : Bool) (line : List ℕ) (number : ℕ) (old new : Option (List ℕ))
+    (status : ℕ)
     : Type 0 where
   pub outcome : Told
   pub of : IsTold wide line outcome

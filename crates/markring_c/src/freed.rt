@@ -26,7 +26,8 @@ pub extern "C" fn markring_node_freed(
     buffer: &mut [CFreed],
     count: &mut usize,
 ) -> i32
-    ensures { Numbered (λ r. HandsOutIf HandedOut node.old.held node.new.held r buffer.old buffer.new)
+    ensures { Numbered
+        (λ r. HandsOutIf HandedOut node.old.held node.new.held r buffer.old buffer.new)
         result count.old count.new }
 {
     written(node.freed(alloc, buffer), count)

@@ -115,7 +115,8 @@ pub extern "C" fn markring_node_accept_into(
     answer: &mut CAnswer,
 ) -> i32
     ensures { AcceptsInto (read (λ x. letter_bytes x.node.core.local) node.old.held)
-        (record { before = buffer.old; after = buffer.new; needed = needed.old; needs = needed.new })
+        (record
+        { before = buffer.old; after = buffer.new; needed = needed.old; needs = needed.new })
         (NodeCalled (event.Accept register)) node.old.held node.new.held result answer.old
         answer.new }
 {
@@ -212,7 +213,8 @@ pub extern "C" fn markring_cell_accept_into(
     answer: &mut CAnswer,
 ) -> i32
     ensures { AcceptsInto (read (λ x. letter_bytes x.cell.node.core.local) cell.old.held)
-        (record { before = buffer.old; after = buffer.new; needed = needed.old; needs = needed.new })
+        (record
+        { before = buffer.old; after = buffer.new; needed = needed.old; needs = needed.new })
         (CellCalled (event.Accept register)) cell.old.held cell.new.held result answer.old
         answer.new }
 {

@@ -34,7 +34,8 @@ among-more : {A : Type 0} (x : A) (xs ys : List A) → Among x ys → Among x (x
 among-more x [] ys a = a
 among-more x (z ∷ zs) ys a = inr (among-more x zs ys a)
 
-pub among-parts : {A : Type 0} (x : A) (xs ys : List A) → Among x (xs ++ ys) → Among x xs ⊎ Among x ys
+pub among-parts : {A : Type 0} (x : A) (xs ys : List A) → Among x (xs ++ ys) → Among x xs
+    ⊎ Among x ys
 among-parts x [] ys a = inr a
 among-parts x (z ∷ zs) ys (inl e) = inl (inl e)
 among-parts x (z ∷ zs) ys (inr later) =

@@ -294,10 +294,6 @@ ack-passes n new a x h =
       found.3 ∙ ap (λ (z : Effect). z.answer) (sym same),
     )
 
-pub ack-answer : (n new : NodeView) (a : Ack) (x : Answer) → view_act n (event.Ack a) ≡ Ok (new, x)
-    → x ≡ answer.Done
-ack-answer n new a x h = (ack-passes n new a x h).3
-
 -- an answered acknowledgement is of released messages, and drops them
 pub ack-done : (n new : NodeView) (a : Ack) (x : Answer) → view_act n (event.Ack a) ≡ Ok (new, x)
     → (a.number ≤ (link_to n a.by).kept)

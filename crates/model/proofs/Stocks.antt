@@ -85,7 +85,8 @@ length-overwritten xs offset ys =
     within : has_range xs offset (length ys) ≡ true
         → length (take offset xs ++ (ys ++ drop (offset + length ys) xs)) ≡ length xs
     within there =
-        let fits : offset + length ys ≤ length xs = leb-true (offset + length ys) (length xs) there in
+        let fits : offset + length ys ≤ length xs =
+        leb-true (offset + length ys) (length xs) there in
         let outer = length-append (take offset xs) (ys ++ drop (offset + length ys) xs) in
         let inner = length-append ys (drop (offset + length ys) xs) in
         let front = length-take-le offset xs (omega (arith, fits)) in

@@ -277,7 +277,8 @@ module _ (n m : NodeView) (d : Data) (a : Answer)
             same-core n m a answer.Early (sym p.performs ∙ is),
           )
 
-  pub copy-failed : {es fs : Rings} {e : Refusal} → AreKeptIn (record { core = n; early = es }) → e ≡ Memory
+  pub copy-failed : {es fs : Rings} {e : Refusal} → AreKeptIn (record { core = n; early = es })
+      → e ≡ Memory
       → is_post d.body ≡ true → fs ≡ es
       → Handled (record { core = n; early = es }) (record { core = m; early = fs })
       (event.Data d) (Err e)

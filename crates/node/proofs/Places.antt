@@ -70,7 +70,8 @@ module _ {A : Type 0} (read : Option Object → A)
       (λ _. refl)
 
 pub seen-places : (due : Bool) (rs : List Ref) (p : LocalState) (r : Ref) (place : ℕ)
-    → place_of (object_at (see_to due rs p).local.heap r) place ≡ place_of (object_at p.heap r) place
+    → place_of (object_at (see_to due rs p).local.heap r) place ≡ place_of (object_at p.heap r)
+    place
 seen-places due rs p r place =
     seen-read (λ (o : Option Object). place_of o place) (λ cycle o. refl) due rs p r
 

@@ -80,7 +80,8 @@ within-mentioned shape (body.Get target place label) within fit = (
 )
 within-mentioned shape (body.Post label references bytes) within fit =
     let inner = and_parts (nat_le (length references) GREATEST_PLACES) _ fit in
-    within-each shape references within (and_parts (nat_le (length bytes) GREATEST_LETTER) _ inner.1).1
+    within-each shape references within
+    (and_parts (nat_le (length bytes) GREATEST_LETTER) _ inner.1).1
 within-mentioned shape (body.Fetch target label offset count) within fit = (
   reference-within shape target (grind (arith, nat_tests, within))
       (grind (arith, nat_tests, fit)),

@@ -171,13 +171,15 @@ module _ (shape : Shaped) where
     -- as many follow each of them as it says
     letters-whole : (ls : List Letter)
         → ((list_all (is_letter shape own) ls ≡ true) × (are_whole ls ≡ true))
-        ↔ (AreLetters shape own ls × AllByRecursion (λ (l : Letter). IfAny (IsWithin shape) l.reference) ls)
+        ↔ (AreLetters shape own ls
+        × AllByRecursion (λ (l : Letter). IfAny (IsWithin shape) l.reference) ls)
     letters-whole [] = (λ _. (tt, tt), λ _. (refl, refl))
     letters-whole (l ∷ ls) =
         let rest = letters-whole ls in
         let any = any-is l.reference in (
           λ both.
-              let first = and_parts (is_letter shape own l) (list_all (is_letter shape own) ls) both.0 in
+              let first = and_parts (is_letter shape own l) (list_all (is_letter shape own) ls)
+              both.0 in
               let last = and_parts (nat_le l.more (length ls)) (are_whole ls) both.1 in
               let after = rest.0 (first.1, last.1) in
               let one = (letter-is l).0 first.0 in
@@ -331,7 +333,8 @@ module _ (n : NodeView) where
             each = λ i _. heard-is local.own phases.reports is.phases.heard i;
           };
           calm = λ over.
-              let done : phases.ended ≡ phases.cycle = omega (arith, over, is.phases.phases.ended) in
+              let done : phases.ended ≡ phases.cycle =
+              omega (arith, over, is.phases.phases.ended) in
               ap (λ (ks : List ℕ). length ks == 0) (is.stocked.calm done);
           token = (token-is phases.cycle phases.ended local.ring.token).1 is.token;
         };
@@ -344,7 +347,8 @@ module _ (n : NodeView) where
         };
         asked = record {
           foreign = (asked-are shape local.own local.asked).1
-              (all-both (IsWithin shape) (λ (r : Ref). r.node ≢ local.own) local.asked is.asked.within
+              (all-both (IsWithin shape) (λ (r : Ref). r.node ≢ local.own) local.asked
+              is.asked.within
               is.asked.others);
           once = distinct-before is_same same-flip local.asked is.asked.once;
         };

@@ -27,8 +27,10 @@ impl Node {
     /// The first bytes of the oldest letter, this many of them. It fails as [`Node::letter`] does,
     /// and with [`Refusal::NoBytes`] if the letter has fewer bytes.
     pub fn letter_part(&self, count: usize) -> Result<&[u8], Refusal>
-        ensures value { IfOk result (λ b. heap_letter_part self.now.core.local.heap count ≡ Ok b.now) }
-        ensures refused { IfErr result (λ e. heap_letter_part self.now.core.local.heap count ≡ Err e) }
+        ensures value { IfOk result
+            (λ b. heap_letter_part self.now.core.local.heap count ≡ Ok b.now) }
+        ensures refused { IfErr result
+            (λ e. heap_letter_part self.now.core.local.heap count ≡ Err e) }
     {
         self.core().letter_part(count)
     }

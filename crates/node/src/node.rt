@@ -99,10 +99,10 @@ impl Node {
     /// the core as it was.
     ///
     /// These never fail with `Memory`: `Copy`, `Drop`, `Store`, `Clear`, `Word`, `SetWord`,
-    /// `Patch`, `Accept`, `Resolve`, `Ack`, a `Sweep` that leaves slots or is node 0's, and a `Next`
-    /// for which no message waits. Nor does a message that isn't the next one, unless it is early
-    /// and a letter with references and bytes. `Word`, a repeated message and an early one also
-    /// leave the core as it was.
+    /// `Patch`, `Accept`, `Resolve`, `Ack`, a `Sweep` that leaves slots or is node 0's, and a
+    /// `Next` for which no message waits. Nor does a message that isn't the next one, unless it is
+    /// early and a letter with references and bytes. `Word`, a repeated message and an early one
+    /// also leave the core as it was.
     ///
     /// An early message is kept, unless its place is taken already. `Next` receives the message
     /// that waits, as if it arrived now, and fails with `NothingToDo` if none does. If that message
@@ -182,9 +182,9 @@ impl Node {
         }
     }
 
-    /// Performs [`Event::Scan`] if the object that is scanned next has at most two places, which name
-    /// objects of this node alone, marking hasn't ended, and no memory is needed. Returns whether
-    /// that is so; otherwise nothing changes. It takes less time than [`Node::act`].
+    /// Performs [`Event::Scan`] if the object that is scanned next has at most two places, which
+    /// name objects of this node alone, marking hasn't ended, and no memory is needed. Returns
+    /// whether that is so; otherwise nothing changes. It takes less time than [`Node::act`].
     #[inline(always)]
     pub fn scan_own(&mut self) -> bool
         ensures done { let p = self.old.core.local in IsTrue result

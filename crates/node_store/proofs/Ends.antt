@@ -4,7 +4,7 @@ use Rattle.std.specs.List.{AllByRecursion}
 use Rattle.std.proofs.lemmas.Bool.{eqb-true, true≢false}
 use Rattle.std.proofs.lemmas.List.{append-nil}
 use Rattle.std.proofs.Common.{arith, length-append, ◌<◌}
-use Rattle.std.proofs.Common.{append_assoc, Bool}
+use Rattle.std.proofs.Common.{append_assoc, Bool, cond}
 use Rattle.codec.specs.Formats.{Fits}
 use Rattle.codec.specs.Formats.{◌>>=◌}
 use Rattle.codec.specs.Readers.{open_of, whole_of, with_rest}
@@ -250,12 +250,11 @@ led_by bytes (Some b) old node logged = (
   refl,
 )
 
--- a log that was just begun, or is lost
-pub begun_log : (log : Option (List ℕ)) (kept : Bool) (n : NodeView) → (kept ≡ true → log ≡ Some [])
-    → (kept ≡ false → log ≡ None) → IsLogged log n n
-begun_log log true n begun lost bytes is =
-    let both : ◌≡◌ {A = Option (List ℕ)} (Some []) (Some bytes) = sym (begun refl) ∙ is in
+-- a log that was just begun, if one is kept
+pub begun_log : (logs : Bool) (log : Option (List ℕ)) (n : NodeView) → log ≡ Some []
+    → IsLogged (cond logs log None) n n
+begun_log true log n begun bytes is =
+    let both : ◌≡◌ {A = Option (List ℕ)} (Some []) (Some bytes) = sym begun ∙ is in
     let same : [] ≡ bytes = cc both in
-    subst (λ l. Logged l n n) same (record { events = []; fit = tt; is = refl; done = refl })
-begun_log log false n begun lost bytes is =
-    let both : ◌≡◌ {A = Option (List ℕ)} None (Some bytes) = sym (lost refl) ∙ is in absurd cc
+    subst (λ l. Logged l n n) same (logged_none n)
+begun_log false log n begun bytes is = absurd cc

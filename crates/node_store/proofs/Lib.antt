@@ -1,5 +1,6 @@
 pub mod Alone
 pub mod Ends
+pub mod Noting
 pub mod Quiet
 pub mod Stores
 pub mod Turns

@@ -1,5 +1,5 @@
 -- What a disk holds of a node, with a log or without one.
-use Rattle.std.proofs.Common.{◌≡◌, ◌≢◌, inl, inr, ⊎_elim, ℕ, Bool, true, false, List, [], ◌∷◌, Option, Some, None}
+use Rattle.std.proofs.Common.{◌≡◌, ◌≢◌, ℕ, Bool, true, false, List, [], ◌∷◌, Option, Some, None}
 use Rattle.std.proofs.Common.{refl, sym, ap, ◌∙◌, subst, map, arith, drop, length, ◌+◌}
 use Rattle.std.proofs.Common.{Result, Ok, Err}
 use Rattle.std.specs.Option.{option_map}
@@ -17,7 +17,7 @@ use Rattle.image.specs.Wholes.{IsWholeOf, IsWholeTooLarge}
 use Rattle.image.proofs.Spelled.{kept_is}
 use Rattle.disk.specs.Areas.{Areas, part, IsBlank}
 use Rattle.disk_shelf.specs.Logs.{HasLog, IsKept, LeadAll, OpensIf}
-use Rattle.disk_shelf.specs.Shelf.{half, image_at, opened, OpensAs, record_of, recorded, side}
+use Rattle.disk_shelf.specs.Shelf.{half, image_at, opened, OpensAs, record_of, side}
 use Rattle.disk_shelf.proofs.Logs.{selected_if}
 use Rattle.disk_shelf.proofs.Records.{record_length}
 use Rattle.disk_shelf.proofs.Values.{fresh_led}

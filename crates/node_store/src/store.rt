@@ -9,17 +9,18 @@ ghost use Rattle.disk_shelf.specs.Refusals.{AfterSave, IsHandedBack, IsUnread};
 ghost use Rattle.disk_shelf.specs.Seals.{IsIntact};
 ghost use Rattle.node.specs.Keeping.{WholeNode};
 ghost use Rattle.image.specs.Wholes.{IsWholeTooLarge, saved_whole};
+ghost use Rattle.node_store.specs.Acting.{log_of};
 ghost use Rattle.node_store.specs.Noted.{IsLogged};
 ghost use Rattle.node_store.specs.Plain.{IsPlain, Keeps, KeepsEither, KeepsNone, StaysPlain};
 ghost use Rattle.node_store.specs.Stores.{disk_of, is_ready_in, LiesAt, logs_in};
 ghost use Rattle.node_store.specs.Stores.{WritesAll};
 
 use crate::images::Images;
+use crate::logged::LoggedNode;
 use disk::{Disk, MemoryDisk, OverMemory, Plan};
 use disk_journal::{Journal, Tail, read_logged};
 use ids::{Refusal, Saves};
 use node::Node;
-use node_log::Log;
 use std::alloc::Global;
 
 /// A node's store. Its disk opens to the node as it was saved last, even after a crash.
@@ -51,8 +52,8 @@ fn adds_events(saves: Saves) -> bool
 /// Syncs a disk on which something was created, and returns the node that it holds, with its place.
 /// It writes nothing. [`Store::resume`] continues from there without reading again.
 ///
-/// If events are to be saved, or if the disk has a log, a log is to follow the images that are saved
-/// there. A disk without one gets it at its first save.
+/// If events are to be saved, or if the disk has a log, a log is to follow the images that are
+/// saved there. A disk without one gets it at its first save.
 ///
 /// Fails with `Disk` if the device failed, with `BadImage` if the disk holds no node, and with
 /// `Memory`. After `Ok` a crash leaves that node.
@@ -165,40 +166,40 @@ impl<D: Disk> Store<D> {
         self.journal.reopen()
     }
 
-    /// Saves a node. The log must lead from the node that the disk holds to this one, unless it is
+    /// Saves a node. Its log must lead from the node that the disk holds to this one, unless it is
     /// lost. It is added to the log on the disk. If the disk has no log, or it would become too
-    /// long, the image of the node is written instead. A crash at any moment since the call began leaves the old node, or this
-    /// one as it is once saved; after `Ok` it leaves this one.
+    /// long, the image of the node is written instead. A crash at any moment since the call began
+    /// leaves the old node, or this one as it is once saved; after `Ok` it leaves this one.
     ///
     /// Fails with `Closed` exactly if the store is closed, with `ImageTooLarge` if the image is to
     /// be written and is too large, with `Memory`, and with `Disk` if the device failed. `Disk`
     /// closes the store; the others change nothing. A node of a wide space is never too large.
-    pub fn save(&mut self, node: &Node, log: &Log) -> Result<(), Refusal>
+    pub fn save(&mut self, node: &LoggedNode) -> Result<(), Refusal>
         ensures saved { OnOk result ((old : WholeNode) → Keeps old (D.seen (disk_of self.old))
-            → IsLogged log.now old.core node.now.core
-            → Keeps (saved_whole node.now) (D.seen (disk_of self.new))) }
+            → IsLogged (log_of node.now) old.core node.now.node.core
+            → Keeps (saved_whole node.now.node) (D.seen (disk_of self.new))) }
         ensures only { OnOk result
             (Only (D.seen (disk_of self.new)) (D.may_leave (disk_of self.new))) }
         ensures intact { logs_in self.old ≡ false → OnOk result
             (IsIntact (D.seen (disk_of self.new))) }
         ensures any_moment { MatchResult result
             (λ _. (old : WholeNode) → Keeps old (D.seen (disk_of self.old))
-            → IsLogged log.now old.core node.now.core
+            → IsLogged (log_of node.now) old.core node.now.node.core
             → LeavesOnly D.moment D.left_since (disk_of self.old) (disk_of self.new)
-            (KeepsEither old (saved_whole node.now)))
+            (KeepsEither old (saved_whole node.now.node)))
             (λ e. e ≡ refusal.Disk → (old : WholeNode) → Keeps old (D.seen (disk_of self.old))
-            → IsLogged log.now old.core node.now.core
+            → IsLogged (log_of node.now) old.core node.now.node.core
             → LeavesOnly D.moment D.left_since (disk_of self.old) (disk_of self.new)
-            (KeepsEither old (saved_whole node.now))) }
+            (KeepsEither old (saved_whole node.now.node))) }
         ensures logs { logs_in self.new ≡ logs_in self.old }
         ensures after { AfterSave D.faults (disk_of self.old) (disk_of self.new)
             (is_ready_in self.old) (is_ready_in self.new) result }
         ensures too_large { IsErrOf result refusal.ImageTooLarge ↔ IsTrue (is_ready_in self.old)
-            × WritesAll self.old log.now × IsWholeTooLarge node.now }
-        ensures wide { node.now.core.local.shape.wide ≡ true →
+            × WritesAll self.old (log_of node.now) × IsWholeTooLarge node.now.node }
+        ensures wide { node.now.node.core.local.shape.wide ≡ true →
             IfErr result (λ e. e ≢ refusal.ImageTooLarge) }
     {
-        match self.journal.save(node, log.bytes()) {
+        match self.journal.save(&node.node, node.events()) {
             Ok(()) => Ok(()),
             Err(refusal) => Err(refusal),
         }

@@ -241,7 +241,8 @@ module _ {text first rest : List ℕ} (cut : IsCommand text first rest) where
   unless_wide : by_operands (word_of text) (words_of (behind text))
       ≡ command_of (word_of text) (words_of (behind text))
   unfolding command_of
-  unless_wide = sym (cond-false _ _ _ (ap (λ w. bytes_eq w (codes "wide")) (sym cut.word) ∙ cut.narrow))
+  unless_wide =
+      sym (cond-false _ _ _ (ap (λ w. bytes_eq w (codes "wide")) (sym cut.word) ∙ cut.narrow))
 
   pub command_read : {o : Option Operands} → o ≡ operands_of (words_of rest)
       → option_and_then (λ o. by_operands first (spelled o)) o

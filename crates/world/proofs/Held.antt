@@ -349,7 +349,8 @@ keeps-given {n = n} {i = i} {e = e} {r = r} h new =
     keeps-changed (given-changes h)
     (λ w shown.
     subst (OfAll (IsOfNet w i)) (sym h.acted.early)
-    (after-all (IsOfNet w i) (site_at n.sites i).current.local (kept_at n.early i) e r (shown.held i)
+    (after-all (IsOfNet w i) (site_at n.sites i).current.local (kept_at n.early i) e r
+    (shown.held i)
     (new w shown)))
 
 -- after the event, the nodes keep what its answer leaves of it
@@ -524,7 +525,8 @@ not-met : (n : SpaceView) (i : ℕ) (e : Event) → length n.early ≡ length n.
 not-met n i (event.Next from) width past =
     let none : kept_at n.early i ≡ [] =
     get_or_past n.early i [] (omega (arith, width, past)) in
-    let waits : waiting (kept_at n.early i) from ≡ None = ap (λ (es : Rings). waiting es from) none in
+    let waits : waiting (kept_at n.early i) from ≡ None =
+    ap (λ (es : Rings). waiting es from) none in
     ap (next_step i from) waits
 not-met n i e width past = refl
 

@@ -43,7 +43,8 @@ stored_length : (wide : Bool) (s : Stored) → length ((stored_format wide Secon
     ≡ length ((front_format Second).spell (front_of s)) + 20
     + (length (flat_map number8.spell s.reports)
     + length (flat_map (optional Second).spell s.registers))
-    + (length (flat_map (slot_format wide Second).spell s.slots) + length (flat_map number4.spell s.free)
+    + (length (flat_map (slot_format wide Second).spell s.slots)
+    + length (flat_map number4.spell s.free)
     + length (flat_map number4.spell s.grey))
     + (length (flat_map (reference Second).spell s.asked)
     + length (flat_map (letter_format wide Second).spell s.letters)
@@ -87,7 +88,8 @@ empty-registers (suc n) = ap (λ k. suc k) (empty-registers n)
 abbrev new_links : ℕ → List StoredLink
 new_links n = stored_links (replicate n no_link) (replicate n 0)
 
-empty-links : (wide : Bool) (n : ℕ) → length (flat_map (link_format wide Second).spell (new_links n)) ≡ 20 * n
+empty-links : (wide : Bool) (n : ℕ)
+    → length (flat_map (link_format wide Second).spell (new_links n)) ≡ 20 * n
 unfolding link_format number4 number8
 empty-links wide zero = refl
 empty-links wide (suc n) =

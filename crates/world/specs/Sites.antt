@@ -116,7 +116,8 @@ restarted q = record {
 
 -- The answer of the current node to an event, and the site after it: the change to the core, and
 -- the early messages that are then kept.
-pub record ActedKeeping (result : Result Answer Refusal) (old new : KeepingSite) (e : Event) : Type 0
+pub record ActedKeeping (result : Result Answer Refusal) (old new : KeepingSite) (e : Event) : Type
+    0
   where
     pub acted : Acted result old.site new.site (met old.early e)
     pub early : new.early ≡ early_after old.site.current.local old.early e result

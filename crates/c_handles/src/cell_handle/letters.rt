@@ -31,8 +31,8 @@ impl CellHandle {
         needed: &mut usize,
     ) -> Result<(), Fault>
         ensures same { self.new.held ≡ self.old.held }
-        ensures wrote { WroteIf (read (λ x. letter_bytes x.cell.node.core.local) self.old.held) result
-            buffer.old buffer.new needed.old needed.new }
+        ensures wrote { WroteIf (read (λ x. letter_bytes x.cell.node.core.local) self.old.held)
+            result buffer.old buffer.new needed.old needed.new }
     {
         let Some(cell) = self.take(alloc) else {
             return Err(Fault::NoHandle);

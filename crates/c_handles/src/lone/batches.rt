@@ -4,6 +4,7 @@ ghost use Rattle.std.specs.Option.{option_map};
 ghost use Rattle.disk_shelf.specs.Shelf.{record_of};
 ghost use Rattle.c_values.specs.Bytes.{Wrote};
 ghost use Rattle.c_handles.specs.Batches.{Batched, batch_of, size_of};
+ghost use Rattle.c_handles.specs.Logs.{logging};
 
 use super::LoneNode;
 use super::images::counts_of;
@@ -14,15 +15,26 @@ use node_store::GREATEST_LOG;
 use std::alloc::Global;
 
 impl LoneNode {
+    /// Keeps the events from the next image on, or no more. If they are kept already, nothing
+    /// changes. Memory is allocated only as events come.
+    pub fn log(&mut self, on: bool)
+        ensures { self.new ≡ logging on self.old }
+    {
+        if on && !self.logged.logs {
+            self.logged.log.lose();
+        }
+        self.logged.logs = on;
+    }
+
     // The events of the next batch. None if there is no log, if it is lost, or if what the last
     // image or batch holds doesn't count as saved.
     fn events(&self) -> Option<&[u8]>
         ensures { option_map (λ b. b.now) result ≡ batch_of self.now }
     {
-        if !self.is_kept || !self.logs {
+        if !self.is_kept {
             return None;
         }
-        let bytes = self.log.bytes()?;
+        let bytes = self.logged.events()?;
         if bytes.len() > GREATEST_LOG {
             return None;
         }
@@ -48,14 +60,14 @@ impl LoneNode {
         let Some(events) = self.events() else {
             return Err(Fault::NoLog);
         };
-        let counts = counts_of(alloc, self.node.core())?;
+        let counts = counts_of(alloc, self.logged.node.core())?;
         put_batch(events, buffer, needed)?;
         // (called for its contract: no more counts as saved than was sent)
-        let _summary = self.node.state();
+        let _summary = self.logged.node.state();
         self.counts = Some(counts);
         self.mark = self.mark.wrapping_add(1);
         self.is_changed = false;
-        self.log.clear();
+        self.logged.log.clear();
         self.is_kept = false;
         self.gone.cover();
         Ok(self.mark)

@@ -42,12 +42,8 @@ impl LoneNode {
         requires tracks { self.old.gone.tracks ≡ true }
         ensures { Given false self.old self.new event.now result }
     {
-        let answer = self.gone.act(&mut self.node, event)?;
-        self.is_changed = true;
-        self.is_unsaved = true;
-        if self.logs {
-            let _lost = self.log.note(event);
-        }
+        let answer = self.gone.act(&mut self.logged, event)?;
+        self.mark_changed(answer.is_change());
         Ok(answer)
     }
 }

@@ -61,7 +61,7 @@ impl LoneNode {
             → (e ≡ ImageTooLarge) × IsTooLarge self.now.node.core) }
         ensures last { IfErr result (λ e. e ≡ Memory → IsTooLarge self.now.node.core → ⊥) }
     {
-        Images::to_bytes(alloc, self.logs, &self.node)
+        Images::to_bytes(alloc, self.logged.logs, &self.logged.node)
     }
 
     /// The number of bytes of the node's image. Fails with `ImageTooLarge`, and with `Memory`.
@@ -78,14 +78,14 @@ impl LoneNode {
         ensures { Imaged self.old self.new result buffer.old buffer.new needed.old needed.new }
     {
         let bytes = self.image_behind(alloc)?;
-        let counts = counts_of(alloc, self.node.core())?;
+        let counts = counts_of(alloc, self.logged.node.core())?;
         put(&bytes[HEAD..], buffer, needed)?;
         // (called for its contract: no more counts as saved than was sent)
-        let _summary = self.node.state();
+        let _summary = self.logged.node.state();
         self.counts = Some(counts);
         self.mark = self.mark.wrapping_add(1);
         self.is_changed = false;
-        self.log.begin(self.logs);
+        self.logged.log.begin(self.logged.logs);
         self.is_kept = false;
         self.gone.cover();
         Ok(self.mark)
@@ -102,7 +102,7 @@ impl LoneNode {
         if mark != self.mark {
             return Err(Fault::WrongMark);
         }
-        keep(&mut self.node, counts);
+        keep(&mut self.logged.node, counts);
         self.is_unsaved = self.is_changed;
         self.is_kept = true;
         self.gone.kept();
@@ -114,10 +114,10 @@ impl LoneNode {
     pub fn release(&mut self)
         ensures { self.new ≡ released self.old }
     {
-        self.node.mark_saved();
+        self.logged.node.mark_saved();
         self.is_changed = false;
         self.is_unsaved = false;
-        self.log.lose();
+        self.logged.log.lose();
         self.gone.settle();
     }
 }

@@ -13,7 +13,7 @@ impl LoneNode {
     pub fn letter(&self) -> Result<Accepted, Fault>
         ensures { result ≡ letter_of self.now.node.core.local }
     {
-        letter_of(&self.node)
+        letter_of(&self.logged.node)
     }
 
     /// Writes the bytes of the oldest letter. Fails with `NoLetter`, and with `ShortBuffer`.
@@ -21,6 +21,6 @@ impl LoneNode {
         ensures { WroteIf (letter_bytes self.now.node.core.local) result buffer.old buffer.new
             needed.old needed.new }
     {
-        letter_bytes(&self.node, buffer, needed)
+        letter_bytes(&self.logged.node, buffer, needed)
     }
 }

@@ -13,14 +13,14 @@ impl LoneNode {
     pub fn slots(&self) -> u32
         ensures { result ≡ slots_of self.now.node.core.local }
     {
-        slots_of(self.node.core())
+        slots_of(self.logged.node.core())
     }
 
     /// The object in a slot. Fails with `Nothing` if it has none.
     pub fn object(&self, slot: u32) -> Result<CObject, Fault>
         ensures { result ≡ object_of self.now.node.core.local slot }
     {
-        object_of(self.node.core(), slot)
+        object_of(self.logged.node.core(), slot)
     }
 
     /// What a place of the object in a slot holds, a reference or nothing. Fails with `Nothing` if
@@ -28,7 +28,7 @@ impl LoneNode {
     pub fn place(&self, slot: u32, place: u8) -> Result<Option<Ref>, Fault>
         ensures { result ≡ place_at self.now.node.core.local slot place }
     {
-        place_at(self.node.core(), slot, place)
+        place_at(self.logged.node.core(), slot, place)
     }
 
     /// Writes `count` bytes of the object in a slot, from `offset` on. Fails with `Nothing` if
@@ -45,6 +45,6 @@ impl LoneNode {
         ensures { WroteIf (bytes_at self.now.node.core.local slot offset count) result
             buffer.old buffer.new needed.old needed.new }
     {
-        bytes_at(self.node.core(), slot, offset, count, buffer, needed)
+        bytes_at(self.logged.node.core(), slot, offset, count, buffer, needed)
     }
 }

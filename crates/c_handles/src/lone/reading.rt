@@ -91,7 +91,7 @@ impl LoneNode {
     pub fn state(&self) -> Summary
         ensures { result ≡ summary_of self.now.node.core.local }
     {
-        self.node.state()
+        self.logged.node.state()
     }
 
     /// Whether an event changed the node since the image that was kept last.
@@ -106,7 +106,7 @@ impl LoneNode {
     pub fn logs(&self) -> bool
         ensures { result ≡ self.now.logs }
     {
-        self.logs
+        self.logged.logs
     }
 
     /// The reference in a register. Fails with `NoRegister`, and with `Nothing` if the register is
@@ -114,7 +114,7 @@ impl LoneNode {
     pub fn register(&self, register: u16) -> Result<Ref, Fault>
         ensures { result ≡ register_of self.now.node.core.local register }
     {
-        register_of(self.node.core(), register)
+        register_of(self.logged.node.core(), register)
     }
 
     /// Writes `count` bytes of an object, from `offset` on. Fails as the node does, and with
@@ -130,21 +130,21 @@ impl LoneNode {
         ensures { WroteIf (object_bytes self.now.node.core.local object offset count) result
             buffer.old buffer.new needed.old needed.new }
     {
-        bytes_of(&self.node, object, offset, count, buffer, needed)
+        bytes_of(&self.logged.node, object, offset, count, buffer, needed)
     }
 
     /// How many bytes an object has. Fails as the node does.
     pub fn bytes_len(&self, object: u16) -> Result<u32, Fault>
         ensures { result ≡ object_len self.now.node.core.local object }
     {
-        bytes_len_of(&self.node, object)
+        bytes_len_of(&self.logged.node, object)
     }
 
     /// What the node knows of the links between it and another node. Fails with `NoNode`.
     pub fn link(&self, peer: u8) -> Result<CLink, Fault>
         ensures { result ≡ link_of self.now.node.core peer }
     {
-        link_of(self.node.core(), peer)
+        link_of(self.logged.node.core(), peer)
     }
 
     /// The number of the message that waits from another node. Fails with `NoNode`, and with
@@ -152,6 +152,6 @@ impl LoneNode {
     pub fn waiting(&self, from: u8) -> Result<u64, Fault>
         ensures { result ≡ waiting_number self.now.node from }
     {
-        waiting_number(&self.node, from)
+        waiting_number(&self.logged.node, from)
     }
 }

@@ -34,7 +34,7 @@ impl LoneNode {
     {
         let node = stored(alloc, image, batches)?;
         let mut lone = LoneNode::of(alloc, node, limit);
-        lone.logs = true;
+        lone.logged.logs = true;
         lone.is_kept = Images::has_log(image);
         Ok(lone)
     }

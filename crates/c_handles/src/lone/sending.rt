@@ -38,8 +38,8 @@ impl LoneNode {
         if place >= WINDOW {
             return Err(Fault::BadArgument);
         }
-        other_node(self.node.core(), to)?;
-        let Some(frame) = self.node.frame_at(to, place) else {
+        other_node(self.logged.node.core(), to)?;
+        let Some(frame) = self.logged.node.frame_at(to, place) else {
             return Err(Fault::Nothing);
         };
         if !is_short(&frame) {
@@ -53,8 +53,8 @@ impl LoneNode {
         ensures { WroteIf (ack_bytes self.now.node.core from) result buffer.old buffer.new
             needed.old needed.new }
     {
-        other_node(self.node.core(), from)?;
-        let Some(frame) = self.node.ack_for(from) else {
+        other_node(self.logged.node.core(), from)?;
+        let Some(frame) = self.logged.node.ack_for(from) else {
             return Err(Fault::Nothing);
         };
         put(spelled(&frame).as_slice(), buffer, needed)
@@ -74,8 +74,8 @@ impl LoneNode {
         ensures { Packs self.now.node.core to after result buffer.old buffer.new needed.old
             needed.new }
     {
-        other_node(self.node.core(), to)?;
-        let packing = pack_window(alloc, &self.node, to, after, buffer)?;
+        other_node(self.logged.node.core(), to)?;
+        let packing = pack_window(alloc, &self.logged.node, to, after, buffer)?;
         if packing.needed == 0 {
             return Err(Fault::Nothing);
         }

@@ -31,14 +31,10 @@ impl LoneNode {
     fn scan_one(&mut self) -> Result<(), Fault>
         ensures { Scans NodeDoes self.old self.new result }
     {
-        if !self.node.scan_own() {
+        if !self.logged.scan_own() {
             return self.scan_any();
         }
-        self.is_changed = true;
-        self.is_unsaved = true;
-        if self.logs {
-            self.note(Event::Scan);
-        }
+        self.mark_changed(true);
         Ok(())
     }
 
@@ -73,7 +69,7 @@ impl LoneNode {
             (at self.new work.new) result }
         ensures few { tried work.new ≤ tried work.old + 255 * WINDOW }
     {
-        let Summary { shape, own, .. } = self.node.state();
+        let Summary { shape, own, .. } = self.logged.node.state();
         for from in 0..shape.nodes() {
             self.receive_from(own, from, work)?;
         }
@@ -98,7 +94,7 @@ impl LoneNode {
     {
         *work = CWork::NONE;
         let ended = self.work_through(scans, slots, work);
-        work.more = u8::from(is_left(self.node.state()));
+        work.more = u8::from(is_left(self.logged.node.state()));
         ended
     }
 }

@@ -73,7 +73,7 @@ impl<D: Disk> Cell<D> {
         ensures traced { self.new.trace ≡ keep_last TRACE_EVENTS (self.old.trace
             ++ record { call = call.Save; outcome = done_outcome result } ∷ []) }
     {
-        match self.store.save(self.desk.node(), self.desk.log()) {
+        match self.store.save(self.desk.logged()) {
             Ok(()) => {
                 // Called for its contract.
                 let _logs = self.store.logs();

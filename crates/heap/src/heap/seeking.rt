@@ -39,8 +39,8 @@ impl Heap {
         }
     }
 
-    /// The first slot from `slot` on whose block may have an object that a search of this scope goes
-    /// through, or `end`.
+    /// The first slot from `slot` on whose block may have an object that a search of this scope
+    /// goes through, or `end`.
     #[inline(always)]
     pub fn next_sought(&self, scope: Scope, slot: u32, end: u32) -> u32
         requires { slot ≤ end }

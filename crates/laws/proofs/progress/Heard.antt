@@ -82,7 +82,8 @@ taken-others p from number stamp b other =
     let w : Work = joined p stamp in
     let same : w.local.own ≡ p.own = (joined-walks stands-walks.moves.collects p stamp).own in
     let k : LocalState = (take_carried stamp b w.local).local in
-    let kept : k.own ≡ w.local.own = (carried-walks stands-walks.moves.collects stamp b w.local).own in
+    let kept : k.own ≡ w.local.own =
+    (carried-walks stands-walks.moves.collects stamp b w.local).own in
     others-both p.own w (λ q. then (take_carried stamp b q) (take_body from stamp b)) same first
     (others-both w.local.own (take_carried stamp b w.local) (take_body from stamp b) kept
     (sees-others (ltb stamp w.local.phases.cycle) (carried b) w.local)

@@ -497,8 +497,10 @@ rounds-free-garbage shape limits steps rs ts first begins second enough =
       all,
       λ r.
           subst (λ (z : World). IsGone w (run z (saves n)) r) same
-          (gone-after shape limits steps later (current_cycle w + 1) (omega arith)
-          (subst (λ (z : World). IsSwept n (current_cycle w + 1) (now z)) (sym same) all)
-          (λ i. all_of (λ s. s ≢ step.Restart i) (turns-stay i) (λ e. absurd cc))
-          (all_of (λ s. is_resolving s ≡ false) turns-leave refl) r),
+          (gone-after limits steps later (record {
+            before = omega arith;
+            swept = subst (λ (z : World). IsSwept n (current_cycle w + 1) (now z)) (sym same) all;
+            stays = λ i. all_of (λ s. s ≢ step.Restart i) (turns-stay i) (λ e. absurd cc);
+            leaves = all_of (λ s. is_resolving s ≡ false) turns-leave refl;
+          }) r),
     )

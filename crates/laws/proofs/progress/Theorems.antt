@@ -361,14 +361,19 @@ saves-resolve_none : (is : List ℕ)
 saves-resolve_none [] = tt
 saves-resolve_none (i ∷ is) = (refl, saves-resolve_none is)
 
-pub gone-after : (shape : Shaped) (limits : IsShape shape) (steps later : List Step) (cycle : ℕ)
-    → current_cycle (run (new_world shape) steps) < cycle
-    → IsSwept shape.nodes cycle (now (run (run (new_world shape) steps) later))
-    → ((i : ℕ) → StaysUp i later)
-    → AllByRecursion (λ s. is_resolving s ≡ false) later → (r : Ref)
+-- After the first steps the others ended a cycle that had not begun: every node has swept, none was
+-- restarted, and no reference was resolved.
+pub record WasSwept (shape : Shaped) (steps later : List Step) (cycle : ℕ) : Type 0 where
+  pub before : current_cycle (run (new_world shape) steps) < cycle
+  pub swept : IsSwept shape.nodes cycle (now (run (run (new_world shape) steps) later))
+  pub stays : (i : ℕ) → StaysUp i later
+  pub leaves : AllByRecursion (λ s. is_resolving s ≡ false) later
+
+pub gone-after : {shape : Shaped} → IsShape shape → (steps later : List Step) {cycle : ℕ}
+    → WasSwept shape steps later cycle → (r : Ref)
     → IsGone (run (new_world shape) steps)
     (run (run (run (new_world shape) steps) later) (saves shape.nodes)) r
-gone-after shape limits steps later cycle before swept stays leaves r dead choice live =
+gone-after {shape} limits steps later {cycle} was r dead choice live =
     let n : ℕ = shape.nodes in
     let w : World = run (new_world shape) steps in
     let v : World = run w later in
@@ -387,22 +392,22 @@ gone-after shape limits steps later cycle before swept stays leaves r dead choic
     saved.current r.node (omega arith) (omega (arith, inside)) in
     let now_swept : (cut v saved.other r.node).local.phases.swept ≡ cycle =
     ap (λ (z : NodeState). z.local.phases.swept) (cond-false (saved.other r.node) _ _ chosen)
-    ∙ swept.swept r.node inside in
+    ∙ was.swept.swept r.node inside in
     let done : (cut u choice r.node).local.phases.swept ≡ cycle =
     ap (λ (z : NodeState). z.local.phases.swept) (saved.same r.node) ∙ now_swept in
     let same : run w (later ++ saves n) ≡ u = run-append w later (saves n) in
     ⊎_elim {C = ⊥}
     (λ (old : OldGarbage w r).
-    old-garbage-goes shape limits steps (later ++ saves n) choice cycle r before old
+    old-garbage-goes shape limits steps (later ++ saves n) choice cycle r was.before old
     (steps-leave w r w (later ++ saves n)
-    (all-append (λ s. is_resolving s ≡ false) later (saves n) leaves
+    (all-append (λ s. is_resolving s ≡ false) later (saves n) was.leaves
     (saves-resolve_none (range_with_len 0 n))))
     (subst (λ (z : World). cycle ≤ (cut z choice r.node).local.phases.swept) (sym same)
     (omega (arith, done)))
     (subst (λ (z : World). IsLive (cut z choice) r) (sym same) live))
     (λ (fresh : Garbage w r).
-    garbage-goes shape limits steps later saved.other cycle r before fresh
-    (steps-leave w r w later leaves) (stays r.node) chosen
+    garbage-goes shape limits steps later saved.other cycle r was.before fresh
+    (steps-leave w r w later was.leaves) (was.stays r.node) chosen
     (omega (arith, now_swept))
     (record {
       object = live.object;
@@ -421,8 +426,12 @@ pub gone : (shape : Shaped) (limits : IsShape shape) (steps later : List Step) (
     → IsGone (run (new_world shape) steps)
     (run (run (run (new_world shape) steps) later) (saves shape.nodes)) r
 gone shape limits steps later cycle before swept stays collects =
-    gone-after shape limits steps later cycle before swept stays
-    (collectors-resolve_none later collects)
+    gone-after limits steps later (record {
+      before = before;
+      swept = swept;
+      stays = stays;
+      leaves = collectors-resolve_none later collects;
+    })
 
 pub garbage-can-go : OfSpaces GarbageCanGo
 garbage-can-go shape limits steps below room =

@@ -38,7 +38,8 @@ returns-then-free-vacant-clause-refused g c =
 abbrev IsMade : (g : Over) (c : goal.Else-free-vacant g) → Type 0
 IsMade g c =
     (c.parts-entries.result.2 ≡ length c.args.free.now)
-    × Made c.args.slots.items c.link.new.entries.items c.args.free.now c.in_ok-first.first c.args.limit
+    × Made c.args.slots.items c.link.new.entries.items c.args.free.now c.in_ok-first.first
+    c.args.limit
 
 is_made : (g : Over) (c : goal.Else-free-vacant g) → IsMade g c
 is_made g c =

@@ -15,7 +15,8 @@ returns-in_err-receive-clause-does c =
 pub loop-from-preserved : goal.loop-from-preserved
 loop-from-preserved c = record {
   width = c.in_ok-receive.ensures.width ∙ c.loop-from.invariant.width;
-  each = each_next (ReceivesFrom c.args.node) c.loop-from.from (helds c.args.cells.now) (helds c.loop-from.cells)
+  each = each_next (ReceivesFrom c.args.node) c.loop-from.from (helds c.args.cells.now)
+      (helds c.loop-from.cells)
       (helds c.receive.new.cells) c.loop-from.invariant.each c.in_ok-receive.ensures.does;
 }
 

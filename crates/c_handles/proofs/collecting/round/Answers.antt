@@ -15,7 +15,8 @@ returns-in_err-turn-clause-does c =
 pub loop-node-preserved : goal.loop-node-preserved
 loop-node-preserved c = record {
   width = c.in_ok-turn.ensures.width ∙ c.loop-node.invariant.width;
-  each = each_next (Turn c.args.count) c.loop-node.node (helds c.args.cells.now) (helds c.loop-node.cells)
+  each = each_next (Turn c.args.count) c.loop-node.node (helds c.args.cells.now)
+      (helds c.loop-node.cells)
       (helds c.turn.new.cells) c.loop-node.invariant.each c.in_ok-turn.ensures.does;
 }
 

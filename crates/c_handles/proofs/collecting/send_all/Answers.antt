@@ -15,7 +15,8 @@ returns-in_err-send-clause-does c =
 pub loop-to-preserved : goal.loop-to-preserved
 loop-to-preserved c = record {
   width = c.in_ok-send.ensures.width ∙ c.loop-to.invariant.width;
-  each = each_next (SendsTo c.args.node) c.loop-to.to (helds c.args.cells.now) (helds c.loop-to.cells)
+  each = each_next (SendsTo c.args.node) c.loop-to.to (helds c.args.cells.now)
+      (helds c.loop-to.cells)
       (helds c.send.new.cells) c.loop-to.invariant.each c.in_ok-send.ensures.does;
 }
 

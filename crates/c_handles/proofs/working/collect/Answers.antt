@@ -41,7 +41,8 @@ returns g c =
     let new = at c.repeat-2.new.on c.repeat-2.new.work in
     led_part g.W.Worked.does (scan c.args.scans) (pass ∷ sweep c.args.slots ∷ [])
     (at c.args.on.now c.args.work.now) mid c.in_ok-scan.ensures.done new _
-    (led_part g.W.Worked.does pass (sweep c.args.slots ∷ []) mid late c.in_ok-repeat.ensures.done new _
+    (led_part g.W.Worked.does pass (sweep c.args.slots ∷ []) mid late c.in_ok-repeat.ensures.done
+    new _
     (last_part g.W.Worked.does (sweep c.args.slots) late new c.repeat-2.result
     (subst (λ n. Repeats g.W.Worked.does (task.Sweep c.args.slots) n late new c.repeat-2.result)
     c.min.ensures c.repeat-2.ensures.done)))

@@ -66,7 +66,11 @@ returns-in-Refused g c =
 pub returns-in-Ok : goal.returns-in-Ok
 returns-in-Ok g c =
     let o = outcome.Answer c.in-Ok.answer in
-    rw (step_read g (goal.at.returns-in-Ok g c).Else-is_none c.in-Step.is, c.in-Open.is, c.in-Act.is)
+    rw (
+      step_read g (goal.at.returns-in-Ok g c).Else-is_none c.in-Step.is,
+      c.in-Open.is,
+      c.in-Act.is,
+    )
     (printed_as c.print_line.result c.print_line.ensures.text c.print_line.ensures.status
     (λ text status zero. prints_taken
     (record {
@@ -84,8 +88,13 @@ returns-in-Ok g c =
 
 pub returns-in-Err : goal.returns-in-Err
 returns-in-Err g c =
-    let refused = step_refused {line = []} (rw c.in-Err.is at c.act.ensures.stepped) c.in-Open.freed in
-    rw (step_read g (goal.at.returns-in-Err g c).Else-is_none c.in-Step.is, c.in-Open.is, c.in-Act.is)
+    let refused =
+    step_refused {line = []} (rw c.in-Err.is at c.act.ensures.stepped) c.in-Open.freed in
+    rw (
+      step_read g (goal.at.returns-in-Err g c).Else-is_none c.in-Step.is,
+      c.in-Open.is,
+      c.in-Act.is,
+    )
     (printed_as c.print_refusal-in-Err.result c.print_refusal-in-Err.ensures.text
     c.print_refusal-in-Err.ensures.status
     (λ text status one. prints_refused refused.refused text one c.args.number))

@@ -31,7 +31,8 @@ loop-rest-preserved g c = (
 )
 
 -- a line that does
-pub returns-then-reached-eq-UNREADABLE-clause-replies : goal.returns-then-reached-eq-UNREADABLE-clause-replies
+pub returns-then-reached-eq-UNREADABLE-clause-replies :
+    goal.returns-then-reached-eq-UNREADABLE-clause-replies
 returns-then-reached-eq-UNREADABLE-clause-replies g c =
     rw c.in-Ok.is
     (flushed_replies _ _ _ _ _
@@ -55,7 +56,8 @@ returns-then-reached-eq-UNREADABLE-clause-replies g c =
     c.if-reached-eq-UNREADABLE.true)
     (search rules))
 
-pub returns-then-reached-eq-UNREADABLE-clause-small : goal.returns-then-reached-eq-UNREADABLE-clause-small
+pub returns-then-reached-eq-UNREADABLE-clause-small :
+    goal.returns-then-reached-eq-UNREADABLE-clause-small
 returns-then-reached-eq-UNREADABLE-clause-small g c =
     small_replies _ _ _ _
     (rw c.in-Ok.is at (returns-then-reached-eq-UNREADABLE-clause-replies g c))

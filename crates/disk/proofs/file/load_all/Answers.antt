@@ -6,5 +6,6 @@ pub returns : goal.returns
 returns c =
     on_ok_weaker c.load-3.result
     (λ third. all_loaded c.args.account.now.state c.load.new.account.state
-    c.load-2.new.account.state c.load-3.new.account.state c.requires c.in_ok-load.ensures c.in_ok-load-2.ensures third)
+    c.load-2.new.account.state c.load-3.new.account.state c.requires c.in_ok-load.ensures
+    c.in_ok-load-2.ensures third)
     c.load-3.ensures

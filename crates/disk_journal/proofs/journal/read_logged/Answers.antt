@@ -80,7 +80,8 @@ returns g c =
             let none = neither c.args.logs (is_some c.in_ok-end.end)
             (sym c.is_logged.ensures ∙ plain) in (
               is_none c.in_ok-end.end none.1,
-              plain_only logs (g.D.Disk.seen now) (g.D.Disk.may_leave now) said.kept.only (subst (IsPlain logs) (sym quiet.same)
+              plain_only logs (g.D.Disk.seen now) (g.D.Disk.may_leave now) said.kept.only
+                  (subst (IsPlain logs) (sym quiet.same)
                   (λ i is. subst (λ l. logs l ≡ false) (same_some (sym opens ∙ is))
                   (sym said.logged ∙ none.1))),
             );

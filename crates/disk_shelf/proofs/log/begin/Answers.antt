@@ -34,7 +34,8 @@ returns-clause-begun g c =
     let t = g.D.Disk.seen c.put_both.new.disk in
     let a = laid (it g at) s.a t.a c.in_ok-put_both.ensures.a in
     all_ok _ _ _ c.put.result c.put.ensures.durable
-    (on_ok_weaker c.put.result (λ set. begun c.args.logged c.args.image.now c.mark-choice.result t a c.mark-choice.ensures.side
+    (on_ok_weaker c.put.result (λ set. begun c.args.logged c.args.image.now c.mark-choice.result t a
+    c.mark-choice.ensures.side
     (g.D.Disk.seen c.put.new.disk) set) c.put.ensures.written)
 
 pub returns-clause-intact : goal.returns-clause-intact

@@ -50,7 +50,8 @@ returns-in_default-checked_add g c =
       led = tt;
       bad = λ is. absurd (memory_no_bad is);
       quiet = both_unmoved now.invariant.1 c.next_batch.ensures.quiet;
-      cause = no_cause (c.in_ok-batch.ensures.cause.fine ok_no_err ∙ now.invariant.2) memory_no_disk;
+      cause = no_cause (c.in_ok-batch.ensures.cause.fine ok_no_err ∙ now.invariant.2)
+          memory_no_disk;
       others = inl refl;
     }
 
@@ -65,9 +66,11 @@ returns-in_err-redo g c =
     rw (p.1, p.2) (record {
       led = tt;
       bad = λ bad all last log led.
-          let led_on = next_led g.met.P.Persist.one_end now.invariant.0 batch next all last log led in
+          let led_on = next_led g.met.P.Persist.one_end now.invariant.0 batch next all last log
+          led in
           (refused (bad_no_memory (same_err bad))).1 led_on.0
-          (subst (λ l. g.P.Persist.leads l now.value led_on.0) (sym c.deref.ensures.value) led_on.1);
+          (subst (λ l. g.P.Persist.leads l now.value led_on.0) (sym c.deref.ensures.value)
+          led_on.1);
       quiet = both_unmoved now.invariant.1 c.next_batch.ensures.quiet;
       cause = no_cause (c.in_ok-batch.ensures.cause.fine ok_no_err ∙ now.invariant.2)
           (read_no_disk refused);

@@ -16,7 +16,8 @@ unfolding body_format
 returns-then-not-finish c =
     over_decodes false
     (both_read c.read_head-from.ensures (both_read c.u64-stamp.ensures
-    (of_tag (body_tag true Second) (bodies true Second) c.u8-tag.ensures c.read_short-body.ensures)))
+    (of_tag (body_tag true Second) (bodies true Second) c.u8-tag.ensures
+    c.read_short-body.ensures)))
     (sym c.finish.ensures ∙ c.if-not-finish.true)
 
 pub returns : goal.returns
@@ -24,7 +25,8 @@ unfolding body_format
 returns c =
     message_decodes false
     (both_read c.read_head-from.ensures (both_read c.u64-stamp.ensures
-    (of_tag (body_tag true Second) (bodies true Second) c.u8-tag.ensures c.read_short-body.ensures)))
+    (of_tag (body_tag true Second) (bodies true Second) c.u8-tag.ensures
+    c.read_short-body.ensures)))
     c.wide_message.result (sym c.finish.ensures ∙ c.if-not-finish.false)
     c.wide_message.ensures.made
     c.wide_message.ensures.fits c.wide_message.ensures.refused

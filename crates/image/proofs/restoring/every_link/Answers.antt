@@ -14,7 +14,8 @@ loop-link-preserved c =
     record {
       came = append_assoc c.loop-link.yielded _ _
           ∙ ap (λ xs. c.loop-link.yielded ++ xs) (sym c.in-Some.ensures.steps.0) ∙ old.came;
-      sent = rw c.in_ok-push.ensures.items (same_more _ _ _ c.loop-link.yielded _ _ old.sent one.sent);
+      sent = rw c.in_ok-push.ensures.items
+          (same_more _ _ _ c.loop-link.yielded _ _ old.sent one.sent);
       taken = rw c.in_ok-push.ensures.items
           (same_more _ _ _ c.loop-link.yielded _ _ old.taken one.taken);
     }

@@ -19,7 +19,8 @@ loop-done-preserved c =
     record {
       within = c.put_some-done.ensures.within;
       written =
-          subst (λ (ys : List (Option Ref)). PutsAll F c.args.out.now c.put_some-done.new.out ys) more
+          subst (λ (ys : List (Option Ref)). PutsAll F c.args.out.now c.put_some-done.new.out ys)
+          more
           (written_also F.spell F.IsWide (take done xs) _ c.loop-done.invariant.written
           c.put_some-done.ensures.written);
     }

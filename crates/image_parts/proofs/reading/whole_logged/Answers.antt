@@ -21,7 +21,8 @@ returns-then-not-finish c =
           (no_whole (behind_format number) _ _ _ _
           (c.new-reader.ensures ∙ ap (λ b. Some b) c.behind_start.ensures)
           (behind_read number
-          (rest_read c.read_behind-layout.result c.is_wide.ensures c.widths.ensures c.in_ok-parts.ensures.value) start)
+          (rest_read c.read_behind-layout.result c.is_wide.ensures c.widths.ensures
+          c.in_ok-parts.ensures.value) start)
           (sym c.finish.ensures ∙ c.if-not-finish.true)),
     )
 
@@ -34,5 +35,6 @@ returns c =
     (whole_is (behind_format number) _ _ _ _
     (c.new-reader.ensures ∙ ap (λ b. Some b) c.behind_start.ensures)
     (behind_read number
-    (rest_read c.read_behind-layout.result c.is_wide.ensures c.widths.ensures c.in_ok-parts.ensures.value) start)
+    (rest_read c.read_behind-layout.result c.is_wide.ensures c.widths.ensures
+    c.in_ok-parts.ensures.value) start)
     (sym c.finish.ensures ∙ c.if-not-finish.false))

@@ -15,7 +15,8 @@ loop-slot-preserved c =
     let k = c.loop-slot.slot in
     let within : k < length slots =
     omega (arith, c.slots-slot-end.ensures, c.loop-slot-test.true) in
-    written_more (slot_format c.args.wide Second).spell (slot_format c.args.wide Second).IsWide (map stored_slot slots) k
+    written_more (slot_format c.args.wide Second).spell (slot_format c.args.wide Second).IsWide
+    (map stored_slot slots) k
     (omega (arith, within, length-map slots stored_slot))
     (slot_there slots k _ within c.slot.ensures) c.loop-slot.invariant c.put_slot.ensures
 

@@ -7,4 +7,5 @@ use Rattle.image_parts.proofs.slots.put_each_slot.Given as goal
 
 abbrev pub invariant-loop-slot : goal.invariant-loop-slot
 invariant-loop-slot l =
-    PutsAll (slot_format l.wide Second) l.initial.out l.out (take l.slot (map stored_slot l.heap.heap.slots))
+    PutsAll (slot_format l.wide Second) l.initial.out l.out
+    (take l.slot (map stored_slot l.heap.heap.slots))

@@ -38,7 +38,8 @@ returns-in-None c =
     (piece_written
     ((rw c.new-piece.ensures at c.add_head.ensures) ⊕ c.add_phases.ensures ⊕ c.add_colour.ensures
     ⊕ (rw (to_z-of_z w64 c.earlier.result (search rules)) at c.i64.ensures)
-    ⊕ (rw (to_z-of_z w64 c.recent.result (search rules)) at c.i64-2.ensures) ⊕ tag_alone {k = 1} c.u8.ensures (omega arith))
+    ⊕ (rw (to_z-of_z w64 c.recent.result (search rules)) at c.i64-2.ensures)
+    ⊕ tag_alone {k = 1} c.u8.ensures (omega arith))
     c.piece.ensures)
 
 pub returns-in-Some : goal.returns-in-Some

@@ -37,7 +37,8 @@ returns-in_default-clause-refused c = λ other.
     let after = left c.read_event.new.reader in
     let none : (left now.reader >>= entry.read) ≡ None =
     c.in_ok-read.ensures.value.is
-    ∙ ap (λ (o : Option Event). option_map entry_of o >>= λ x. with_rest x after) c.in_default.is in (
+    ∙ ap (λ (o : Option Event). option_map entry_of o >>= λ x. with_rest x after)
+    c.in_default.is in (
       refl,
       λ last led. left_unread now.invariant.1 (sym c.finish.ensures ∙ c.loop-reader-test.true) none
           led.0.before led.0.logged,

@@ -13,7 +13,8 @@ invariant_of-self g c = rw c.in_default.ensures.unchanged c.self.invariant
 pub overflow_add-self : goal.overflow_add-self
 overflow_add-self g c =
     let room = rw (← c.self.view_is) at c.requires in
-    let more = counted_more c.self.invariant c.args.slot c.is_born-born.result c.is_born-born.ensures
+    let more = counted_more c.self.invariant c.args.slot c.is_born-born.result
+    c.is_born-born.ensures
     room in
     let free = c.from.ensures ∙ byte_is _ ∙ ap (λ b. cond b 1 0) c.is_free-free.ensures in
     let fits = counts_fit more in
@@ -22,7 +23,8 @@ overflow_add-self g c =
 pub overflow_add-self-2 : goal.overflow_add-self-2
 overflow_add-self-2 g c =
     let room = rw (← c.self.view_is) at c.requires in
-    let more = counted_more c.self.invariant c.args.slot c.is_born-born.result c.is_born-born.ensures
+    let more = counted_more c.self.invariant c.args.slot c.is_born-born.result
+    c.is_born-born.ensures
     room in
     let occupied =
     c.from-2.ensures ∙ byte_is _ ∙ ap (λ b. cond b 1 0) c.is_occupied-occupied.ensures in
@@ -33,7 +35,8 @@ pub invariant_of-self-2 : goal.invariant_of-self-2
 invariant_of-self-2 g c =
     let room = rw (← c.self.view_is) at c.requires in
     let pushed = c.in-Ok.ensures.done in
-    let more = counted_more c.self.invariant c.args.slot c.is_born-born.result c.is_born-born.ensures
+    let more = counted_more c.self.invariant c.args.slot c.is_born-born.result
+    c.is_born-born.ensures
     room in
     let free = c.from.ensures ∙ byte_is _ ∙ ap (λ b. cond b 1 0) c.is_free-free.ensures in
     let occupied =

@@ -70,7 +70,8 @@ into_box_spec {M} 𝓤 𝓛 𝓜 𝓡 wired T L dx glue =
     (code.calls-std_heap::GlobalAllocator::deallocate 𝓡.env wired)
     (code.calls-std_heap::GlobalAllocator::grow 𝓡.env wired)
     (code.calls-std_heap::GlobalAllocator::shrink 𝓡.env wired) M 𝓤 𝓛 𝓜 𝓡)
-    (glues "c_handles::Destruct++none::drop" 𝓡.env (code.calls-c_handles::Destruct++none::drop 𝓡.env wired)
+    (glues "c_handles::Destruct++none::drop" 𝓡.env
+    (code.calls-c_handles::Destruct++none::drop 𝓡.env wired)
     Z LZ M 𝓤 𝓛 𝓜 𝓡) in
     proved_at 𝓛 En hs c 𝓜 𝓡 (
       Goes-blank 𝓛 1 (plain (λ _. Holder R)) no (λ κs x f. tt),

@@ -58,7 +58,8 @@ of_spec {M} 𝓤 𝓛 𝓜 𝓡 wired T L dx glue =
     (code.calls-std_heap::GlobalAllocator::deallocate 𝓡.env wired)
     (code.calls-std_heap::GlobalAllocator::grow 𝓡.env wired)
     (code.calls-std_heap::GlobalAllocator::shrink 𝓡.env wired) M 𝓤 𝓛 𝓜 𝓡)
-    (glues "c_handles::Destruct++none::drop" 𝓡.env (code.calls-c_handles::Destruct++none::drop 𝓡.env wired)
+    (glues "c_handles::Destruct++none::drop" 𝓡.env
+    (code.calls-c_handles::Destruct++none::drop 𝓡.env wired)
     Z LZ M 𝓤 𝓛 𝓜 𝓡) glue in
     proved_at 𝓛 En hs c 𝓜 𝓡 (Goes-blank 𝓛 1 (plain (λ _. B₀)) no (λ κs x f. tt), tt)
     (#self inst) fn (code.unfolded 𝓤 H 𝓜 𝓡 wired (T, tt) dx) (λ z are.

@@ -7,7 +7,9 @@ returns-then-packing-eq0-2 c =
     let old = c.args.buffer.now in
     let done = c.in_ok-packing.ensures.packed in
     let none = sym done.count ∙ c.if-packing-eq0-2.true in
-    let bytes = window_none (length old) c.args.self.now.node.core c.args.to c.args.after none in (
+    let core = c.self.inside.logged.node.core in
+    let bytes = window_none (length old) core c.args.to c.args.after none in
+    rw (← c.self.view_is) (
       search rules,
       none,
       done.needed,

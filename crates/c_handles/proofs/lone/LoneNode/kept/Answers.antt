@@ -7,13 +7,15 @@ use Rattle.c_handles.specs.declared.lone.images.Counts.{Counts}
 use Rattle.c_handles.specs.Gone.{GoneView}
 use Rattle.c_handles.specs.Images.{after_kept, kept_result, keeps}
 use Rattle.c_handles.specs.Logs.{KeepsLog}
+use Rattle.c_handles.specs.contracts.lone.LoneNode.{the_view}
 use Rattle.c_handles.proofs.Logs.{kept_logs}
 use Rattle.c_handles.proofs.lone.LoneNode.kept.Goals as goal
 
 pub returns : goal.returns
 returns c =
-    let old = c.args.self.now in
-    let same : (c.args.mark == old.mark) ≡ true = eq-eqb c.args.mark old.mark c.if-mark-self.false in
+    let old = the_view c.self.inside in
+    let same : (c.args.mark == old.mark) ≡ true =
+    eq-eqb c.args.mark old.mark c.if-mark-self.false in
     let node : c.keep.new.node ≡ keeps c.in-Some.counts.items old.node =
     c.keep.ensures ∙ ap (λ (l : List Counts). keeps l old.node) c.deref.ensures.value in
     let now : record old {
@@ -35,7 +37,8 @@ returns c =
       gone = g;
     }) c.kept.ensures
     ∙ sym (ap (λ (o : Option (Vec Counts)). after_kept o (c.args.mark == old.mark) old) c.in-Some.is
-    ∙ ap (λ (b : Bool). after_kept (Some c.in-Some.counts) b old) same) in (
+    ∙ ap (λ (b : Bool). after_kept (Some c.in-Some.counts) b old) same) in
+    rw (← c.self.view_is) (
       now,
       sym (ap (λ (o : Option (Vec Counts)). kept_result o (c.args.mark == old.mark)) c.in-Some.is
           ∙ ap (λ (b : Bool). kept_result (Some c.in-Some.counts) b) same),

@@ -32,5 +32,6 @@ loop-rest-preserved c =
     let led = c.in_ok-redo.ensures.led in (
       led.1,
       subst (λ (l : List ℕ). IsLeft c.args.batches.now c.args.node.now l c.redo.new.value)
-          (sym c.behind-rest.ensures) (left_next c.loop-rest.invariant.1 found c.redo.new.value led),
+          (sym c.behind-rest.ensures)
+          (left_next c.loop-rest.invariant.1 found c.redo.new.value led),
     )

@@ -24,7 +24,8 @@ returns-in-Some c =
     let old = c.args.self.now in
     let place = c.from.result in
     let within = inside (goal.at.returns-in-Some c).After-from in
-    let found = there old.cells.items place c.index_mut.result.now within c.index_mut.ensures.value in
+    let found = there old.cells.items place c.index_mut.result.now within
+    c.index_mut.ensures.value in
     record {
       box = c.in-Some.cell;
       is = refl;

@@ -46,8 +46,8 @@ invariant_of-self-inside-in-Err g c =
       failed-left g.D.Disk.may_leave saved n
           (g.met.D.Disk.counts_now new)
           (saved-by (cell.while_open was_open (g.D.Disk.seen old) (g.met.D.Disk.reads_left old))
-          c.log.ensures
-          ((rw c.node.ensures.value at (said.any_moment is)) (alone saved))),
+          c.logged.ensures.led
+          ((rw c.logged.ensures.value at (said.any_moment is)) (alone saved))),
     )) in
     let kept : Kept =
     ⊎_elim (λ is. unchanged (λ d. absurd (closed-no-disk (sym is ∙ d))))
@@ -79,7 +79,7 @@ invariant_of-self-inside g c =
     let seen = g.D.Disk.seen (disk_of store) in
     let opens : ∥ OpensTo (kept_view n) seen ∥₁ =
     saved-by (cell.while_open was_open (g.D.Disk.seen old) (g.met.D.Disk.reads_left old))
-    c.log.ensures ((rw c.node.ensures.value at said.saved) (alone cell.desk.saved)) in (
+    c.logged.ensures.led ((rw c.logged.ensures.value at said.saved) (alone cell.desk.saved)) in (
       subst (HasDropped first w) (sym (ap (λ d. d.node.core) now.done)) kept,
       (
         subst (HasDropped first w) (sym (ap (λ d. d.saved) now.done)) kept,
@@ -115,7 +115,7 @@ returns-in-Ok-clause-any_moment g c =
     (disk_of c.save.new.self) (HoldsEither v) ∥₁) c.self.view_is
     (saved-since cell.desk.saved cell.desk.node.core
     (saved-by (cell.while_open was_open (g.D.Disk.seen old) (g.met.D.Disk.reads_left old))
-    c.log.ensures ((rw c.node.ensures.value at said.any_moment) (alone cell.desk.saved))))
+    c.logged.ensures.led ((rw c.logged.ensures.value at said.any_moment) (alone cell.desk.saved))))
 
 pub returns-in-Err-clause-any_moment : goal.returns-in-Err-clause-any_moment
 returns-in-Err-clause-any_moment g c =
@@ -138,7 +138,7 @@ returns-in-Err-clause-any_moment g c =
     absurd (closed-no-disk (sym closed ∙ is))) (cases_Bool (is_ready_in cell.store)) in
     saved-since saved n
     (saved-by (cell.while_open was_open (g.D.Disk.seen old) (g.met.D.Disk.reads_left old))
-    c.log.ensures ((rw c.node.ensures.value at (said.any_moment is)) (alone saved)))) in
+    c.logged.ensures.led ((rw c.logged.ensures.value at (said.any_moment is)) (alone saved)))) in
     subst (λ (v : CellView g.row.D.Denot). ∥ LeavesOnly g.D.Disk.moment g.D.Disk.left_since v.disk
     new (HoldsEither v) ∥₁) c.self.view_is
     (⊎_elim (λ is. unchanged (λ d. absurd (closed-no-disk (sym is ∙ d))))

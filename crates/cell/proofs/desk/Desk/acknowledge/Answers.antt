@@ -10,9 +10,10 @@ pub invariant_of-self-inside : goal.invariant_of-self-inside
 invariant_of-self-inside c =
     let desk = c.self.inside in
     let pair = (known desk.seat).pair in
+    let said = c.act.ensures.acted.acts in
     facts desk.at
-    (stands-acknowledged c.args.ack c.act.result desk.stands c.act.ensures.acts.leaves
-    (c.act.ensures.acts.states pair.current desk.stands.shows) c.act.ensures.acts.unchanged)
+    (stands-acknowledged c.args.ack c.act.result desk.stands said.leaves
+    (said.states pair.current desk.stands.shows) said.unchanged)
     desk.was desk.ended_is desk.unsaved
-    (subst (AreTaken (known desk.seat).taken) (sym c.act.ensures.acts.early) desk.taken)
-    (∥∥₁_map desk.logged (c.act.ensures.notes.logged desk.saved.value))
+    (subst (AreTaken (known desk.seat).taken) (sym said.early) desk.taken)
+    (∥∥₁_map desk.led (c.act.ensures.logged desk.saved.value))

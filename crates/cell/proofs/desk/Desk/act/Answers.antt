@@ -9,7 +9,7 @@ perform-requires c =
     let v = known desk.seat in
     let e = c.args.event.now in
     let me = sym desk.at.own ∙ desk.seat.sits.me_is in
-    let sits : SitsAt v desk.node = record {
+    let sits : SitsAt v desk.logged.node = record {
       own = desk.stands.own ∙ me;
       nodes = desk.stands.nodes ∙ sym desk.at.nodes ∙ desk.seat.sits.nodes_is;
       kept = c.core-core.ensures.kept;
@@ -21,7 +21,7 @@ perform-requires c =
         (
           own-brings (known c.args.self.now.seat).taken e c.requires.own,
           rw (← c.self.view_is) (
-            own-met-may v desk.node sits e c.requires.own,
+            own-met-may v desk.logged.node sits e c.requires.own,
             own-met-due sits desk.seat.supplied e,
           ),
         ),

@@ -1,4 +1,4 @@
-use Rattle.std.proofs.Common.{◌≡◌, sym, ap, ◌∙◌, subst}
+use Rattle.std.proofs.Common.{None, cond, ◌≡◌, sym, ap, ◌∙◌, subst}
 use Rattle.model.specs.State.{LocalState, NodeState}
 use Rattle.model.specs.View.{NodeView}
 use Rattle.model.specs.declared.summary.Summary.{Summary}
@@ -50,10 +50,9 @@ invariant_of-result c =
                     (sym (ap (λ (m : WholeNode). m.early) c.requires.alone))
                     (taken-none (known c.args.seat).taken n.local.shape.nodes),
                 (
-                  subst (λ (m : NodeView). ∥ IsLogged c.begin.new.self m n ∥₁)
+                  subst (λ (m : NodeView). ∥ IsLogged (cond c.args.logs c.new.result None) m n ∥₁)
                       (sym (c.of.ensures ∙ c.core.ensures.value))
-                      ∣ begun_log c.begin.new.self c.args.logs n c.begin.ensures.kept
-                      c.begin.ensures.lost ∣₁,
+                      ∣ begun_log c.args.logs c.new.result n c.new.ensures ∣₁,
                   tt,
                 ),
               ),

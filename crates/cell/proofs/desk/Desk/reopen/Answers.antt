@@ -1,4 +1,4 @@
-use Rattle.std.proofs.Common.{◌≡◌, sym, ap, ◌∙◌, subst}
+use Rattle.std.proofs.Common.{None, cond, ◌≡◌, sym, ap, ◌∙◌, subst}
 use Rattle.model.specs.State.{LocalState}
 use Rattle.model.specs.View.{NodeView}
 use Rattle.wire.specs.Readers.{known}
@@ -73,10 +73,10 @@ invariant_of-self-inside c =
                     (sym (ap (λ (m : WholeNode). m.early) c.requires.alone))
                     (taken-none (known c.enter_found.new.seat).taken found_core.local.shape.nodes),
                 (
-                  subst (λ (m : NodeView). ∥ IsLogged c.begin.new.self m found_core ∥₁)
+                  subst (λ (m : NodeView).
+                      ∥ IsLogged (cond desk.logged.logs c.clear.new.self None) m found_core ∥₁)
                       (sym (c.of.ensures ∙ c.core-2.ensures.value))
-                      ∣ begun_log c.begin.new.self desk.logs found_core c.begin.ensures.kept
-                      c.begin.ensures.lost ∣₁,
+                      ∣ begun_log desk.logged.logs c.clear.new.self found_core c.clear.ensures ∣₁,
                   tt,
                 ),
               ),

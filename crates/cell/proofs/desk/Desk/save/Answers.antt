@@ -1,4 +1,4 @@
-use Rattle.std.proofs.Common.{◌≡◌, List, sym, ap, ◌∙◌, subst}
+use Rattle.std.proofs.Common.{None, cond, ◌≡◌, List, sym, ap, ◌∙◌, subst}
 use Rattle.model.specs.State.{LocalState}
 use Rattle.model.specs.View.{NodeView, kept_view}
 use Rattle.wire.specs.Readers.{known}
@@ -18,7 +18,7 @@ pub invariant_of-self-inside : goal.invariant_of-self-inside
 invariant_of-self-inside c =
     let desk = c.self.inside in
     let pair = (known desk.seat).pair in
-    let n = desk.node.core in
+    let n = desk.logged.node.core in
     let pair_is : (known c.enter_save.new.seat).pair ≡ both_states pair.current =
     ap (λ (v : Known). v.pair) c.enter_save.ensures.ticked in
     let found = found-read desk.own desk.nodes pair.current (kept_view n) desk.stands.own
@@ -58,10 +58,11 @@ invariant_of-self-inside c =
                 (
                   subst
                       (λ (m : NodeView).
-                      ∥ IsLogged c.begin.new.self m c.mark_saved.new.self.core ∥₁)
+                      ∥ IsLogged (cond desk.logged.logs c.clear.new.self None) m
+                      c.mark_saved.new.self.core ∥₁)
                       (sym (c.of.ensures ∙ c.core.ensures.value))
-                      ∣ begun_log c.begin.new.self desk.logs c.mark_saved.new.self.core
-                      c.begin.ensures.kept c.begin.ensures.lost ∣₁,
+                      ∣ begun_log desk.logged.logs c.clear.new.self c.mark_saved.new.self.core
+                      c.clear.ensures ∣₁,
                   tt,
                 ),
               ),

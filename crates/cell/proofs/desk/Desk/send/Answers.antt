@@ -21,12 +21,13 @@ placed n to places sent from at follows = rw (sent, follows, from, at) refl
 -- the frame that is due, by the place that was read
 sent-by : (desk : Inside) (to : ℕ) {place : ℕ} (is : Bool) (w : Known) → place ≡ to
     → IsSent (outbox desk.seat to)
-    (frame_due desk.node.core to (slice_index_or desk.places place 0)) is (known desk.seat) w
-    → IsSent (outbox desk.seat to) (frame_due desk.node.core to (slice_index_or desk.places to 0))
-    is (known desk.seat) w
+    (frame_due desk.logged.node.core to (slice_index_or desk.places place 0)) is (known desk.seat) w
+    → IsSent (outbox desk.seat to)
+    (frame_due desk.logged.node.core to (slice_index_or desk.places to 0)) is (known desk.seat) w
 sent-by desk to is w same sent =
     subst (λ (i : ℕ). IsSent (outbox desk.seat to)
-    (frame_due desk.node.core to (slice_index_or desk.places i 0)) is (known desk.seat) w) same sent
+    (frame_due desk.logged.node.core to (slice_index_or desk.places i 0)) is (known desk.seat) w)
+    same sent
 
 unplaced : (is : Bool) (n : NodeView) (to : ℕ) (places : List ℕ) → is ≡ false
     → places ≡ places_after is n to places
@@ -44,7 +45,7 @@ send-is_sent-requires-clause-spelled c =
 
 pub send-is_sent-requires-clause-receiver : goal.send-is_sent-requires-clause-receiver
 send-is_sent-requires-clause-receiver c =
-    due-to c.self.inside.node.core c.args.to
+    due-to c.self.inside.logged.node.core c.args.to
     (slice_index_or c.self.inside.places c.from.result 0)
 
 pub send-is_sent-requires-clause-released : goal.send-is_sent-requires-clause-released
@@ -52,7 +53,7 @@ send-is_sent-requires-clause-released c =
     let desk = c.self.inside in
     let place = slice_index_or desk.places c.from.result 0 in
     subst (λ (i : ℕ). Releases i (known desk.seat).pair.saved
-    (frame_due desk.node.core c.args.to place))
+    (frame_due desk.logged.node.core c.args.to place))
     (sym desk.at.own ∙ desk.seat.sits.me_is)
     (due-releases c.args.to place desk.stands (rw (← c.self.view_is) at c.requires.other))
 
@@ -85,7 +86,7 @@ returns-then-is_sent c =
     rw (← c.self.view_is) (record {
       same = c.send-is_sent.ensures.same;
       sent = sent-by desk c.args.to _ _ c.from.ensures c.send-is_sent.ensures.sent;
-      places = placed desk.node.core c.args.to desk.places c.if-is_sent.true c.from.ensures
+      places = placed desk.logged.node.core c.args.to desk.places c.if-is_sent.true c.from.ensures
           c.from-then-is_sent.ensures c.due-next.ensures.next;
       refused = tt;
       stays = refl;
@@ -97,7 +98,7 @@ returns-else-is_sent c =
     rw (← c.self.view_is) (record {
       same = c.send-is_sent.ensures.same;
       sent = sent-by desk c.args.to _ _ c.from.ensures c.send-is_sent.ensures.sent;
-      places = unplaced _ desk.node.core c.args.to desk.places c.if-is_sent.false;
+      places = unplaced _ desk.logged.node.core c.args.to desk.places c.if-is_sent.false;
       refused = tt;
       stays = refl;
     })

@@ -23,5 +23,5 @@ invariant_of-self-inside c =
     lost in
     still-facts desk seat c.receive.ensures.same
     (received-pair box c.args.from c.receive.result (known desk.seat) (known seat) told lost)
-    (subst (λ (ts : List Plain). AreTaken ts desk.node.early) (sym more.1)
-    (taken-more (known desk.seat).taken more.0 desk.node.early desk.taken))
+    (subst (λ (ts : List Plain). AreTaken ts desk.logged.node.early) (sym more.1)
+    (taken-more (known desk.seat).taken more.0 desk.logged.node.early desk.taken))

@@ -10,7 +10,8 @@ pub loop-ends-preserved : goal.loop-ends-preserved
 loop-ends-preserved c =
     let loop = c.loop-ends in
     let within = c.loop-ends-test.true in
-    ap (set loop.ends-items loop.ends-index) (c.mark_saved.ensures ∙ ap kept_ends (sym c.ends-item.is))
+    ap (set loop.ends-items loop.ends-index)
+    (c.mark_saved.ensures ∙ ap kept_ends (sym c.ends-item.is))
     ∙ map_over_more kept_ends _ _ _ _ within loop.invariant c.ends-item.is
 
 pub invariant_of-self : goal.invariant_of-self

@@ -6,5 +6,7 @@ run-requires-clause-few c = rw (c.as_slice-references.ensures) (post-few c.requi
 
 pub run-requires-clause-extra : goal.run-requires-clause-extra
 run-requires-clause-extra c =
-    rw (c.as_slice-references.ensures)
-    ((c.requires.sender.there, c.requires.sender.other), (post-few c.requires, (c.requires.within, post-wide c.requires)))
+    rw (c.as_slice-references.ensures) (
+      (c.requires.sender.there, c.requires.sender.other),
+      (post-few c.requires, (c.requires.within, post-wide c.requires)),
+    )

@@ -12,7 +12,8 @@ use Rattle.node_log.proofs.log.Log.note.Goals.{Else-is_err, Joined-self-2}
 -- what is appended, if the event fits into what is left
 appended : (c : Else-is_err)
     → Fits entry (entry_of c.args.event.now)
-    × (c.extend.new.bytes.items ≡ c.in-Some-bytes.bytes.items ++ entry.spell (entry_of c.args.event.now))
+    × (c.extend.new.bytes.items ≡ c.in-Some-bytes.bytes.items
+    ++ entry.spell (entry_of c.args.event.now))
 appended c =
     let parts : Parts c.as_slice-start.result.now c.tail-tail.result.now c.args.event.now = record {
       old = c.new-piece.result;
@@ -28,7 +29,8 @@ appended c =
 pub returns-clause-noted : goal.returns-clause-noted
 returns-clause-noted c =
     let more = appended c in
-    added c.args.self.now c.args.event.now c.in-Some-bytes.bytes.items c.extend.new.bytes.items more.0
+    added c.args.self.now c.args.event.now c.in-Some-bytes.bytes.items c.extend.new.bytes.items
+    more.0
     (sym c.self.view_is
     ∙ ap (option_map (λ (v : Vec ℕ Global). v.items)) c.in-Some-bytes.is) more.1
 

@@ -31,7 +31,8 @@ returns-in-Ok c =
     same-space refl (λ w shown. refl)
     (deliver-never c.if-from-to.false (sym c.in-Some.ensures) _ refl
     (λ x fits spelled stamp b is.
-    rw is at (no-message c.in-Ack.field-0 (rw (c.in-Ok.is, c.in-Ack.is) at c.decode.ensures.only) x fits spelled)))
+    rw is at (no-message c.in-Ack.field-0 (rw (c.in-Ok.is, c.in-Ack.is) at c.decode.ensures.only) x
+    fits spelled)))
 
 -- memory runs out for a letter
 pub returns-in-Memory : goal.returns-in-Memory
@@ -59,7 +60,8 @@ returns c =
     (deliver-never c.if-from-to.false (sym c.in-Some.ensures) _
     ((rw c.in-Err.is at c.decode.ensures.refused) c.in_default-refusal.not-Memory)
     (λ x fits spelled stamp b is.
-    absurd (c.in_default-refusal.not-Memory ((rw c.in-Err.is at c.decode.ensures.only) x fits spelled).0)))
+    absurd (c.in_default-refusal.not-Memory
+    ((rw c.in-Err.is at c.decode.ensures.only) x fits spelled).0)))
 
 pub returns-in_err-answer-in-Data : goal.returns-in_err-answer-in-Data
 returns-in_err-answer-in-Data c =

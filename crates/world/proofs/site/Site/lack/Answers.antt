@@ -16,7 +16,8 @@ returns c =
     (λ d of.
     let x = posted d.body of.letter in
     let frame = λ (b : Body). data_frame d.from d.to d.number d.stamp b in
-    let read = c.read_letter_head-head.ensures.value d.from d.to d.number d.stamp x.label x.references
+    let read = c.read_letter_head-head.ensures.value d.from d.to d.number d.stamp x.label
+    x.references
     x.bytes (subst (λ (b : Body). Fits (frame b)) x.is of.fits)
     (subst (λ (b : Body). c.args.bytes.now ≡ spelling (frame b)) x.is of.spelled) in
     lacking (view_of c.self.inside) d c.lack.result

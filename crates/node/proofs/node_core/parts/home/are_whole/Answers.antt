@@ -7,7 +7,8 @@ pub loop-number-preserved : goal.loop-number-preserved
 loop-number-preserved c =
     let ls = c.args.letters.now.items in
     let k = c.loop-number.number in
-    let inside : k < length ls = omega (arith, c.loop-number-test.true, c.loop-number.invariant.count)
+    let inside : k < length ls =
+    omega (arith, c.loop-number-test.true, c.loop-number.invariant.count)
     in
     record {
       count = c.loop-number.invariant.count;
@@ -21,7 +22,8 @@ pub returns-then-not-is_whole : goal.returns-then-not-is_whole
 returns-then-not-is_whole c =
     let ls = c.args.letters.now.items in
     let k = c.loop-number.number in
-    let inside : k < length ls = omega (arith, c.loop-number-test.true, c.loop-number.invariant.count)
+    let inside : k < length ls =
+    omega (arith, c.loop-number-test.true, c.loop-number.invariant.count)
     in
     sym (sym c.loop-number.invariant.left
     ∙ whole-next ls k inside

@@ -1,0 +1,5 @@
+pub mod Lines
+pub mod Makers
+pub mod Meeting
+pub mod States
+pub mod Systems

@@ -1,0 +1,6 @@
+mod Deeds
+mod Lists
+mod Rows
+mod Sound
+mod Steps
+mod Theorems

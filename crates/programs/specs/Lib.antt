@@ -1,0 +1,4 @@
+pub mod Decisions
+pub mod Images
+pub mod Runs
+pub mod Laws
