@@ -1,0 +1,5 @@
+pub mod Decisions
+pub mod Openings
+pub mod Disk
+pub mod Runs
+pub mod Laws
