@@ -1,2 +1,6 @@
 pub mod Disk
+pub mod Lists
 pub mod Reading
+pub mod Sound
+pub mod Openings
+pub mod Saves
