@@ -2,7 +2,7 @@
 use Rattle.std.proofs.Common.{◌≡◌, ◌≢◌, ◌<◌, ◌≤◌, ◌+◌, ◌-◌, ℕ, zero, suc, Bool, cond, true, false, List, [], ◌∷◌, ◌++◌, length, refl, sym, ap, ◌∙◌, subst, arith, ◌⊎◌, inl, inr, ⊎_elim}
 use Rattle.std.proofs.lemmas.Bool.{cases_Bool}
 use Rattle.std.specs.List.{Contains}
-use Rattle.slots.specs.Disk.{first_read, image, same_item, synced_after, with_item, with_write, written, Cell, Content, Entry, Fates, File, Item, Kind, Of, Other, Reading, Value, Write}
+use Rattle.slots.specs.Disk.{first_read, image, put, same_item, synced_after, with_item, with_write, written, Cell, Content, Entry, Fates, File, Item, Kind, Of, Other, Reading, Value, Write}
 use Rattle.slots.proofs.Disk.{free-of, image-makes, item-itself, item-same, put-makes, put-whole, same-below, whole-alone, whole-before, IsFree, IsWhole, Makes, MayBe}
 use Rattle.slots.proofs.Lists.{contains-head, contains-more}
 use Rattle.slots.proofs.Openings.{passed-weaker, Chosen}
@@ -245,3 +245,339 @@ sound-begin z s b number more within most ahead = record {
   middle = within;
   top = most;
 }
+
+-- ---- a save is stored
+
+-- what is in a file after a sync stays
+abbrev synced : Content → File
+synced c = record { synced = c; writes = [] }
+
+abbrev after_sync : Write → Fates → File → Content
+after_sync w fates f = put w (image fates f)
+
+-- an item is this one, or the write of this one writes nothing of it
+this-or-free : (x y : Item) (at : ℕ) → (x ≡ y) ⊎ IsFree (written x at) y
+this-or-free x y at = go (same_item x y) refl
+  where
+    go : (b : Bool) → same_item x y ≡ b → (x ≡ y) ⊎ IsFree (written x at) y
+    go true e = inl (item-same x y e)
+    go false e =
+        inr
+        (free-of x y at
+        (λ is.
+        let same : same_item x y ≡ true = ap (same_item x) (sym is) ∙ item-itself x in
+        absurd cc))
+
+good-of : (z : View) (number : ℕ) (x : Item) → x.seal < z.fresh → x.base < z.fresh
+    → x.number ≡ number
+    → Good number z.fresh x
+good-of z number x seal base is = record {
+  seal = seal;
+  base = base;
+  entry = λ e. omega (arith, is);
+  mark = λ e. omega (arith, is);
+}
+
+abbrev added : View → Item → Fates → View
+added z x fates =
+    record z {
+      here = synced_after (written x z.end) fates z.here;
+      end = z.end + x.size;
+      seal = x.seal;
+      stored = x.save;
+      begun = [];
+    }
+
+pub sound-added : (z : View) (s : Sound z) (x : Item) → Adds z s x → (fates : Fates)
+    → Sound (added z x fates)
+sound-added z s x a fates = record {
+  value = s.value;
+  entries = s.entries ++ x ∷ [];
+  bounds = record { middle = x.number; top = x.number; long = false };
+  here = λ f. begins;
+  only = λ f at y kind base whole. inl (known at y kind base whole);
+  beside = λ f y kind whole. inl (passed f y kind whole);
+  good_here = λ f. good;
+  good_beside = λ f.
+      all-good-more (last_read s).last.number all.last.number z.fresh z.fresh
+      (image f z.beside) grows (omega arith) (s.good_beside f);
+  end = s_end ∙ ap (λ (r : Reading). r.end) (sym more);
+  seal = ap (λ (r : Reading). r.last.seal) (sym more);
+  base = s.base ∙ sym a.base ∙ ap (λ (r : Reading). r.last.base) (sym more);
+  stored = ap (λ (r : Reading). r.last.save) (sym more);
+  low = rw more (omega arith);
+  middle = omega arith;
+  top =
+      let same = a.number in
+      omega (arith, same);
+}
+  where
+    all : Reading
+    all = all_read s.value (s.entries ++ x ∷ [])
+    more : all ≡ with_item (last_read s) x
+    more = tail-more (first_read s.value) s.entries x
+    w : Write
+    w = written x z.end
+    c : Content
+    c = image fates z.here
+    d : Content
+    d = after_sync w fates z.here
+    makes : Makes w c d
+    makes = put-makes w c
+    whole : IsWhole d z.end x
+    whole = put-whole x z.end c a.newer.some
+    s_end : z.end + x.size ≡ (with_item (last_read s) x).end
+    s_end = ap (λ (n : ℕ). n + x.size) s.end
+    behind : IsBehind d (last_read s) x
+    behind =
+        let together = begins-together c s.value s.entries (s.here fates) in
+        let number = together.number in
+        let next = a.newer.number in
+        record {
+          whole = subst (λ (k : ℕ). IsWhole d k x) s.end whole;
+          fits = record {
+            kind = a.kind;
+            base = a.base;
+            before = a.newer.before;
+            version = together.version;
+            number = omega (arith, number, next);
+          };
+          since = a.newer.since ∙ sym together.holds;
+          newer = subst (λ (k : ℕ). k < x.seal) (sym a.newer.before) a.newer.newer;
+          some = a.newer.some;
+        }
+    old : Begins d s.value s.entries
+    old =
+        begins-same c d (last_read s).end s.value s.entries
+        (λ k below.
+        let same = s.end in
+        same-below w c d makes k (omega (arith, below, same)))
+        (omega arith) (s.here fates)
+    begins : Begins d s.value (s.entries ++ x ∷ [])
+    begins = record {
+      value = old.value;
+      kind = old.kind;
+      own = old.own;
+      some = old.some;
+      chain = chain-more d (first_read s.value) s.entries x old.chain behind;
+    }
+    itself : IsKnown x x
+    itself = record { seal = omega arith; number = omega arith; newer = behind.newer }
+    grows : (last_read s).last.number ≤ all.last.number
+    grows =
+        let next = a.newer.number in
+        rw more (omega (arith, next))
+    known-of : (at : ℕ) (y : Item) → y.kind ≡ Entry → y.base ≡ (last_read s).last.base
+        → IsWhole d at y
+        → IsKnown x y
+    known-of at y kind base whole_y =
+        ⊎_elim {C = IsKnown x y} (λ (is : x ≡ y). subst (IsKnown x) is itself)
+        (λ (free : IsFree w y).
+        ⊎_elim {C = IsKnown x y}
+        (λ (known : IsKnown (last_read s).last y).
+        let seal = known.seal in
+        let number = known.number in
+        let newer = a.newer.newer in
+        let next = a.newer.number in
+        record {
+          seal = omega (arith, seal, newer);
+          number = omega (arith, number, next);
+          newer = known.newer;
+        })
+        (λ (newer : IsNewer (last_read s) at y × IsBegun s.bounds.middle z.begun at y).
+        let is : x ≡ y =
+        whole-alone d z.end x y whole
+        (subst (λ (k : ℕ). IsWhole d k y) (newer.0.place ∙ sym s.end) whole_y) in
+        subst (IsKnown x) is itself)
+        (s.only fates at y kind base (whole-before w c d at y makes free whole_y)))
+        (this-or-free x y z.end)
+    known : (at : ℕ) (y : Item) → y.kind ≡ Entry → y.base ≡ all.last.base → IsWhole d at y
+        → IsKnown all.last y
+    known at y kind base whole_y =
+        subst (λ (r : Reading). IsKnown r.last y) (sym more)
+        (known-of at y kind (base ∙ ap (λ (r : Reading). r.last.base) more ∙ a.base) whole_y)
+    passed : (f : Fates) (y : Item) → y.kind ≡ Value → IsWhole (image f z.beside) 0 y
+        → IsPassed all.last.number (image f z.beside) y
+    passed f y kind whole_y =
+        ⊎_elim {C = IsPassed all.last.number (image f z.beside) y}
+        (λ (p : IsPassed (last_read s).last.number (image f z.beside) y).
+        passed-weaker (last_read s).last.number all.last.number (image f z.beside) y grows p)
+        (λ (ahead : IsAhead s.bounds z.begun (image f z.beside) y).
+        let above = ahead.middle in
+        let below = ahead.top in
+        let top = s.top in
+        let same = a.middle in
+        absurd (omega (arith, above, below, top, same)))
+        (s.beside f y kind whole_y)
+    base_low : x.base < z.fresh
+    base_low =
+        subst (λ (n : ℕ). n < z.fresh) (sym a.base)
+        (subst (λ (n : ℕ). n < z.fresh)
+        (sym (tail-base c (first_read s.value) s.entries (s.here fates).chain))
+        (s.good_here fates 0 0 s.value (s.here fates).value.head).base)
+    good : AreGood all.last.number z.fresh d
+    good =
+        good-after all.last.number z.fresh w c d makes
+        (item-written all.last.number z.fresh x z.end
+        (good-of z all.last.number x a.fresh base_low
+        (ap (λ (r : Reading). r.last.number) (sym more))))
+        (all-good-more (last_read s).last.number all.last.number z.fresh z.fresh c grows
+        (omega arith) (s.good_here fates))
+
+abbrev replaced : View → Item → Fates → View
+replaced z x fates =
+    record z {
+      here = synced_after (written x 0) fates z.beside;
+      beside = z.here;
+      end = x.size;
+      seal = x.seal;
+      base = x.seal;
+      stored = x.save;
+      begun = [];
+    }
+
+-- all of what counted is passed then
+passed-here : (z : View) (s : Sound z) (number : ℕ) → s.bounds.middle < number → (f : Fates)
+    → (y : Item)
+    → IsWhole (image f z.here) 0 y
+    → IsPassed number (image f z.here) y
+passed-here z s number above f y whole =
+    subst (IsPassed number c) (whole-alone c 0 s.value y b.value whole)
+    (record {
+      value =
+          let grows = tail-number c (first_read s.value) s.entries (together-first s.value) b.chain in
+          let low = s.low in
+          omega (arith, grows, low, above);
+      entries = λ at x kind base inside.
+          ⊎_elim {C = x.number < number}
+          (λ (known : IsKnown (last_read s).last x).
+          let within = known.number in
+          let low = s.low in
+          omega (arith, within, low, above))
+          (λ (newer : IsNewer (last_read s) at x × IsBegun s.bounds.middle z.begun at x).
+          let within = newer.1.number in
+          omega (arith, within, above))
+          (s.only f at x kind
+          (base ∙ sym (tail-base c (first_read s.value) s.entries b.chain)) inside);
+    })
+  where
+    c : Content
+    c = image f z.here
+    b : Begins c s.value s.entries
+    b = s.here f
+
+pub sound-replaced : (z : View) (s : Sound z) (x : Item) → Replaces z s x → (fates : Fates)
+    → Sound (replaced z x fates)
+sound-replaced z s x r fates = record {
+  value = x;
+  entries = [];
+  bounds = record { middle = x.number; top = x.number; long = false };
+  here = λ f. record {
+      value = whole;
+      kind = r.kind;
+      own = r.own;
+      some = r.some;
+      chain = tt;
+    };
+  only = λ f at y kind base inside. absurd (none at y kind base inside);
+  beside = λ f y kind inside. inl (passed-here z s x.number above f y inside);
+  good_here = λ f.
+      good-after x.number z.fresh w c d makes
+      (item-written x.number z.fresh x 0
+      (good-of z x.number x r.fresh (subst (λ (n : ℕ). n < z.fresh) (sym r.own) r.fresh) refl))
+      (all-good-more (last_read s).last.number x.number z.fresh z.fresh c grows (omega arith)
+      (s.good_beside fates));
+  good_beside = λ f.
+      all-good-more (last_read s).last.number x.number z.fresh z.fresh (image f z.here) grows
+      (omega arith) (s.good_here f);
+  end = refl;
+  seal = refl;
+  base = sym r.own;
+  stored = refl;
+  low = omega arith;
+  middle = omega arith;
+  top =
+      let same = r.number in
+      omega (arith, same);
+}
+  where
+    w : Write
+    w = written x 0
+    c : Content
+    c = image fates z.beside
+    d : Content
+    d = after_sync w fates z.beside
+    makes : Makes w c d
+    makes = put-makes w c
+    whole : IsWhole d 0 x
+    whole = put-whole x 0 c r.some
+    above : s.bounds.middle < x.number
+    above =
+        let middle = r.middle in
+        let same = r.number in
+        omega (arith, middle, same)
+    grows : (last_read s).last.number ≤ x.number
+    grows =
+        let low = s.low in
+        omega (arith, low, above)
+    none : (at : ℕ) (y : Item) → y.kind ≡ Entry → y.base ≡ x.base → IsWhole d at y → ⊥
+    none at y kind base inside =
+        ⊎_elim {C = ⊥}
+        (λ (is : x ≡ y).
+        apart (sym r.kind ∙ ap (λ (z : Item). z.kind) is ∙ kind))
+        (λ (free : IsFree w y).
+        r.unused fates at 0 y (whole-before w c d at y makes free inside).head kind base)
+        (this-or-free x y 0)
+      where
+        apart : Value ≡ Entry → ⊥
+        apart e = cc
+
+-- ---- a folder is opened
+
+abbrev reopened : View → (c d : Content) → Reading → View
+reopened z c d r =
+    record z {
+      here = synced c;
+      beside = synced d;
+      end = r.end;
+      seal = r.last.seal;
+      base = r.last.base;
+      number = r.found.number;
+      stored = r.holds;
+      begun = [];
+    }
+
+pub sound-reopened : (z : View) (number : ℕ) (c d : Content) (r : Reading)
+    → Chosen z number c d r
+    → AreGood number z.fresh c
+    → AreGood number z.fresh d
+    → Sound (reopened z c d r)
+sound-reopened z number c d r h good_c good_d = record {
+  value = h.value;
+  entries = h.entries;
+  bounds = record { middle = last.number; top = last.number; long = false };
+  here = λ f. h.begins;
+  only = λ f at y kind base whole.
+      ⊎_elim {C = IsKnown last y
+      ⊎ (IsNewer (all_read h.value h.entries) at y × IsBegun last.number [] at y)}
+      (λ (known : IsKnown last y). inl known)
+      (λ (newer : IsNewer (all_read h.value h.entries) at y × ⊥). absurd newer.1)
+      (h.only at y kind base whole);
+  beside = λ f x kind whole. inl (h.passed x kind whole);
+  good_here = λ f.
+      all-good-more number last.number z.fresh z.fresh c h.most (omega arith) good_c;
+  good_beside = λ f.
+      all-good-more number last.number z.fresh z.fresh d h.most (omega arith) good_d;
+  end = h.end;
+  seal = ap (λ (x : Item). x.seal) h.last;
+  base = ap (λ (x : Item). x.base) h.last;
+  stored = h.holds;
+  low = omega arith;
+  middle = omega arith;
+  top =
+      let same = h.number_is in
+      omega (arith, same);
+}
+  where
+    last : Item
+    last = (all_read h.value h.entries).last
