@@ -4,3 +4,4 @@ pub mod Reading
 pub mod Sound
 pub mod Openings
 pub mod Saves
+pub mod Steps

@@ -245,6 +245,14 @@ last-cell c r [] k n is chain = (k, n, is)
 last-cell c r (y ∷ ys) k n is chain =
     last-cell c (with_item r y) ys r.end 0 chain.0.whole.head chain.1
 
+-- what is last is good
+pub last-good : (number fresh : ℕ) (c : Content) (v : Item) (ys : List Item) → Begins c v ys
+    → AreGood number fresh c
+    → Good number fresh (all_read v ys).last
+last-good number fresh c v ys b good =
+    let cell = last-cell c (first_read v) ys 0 0 b.value.head b.chain in
+    good cell.0 cell.1 (all_read v ys).last cell.2
+
 pub few-entries : (number fresh : ℕ) (c : Content) (v : Item) (ys : List Item) → Begins c v ys
     → AreGood number fresh c
     → length ys < fresh

@@ -11,7 +11,7 @@ use Rattle.slots.proofs.Sound.{last_read, Adds, AreGood, Bounds, Good, IsAhead, 
 
 -- ---- what is good
 
-good-more : (less more before after : ℕ) (x : Item) → less ≤ more → before ≤ after
+pub good-more : (less more before after : ℕ) (x : Item) → less ≤ more → before ≤ after
     → Good less before x
     → Good more after x
 good-more less more before after x within older g =
@@ -28,17 +28,17 @@ good-more less more before after x within older g =
           omega (arith, number, within);
     }
 
-all-good-more : (less more before after : ℕ) (c : Content) → less ≤ more → before ≤ after
+pub all-good-more : (less more before after : ℕ) (c : Content) → less ≤ more → before ≤ after
     → AreGood less before c
     → AreGood more after c
 all-good-more less more before after c within older good k n x is =
     good-more less more before after x within older (good k n x is)
 
 -- everything of which this writes a byte
-abbrev WritesGood : (number fresh : ℕ) → Write → Type 0
+abbrev pub WritesGood : (number fresh : ℕ) → Write → Type 0
 WritesGood number fresh w = (k n : ℕ) (x : Item) → w.bytes k ≡ Of x n → Good number fresh x
 
-good-after : (number fresh : ℕ) (w : Write) (c d : Content) → Makes w c d
+pub good-after : (number fresh : ℕ) (w : Write) (c d : Content) → Makes w c d
     → WritesGood number fresh w
     → AreGood number fresh c
     → AreGood number fresh d
@@ -52,7 +52,7 @@ good-after number fresh w c d makes new old k n x is =
     apart : Other ≡ Of x n → ⊥
     apart e = cc
 
-item-written : (number fresh : ℕ) (x : Item) (at : ℕ) → Good number fresh x
+pub item-written : (number fresh : ℕ) (x : Item) (at : ℕ) → Good number fresh x
     → WritesGood number fresh (written x at)
 item-written number fresh x at good k n y is =
     let same : x ≡ y = cc in
@@ -61,13 +61,13 @@ item-written number fresh x at good k n y is =
 -- ---- writes to the slot that counts
 
 -- An entry that is whole after the write was so before, or is one of those that were begun.
-abbrev BringsEntries : (z : View) → Sound z → Write → Type 0
+abbrev pub BringsEntries : (z : View) → Sound z → Write → Type 0
 BringsEntries z s w =
     (f : Fates) (at : ℕ) (y : Item) → y.kind ≡ Entry → y.base ≡ (last_read s).last.base
     → IsWhole (image f (with_write z.here w)) at y
     → IsFree w y ⊎ (IsNewer (last_read s) at y × IsBegun s.bounds.middle z.begun at y)
 
-pub sound-here : (z : View) (s : Sound z) (w : Write) → z.end ≤ w.from
+unfoldable pub sound-here : (z : View) (s : Sound z) (w : Write) → z.end ≤ w.from
     → WritesGood (last_read s).last.number z.fresh w
     → BringsEntries z s w
     → Sound (record z { here = with_write z.here w })
@@ -114,12 +114,12 @@ sound-here z s w behind good brings = record {
 -- ---- writes to the other slot
 
 -- a value that is whole after the write was so before, or is ahead
-abbrev BringsValues : (z : View) → Sound z → Write → Type 0
+abbrev pub BringsValues : (z : View) → Sound z → Write → Type 0
 BringsValues z s w =
     (f : Fates) (x : Item) → x.kind ≡ Value → IsWhole (image f (with_write z.beside w)) 0 x
     → IsFree w x ⊎ IsAhead s.bounds z.begun (image f (with_write z.beside w)) x
 
-pub sound-beside : (z : View) (s : Sound z) (w : Write) → s.bounds.long ≡ false
+unfoldable pub sound-beside : (z : View) (s : Sound z) (w : Write) → s.bounds.long ≡ false
     → WritesGood (last_read s).last.number z.fresh w
     → ((y : Item) → y.kind ≡ Entry → IsFree w y)
     → BringsValues z s w
@@ -198,7 +198,7 @@ sound-beside z s w short good free brings = record {
 
 -- ---- a save begins
 
-pub sound-begin : (z : View) (s : Sound z) (b : Bounds) (number : ℕ)
+unfoldable pub sound-begin : (z : View) (s : Sound z) (b : Bounds) (number : ℕ)
     → s.bounds.middle ≤ b.middle
     → b.middle ≤ b.top
     → b.top ≤ number
@@ -249,14 +249,14 @@ sound-begin z s b number more within most ahead = record {
 -- ---- a save is stored
 
 -- what is in a file after a sync stays
-abbrev synced : Content → File
+abbrev pub synced : Content → File
 synced c = record { synced = c; writes = [] }
 
-abbrev after_sync : Write → Fates → File → Content
+abbrev pub after_sync : Write → Fates → File → Content
 after_sync w fates f = put w (image fates f)
 
 -- an item is this one, or the write of this one writes nothing of it
-this-or-free : (x y : Item) (at : ℕ) → (x ≡ y) ⊎ IsFree (written x at) y
+pub this-or-free : (x y : Item) (at : ℕ) → (x ≡ y) ⊎ IsFree (written x at) y
 this-or-free x y at = go (same_item x y) refl
   where
     go : (b : Bool) → same_item x y ≡ b → (x ≡ y) ⊎ IsFree (written x at) y
@@ -268,7 +268,7 @@ this-or-free x y at = go (same_item x y) refl
         let same : same_item x y ≡ true = ap (same_item x) (sym is) ∙ item-itself x in
         absurd cc))
 
-good-of : (z : View) (number : ℕ) (x : Item) → x.seal < z.fresh → x.base < z.fresh
+pub good-of : (z : View) (number : ℕ) (x : Item) → x.seal < z.fresh → x.base < z.fresh
     → x.number ≡ number
     → Good number z.fresh x
 good-of z number x seal base is = record {
@@ -278,8 +278,8 @@ good-of z number x seal base is = record {
   mark = λ e. omega (arith, is);
 }
 
-abbrev added : View → Item → Fates → View
-added z x fates =
+abbrev pub with_added : View → Item → Fates → View
+with_added z x fates =
     record z {
       here = synced_after (written x z.end) fates z.here;
       end = z.end + x.size;
@@ -289,7 +289,7 @@ added z x fates =
     }
 
 pub sound-added : (z : View) (s : Sound z) (x : Item) → Adds z s x → (fates : Fates)
-    → Sound (added z x fates)
+    → Sound (with_added z x fates)
 sound-added z s x a fates = record {
   value = s.value;
   entries = s.entries ++ x ∷ [];
@@ -424,7 +424,7 @@ sound-added z s x a fates = record {
         (all-good-more (last_read s).last.number all.last.number z.fresh z.fresh c grows
         (omega arith) (s.good_here fates))
 
-abbrev replaced : View → Item → Fates → View
+abbrev pub replaced : View → Item → Fates → View
 replaced z x fates =
     record z {
       here = synced_after (written x 0) fates z.beside;
@@ -534,7 +534,7 @@ sound-replaced z s x r fates = record {
 
 -- ---- a folder is opened
 
-abbrev reopened : View → (c d : Content) → Reading → View
+abbrev pub reopened : View → (c d : Content) → Reading → View
 reopened z c d r =
     record z {
       here = synced c;
