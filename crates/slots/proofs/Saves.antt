@@ -424,6 +424,14 @@ sound-added z s x a fates = record {
         (all-good-more (last_read s).last.number all.last.number z.fresh z.fresh c grows
         (omega arith) (s.good_here fates))
 
+-- what is last then
+pub added-last : (z : View) (s : Sound z) (x : Item) (a : Adds z s x) (fates : Fates)
+    → ((last_read (sound-added z s x a fates)).last.number ≡ x.number)
+    × ((sound-added z s x a fates).bounds.long ≡ false)
+unfolding sound-added
+added-last z s x a fates =
+    (ap (λ (r : Reading). r.last.number) (tail-more (first_read s.value) s.entries x), refl)
+
 abbrev pub replaced : View → Item → Fates → View
 replaced z x fates =
     record z {
@@ -532,6 +540,12 @@ sound-replaced z s x r fates = record {
         apart : Value ≡ Entry → ⊥
         apart e = cc
 
+pub replaced-last : (z : View) (s : Sound z) (x : Item) (r : Replaces z s x) (fates : Fates)
+    → ((last_read (sound-replaced z s x r fates)).last.number ≡ x.number)
+    × ((sound-replaced z s x r fates).bounds.long ≡ false)
+unfolding sound-replaced
+replaced-last z s x r fates = (refl, refl)
+
 -- ---- a folder is opened
 
 abbrev pub reopened : View → (c d : Content) → Reading → View
@@ -581,3 +595,12 @@ sound-reopened z number c d r h good_c good_d = record {
   where
     last : Item
     last = (all_read h.value h.entries).last
+
+pub reopened-last : (z : View) (number : ℕ) (c d : Content) (r : Reading)
+    → (h : Chosen z number c d r)
+    → (good_c : AreGood number z.fresh c)
+    → (good_d : AreGood number z.fresh d)
+    → (r.found.number ≡ (last_read (sound-reopened z number c d r h good_c good_d)).last.number)
+    × ((sound-reopened z number c d r h good_c good_d).bounds.long ≡ false)
+unfolding sound-reopened
+reopened-last z number c d r h good_c good_d = (h.number_is, refl)

@@ -1,7 +1,7 @@
 -- What holds of a folder after any steps.
 use Rattle.std.proofs.Common.{◌≡◌, ◌≢◌, ◌<◌, ◌≤◌, ◌+◌, ℕ, Bool, false, List, [], ◌∷◌, ◌⊎◌}
 use Rattle.std.specs.List.{Contains}
-use Rattle.slots.specs.declared.saving.TheConstants.{DUE, ENTRY, IDLE, WHOLE}
+use Rattle.slots.specs.declared.saving.TheConstants.{ENTRY, IDLE, TOP, UNSURE, WHOLE}
 use Rattle.slots.specs.Decisions.{other}
 use Rattle.slots.specs.Disk.{image, written, Cell, Content, Entry, Fates, File, Item, Mark, Of, Reading, Value}
 use Rattle.slots.specs.Runs.{Folder}
@@ -131,8 +131,8 @@ pub record Replaces (z : View) (s : Sound z) (x : Item) : Type 0 where
 -- the same, with what is under way
 pub record Holds (z : View) (phase next_end : ℕ) (item : Item) : Type 0 where
   pub sound : Sound z
-  pub idle : phase ≡ IDLE → (z.number ≡ (last_read sound).last.number) × (sound.bounds.long ≡ false)
-  pub due : phase ≡ DUE → sound.bounds.long ≡ false
+  pub idle : phase ≡ IDLE → z.number ≡ (last_read sound).last.number
+  pub short : phase ≢ TOP → phase ≢ UNSURE → sound.bounds.long ≡ false
   pub entry : phase ≡ ENTRY → (next_end ≡ z.end + item.size) × Adds z sound item
   pub whole : phase ≡ WHOLE → (next_end ≡ item.size) × Replaces z sound item
 

@@ -11,12 +11,12 @@ use Rattle.slots.specs.declared.opening.Choice.TheVariants as choice
 use Rattle.slots.specs.Decisions.{added, adding, after_entry, after_stored, after_whole, entry_place, fits, is_idle, mark_of, may_add, may_replace, other, replacing, switched, whole_place}
 use Rattle.slots.specs.Disk.{covers, image, put, synced_after, with_write, written, Cell, Content, Entry, Fates, File, Item, Kind, Of, Other, Reading, Value, Write}
 use Rattle.slots.specs.Disk as disk
-use Rattle.slots.specs.Runs.{begins, begins_entry, begins_whole, ends, goes_on, new_entry, new_mark, new_whole, nothing, opens, puts_mark, puts_zeros, settled, step, with_file, writes, zeros, AddEntry, Folder, Replace, Sight, Step}
+use Rattle.slots.specs.Runs.{begins, begins_entry, begins_whole, ends, goes_on, new_entry, new_mark, new_whole, nothing, opens, puts_mark, puts_zeros, settled, step, with_file, writes, zeros, AddEntry, Fail, Folder, Replace, Sight, Step}
 use Rattle.slots.proofs.Disk.{free-of, image-makes, IsFree, IsWhole, Makes}
 use Rattle.slots.proofs.Lists.{contains-head, contains-more}
 use Rattle.slots.proofs.Openings.{last-good}
 use Rattle.slots.proofs.Reading.{all_read, tail-base, Begins, IsNewer}
-use Rattle.slots.proofs.Saves.{good-of, item-written, sound-added, sound-begin, sound-beside, sound-here, sound-replaced, sound-reopened, this-or-free, BringsEntries, BringsValues}
+use Rattle.slots.proofs.Saves.{good-of, item-written, added-last, replaced-last, reopened-last, sound-added, sound-begin, sound-beside, sound-here, sound-replaced, sound-reopened, replaced, reopened, synced, this-or-free, with_added, BringsEntries, BringsValues}
 use Rattle.slots.proofs.Sound.{last_read, view_of, Adds, AreGood, Bounds, Good, Holds, IsAhead, IsBegun, IsSound, Replaces, Sound, View}
 
 -- ---- files by their slots
@@ -118,7 +118,7 @@ unfolding sound-begin sound-here
 adds-holds h bytes k idle = record {
   sound = after;
   idle = λ e. absurd cc;
-  due = λ e. absurd cc;
+  short = λ a b. refl;
   entry = λ e. (
       refl,
       record {
@@ -127,7 +127,7 @@ adds-holds h bytes k idle = record {
         newer = newer;
         save = contains-head h.fresh h.begun;
         fresh = omega arith;
-        next = ap (λ (n : ℕ). n + 1) rest.0;
+        next = ap (λ (n : ℕ). n + 1) rest;
         number = refl;
         middle = refl;
       },
@@ -139,7 +139,7 @@ adds-holds h bytes k idle = record {
     z = view_of h
     s : Sound z
     s = k.sound
-    rest : (z.number ≡ (last_read s).last.number) × (s.bounds.long ≡ false)
+    rest : z.number ≡ (last_read s).last.number
     rest = k.idle idle
     number : ℕ
     number = h.slots.number + 1
@@ -160,7 +160,7 @@ adds-holds h bytes k idle = record {
         let below = ahead.top in
         let low = s.low in
         let top = s.top in
-        let same = rest.0 in
+        let same = rest in
         absurd (omega (arith, above, below, low, top, same)))
     last : Good (last_read s).last.number z.fresh (last_read s).last
     last =
@@ -168,7 +168,7 @@ adds-holds h bytes k idle = record {
         s.entries (s.here (λ i k. disk.Lost)) (s.good_here (λ i k. disk.Lost))
     newer : IsNewer (last_read s) z.end x
     newer =
-        let same = rest.0 in
+        let same = rest in
         record {
           place = s.end;
           before = s.seal;
@@ -218,7 +218,7 @@ adds-holds h bytes k idle = record {
           seal = omega arith;
           base = base_low;
           entry = λ e.
-              let same = rest.0 in
+              let same = rest in
               omega (arith, same);
           mark = λ e. absurd cc;
         }))
@@ -281,7 +281,7 @@ unfolding sound-begin sound-beside
 replaces-holds h bytes k may = record {
   sound = after;
   idle = λ e. absurd cc;
-  due = λ e. absurd cc;
+  short = λ a b. refl;
   entry = λ e. absurd cc;
   whole = λ e. (
       refl,
@@ -303,8 +303,9 @@ replaces-holds h bytes k may = record {
     s = k.sound
     short : s.bounds.long ≡ false
     short =
-        ⊎_elim {C = s.bounds.long ≡ false} (λ (e : h.slots.phase ≡ IDLE). (k.idle e).1)
-        (λ (e : h.slots.phase ≡ DUE). k.due e) may
+        ⊎_elim {C = s.bounds.long ≡ false}
+        (λ (e : h.slots.phase ≡ IDLE). k.short (λ top. absurd cc) (λ unsure. absurd cc))
+        (λ (e : h.slots.phase ≡ DUE). k.short (λ top. absurd cc) (λ unsure. absurd cc)) may
     number : ℕ
     number = h.slots.number + 1
     b : Bounds
@@ -484,3 +485,188 @@ replace-sound h bytes s = go (may_replace h.slots bytes) refl
 
 -- ---- failures
 
+
+abbrev in_phase : Folder → ℕ → Folder
+in_phase h phase = record h { slots = record (h.slots) { phase = phase } }
+
+doubt-sound : (h : Folder) → IsSound h → IsSound (in_phase h UNSURE)
+doubt-sound h s = record {
+  two = s.two;
+  holds = record {
+    sound = s.holds.sound;
+    idle = λ e. absurd cc;
+    short = λ top unsure. absurd (unsure refl);
+    entry = λ e. absurd cc;
+    whole = λ e. absurd cc;
+  };
+  entry = λ e. absurd cc;
+  whole = λ e. absurd cc;
+}
+
+due-sound : (h : Folder) → IsSound h → h.slots.phase ≢ TOP → h.slots.phase ≢ UNSURE
+    → IsSound (in_phase h DUE)
+due-sound h s top unsure = record {
+  two = s.two;
+  holds = record {
+    sound = s.holds.sound;
+    idle = λ e. absurd cc;
+    short = λ a b. s.holds.short top unsure;
+    entry = λ e. absurd cc;
+    whole = λ e. absurd cc;
+  };
+  entry = λ e. absurd cc;
+  whole = λ e. absurd cc;
+}
+
+fail-sound : (h : Folder) → IsSound h → IsSound (step h Fail)
+fail-sound h s = go (eqb h.slots.phase TOP) (saving) refl refl
+  where
+    saving : Bool
+    saving = (eqb h.slots.phase ENTRY || eqb h.slots.phase WHOLE) || eqb h.slots.phase LAST
+    either : (a b : Bool) → (a || b) ≡ true → (a ≡ true) ⊎ (b ≡ true)
+    either true b e = inl refl
+    either false b e = inr e
+    one : saving ≡ true → (n : ℕ) → (n ≢ ENTRY) → (n ≢ WHOLE) → (n ≢ LAST)
+        → h.slots.phase ≢ n
+    one e n a b c is =
+        ⊎_elim {C = ⊥}
+        (λ (first : (eqb h.slots.phase ENTRY || eqb h.slots.phase WHOLE) ≡ true).
+        ⊎_elim {C = ⊥}
+        (λ (f : eqb h.slots.phase ENTRY ≡ true). a (sym is ∙ eqb-true h.slots.phase ENTRY f))
+        (λ (f : eqb h.slots.phase WHOLE ≡ true). b (sym is ∙ eqb-true h.slots.phase WHOLE f))
+        (either (eqb h.slots.phase ENTRY) (eqb h.slots.phase WHOLE) first))
+        (λ (f : eqb h.slots.phase LAST ≡ true). c (sym is ∙ eqb-true h.slots.phase LAST f))
+        (either (eqb h.slots.phase ENTRY || eqb h.slots.phase WHOLE) (eqb h.slots.phase LAST) e)
+    go : (a b : Bool) → eqb h.slots.phase TOP ≡ a → saving ≡ b
+        → IsSound
+        (record h {
+          slots = cond a (record (h.slots) { phase = UNSURE })
+              (cond b (record (h.slots) { phase = DUE }) h.slots);
+        })
+    go true b e f = doubt-sound h s
+    go false true e f =
+        due-sound h s
+        (one f TOP (λ e. absurd cc) (λ e. absurd cc) (λ e. absurd cc))
+        (one f UNSURE (λ e. absurd cc) (λ e. absurd cc) (λ e. absurd cc))
+    go false false e f = s
+
+-- ---- a save is stored
+
+abbrev stored_with : Folder → Fates → Slots → Folder
+stored_with h fates slots =
+    record (with_file h h.to (synced_after h.write fates (h.files h.to))) {
+      slots = slots;
+      stored = h.item.save;
+      begun = [];
+    }
+
+added-holds : (h : Folder) (fates : Fates) (k : Holds (view_of h) h.slots.phase h.slots.next_end h.item)
+    → Adds (view_of h) k.sound h.item
+    → Holds (with_added (view_of h) h.item fates) IDLE h.slots.next_end h.item
+added-holds h fates k a = record {
+  sound = sound-added (view_of h) k.sound h.item a fates;
+  idle = λ e. sym a.number ∙ sym (added-last (view_of h) k.sound h.item a fates).0;
+  short = λ top unsure. (added-last (view_of h) k.sound h.item a fates).1;
+  entry = λ e. absurd cc;
+  whole = λ e. absurd cc;
+}
+
+stored-entry : (h : Folder) (fates : Fates) → IsSound h → h.slots.phase ≡ ENTRY
+    → IsSound (stored_with h fates (added h.slots h.item.seal))
+stored-entry h fates s is = record {
+  two = s.two;
+  holds =
+      file-here P h.files h.slots.counts h.to (synced_after h.write fates (h.files h.to)) s.two
+      way.0
+      (subst
+      (λ (w : Write).
+      P (synced_after w fates (h.files h.to)) (h.files (other h.slots.counts)))
+      (sym way.1)
+      (subst
+      (λ (t : ℕ).
+      P (synced_after (written h.item h.slots.end) fates (h.files t))
+      (h.files (other h.slots.counts)))
+      (sym way.0)
+      (subst
+      (λ (end : ℕ).
+      Holds (record (with_added (view_of h) h.item fates) { end = end }) IDLE h.slots.next_end h.item)
+      (sym under.0) (added-holds h fates s.holds under.1))));
+  entry = λ e. absurd cc;
+  whole = λ e. absurd cc;
+}
+  where
+    way : (h.to ≡ h.slots.counts) × (h.write ≡ written h.item h.slots.end)
+    way = s.entry is
+    under : (h.slots.next_end ≡ h.slots.end + h.item.size)
+        × Adds (view_of h) s.holds.sound h.item
+    under = s.holds.entry is
+    P : File → File → Type 0
+    P a b =
+        Holds
+        (record (view_of h) {
+          here = a;
+          beside = b;
+          end = h.slots.next_end;
+          seal = h.item.seal;
+          stored = h.item.save;
+          begun = [];
+        })
+        IDLE h.slots.next_end h.item
+
+replaced-holds : (h : Folder) (fates : Fates) (k : Holds (view_of h) h.slots.phase h.slots.next_end h.item)
+    → Replaces (view_of h) k.sound h.item
+    → Holds (replaced (view_of h) h.item fates) IDLE h.slots.next_end h.item
+replaced-holds h fates k r = record {
+  sound = sound-replaced (view_of h) k.sound h.item r fates;
+  idle = λ e. sym r.number ∙ sym (replaced-last (view_of h) k.sound h.item r fates).0;
+  short = λ top unsure. (replaced-last (view_of h) k.sound h.item r fates).1;
+  entry = λ e. absurd cc;
+  whole = λ e. absurd cc;
+}
+
+stored-whole : (h : Folder) (fates : Fates) → IsSound h → h.slots.phase ≡ WHOLE
+    → IsSound (stored_with h fates (switched h.slots h.item.seal h.item.seal))
+stored-whole h fates s is = record {
+  two = other-two h.slots.counts s.two;
+  holds =
+      file-here P h.files (other h.slots.counts) h.to
+      (synced_after h.write fates (h.files h.to)) (other-two h.slots.counts s.two)
+      way.0
+      (subst
+      (λ (w : Write).
+      P (synced_after w fates (h.files h.to)) (h.files (other (other h.slots.counts))))
+      (sym way.1)
+      (subst
+      (λ (t : ℕ).
+      P (synced_after (written h.item 0) fates (h.files t))
+      (h.files (other (other h.slots.counts))))
+      (sym way.0)
+      (subst
+      (λ (i : ℕ).
+      P (synced_after (written h.item 0) fates (h.files (other h.slots.counts))) (h.files i))
+      (sym (other-back h.slots.counts s.two))
+      (subst
+      (λ (end : ℕ).
+      Holds (record (replaced (view_of h) h.item fates) { end = end }) IDLE h.slots.next_end h.item)
+      (sym under.0) (replaced-holds h fates s.holds under.1)))));
+  entry = λ e. absurd cc;
+  whole = λ e. absurd cc;
+}
+  where
+    way : (h.to ≡ other h.slots.counts) × (h.write ≡ written h.item 0)
+    way = s.whole is
+    under : (h.slots.next_end ≡ h.item.size) × Replaces (view_of h) s.holds.sound h.item
+    under = s.holds.whole is
+    P : File → File → Type 0
+    P a b =
+        Holds
+        (record (view_of h) {
+          here = a;
+          beside = b;
+          end = h.slots.next_end;
+          seal = h.item.seal;
+          base = h.item.seal;
+          stored = h.item.save;
+          begun = [];
+        })
+        IDLE h.slots.next_end h.item
