@@ -11,7 +11,7 @@ use Rattle.slots.specs.declared.opening.Choice.TheVariants as choice
 use Rattle.slots.specs.Decisions.{added, adding, after_entry, after_stored, after_whole, entry_place, fits, is_idle, mark_of, may_add, may_replace, other, replacing, switched, whole_place}
 use Rattle.slots.specs.Disk.{covers, image, put, synced_after, with_write, written, Cell, Content, Entry, Fates, File, Item, Kind, Of, Other, Reading, Value, Write}
 use Rattle.slots.specs.Disk as disk
-use Rattle.slots.specs.Runs.{begins, begins_entry, begins_whole, ends, goes_on, new_entry, new_mark, new_whole, nothing, opens, puts_mark, puts_zeros, settled, step, with_file, writes, zeros, AddEntry, Fail, Folder, Replace, Sight, Step}
+use Rattle.slots.specs.Runs.{begins, begins_entry, begins_whole, ends, goes_on, new_entry, new_mark, new_whole, nothing, opens, puts_mark, puts_zeros, settled, step, with_file, writes, zeros, AddEntry, Fail, Folder, PutMark, PutZeros, Replace, Sight, Step, Store}
 use Rattle.slots.proofs.Disk.{free-of, image-makes, IsFree, IsWhole, Makes}
 use Rattle.slots.proofs.Lists.{contains-head, contains-more}
 use Rattle.slots.proofs.Openings.{last-good}
@@ -670,3 +670,177 @@ stored-whole h fates s is = record {
           begun = [];
         })
         IDLE h.slots.next_end h.item
+
+store-sound : (h : Folder) (fates : Fates) → IsSound h → IsSound (step h (Store fates))
+store-sound h fates s =
+    go (eqb h.slots.phase ENTRY) (eqb h.slots.phase WHOLE) refl refl
+  where
+    S : Slots
+    S = h.slots
+    seal : ℕ
+    seal = h.item.seal
+    rest : Bool → Slots
+    rest b =
+        cond b (switched S seal seal)
+        (cond (eqb S.phase LAST) (record S { phase = TOP })
+        (cond (eqb S.phase TOP) (switched S S.next_base seal) S))
+    go : (a b : Bool) → eqb S.phase ENTRY ≡ a → eqb S.phase WHOLE ≡ b
+        → IsSound (cond (a || b) (stored_with h fates (cond a (added S seal) (rest b))) h)
+    go true b e f = stored-entry h fates s (eqb-true S.phase ENTRY e)
+    go false true e f = stored-whole h fates s (eqb-true S.phase WHOLE f)
+    go false false e f = s
+
+-- ---- marks and zeros
+
+marks-holds : (h : Folder) → Holds (view_of h) h.slots.phase h.slots.next_end h.item
+    → h.slots.phase ≡ IDLE
+    → (m : Mark)
+    → m ≡ record {
+      offset = h.slots.end;
+      number = h.slots.number;
+      length = h.slots.length;
+      base = h.slots.base;
+      slot = h.slots.counts;
+    }
+    → Holds
+    (record (view_of h) {
+      here = with_write (h.files h.slots.counts) (written (new_mark m) h.slots.end);
+    })
+    h.slots.phase h.slots.next_end h.item
+unfolding sound-here
+marks-holds h k is m same = record {
+  sound =
+      sound-here z s w (omega arith)
+      (item-written (last_read s).last.number z.fresh (new_mark m) z.end
+      (record {
+        seal = omega (arith, base_low);
+        base = rw (same) base_low;
+        entry = λ e. absurd cc;
+        mark = λ e.
+            let low = k.idle is in
+            rw (same) (omega (arith, low));
+      }))
+      (λ f at y kind base whole.
+      inl
+      (free-of (new_mark m) y z.end
+      (λ e. not-mark (ap (λ (i : Item). i.kind) e ∙ kind))));
+  idle = k.idle;
+  short = k.short;
+  entry = λ e. absurd cc;
+  whole = λ e. absurd cc;
+}
+  where
+    z : View
+    z = view_of h
+    s : Sound z
+    s = k.sound
+    w : Write
+    w = written (new_mark m) z.end
+    not-mark : disk.Mark ≡ Entry → ⊥
+    not-mark e = cc
+    last : Good (last_read s).last.number z.fresh (last_read s).last
+    last =
+        last-good (last_read s).last.number z.fresh (image (λ i k. disk.Lost) z.here) s.value
+        s.entries (s.here (λ i k. disk.Lost)) (s.good_here (λ i k. disk.Lost))
+    base_low : z.base < z.fresh
+    base_low =
+        let low = last.base in
+        let e = s.base in
+        omega (arith, low, e)
+
+mark-sound : (h : Folder) → IsSound h → IsSound (step h PutMark)
+mark-sound h s = go (is_idle h.slots) refl
+  where
+    m : Mark
+    m = record {
+      offset = h.slots.end;
+      number = h.slots.number;
+      length = h.slots.length;
+      base = h.slots.base;
+      slot = h.slots.counts;
+    }
+    P : File → File → Type 0
+    P a b =
+        Holds (record (view_of h) { here = a; beside = b }) h.slots.phase h.slots.next_end h.item
+    go : (b : Bool) → is_idle h.slots ≡ b → IsSound (puts_mark h (cond b (Some m) None))
+    go true e =
+        let is = eqb-true h.slots.phase IDLE e in
+        record {
+          two = s.two;
+          holds =
+              file-here P h.files h.slots.counts h.slots.counts
+              (with_write (h.files h.slots.counts) (written (new_mark m) h.slots.end)) s.two refl
+              (marks-holds h s.holds is m refl);
+          entry = s.entry;
+          whole = s.whole;
+        }
+    go false e = s
+
+zeros-holds : (h : Folder) (count : ℕ)
+    → Holds (view_of h) h.slots.phase h.slots.next_end h.item
+    → h.slots.phase ≡ ENTRY
+    → Holds
+    (record (view_of h) {
+      here = with_write (h.files h.slots.counts) (zeros h.slots.next_end count);
+    })
+    h.slots.phase h.slots.next_end h.item
+unfolding sound-here
+zeros-holds h count k is = record {
+  sound =
+      sound-here z s w behind (λ k n x e. absurd (apart k n x e))
+      (λ f at y kind base whole. inl (λ k n e. apart k n y e));
+  idle = λ e. absurd cc;
+  short = k.short;
+  entry = λ e. (
+      under.0,
+      record {
+        kind = a.kind;
+        base = a.base;
+        newer = a.newer;
+        save = a.save;
+        fresh = a.fresh;
+        next = a.next;
+        number = a.number;
+        middle = a.middle;
+      },
+    );
+  whole = λ e. absurd cc;
+}
+  where
+    z : View
+    z = view_of h
+    s : Sound z
+    s = k.sound
+    w : Write
+    w = zeros h.slots.next_end count
+    under : (h.slots.next_end ≡ z.end + h.item.size) × Adds z s h.item
+    under = k.entry is
+    a : Adds z s h.item
+    a = under.1
+    behind : z.end ≤ h.slots.next_end
+    behind =
+        let same = under.0 in
+        omega (arith, same)
+    apart : (k n : ℕ) (x : Item) → nothing k ≡ Of x n → ⊥
+    apart k n x e = cc
+
+zeros-sound : (h : Folder) (count : ℕ) → IsSound h → IsSound (step h (PutZeros count))
+zeros-sound h count s = go (eqb h.slots.phase ENTRY) refl
+  where
+    P : File → File → Type 0
+    P a b =
+        Holds (record (view_of h) { here = a; beside = b }) h.slots.phase h.slots.next_end h.item
+    go : (b : Bool) → eqb h.slots.phase ENTRY ≡ b
+        → IsSound (puts_zeros h count (cond b (Some h.slots.next_end) None))
+    go true e =
+        let is = eqb-true h.slots.phase ENTRY e in
+        record {
+          two = s.two;
+          holds =
+              file-here P h.files h.slots.counts h.slots.counts
+              (with_write (h.files h.slots.counts) (zeros h.slots.next_end count)) s.two refl
+              (zeros-holds h count s.holds is);
+          entry = s.entry;
+          whole = s.whole;
+        }
+    go false e = s
