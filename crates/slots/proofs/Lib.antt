@@ -1,7 +1,9 @@
 pub mod Disk
 pub mod Lists
+pub mod Marks
 pub mod Reading
 pub mod Sound
 pub mod Openings
 pub mod Saves
 pub mod Steps
+pub mod Theorems

@@ -444,7 +444,7 @@ replaces-sound h bytes s may = record {
 -- ---- steps that may do nothing
 
 -- what may be begun is sound, and so is the same folder
-add-sound : (h : Folder) (bytes : ℕ) → IsSound h → IsSound (step h (AddEntry bytes))
+pub add-sound : (h : Folder) (bytes : ℕ) → IsSound h → IsSound (step h (AddEntry bytes))
 add-sound h bytes s = go (may_add h.slots bytes) refl
   where
     F : Bool → Folder
@@ -460,7 +460,7 @@ add-sound h bytes s = go (may_add h.slots bytes) refl
         (eqb-true h.slots.phase IDLE (and_parts (is_idle h.slots) _ e).0)
     go false e = s
 
-replace-sound : (h : Folder) (bytes : ℕ) → IsSound h → IsSound (step h (Replace bytes))
+pub replace-sound : (h : Folder) (bytes : ℕ) → IsSound h → IsSound (step h (Replace bytes))
 replace-sound h bytes s = go (may_replace h.slots bytes) refl
   where
     F : Bool → Folder
@@ -486,10 +486,10 @@ replace-sound h bytes s = go (may_replace h.slots bytes) refl
 -- ---- failures
 
 
-abbrev in_phase : Folder → ℕ → Folder
+abbrev pub in_phase : Folder → ℕ → Folder
 in_phase h phase = record h { slots = record (h.slots) { phase = phase } }
 
-doubt-sound : (h : Folder) → IsSound h → IsSound (in_phase h UNSURE)
+pub doubt-sound : (h : Folder) → IsSound h → IsSound (in_phase h UNSURE)
 doubt-sound h s = record {
   two = s.two;
   holds = record {
@@ -518,7 +518,7 @@ due-sound h s top unsure = record {
   whole = λ e. absurd cc;
 }
 
-fail-sound : (h : Folder) → IsSound h → IsSound (step h Fail)
+pub fail-sound : (h : Folder) → IsSound h → IsSound (step h Fail)
 fail-sound h s = go (eqb h.slots.phase TOP) (saving) refl refl
   where
     saving : Bool
@@ -671,7 +671,7 @@ stored-whole h fates s is = record {
         })
         IDLE h.slots.next_end h.item
 
-store-sound : (h : Folder) (fates : Fates) → IsSound h → IsSound (step h (Store fates))
+pub store-sound : (h : Folder) (fates : Fates) → IsSound h → IsSound (step h (Store fates))
 store-sound h fates s =
     go (eqb h.slots.phase ENTRY) (eqb h.slots.phase WHOLE) refl refl
   where
@@ -748,7 +748,7 @@ marks-holds h k is m same = record {
         let e = s.base in
         omega (arith, low, e)
 
-mark-sound : (h : Folder) → IsSound h → IsSound (step h PutMark)
+pub mark-sound : (h : Folder) → IsSound h → IsSound (step h PutMark)
 mark-sound h s = go (is_idle h.slots) refl
   where
     m : Mark
@@ -824,7 +824,7 @@ zeros-holds h count k is = record {
     apart : (k n : ℕ) (x : Item) → nothing k ≡ Of x n → ⊥
     apart k n x e = cc
 
-zeros-sound : (h : Folder) (count : ℕ) → IsSound h → IsSound (step h (PutZeros count))
+pub zeros-sound : (h : Folder) (count : ℕ) → IsSound h → IsSound (step h (PutZeros count))
 zeros-sound h count s = go (eqb h.slots.phase ENTRY) refl
   where
     P : File → File → Type 0

@@ -11,10 +11,12 @@
 //! `specs/Decisions` and `specs/Openings` say what each decision is.
 #![tactic(auto)]
 
+mod headline;
 mod opening;
 mod rewrite;
 mod saving;
 
+pub use headline::laws;
 pub use opening::{Choice, Found, choose, wholes_due};
 pub use rewrite::{Copying, Rewrite};
 pub use saving::{Mark, Place, Slots};
