@@ -219,6 +219,10 @@ after_failure s =
     cond (s.phase == TOP) (record s { phase = UNSURE })
     (cond ((s.phase == ENTRY || s.phase == WHOLE) || s.phase == LAST) (record s { phase = DUE }) s)
 
+-- a write that fails leaves what counted: it isn't that of a head, and no sync has failed
+abbrev pub is_known : Slots → Bool
+is_known s = not (s.phase == TOP) && not (s.phase == UNSURE)
+
 abbrev pub unsure : Slots → Slots
 unsure s = record s { phase = UNSURE }
 

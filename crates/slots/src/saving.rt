@@ -2,7 +2,7 @@
 ghost use Rattle.std.specs.Prelude.{◌≡◌};
 ghost use Rattle.slots.specs.Decisions.{after_entry, after_failure, after_last, after_stored};
 ghost use Rattle.slots.specs.Decisions.{after_rewrite, after_whole, created, entry_place, fits};
-ghost use Rattle.slots.specs.Decisions.{last_place, mark_of, opened, other, rewrite_of};
+ghost use Rattle.slots.specs.Decisions.{is_known, last_place, mark_of, opened, other, rewrite_of};
 ghost use Rattle.slots.specs.Decisions.{unsure, whole_place, zeros_at};
 
 use crate::opening::Found;
@@ -238,15 +238,18 @@ impl Slots {
     }
 
     /// A write of the save under way has failed. What counted still counts, and the next save is a
-    /// whole value. But if it was the head of a rewrite, nobody knows whether it is there.
-    pub fn failed(&mut self)
-        ensures { self.new ≡ after_failure self.old }
+    /// whole value. But if it was the head of a rewrite, nobody knows whether it is there. Returns
+    /// whether it is known what counts.
+    pub fn failed(&mut self) -> bool
+        ensures known { result ≡ is_known self.old }
+        ensures after { self.new ≡ after_failure self.old }
     {
         if self.phase == TOP {
             self.phase = UNSURE;
         } else if self.phase == ENTRY || self.phase == WHOLE || self.phase == LAST {
             self.phase = DUE;
         }
+        self.phase != UNSURE
     }
 
     /// A sync has failed, so nobody knows what counts. Nothing is saved any more.
