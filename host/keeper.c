@@ -205,7 +205,7 @@ int keeper_descriptor(const keeper *it)
 
 uint64_t keeper_number(const keeper *it)
 {
-    return it->is_database ? it->base.number : it->folder.number;
+    return it->is_database ? it->base.number : it->folder.state.number;
 }
 
 const char *keeper_why(const keeper *it)
@@ -220,8 +220,7 @@ store_status keeper_rewrite_begin(keeper *it, keeper_rewrite *to)
     memset(to, 0, sizeof *to);
     to->is_database = it->is_database;
     if (!it->is_database) {
-        store_rewrite_begin(&it->folder, &to->folder);
-        return STORE_OK;
+        return store_rewrite_begin(&it->folder, &to->folder);
     }
     if (!postgres_again(it->server, &to->server)) {
         return STORE_MEMORY;
@@ -256,7 +255,7 @@ void keeper_rewrite_free(keeper_rewrite *it)
 
 uint64_t keeper_end(const keeper *it)
 {
-    return it->folder.end;
+    return it->folder.state.end;
 }
 
 store_status keeper_rewrite_end(
@@ -270,9 +269,9 @@ store_status keeper_rewrite_end(
         return status;
     }
     store_status status = store_rewrite_end(&it->folder, &with->folder, entry);
-    size_t whole = (size_t)it->folder.length;
+    size_t whole = (size_t)it->folder.state.length;
     *outcome = (rewritten){
-        true, status, whole, (size_t)it->folder.end - STORE_HEAD - whole - STORE_TAIL};
+        true, status, whole, (size_t)it->folder.state.end - STORE_HEAD - whole - STORE_TAIL};
     return status;
 }
 

@@ -3,6 +3,7 @@
 
 #include "bytes.h"
 
+#include <errno.h>
 #include <stdlib.h>
 
 #define XXH_INLINE_ALL
@@ -11,25 +12,27 @@
 // The saver's syncs wait for what this one has written. So that is never more than a PART.
 enum { ENTRY_HEAD = STORE_ENTRY_HEAD, PART = 1 << 20 };
 
-void store_rewrite_begin(const store *it, store_rewrite *to)
+store_status store_rewrite_begin(store *it, store_rewrite *to)
 {
     memset(to, 0, sizeof *to);
     to->from = *it;
+    return markring_slots_rewrite(&it->state, &to->state) != 0 ? STORE_OK : store_fail(it, -EINVAL);
 }
 
 store_status store_rewrite_read(store_rewrite *it, store_value *value)
 {
     store *from = &it->from;
+    const markring_slots *was = &from->state;
     store_found found;
-    size_t length = (size_t)from->end;
+    size_t length = (size_t)was->end;
     uint8_t *bytes = malloc(length);
     if (bytes == NULL) {
         return STORE_MEMORY;
     }
-    store_status status = store_read_all(from, from->slots[from->counts], bytes, length, 0);
+    store_status status = store_read_all(from, from->slots[was->counts], bytes, length, 0);
     if (status == STORE_OK
-        && (!store_read_bytes(bytes, length, &found) || found.number != from->number
-            || found.seal != from->seal)) {
+        && (!store_read_bytes(bytes, length, &found) || found.number != was->number
+            || found.seal != was->seal)) {
         status = STORE_DAMAGED;
     }
     if (status != STORE_OK) {
@@ -58,14 +61,19 @@ store_status store_rewrite_write(store_rewrite *it, store_value *whole)
 {
     static const uint8_t none[STORE_HEAD];
     store *from = &it->from;
-    int to = from->slots[1 - from->counts];
-    store_bytes sealed = store_seal_whole(whole, from->number);
+    markring_slot_target place;
+    if (markring_slots_rewrite_value(&it->state, whole->length, &place) == 0) {
+        return store_fail(from, -EINVAL);
+    }
+    store_bytes sealed = store_seal_whole(whole, place.number);
     memcpy(it->head, sealed.bytes, sizeof it->head);
     memcpy(sealed.bytes, none, sizeof none);
-    it->base = it->seal = sealed.seal;
-    it->length = whole->length;
-    it->end = sealed.length;
-    return write_parts(from, to, sealed.bytes, sealed.length, 0);
+    store_status status =
+        write_parts(from, from->slots[place.slot], sealed.bytes, sealed.length, place.offset);
+    if (status == STORE_OK) {
+        markring_slots_rewrite_written(&it->state, whole->length, sealed.seal);
+    }
+    return status;
 }
 
 bool store_seal_again(uint8_t *bytes, size_t length, uint64_t *old, uint64_t *new)
@@ -99,7 +107,11 @@ typedef store_status (*writing)(
 static store_status follow(store_rewrite *it, uint64_t end, writing write)
 {
     store *from = &it->from;
-    size_t length = (size_t)(end - from->end);
+    markring_slot_copying copy;
+    if (markring_slots_rewrite_copy(&it->state, end, &copy) == 0) {
+        return store_fail(from, -EINVAL);
+    }
+    size_t length = (size_t)copy.length;
     if (length == 0) {
         return STORE_OK;
     }
@@ -107,20 +119,16 @@ static store_status follow(store_rewrite *it, uint64_t end, writing write)
     if (bytes == NULL) {
         return STORE_MEMORY;
     }
-    store_status status =
-        store_read_all(from, from->slots[from->counts], bytes, length, from->end);
-    uint64_t old = from->seal, new = it->seal;
+    store_status status = store_read_all(from, from->slots[copy.from_slot], bytes, length, copy.from);
+    uint64_t old = it->state.from_seal, new = it->state.seal;
     if (status == STORE_OK && !store_seal_again(bytes, length, &old, &new)) {
         status = STORE_DAMAGED;
     }
     if (status == STORE_OK) {
-        status = write(from, from->slots[1 - from->counts], bytes, length, it->end);
+        status = write(from, from->slots[copy.to_slot], bytes, length, copy.to);
     }
     if (status == STORE_OK) {
-        from->seal = old;
-        it->seal = new;
-        from->end = end;
-        it->end += length;
+        markring_slots_rewrite_copied(&it->state, end, old, new);
     }
     free(bytes);
     return status;
@@ -131,36 +139,24 @@ store_status store_rewrite_follow(store_rewrite *it, uint64_t end)
     return follow(it, end, write_parts);
 }
 
-// Writes the rest, and only then the head.
-static store_status finish(store *it, store_rewrite *with, const store_bytes *entry)
-{
-    int to = it->slots[1 - it->counts];
-    store_status status = store_write_all(it, to, entry->bytes, entry->length, with->end);
-    if (status == STORE_OK) {
-        status = store_sync(it, to);
-    }
-    if (status == STORE_OK) {
-        status = store_write_all(it, to, with->head, sizeof with->head, 0);
-    }
-    return status == STORE_OK ? store_sync(it, to) : status;
-}
-
 store_status store_rewrite_end(store *it, store_rewrite *with, store_value *entry)
 {
-    store_status status = follow(with, it->end, store_write_all);
-    it->number++;
-    if (status != STORE_OK) {
+    markring_slot_target place;
+    if (follow(with, it->state.end, store_write_all) != STORE_OK) {
         it->cause = with->from.cause;
         return STORE_FAILED;
     }
-    store_bytes sealed = store_seal_entry(entry, it->number, with->seal);
-    status = finish(it, with, &sealed);
+    if (markring_slots_last(&it->state, &with->state, entry->length, &place) == 0) {
+        return store_fail(it, -EINVAL);
+    }
+    store_bytes what = store_seal_entry(entry, place.number, place.before);
+    store_status status = store_put(it, &place, &what);
+    if (status == STORE_OK && markring_slots_head(&it->state, &place) != 0) {
+        what = (store_bytes){with->head, sizeof with->head, what.seal};
+        status = store_put(it, &place, &what);
+    }
     if (status == STORE_OK) {
-        it->counts = 1 - it->counts;
-        it->base = with->base;
-        it->length = with->length;
-        it->seal = sealed.seal;
-        it->end = it->size = with->end + sealed.length;
+        it->size = it->state.end;
         store_put_mark(it);
     }
     return status;

@@ -17,23 +17,22 @@ static const char *const NAMES[2] = {"a", "b"};
 enum { ENTRY_HEAD = STORE_ENTRY_HEAD, MARK_HEAD = 24, FIRST_VERSION = 1, STEP = 65536, ZEROS = 4096 };
 enum { COMPARED = 1 << 20 };
 
-// What a mark begins with, which is no entry's length; and what no save's number reaches.
-static const uint64_t MARKS = UINT64_MAX, NUMBERS = UINT64_C(1) << 48;
+// What a mark begins with, which is no entry's length.
+static const uint64_t MARKS = UINT64_MAX;
 
-// A slot as it was read: its bytes, or nothing; the number of its last save, and the last checksum.
+// A slot as it was read: its bytes, or nothing; what was found in it, and the last checksum.
 typedef struct slot {
-    uint64_t number, seal;
-    uint64_t base;   // the checksum of the value, or of what its length says
-    uint64_t synced; // the highest number of a save that was whole for sure
-    int version;     // 0 if it isn't whole
+    markring_slot_found what;
+    uint64_t seal;
+    uint64_t base; // the checksum of the value, or of what its length says
     store_value value;
 } slot;
 
-static void forget(store *it)
+static void forget(store *it, uint64_t number)
 {
     it->folder = it->slots[0] = it->slots[1] = -1;
-    it->counts = 1;
-    it->number = it->end = it->seal = it->size = it->base = it->length = 0;
+    it->size = 0;
+    markring_slots_create(&it->state, number);
 }
 
 void store_close(store *it)
@@ -46,7 +45,7 @@ void store_close(store *it)
     if (it->folder >= 0) {
         it->calls.close(it->calls.context, it->folder);
     }
-    forget(it);
+    forget(it, 0);
 }
 
 store_status store_fail(store *it, int64_t error)
@@ -130,13 +129,17 @@ store_status store_write_all(
 }
 
 // Makes the slot that counts longer, if the next entry will. If that fails, the file stays shorter.
-static void lengthen(store *it, uint64_t end)
+static void lengthen(store *it)
 {
     static const uint8_t zeros[ZEROS];
+    uint64_t end;
+    if (markring_slots_zeros(&it->state, &end) == 0) {
+        return;
+    }
     it->size = it->size > end ? it->size : end;
     while (it->size == end && end % STEP != 0) {
         size_t count = ZEROS - (size_t)(end % ZEROS);
-        if (store_write_all(it, it->slots[it->counts], zeros, count, end) != STORE_OK) {
+        if (store_write_all(it, it->slots[it->state.counts], zeros, count, end) != STORE_OK) {
             return;
         }
         end += count;
@@ -144,6 +147,8 @@ static void lengthen(store *it, uint64_t end)
     }
 }
 
+// An entry's checksum begins with the one before it, so bytes of earlier saves that follow aren't taken
+// for entries.
 store_bytes store_seal_entry(store_value *value, uint64_t number, uint64_t before)
 {
     uint8_t *entry = value->buffer + STORE_HEAD - ENTRY_HEAD;
@@ -155,24 +160,6 @@ store_bytes store_seal_entry(store_value *value, uint64_t number, uint64_t befor
     writer tail = writer_of(entry + length, STORE_TAIL);
     write_number(&tail, seal, 8);
     return (store_bytes){entry, length + STORE_TAIL, seal};
-}
-
-// Adds an entry. Its checksum begins with the one before it, so bytes of earlier saves that follow
-// aren't taken for entries.
-static store_status add_entry(store *it, store_value *value, uint64_t number)
-{
-    store_bytes entry = store_seal_entry(value, number, it->seal);
-    int file = it->slots[it->counts];
-    store_status status = store_write_all(it, file, entry.bytes, entry.length, it->end);
-    if (status == STORE_OK) {
-        lengthen(it, it->end + entry.length);
-        status = store_sync(it, file);
-    }
-    if (status == STORE_OK) {
-        it->seal = entry.seal;
-        it->end += entry.length;
-    }
-    return status;
 }
 
 store_bytes store_seal_whole(store_value *value, uint64_t number)
@@ -188,19 +175,20 @@ store_bytes store_seal_whole(store_value *value, uint64_t number)
     return (store_bytes){value->buffer, length + STORE_TAIL, seal};
 }
 
-static store_status replace(store *it, store_value *value, uint64_t number)
+store_status store_put(store *it, const markring_slot_target *place, const store_bytes *what)
 {
-    store_bytes whole = store_seal_whole(value, number);
-    int other = 1 - it->counts;
-    store_status status = store_write_all(it, it->slots[other], whole.bytes, whole.length, 0);
+    int file = it->slots[place->slot];
+    store_status status = store_write_all(it, file, what->bytes, what->length, place->offset);
     if (status == STORE_OK) {
-        status = store_sync(it, it->slots[other]);
+        lengthen(it);
+        status = store_sync(it, file);
     }
     if (status == STORE_OK) {
-        it->counts = other;
-        it->seal = it->base = whole.seal;
-        it->length = value->length;
-        it->end = it->size = whole.length;
+        markring_slots_stored(&it->state, what->seal);
+    } else if (status == STORE_UNKNOWN) {
+        markring_slots_doubt(&it->state);
+    } else if (markring_slots_failed(&it->state) == 0) {
+        status = STORE_UNKNOWN;
     }
     return status;
 }
@@ -210,21 +198,32 @@ static store_status replace(store *it, store_value *value, uint64_t number)
 // may be lost. If it is there, what is before it was whole, and no crash can have torn it.
 void store_put_mark(store *it)
 {
-    uint8_t mark[MARK_HEAD + STORE_TAIL];
-    writer to = writer_of(mark, sizeof mark);
+    uint8_t bytes[MARK_HEAD + STORE_TAIL];
+    markring_slot_mark mark;
+    if (markring_slots_mark(&it->state, &mark) == 0) {
+        return;
+    }
+    writer to = writer_of(bytes, sizeof bytes);
     write_number(&to, MARKS, 8);
-    write_number(&to, it->number, 8);
-    write_number(&to, it->length, 8);
-    write_number(&to, XXH3_64bits_withSeed(mark, MARK_HEAD, it->base), STORE_TAIL);
-    (void)store_write_all(it, it->slots[it->counts], mark, sizeof mark, it->end);
+    write_number(&to, mark.number, 8);
+    write_number(&to, mark.length, 8);
+    write_number(&to, XXH3_64bits_withSeed(bytes, MARK_HEAD, mark.base), STORE_TAIL);
+    (void)store_write_all(it, it->slots[mark.slot], bytes, sizeof bytes, mark.offset);
 }
 
 store_status store_save(store *it, store_value *value)
 {
-    it->number++;
-    store_status status =
-        value->is_entry ? add_entry(it, value, it->number) : replace(it, value, it->number);
+    markring_slot_target place;
+    int may = value->is_entry ? markring_slots_entry(&it->state, value->length, &place)
+                              : markring_slots_whole(&it->state, value->length, &place);
+    if (may == 0) {
+        return store_fail(it, -EINVAL);
+    }
+    store_bytes what = value->is_entry ? store_seal_entry(value, place.number, place.before)
+                                       : store_seal_whole(value, place.number);
+    store_status status = store_put(it, &place, &what);
     if (status == STORE_OK) {
+        it->size = value->is_entry ? it->size : it->state.end;
         store_put_mark(it);
     }
     return status;
@@ -252,8 +251,7 @@ store_status store_create_after(
 {
     it->calls = *calls;
     it->cause = 0;
-    forget(it);
-    it->number = number;
+    forget(it, number);
     int made = calls->make_folder(calls->context, path);
     if (made != 0 && made != -EEXIST) {
         return store_fail(it, made);
@@ -323,8 +321,7 @@ static void find_entries(slot *found)
     store_value *value = &found->value;
     size_t end;
     uint64_t seal, number = entry_at(value, value->end, found->seal, &seal, &end);
-    while (number > found->number) {
-        found->number = number;
+    while (markring_slots_found_entry(&found->what, number) != 0) {
         found->seal = seal;
         value->end = end;
         number = entry_at(value, value->end, found->seal, &seal, &end);
@@ -349,12 +346,9 @@ static void find_whole(slot *found)
     if (!is_known || !is_sealed(&whole, STORE_HEAD + length, 0, &found->seal)) {
         return;
     }
-    found->version = magic[sizeof MAGIC - 1];
-    found->number = number;
+    markring_slots_found_value(&found->what, magic[sizeof MAGIC - 1], number);
     value->end = STORE_HEAD + value->length + STORE_TAIL;
-    if (found->version == MAGIC[sizeof MAGIC - 1]) {
-        find_entries(found);
-    }
+    find_entries(found);
 }
 
 bool store_read_bytes(uint8_t *bytes, size_t length, store_found *to)
@@ -364,10 +358,10 @@ bool store_read_bytes(uint8_t *bytes, size_t length, store_found *to)
     found.value.buffer = bytes;
     found.value.room = length;
     find_whole(&found);
-    if (found.version != MAGIC[sizeof MAGIC - 1] || found.value.end != length) {
+    if (found.what.version != MAGIC[sizeof MAGIC - 1] || found.value.end != length) {
         return false;
     }
-    *to = (store_found){found.value, found.number, found.seal};
+    *to = (store_found){found.value, found.what.number, found.seal};
     return true;
 }
 
@@ -385,9 +379,9 @@ static uint64_t mark_at(const slot *found, size_t at)
     reader from = reader_of(value->buffer + at, value->room - at), whole = from;
     uint64_t seal, start = read_number(&from, 8), number = read_number(&from, 8);
     uint64_t length = read_number(&from, 8);
-    bool is_of_value = found->version != 0 ? length == value->length
-                                           : length <= value->room - STORE_HEAD - STORE_TAIL;
-    if (!from.ok || start != MARKS || number >= NUMBERS || !is_of_value) {
+    bool is_of_value = found->what.version != 0 ? length == value->length
+                                                : length <= value->room - STORE_HEAD - STORE_TAIL;
+    if (!from.ok || start != MARKS || !is_of_value) {
         return 0;
     }
     reader base = reader_of(value->buffer + STORE_HEAD + length, STORE_TAIL), again = whole;
@@ -396,25 +390,21 @@ static uint64_t mark_at(const slot *found, size_t at)
     return is_whole ? number : 0;
 }
 
-// The highest number in the marks from this place on.
-static uint64_t find_marks(const slot *found, size_t at)
+// Finds the marks from this place on.
+static void find_marks(slot *found, size_t at)
 {
     const store_value *value = &found->value;
-    uint64_t highest = 0;
     const uint8_t *next = memchr(value->buffer + at, 0xFF, value->room - at);
     while (next != NULL) {
         at = (size_t)(next - value->buffer);
-        uint64_t number = mark_at(found, at);
-        highest = number > highest ? number : highest;
+        markring_slots_found_mark(&found->what, mark_at(found, at));
         next = memchr(next + 1, 0xFF, value->room - at - 1);
     }
-    return highest;
 }
 
-// The number of the value or the entry at this place, which isn't whole, if the entry behind it is,
-// and has the number after that; else 0. One byte may have changed: of its checksum, or of its
-// content.
-static uint64_t find_behind(const slot *found, size_t at, size_t head, uint64_t before)
+// Finds an entry behind the value or the entry at this place, which isn't whole. One byte may have
+// changed: of its checksum, or of its content.
+static void find_behind(slot *found, size_t at, size_t head, uint64_t before)
 {
     const store_value *value = &found->value;
     reader from = reader_of(value->buffer + at, value->room - at);
@@ -422,7 +412,7 @@ static uint64_t find_behind(const slot *found, size_t at, size_t head, uint64_t 
     (void)read_bytes(&from, head - ENTRY_HEAD);
     uint64_t length = read_number(&from, 8), number = read_number(&from, 8), seal;
     if (!from.ok || length > from.left || from.left - length < STORE_TAIL) {
-        return 0;
+        return;
     }
     (void)read_bytes(&from, (size_t)length);
     size_t next = at + head + (size_t)length + STORE_TAIL;
@@ -431,19 +421,16 @@ static uint64_t find_behind(const slot *found, size_t at, size_t head, uint64_t 
         before = XXH3_64bits_withSeed(value->buffer + at, head + (size_t)length, before);
         behind = entry_at(value, next, before, &seal, &end);
     }
-    uint64_t expected = found->version != 0 ? found->number + 1 : number;
-    return behind == expected + 1 ? expected : 0;
+    markring_slots_found_behind(&found->what, number, behind);
 }
 
 // Finds out which saves were whole for sure, beyond those that are.
 static void find_synced(slot *found)
 {
-    bool is_whole = found->version != 0;
+    bool is_whole = found->what.version != 0;
     size_t at = is_whole ? found->value.end : 0;
-    uint64_t marked = find_marks(found, at);
-    uint64_t behind = is_whole ? find_behind(found, at, ENTRY_HEAD, found->seal)
-                               : find_behind(found, at, STORE_HEAD, 0);
-    found->synced = marked > behind ? marked : behind;
+    find_marks(found, at);
+    find_behind(found, at, is_whole ? ENTRY_HEAD : STORE_HEAD, is_whole ? found->seal : 0);
 }
 
 // Makes that a file is read directly, or as usual. Some file systems can't read directly.
@@ -515,7 +502,7 @@ static store_status read_slot(store *it, int file, slot *found)
         find_whole(found);
         find_synced(found);
     }
-    if (found->version == 0) {
+    if (found->what.version == 0) {
         free(found->value.buffer);
         found->value.buffer = NULL;
     }
@@ -536,28 +523,19 @@ static store_status read_synced(store *it, int file, slot *found)
     return status == STORE_OK ? read_slot(it, file, found) : status;
 }
 
-// Takes the slot that counts, of two that were read. Neither may show a later save.
+// Takes the slot that counts, of two that were read.
 static store_status choose(store *it, slot *found, store_value *value)
 {
-    int has[2] = {found[0].value.buffer != NULL, found[1].value.buffer != NULL};
-    if ((!has[0] && !has[1]) || (has[0] && has[1] && found[0].number == found[1].number)) {
+    int choice = markring_slots_choose(&found[0].what, &found[1].what);
+    if (choice == MARKRING_SLOTS_DAMAGED) {
         return STORE_DAMAGED;
     }
-    it->counts = !has[0] || (has[1] && found[1].number > found[0].number);
-    slot *last = &found[it->counts];
-    if (found[0].synced > last->number || found[1].synced > last->number) {
-        return STORE_DAMAGED;
-    }
-    it->number = last->number;
-    it->seal = last->seal;
-    it->base = last->base;
-    it->length = last->value.length;
-    it->end = last->value.end;
+    slot *last = &found[choice];
+    markring_slots_open(&it->state, (uint8_t)choice, &last->what, last->value.end, last->seal,
+        last->base, last->value.length);
     it->size = last->value.room;
     *value = last->value;
-    value->whole = last->version == FIRST_VERSION ? 2
-        : has[1 - it->counts] && found[1 - it->counts].version == FIRST_VERSION ? 1
-                                                                                : 0;
+    value->whole = markring_slots_wholes_due(&last->what, &found[1 - choice].what);
     last->value.buffer = NULL;
     return STORE_OK;
 }
@@ -586,7 +564,7 @@ store_status store_open(store *it, const store_calls *calls, const char *path, s
 {
     it->calls = *calls;
     it->cause = 0;
-    forget(it);
+    forget(it, 0);
     store_value found;
     memset(&found, 0, sizeof found);
     store_status status = enter(it, path);

@@ -54,26 +54,30 @@ typedef markring_store_value store_value;
 // Before an entry: its length and its number.
 enum { STORE_ENTRY_HEAD = 16 };
 
-// A call failed with this negative errno; or with 0, if it moved nothing.
-store_status store_fail(store *it, int64_t error);
-store_status store_sync(store *it, int file);
-store_status store_write_all(
-    store *it, int file, const uint8_t *bytes, size_t length, uint64_t offset);
-store_status store_read_all(store *it, int file, uint8_t *bytes, size_t length, uint64_t offset);
-// Shows behind what was synced that it was.
-void store_put_mark(store *it);
-
-// ## For places other than folders
-//
-// Such a place has the bytes of a slot: a whole value and the entries behind it, each with its head
-// and its seal.
-
 // The bytes of a value or an entry with what is around it, and its seal.
 typedef struct store_bytes {
     uint8_t *bytes;
     size_t length;
     uint64_t seal;
 } store_bytes;
+
+// A call failed with this negative errno; or with 0, if it moved nothing.
+store_status store_fail(store *it, int64_t error);
+store_status store_sync(store *it, int file);
+store_status store_write_all(
+    store *it, int file, const uint8_t *bytes, size_t length, uint64_t offset);
+store_status store_read_all(store *it, int file, uint8_t *bytes, size_t length, uint64_t offset);
+// Shows behind what was synced that it was, if it is known.
+void store_put_mark(store *it);
+
+// Writes and syncs what is to be saved at this place, with which the save, or a part of it, is over.
+// STORE_FAILED, STORE_UNKNOWN.
+store_status store_put(store *it, const markring_slot_target *place, const store_bytes *what);
+
+// ## For places other than folders
+//
+// Such a place has the bytes of a slot: a whole value and the entries behind it, each with its head
+// and its seal.
 
 // Writes head and seal into the room around a value, or around an entry; `before` is the seal
 // before it.

@@ -10,6 +10,7 @@
 #define MARKRING_HOST_H
 
 #include <markring.h>
+#include <markring_slots.h>
 
 #include <stdbool.h>
 
@@ -118,14 +119,9 @@ typedef struct markring_store {
     markring_store_calls calls;
     int folder;
     int slots[2];
-    int counts;      // the slot that counts, 0 or 1
-    uint64_t number; // of the last save, also of one that failed
-    uint64_t end;    // the offset of the next entry, in the slot that counts
-    uint64_t seal;   // the checksum before that
-    uint64_t base;   // the checksum of the value in that slot
-    uint64_t length; // of that value
-    uint64_t size;   // of the file of that slot, at least
-    int cause;       // the errno of the last call that failed, also after the store was closed
+    markring_slots state; // which slot counts, and what it holds
+    uint64_t size;        // of the file of that slot, at least
+    int cause; // the errno of the last call that failed, also after the store was closed
 } markring_store;
 
 // A value with room around it: it begins at `buffer + MARKRING_STORE_HEAD`. `room` counts the value
@@ -165,7 +161,8 @@ markring_store_status markring_store_open(markring_store *it, const markring_sto
 
 // Saves a value, or adds an entry, with the next number. The bytes around it are overwritten.
 // MARKRING_STORE_FAILED, MARKRING_STORE_UNKNOWN. After MARKRING_STORE_FAILED its number isn't used
-// again: all of it may have been written, and it counts if the process ends before another save.
+// again: all of it may have been written, and it counts if the process ends before another save. The
+// next one has to be a value then; an entry fails, and changes nothing.
 markring_store_status markring_store_save(markring_store *it, markring_store_value *value);
 
 // # Whole values while entries are added
@@ -181,13 +178,15 @@ markring_store_status markring_store_save(markring_store *it, markring_store_val
 // no other one while a call of the first is under way.
 
 typedef struct markring_store_rewrite {
-    markring_store from; // as it was when the rewrite began; `end` and `seal` go on
+    markring_store from; // as it was when the rewrite began
     uint8_t head[MARKRING_STORE_HEAD];
-    uint64_t base, seal, length, end; // of what was written to the other slot
+    markring_slot_rewrite state; // how far it is
 } markring_store_rewrite;
 
-// Begins a rewrite of what the last save left, which succeeded.
-void markring_store_rewrite_begin(const markring_store *it, markring_store_rewrite *to);
+// Begins a rewrite of what the last save left. MARKRING_STORE_FAILED: that save failed, or it was the
+// last number.
+markring_store_status markring_store_rewrite_begin(
+    markring_store *it, markring_store_rewrite *to);
 
 // Reads back the value that counted then, with its entries; the caller frees `value->buffer`. After
 // any other status `value` is as it was. MARKRING_STORE_MEMORY; MARKRING_STORE_FAILED;

@@ -54,12 +54,12 @@ typedef struct markring_slots {
 } markring_slots;
 
 // Where something is written, the number of its save, and the seal with which its own begins.
-typedef struct markring_slot_place {
+typedef struct markring_slot_target {
     uint64_t offset;
     uint64_t number;
     uint64_t before;
     uint8_t slot;
-} markring_slot_place;
+} markring_slot_target;
 
 // A mark: the number of a save that was synced, and the length and the seal of the value, with which
 // its own begins.
@@ -77,10 +77,10 @@ void markring_slots_create(markring_slots *slots, uint64_t number);
 // An entry of this length is to be saved. Returns 1 and where, or 0 and changes nothing: a save is
 // under way, or one has failed and no whole value was stored since, or the value is of version 1, or
 // a sync has failed, or a number would be too high.
-int markring_slots_entry(markring_slots *slots, uint64_t length, markring_slot_place *place);
+int markring_slots_entry(markring_slots *slots, uint64_t length, markring_slot_target *place);
 
 // The same for a whole value, which may follow a save that failed.
-int markring_slots_whole(markring_slots *slots, uint64_t length, markring_slot_place *place);
+int markring_slots_whole(markring_slots *slots, uint64_t length, markring_slot_target *place);
 
 // What the save under way has written is synced, and its seal is this one. So it counts; or, if it
 // ends a rewrite, its head is to be written now.
@@ -116,11 +116,13 @@ typedef struct markring_slot_rewrite {
     uint8_t from;
 } markring_slot_rewrite;
 
-// Bytes of entries: how many, from where in the slot that counts, and where to in the other one.
+// Bytes of entries: how many, from which offset of the slot that counts, and where to in the other one.
 typedef struct markring_slot_copying {
     uint64_t length;
     uint64_t from;
     uint64_t to;
+    uint8_t from_slot;
+    uint8_t to_slot;
 } markring_slot_copying;
 
 // Begins a rewrite of what is stored, and ends any other one: 1; or 0, as markring_slots_entry.
@@ -128,7 +130,7 @@ int markring_slots_rewrite(markring_slots *slots, markring_slot_rewrite *rewrite
 
 // Where its value goes, without its head, which the caller keeps: 1; or 0 if it is written already.
 int markring_slots_rewrite_value(
-    const markring_slot_rewrite *rewrite, uint64_t length, markring_slot_place *place);
+    const markring_slot_rewrite *rewrite, uint64_t length, markring_slot_target *place);
 
 // The value is written and synced, and this is its seal.
 void markring_slots_rewrite_written(
@@ -146,7 +148,10 @@ void markring_slots_rewrite_copied(
 // The entry that ends a rewrite, behind its copies: 1 and where; or 0, as markring_slots_entry, or if
 // the rewrite is over, or hasn't copied all entries.
 int markring_slots_last(markring_slots *slots, const markring_slot_rewrite *rewrite,
-    uint64_t length, markring_slot_place *place);
+    uint64_t length, markring_slot_target *place);
+
+// Where the head goes, once the entry that ends a rewrite was stored: 1; or 0 if none is due.
+int markring_slots_head(const markring_slots *slots, markring_slot_target *place);
 
 // # Openings
 
@@ -183,8 +188,7 @@ enum markring_slots_choice {
 int markring_slots_choose(const markring_slot_found *first, const markring_slot_found *second);
 
 // How many saves have to be whole values, since a slot is of version 1, if the first of these counts.
-uint8_t markring_slots_wholes_due(
-    const markring_slot_found *counts, const markring_slot_found *other);
+int markring_slots_wholes_due(const markring_slot_found *counts, const markring_slot_found *other);
 
 // The slots of a folder in which this one counts: where what was found in it ends, its last seal, and
 // the seal and the length of its value.

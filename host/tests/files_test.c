@@ -388,7 +388,7 @@ static void test_saves(void)
         // Two whole values, and entries behind them.
         bool is_entry = number % 5 > 1;
         begin();
-        int slot = is_entry ? it.counts : 1 - it.counts;
+        int slot = is_entry ? it.state.counts : 1 - it.state.counts;
         const char *name = slot == 0 ? "/a" : "/b";
         HOLDS(save(&it, number, is_entry) == STORE_OK);
         HOLDS(last_of(WRITE, name) >= 0 && last_of(SYNC, name) > last_of(WRITE, name));

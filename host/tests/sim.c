@@ -548,7 +548,7 @@ static void close_place(station *at)
 
 static uint64_t number_of(const station *at)
 {
-    return is_kept_in_database ? at->base.number : at->store.number;
+    return is_kept_in_database ? at->base.number : at->store.state.number;
 }
 
 // The long part of a rewrite, which another thread does.
@@ -568,7 +568,7 @@ static store_status write_again(station *at)
                               : store_rewrite_write(&at->again, &whole);
     free(whole.buffer);
     return status == STORE_OK && !is_kept_in_database && below(2) == 0
-        ? store_rewrite_follow(&at->again, at->store.end)
+        ? store_rewrite_follow(&at->again, at->store.state.end)
         : status;
 }
 
@@ -2125,7 +2125,7 @@ static void start_again(station *at)
 {
     int starts = 1 + (int)below(STARTS_MOST);
     uint64_t last = last_known((uint8_t)(at - stations));
-    for (int i = 0; i < starts || (at->store.number <= last && i < 100); i++) {
+    for (int i = 0; i < starts || (at->store.state.number <= last && i < 100); i++) {
         if (at->host != NULL) {
             stop(at, false);
         }
@@ -2226,7 +2226,7 @@ static void keep_copy(uint8_t node)
     station *at = &stations[node];
     if (at->host != NULL && at->job == NULL && at->host->images.kept > 0) {
         disk_copy(&at->copy, &at->disk);
-        at->copy_number = at->store.number;
+        at->copy_number = at->store.state.number;
         at->copied = (process){at->host->nonce, at->host->run, at->host->stored};
         at->has_copy = true;
     }
@@ -2245,7 +2245,7 @@ static void mix_up_at_rest(uint8_t node)
         pass_time(i + 1 == saves ? 1100 : 100);
     }
     HOLDS(at->host != NULL && at->has_copy && is_known(node, at->copy_number + saves - 1));
-    barely += at->store.number == at->copy_number + 1;
+    barely += at->store.state.number == at->copy_number + 1;
     mix_up(node, (mixing)below(3));
     is_calm = true;
     settle();

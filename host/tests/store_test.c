@@ -94,7 +94,7 @@ static store_status create(disk *at, uint8_t number)
     value.is_entry = false;
     store_status status = store_create(&it, &calls, "folder", &value);
     if (status == STORE_OK) {
-        HOLDS(it.number == 1);
+        HOLDS(it.state.number == 1);
         store_close(&it);
     }
     free(value.buffer);
@@ -147,9 +147,10 @@ static int work(disk *at, bool *unsure)
         store_value value = value_of(number);
         status = store_save(&it, &value);
         free(value.buffer);
-        // A save that failed is made again, as a host does.
+        // A save that failed is made again as a whole value, as a host does.
         if (status == STORE_FAILED) {
             value = value_of(number);
+            value.is_entry = false;
             status = store_save(&it, &value);
             free(value.buffer);
         }
@@ -477,18 +478,18 @@ static store_status write_again(disk *at, store_rewrite *of, uint64_t kept)
 }
 
 // A step of a rewrite, or none. Returns whether the process may go on.
-static bool rewrite(disk *at, const store *it, rewriting *now, uint64_t kept)
+static bool rewrite(disk *at, store *it, rewriting *now, uint64_t kept)
 {
     store_status status = STORE_OK;
     if (now->stage == NONE && below(3) == 0) {
-        store_rewrite_begin(it, &now->of);
+        HOLDS(store_rewrite_begin(it, &now->of) == STORE_OK);
         now->stage = BEGUN;
         now->base = kept;
     } else if (now->stage == BEGUN && below(2) == 0) {
         status = write_again(at, &now->of, now->base);
         now->stage = status == STORE_OK ? WRITTEN : NONE;
     } else if (now->stage == WRITTEN && below(2) == 0) {
-        status = store_rewrite_follow(&now->of, it->end);
+        status = store_rewrite_follow(&now->of, it->state.end);
         now->stage = status == STORE_OK ? WRITTEN : NONE;
     }
     return status != STORE_UNKNOWN;
@@ -601,12 +602,12 @@ static int work_again(disk *at, bool *unsure)
         if (number == 2 && status == STORE_OK) {
             way = WHOLE;
             value = value_of(2);
-            store_rewrite_begin(&it, &again);
+            HOLDS(store_rewrite_begin(&it, &again) == STORE_OK);
             status = store_rewrite_write(&again, &value);
             free(value.buffer);
         }
         if (number == 3 && status == STORE_OK && below(2) == 0) {
-            status = store_rewrite_follow(&again, it.end);
+            status = store_rewrite_follow(&again, it.state.end);
         }
     }
     *unsure = status == STORE_UNKNOWN;
@@ -674,7 +675,7 @@ static void test_rewrite_of_rot(void)
     HOLDS(create(&it, 1) == STORE_OK);
     HOLDS(store_open(&at, &calls, "folder", &value) == STORE_OK);
     free(value.buffer);
-    store_rewrite_begin(&at, &again);
+    HOLDS(store_rewrite_begin(&at, &again) == STORE_OK);
     it.files[0].seen[STORE_HEAD + 5] ^= 1;
     HOLDS(store_rewrite_read(&again, &value) == STORE_DAMAGED);
     it.files[0].seen[STORE_HEAD + 5] ^= 1;
@@ -682,15 +683,15 @@ static void test_rewrite_of_rot(void)
     HOLDS(store_rewrite_write(&again, &value) == STORE_OK);
     free(value.buffer);
     value = value_of(2);
-    uint64_t place = at.end;
+    uint64_t place = at.state.end;
     HOLDS(store_save(&at, &value) == STORE_OK);
     free(value.buffer);
     it.files[0].seen[place + 20] ^= 1;
-    HOLDS(store_rewrite_follow(&again, at.end) == STORE_DAMAGED);
+    HOLDS(store_rewrite_follow(&again, at.state.end) == STORE_DAMAGED);
     value = value_of(3);
-    HOLDS(store_rewrite_end(&at, &again, &value) == STORE_FAILED && at.counts == 0);
+    HOLDS(store_rewrite_end(&at, &again, &value) == STORE_FAILED && at.state.counts == 0);
     it.files[0].seen[place + 20] ^= 1;
-    HOLDS(store_rewrite_end(&at, &again, &value) == STORE_OK && at.counts == 1);
+    HOLDS(store_rewrite_end(&at, &again, &value) == STORE_OK && at.state.counts == 1);
     free(value.buffer);
     store_close(&at);
     HOLDS(found(&it) == 3);
@@ -739,14 +740,15 @@ static void test_parts(void)
     at.calls.write_at = count_write;
     at.calls.read_at = read_entry;
     at.calls.sync = count_sync;
-    store_rewrite_begin(&at, &again);
+    markring_slots_open(&at.state, 0, &(markring_slot_found){.version = 2}, 0, 0, 0, 0);
+    HOLDS(store_rewrite_begin(&at, &again) == STORE_OK);
     HOLDS(store_rewrite_write(&again, &value) == STORE_OK);
-    HOLDS(unsynced == 0 && most_unsynced <= MOST && again.end == ROOM);
+    HOLDS(unsynced == 0 && most_unsynced <= MOST && again.state.end == ROOM);
     store_bytes entry = store_seal_entry(&value, 1, 0);
     again.from.calls.context = entry.bytes;
     most_unsynced = 0;
     HOLDS(store_rewrite_follow(&again, entry.length) == STORE_OK);
-    HOLDS(unsynced == 0 && most_unsynced <= MOST && again.end == ROOM + entry.length);
+    HOLDS(unsynced == 0 && most_unsynced <= MOST && again.state.end == ROOM + entry.length);
     free(value.buffer);
 }
 
@@ -891,7 +893,7 @@ static void test_system(void)
     store_close(&first);
     HOLDS(store_create(&second, &STORE_SYSTEM, folder, &value) == STORE_EXISTS);
     HOLDS(store_open(&second, &STORE_SYSTEM, folder, &got) == STORE_OK);
-    HOLDS(second.number == 2 && number_in(&got) == 2);
+    HOLDS(second.state.number == 2 && number_in(&got) == 2);
     store_close(&second);
     free(got.buffer);
     free(value.buffer);

@@ -1,16 +1,16 @@
 //! The calls of `include/markring_slots.h`: where a folder keeps what is saved. What they decide is
 //! in the crate `slots`.
-ghost use Rattle.std.specs.Prelude.{◌≡◌};
+ghost use Rattle.std.specs.Prelude.{◌≡◌, pos};
 ghost use Rattle.slots.specs.Decisions.{after_copies, after_entry, after_failure, after_last};
 ghost use Rattle.slots.specs.Decisions.{after_rewrite, after_stored, after_value, after_whole};
-ghost use Rattle.slots.specs.Decisions.{copying, created, entry_place, is_known, last_place};
-ghost use Rattle.slots.specs.Decisions.{mark_of, opened};
+ghost use Rattle.slots.specs.Decisions.{copying, created, entry_place, head_place, is_known};
+ghost use Rattle.slots.specs.Decisions.{last_place, mark_of, opened};
 ghost use Rattle.slots.specs.Decisions.{rewrite_of, unsure, value_place, whole_place, zeros_at};
 ghost use Rattle.slots.specs.Openings.{chosen, due_wholes, is_next, with_behind, with_entry};
 ghost use Rattle.slots.specs.Openings.{with_mark, with_value};
 ghost use Rattle.markring_c.specs.Slots.{choice_number, flag_number, Gives};
 
-use slots::{Choice, Copying, Found, Mark, Place, Rewrite, Slots, choose, wholes_due};
+use slots::{Choice, Copying, Found, Mark, Target, Rewrite, Slots, choose, wholes_due};
 
 /// The slots of a new folder.
 #[unsafe(no_mangle)]
@@ -38,7 +38,7 @@ pub extern "C" fn markring_slots_open(
 
 /// Where an entry is to be written: 1, or 0 if none may be added.
 #[unsafe(no_mangle)]
-pub extern "C" fn markring_slots_entry(slots: &mut Slots, length: u64, place: &mut Place) -> i32
+pub extern "C" fn markring_slots_entry(slots: &mut Slots, length: u64, place: &mut Target) -> i32
     ensures place { Gives (entry_place slots.old length) place.old place.new result }
     ensures after { slots.new ≡ after_entry slots.old length }
 {
@@ -52,7 +52,7 @@ pub extern "C" fn markring_slots_entry(slots: &mut Slots, length: u64, place: &m
 
 /// Where a whole value is to be written: 1, or 0 if none may be.
 #[unsafe(no_mangle)]
-pub extern "C" fn markring_slots_whole(slots: &mut Slots, length: u64, place: &mut Place) -> i32
+pub extern "C" fn markring_slots_whole(slots: &mut Slots, length: u64, place: &mut Target) -> i32
     ensures place { Gives (whole_place slots.old length) place.old place.new result }
     ensures after { slots.new ≡ after_whole slots.old length }
 {
@@ -70,12 +70,25 @@ pub extern "C" fn markring_slots_last(
     slots: &mut Slots,
     with: &Rewrite,
     length: u64,
-    place: &mut Place,
+    place: &mut Target,
 ) -> i32
     ensures place { Gives (last_place slots.old with.now length) place.old place.new result }
     ensures after { slots.new ≡ after_last slots.old with.now length }
 {
     let given = slots.last(with, length);
+    if let Some(it) = given {
+        *place = it;
+        return 1;
+    }
+    0
+}
+
+/// Where the head of a rewrite is to be written: 1, or 0 if none is under way.
+#[unsafe(no_mangle)]
+pub extern "C" fn markring_slots_head(slots: &Slots, place: &mut Target) -> i32
+    ensures { Gives (head_place slots.now) place.old place.new result }
+{
+    let given = slots.head();
     if let Some(it) = given {
         *place = it;
         return 1;
@@ -153,7 +166,7 @@ pub extern "C" fn markring_slots_rewrite(slots: &mut Slots, rewrite: &mut Rewrit
 pub extern "C" fn markring_slots_rewrite_value(
     rewrite: &Rewrite,
     length: u64,
-    place: &mut Place,
+    place: &mut Target,
 ) -> i32
     ensures { Gives (value_place rewrite.now length) place.old place.new result }
 {
@@ -256,8 +269,8 @@ pub extern "C" fn markring_slots_choose(first: &Found, second: &Found) -> i32
 
 /// How many saves have to be whole values before an entry is added.
 #[unsafe(no_mangle)]
-pub extern "C" fn markring_slots_wholes_due(counts: &Found, other: &Found) -> u8
-    ensures { result ≡ due_wholes counts.now other.now }
+pub extern "C" fn markring_slots_wholes_due(counts: &Found, other: &Found) -> i32
+    ensures { result ≡ pos (due_wholes counts.now other.now) }
 {
-    wholes_due(counts, other)
+    i32::from(wholes_due(counts, other))
 }

@@ -4,7 +4,7 @@ use Rattle.std.proofs.lemmas.Bool.{and_parts, cases_Bool, eq-eqb, eqb-true, leb-
 use Rattle.std.specs.List.{Contains}
 use Rattle.slots.specs.declared.saving.TheConstants.{DUE, ENTRY, ENTRY_HEAD, HEAD, IDLE, LAST, TAIL, TOP, UNSURE, WHOLE}
 use Rattle.slots.specs.declared.saving.Mark.{Mark}
-use Rattle.slots.specs.declared.saving.Place.{Place}
+use Rattle.slots.specs.declared.saving.Target.{Target}
 use Rattle.slots.specs.declared.saving.Slots.{Slots}
 use Rattle.slots.specs.declared.opening.Choice.{Choice}
 use Rattle.slots.specs.declared.opening.Choice.TheVariants as choice
@@ -90,7 +90,7 @@ place-of x from at number fresh c d good is makes whole =
         let below = (good at 0 x (sym same ∙ whole.head)).seal in
         omega (arith, below, is)
 
-abbrev place_here : Folder → Place
+abbrev place_here : Folder → Target
 place_here h = record {
   offset = h.slots.end;
   number = h.slots.number + 1;
@@ -253,7 +253,7 @@ adds-sound h bytes s idle = record {
 not-value : Value ≡ Entry → ⊥
 not-value e = cc
 
-abbrev place_beside : Folder → Place
+abbrev place_beside : Folder → Target
 place_beside h = record {
   offset = 0;
   number = h.slots.number + 1;

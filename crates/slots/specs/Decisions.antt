@@ -3,7 +3,7 @@
 use Rattle.std.specs.Prelude.{◌≡◌, ℕ, ◌+◌, ◌-◌, Bool, ◌&&◌, ◌||◌, not, cond, nat_lt, nat_le, ◌==◌, Option, Some, None}
 use Rattle.slots.specs.declared.saving.TheConstants.{DUE, ENTRY, ENTRY_HEAD, HEAD, IDLE, LAST, MOST, NUMBERS, TAIL, TOP, UNSURE, WHOLE}
 use Rattle.slots.specs.declared.saving.Slots.{Slots}
-use Rattle.slots.specs.declared.saving.Place.{Place}
+use Rattle.slots.specs.declared.saving.Target.{Target}
 use Rattle.slots.specs.declared.saving.Mark.{Mark}
 use Rattle.slots.specs.declared.rewrite.Rewrite.{Rewrite}
 use Rattle.slots.specs.declared.rewrite.Copying.{Copying}
@@ -73,7 +73,7 @@ adding s length =
       next_end = s.end + entry_size length;
     }
 
-abbrev pub entry_place : Slots → ℕ → Option Place
+abbrev pub entry_place : Slots → ℕ → Option Target
 entry_place s length =
     cond (may_add s length)
     (Some (record { offset = s.end; number = s.number + 1; before = s.seal; slot = s.counts }))
@@ -97,7 +97,7 @@ replacing s length =
       next_length = length;
     }
 
-abbrev pub whole_place : Slots → ℕ → Option Place
+abbrev pub whole_place : Slots → ℕ → Option Target
 whole_place s length =
     cond (may_replace s length)
     (Some (record { offset = 0; number = s.number + 1; before = 0; slot = other s.counts })) None
@@ -133,7 +133,7 @@ after_rewrite s = cond (may_rewrite s) (record s { turns = s.turns + 1 }) s
 abbrev pub may_write : Rewrite → ℕ → Bool
 may_write r length = r.end == 0 && nat_le length MOST
 
-abbrev pub value_place : Rewrite → ℕ → Option Place
+abbrev pub value_place : Rewrite → ℕ → Option Target
 value_place r length =
     cond (may_write r length)
     (Some (record { offset = 0; number = r.number; before = 0; slot = other r.from })) None
@@ -150,7 +150,15 @@ may_copy r end =
 abbrev pub copying : Rewrite → ℕ → Option Copying
 copying r end =
     cond (may_copy r end)
-    (Some (record { length = end - r.from_end; from = r.from_end; to = r.end })) None
+    (Some
+    (record {
+      length = end - r.from_end;
+      from = r.from_end;
+      to = r.end;
+      from_slot = r.from;
+      to_slot = other r.from;
+    }))
+    None
 
 abbrev pub after_copies : Rewrite → (end from_seal seal : ℕ) → Rewrite
 after_copies r end from_seal seal =
@@ -180,7 +188,7 @@ ending s r length =
       next_length = r.length;
     }
 
-abbrev pub last_place : Slots → Rewrite → ℕ → Option Place
+abbrev pub last_place : Slots → Rewrite → ℕ → Option Target
 last_place s r length =
     cond (may_end s r length)
     (Some (record { offset = r.end; number = s.number + 1; before = r.seal; slot = other s.counts }))
@@ -213,6 +221,12 @@ after_stored s seal =
     (cond (s.phase == WHOLE) (switched s seal seal)
     (cond (s.phase == LAST) (record s { phase = TOP })
     (cond (s.phase == TOP) (switched s s.next_base seal) s)))
+
+-- the head of a rewrite, once all else of it is synced
+abbrev pub head_place : Slots → Option Target
+head_place s =
+    cond (s.phase == TOP)
+    (Some (record { offset = 0; number = s.number; before = 0; slot = other s.counts })) None
 
 abbrev pub after_failure : Slots → Slots
 after_failure s =

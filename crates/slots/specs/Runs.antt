@@ -2,7 +2,7 @@
 use Rattle.std.specs.Prelude.{◌≡◌, ℕ, ◌+◌, Bool, true, false, cond, ◌||◌, ◌==◌, List, [], ◌∷◌, Option, Some, None}
 use Rattle.slots.specs.declared.saving.TheConstants.{ENTRY, WHOLE}
 use Rattle.slots.specs.declared.saving.Slots.{Slots}
-use Rattle.slots.specs.declared.saving.Place.{Place}
+use Rattle.slots.specs.declared.saving.Target.{Target}
 use Rattle.slots.specs.declared.saving.Mark.{Mark}
 use Rattle.slots.specs.declared.opening.Choice.{Choice}
 use Rattle.slots.specs.declared.opening.Choice.TheVariants as choice
@@ -71,7 +71,7 @@ new_folder number length = record {
 -- ---- saves
 
 -- a save begins
-abbrev pub begins : Folder → Slots → Place → Item → Folder
+abbrev pub begins : Folder → Slots → Target → Item → Folder
 begins h slots place x =
     record (writes h place.slot (written x place.offset)) {
       slots = slots;
@@ -83,7 +83,7 @@ begins h slots place x =
     }
 
 -- An entry says what has changed since the last save that is stored.
-abbrev pub new_entry : Folder → ℕ → Place → Item
+abbrev pub new_entry : Folder → ℕ → Target → Item
 new_entry h length place = record {
   kind = disk.Entry;
   size = entry_size length;
@@ -95,12 +95,12 @@ new_entry h length place = record {
   since = h.stored;
 }
 
-abbrev pub begins_entry : Folder → ℕ → Option Place → Folder
+abbrev pub begins_entry : Folder → ℕ → Option Target → Folder
 begins_entry h length None = h
 begins_entry h length (Some place) =
     begins h (after_entry h.slots length) place (new_entry h length place)
 
-abbrev pub new_whole : Folder → ℕ → Place → Item
+abbrev pub new_whole : Folder → ℕ → Target → Item
 new_whole h length place = record {
   kind = disk.Value;
   size = value_size length;
@@ -112,7 +112,7 @@ new_whole h length place = record {
   since = 0;
 }
 
-abbrev pub begins_whole : Folder → ℕ → Option Place → Folder
+abbrev pub begins_whole : Folder → ℕ → Option Target → Folder
 begins_whole h length None = h
 begins_whole h length (Some place) =
     begins h (after_whole h.slots length) place (new_whole h length place)

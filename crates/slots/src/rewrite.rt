@@ -2,7 +2,7 @@
 ghost use Rattle.std.specs.Prelude.{◌≡◌};
 ghost use Rattle.slots.specs.Decisions.{after_copies, after_value, copying, value_place};
 
-use crate::saving::{HEAD, MOST, Place, TAIL, other};
+use crate::saving::{HEAD, MOST, Target, TAIL, other};
 
 /// A rewrite. It may be used by another thread than [`Slots`](crate::Slots), which says where it
 /// begins and ends it.
@@ -26,25 +26,27 @@ pub struct Rewrite {
     pub from: u8,
 }
 
-/// Bytes of entries that are copied: how many, from where, and where to.
+/// Bytes of entries that are copied: how many, from which offset of which slot, and where to.
 #[repr(C)]
 #[derive(Clone, Copy)]
 pub struct Copying {
     pub length: u64,
     pub from: u64,
     pub to: u64,
+    pub from_slot: u8,
+    pub to_slot: u8,
 }
 
 impl Rewrite {
     /// Its value, of this length, is to be written. Says where; but the head isn't written now:
     /// zeros are, in its place. `None` if the value is written already, or too long.
-    pub fn value(&self, length: u64) -> Option<Place>
+    pub fn value(&self, length: u64) -> Option<Target>
         ensures { result ≡ value_place self.now length }
     {
         if self.end != 0 || length > MOST {
             return None;
         }
-        Some(Place {
+        Some(Target {
             offset: 0,
             number: self.number,
             before: 0,
@@ -78,6 +80,8 @@ impl Rewrite {
             length: end - self.from_end,
             from: self.from_end,
             to: self.end,
+            from_slot: self.from,
+            to_slot: other(self.from),
         })
     }
 

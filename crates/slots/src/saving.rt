@@ -2,7 +2,8 @@
 ghost use Rattle.std.specs.Prelude.{◌≡◌};
 ghost use Rattle.slots.specs.Decisions.{after_entry, after_failure, after_last, after_stored};
 ghost use Rattle.slots.specs.Decisions.{after_rewrite, after_whole, created, entry_place, fits};
-ghost use Rattle.slots.specs.Decisions.{is_known, last_place, mark_of, opened, other, rewrite_of};
+ghost use Rattle.slots.specs.Decisions.{head_place, is_known, last_place, mark_of, opened};
+ghost use Rattle.slots.specs.Decisions.{other, rewrite_of};
 ghost use Rattle.slots.specs.Decisions.{unsure, whole_place, zeros_at};
 
 use crate::opening::Found;
@@ -62,7 +63,7 @@ pub struct Slots {
 /// seal before it with which its own begins (0 if it is a value).
 #[repr(C)]
 #[derive(Clone, Copy)]
-pub struct Place {
+pub struct Target {
     pub offset: u64,
     pub number: u64,
     pub before: u64,
@@ -140,7 +141,7 @@ impl Slots {
 
     /// An entry of this length is to be saved. Says where; `None` if that can't be: a save is under
     /// way, or the next one has to be a whole value, or a limit is reached. Then nothing changes.
-    pub fn entry(&mut self, length: u64) -> Option<Place>
+    pub fn entry(&mut self, length: u64) -> Option<Target>
         ensures place { result ≡ entry_place self.old length }
         ensures after { self.new ≡ after_entry self.old length }
     {
@@ -150,7 +151,7 @@ impl Slots {
         self.phase = ENTRY;
         self.number += 1;
         self.next_end = self.end + (ENTRY_HEAD + length + TAIL);
-        Some(Place {
+        Some(Target {
             offset: self.end,
             number: self.number,
             before: self.seal,
@@ -161,7 +162,7 @@ impl Slots {
     /// A whole value of this length is to be saved. Says where; `None` if that can't be: a save is
     /// under way, or a sync has failed, or a limit is reached. Then nothing changes. Otherwise
     /// every rewrite is over.
-    pub fn whole(&mut self, length: u64) -> Option<Place>
+    pub fn whole(&mut self, length: u64) -> Option<Target>
         ensures place { result ≡ whole_place self.old length }
         ensures after { self.new ≡ after_whole self.old length }
     {
@@ -173,7 +174,7 @@ impl Slots {
         self.turns += 1;
         self.next_end = HEAD + length + TAIL;
         self.next_length = length;
-        Some(Place {
+        Some(Target {
             offset: 0,
             number: self.number,
             before: 0,
@@ -185,7 +186,7 @@ impl Slots {
     /// saved. Says where the entry is written; `None` if that can't be: as for [`Slots::entry`], or
     /// the rewrite is over or has no value yet, or there are more entries than it has copied. Then
     /// nothing changes.
-    pub fn last(&mut self, with: &Rewrite, length: u64) -> Option<Place>
+    pub fn last(&mut self, with: &Rewrite, length: u64) -> Option<Target>
         ensures place { result ≡ last_place self.old with.now length }
         ensures after { self.new ≡ after_last self.old with.now length }
     {
@@ -200,7 +201,7 @@ impl Slots {
         self.next_end = with.end + (ENTRY_HEAD + length + TAIL);
         self.next_base = with.base;
         self.next_length = with.length;
-        Some(Place {
+        Some(Target {
             offset: with.end,
             number: self.number,
             before: with.seal,
@@ -235,6 +236,22 @@ impl Slots {
             self.length = self.next_length;
             self.phase = IDLE;
         }
+    }
+
+    /// Where the head of a rewrite is to be written, once the entry that ends it is stored. `None`
+    /// if none is under way.
+    pub fn head(&self) -> Option<Target>
+        ensures { result ≡ head_place self.now }
+    {
+        if self.phase != TOP {
+            return None;
+        }
+        Some(Target {
+            offset: 0,
+            number: self.number,
+            before: 0,
+            slot: other(self.counts),
+        })
     }
 
     /// A write of the save under way has failed. What counted still counts, and the next save is a
