@@ -698,8 +698,8 @@ static int start(station *at)
 static void tell_rewritten(station *at, store_status status)
 {
     const store *in = &at->store;
-    size_t whole = (size_t)in->length;
-    size_t entries = (size_t)in->end - STORE_HEAD - whole - STORE_TAIL;
+    size_t whole = (size_t)in->state.length;
+    size_t entries = (size_t)in->state.end - STORE_HEAD - whole - STORE_TAIL;
     if (is_kept_in_database) {
         whole = at->again_apart.length;
         entries = at->base.added - at->again_apart.added;
