@@ -196,7 +196,7 @@ whole-before w c d at x makes free whole = record {
       (whole.all n below);
 }
 
-outside-below : (w : Write) (k : ℕ) → k < w.from → covers w k ≡ false
+pub outside-below : (w : Write) (k : ℕ) → k < w.from → covers w k ≡ false
 outside-below w k below = go (leb w.from k) refl
   where
     go : (b : Bool) → leb w.from k ≡ b → (b && ltb k (w.from + w.count)) ≡ false

@@ -3,6 +3,8 @@ pub mod Lists
 pub mod Marks
 pub mod Reading
 pub mod Sound
+pub mod Copies
+pub mod Body
 pub mod Openings
 pub mod Saves
 pub mod Steps

@@ -30,7 +30,7 @@ fits-parts r y e =
       number = ltb-true _ _ third.1;
     }
 
-next-true : (r : Reading) (y : Item) → Fits r y → is_next r.found y.number ≡ true
+pub next-true : (r : Reading) (y : Item) → Fits r y → is_next r.found y.number ≡ true
 next-true r y f = and_from _ _ (eq-eqb _ _ f.version) (lt-ltb _ _ f.number)
 
 pub fits-from : (r : Reading) (y : Item) → Fits r y → fits_behind r y ≡ true
@@ -94,16 +94,20 @@ found-with : (r : Reading) (y : Item) → Fits r y
 found-with r y f =
     ap (λ (b : Bool). cond b (record (r.found) { number = y.number }) r.found) (next-true r y f)
 
-pub together-more : (c : Content) (r : Reading) (y : Item) → GoesTogether r → IsBehind c r y
+pub together-with : (r : Reading) (y : Item) → GoesTogether r → Fits r y → y.since ≡ r.holds
     → GoesTogether (with_item r y)
-together-more c r y g b =
-    let is = found-with r y b.fits in
+together-with r y g fits since =
+    let is = found-with r y fits in
     record {
       version = ap (λ (f : Found). f.version) is ∙ g.version;
       number = ap (λ (f : Found). f.number) is;
-      holds = ap (λ (t : Bool). cond t y.save 0) (eq-eqb y.since r.holds b.since);
+      holds = ap (λ (t : Bool). cond t y.save 0) (eq-eqb y.since r.holds since);
       synced = ap (λ (f : Found). f.synced) is ∙ g.synced;
     }
+
+pub together-more : (c : Content) (r : Reading) (y : Item) → GoesTogether r → IsBehind c r y
+    → GoesTogether (with_item r y)
+together-more c r y g b = together-with r y g b.fits b.since
 
 pub together : (c : Content) (r : Reading) (ys : List Item) → GoesTogether r → Chain c r ys
     → GoesTogether (tail r ys)

@@ -196,23 +196,106 @@ sound-beside z s w short good free brings = record {
       short = a.short;
     }
 
+-- ---- what a rewrite writes
+
+-- Something was written, and perhaps synced, that is all of one value, whose head isn't there.
+pub record BringsBody (z : View) (s : Sound z) (g : File) (seal : ℕ) : Type 0 where
+  pub write : Write
+  pub back : Fates → Fates
+  pub makes : (f : Fates) → Makes write (image (back f) z.beside) (image f g)
+  pub good : WritesGood (last_read s).last.number z.fresh write
+  pub whose : (k n : ℕ) (x : Item) → write.bytes k ≡ Of x n → x.base ≡ seal
+  pub headless : (f : Fates) (n : ℕ) (x : Item) → image f g 0 ≡ Of x n → x.base ≢ seal
+
+pub beside-after : (z : View) (s : Sound z) (g : File) (seal : ℕ) → s.bounds.long ≡ false
+    → BringsBody z s g seal
+    → (f : Fates)
+    → IsBeside s.bounds (last_read s).last.number z.begun (image f g)
+beside-after z s g seal short b f x kind whole =
+    ⊎_elim {C = IsPassed (last_read s).last.number (image f g) x
+    ⊎ IsAhead s.bounds z.begun (image f g) x}
+    (λ (passed : IsPassed (last_read s).last.number (image (b.back f) z.beside) x).
+    inl
+    (record {
+      value = passed.value;
+      entries = λ at y is base inside. passed.entries at y is base (before at y base inside);
+    }))
+    (λ (a : IsAhead s.bounds z.begun (image (b.back f) z.beside) x).
+    inr
+    (record {
+      entries = a.entries;
+      begins = alone a.entries (a.short short) a.begins;
+      only = λ at y is base inside. a.only at y is base (before at y (base ∙ same a) inside);
+      middle = a.middle;
+      top = a.top;
+      save = a.save;
+      short = a.short;
+    }))
+    (s.beside (b.back f) x kind (before 0 x refl whole))
+  where
+    apart : x.base ≢ seal
+    apart = b.headless f 0 x whole.head
+    before : (at : ℕ) (y : Item) → y.base ≡ x.base → IsWhole (image f g) at y
+        → IsWhole (image (b.back f) z.beside) at y
+    before at y base inside =
+        whole-before b.write (image (b.back f) z.beside) (image f g) at y (b.makes f)
+        (λ k n e. apart (sym base ∙ b.whose k n y e)) inside
+    same : (a : IsAhead s.bounds z.begun (image (b.back f) z.beside) x)
+        → (all_read x a.entries).last.base ≡ x.base
+    same a = tail-base (image (b.back f) z.beside) (first_read x) a.entries a.begins.chain
+    alone : (ys : List Item) → ys ≡ [] → Begins (image (b.back f) z.beside) x ys
+        → Begins (image f g) x ys
+    alone [] e k = record {
+      value = whole;
+      kind = k.kind;
+      own = k.own;
+      some = k.some;
+      chain = tt;
+    }
+    alone (y ∷ ys) e k = absurd cc
+
+unfoldable pub sound-body : (z : View) (s : Sound z) (g : File) (seal : ℕ)
+    → s.bounds.long ≡ false
+    → BringsBody z s g seal
+    → Sound (record z { beside = g })
+sound-body z s g seal short b = record {
+  value = s.value;
+  entries = s.entries;
+  bounds = s.bounds;
+  here = s.here;
+  only = s.only;
+  beside = λ f x kind whole. beside-after z s g seal short b f x kind whole;
+  good_here = s.good_here;
+  good_beside = λ f.
+      good-after (last_read s).last.number z.fresh b.write (image (b.back f) z.beside) (image f g)
+      (b.makes f) b.good (s.good_beside (b.back f));
+  end = s.end;
+  seal = s.seal;
+  base = s.base;
+  stored = s.stored;
+  low = s.low;
+  middle = s.middle;
+  top = s.top;
+}
+
 -- ---- a save begins
 
-unfoldable pub sound-begin : (z : View) (s : Sound z) (b : Bounds) (number : ℕ)
+unfoldable pub sound-begin : (z : View) (s : Sound z) (b : Bounds) (number save fresh : ℕ)
+    → z.fresh ≤ fresh
     → s.bounds.middle ≤ b.middle
     → b.middle ≤ b.top
     → b.top ≤ number
     → ((c : Content) (x : Item) → IsAhead s.bounds z.begun c x
-    → IsAhead b (z.fresh ∷ z.begun) c x)
-    → Sound (record z { number = number; fresh = z.fresh + 1; begun = z.fresh ∷ z.begun })
-sound-begin z s b number more within most ahead = record {
+    → IsAhead b (save ∷ z.begun) c x)
+    → Sound (record z { number = number; fresh = fresh; begun = save ∷ z.begun })
+sound-begin z s b number save fresh older more within most ahead = record {
   value = s.value;
   entries = s.entries;
   bounds = b;
   here = s.here;
   only = λ f at y kind base whole.
       ⊎_elim {C = IsKnown (last_read s).last y
-      ⊎ (IsNewer (last_read s) at y × IsBegun b.middle (z.fresh ∷ z.begun) at y)}
+      ⊎ (IsNewer (last_read s) at y × IsBegun b.middle (save ∷ z.begun) at y)}
       (λ (known : IsKnown (last_read s).last y). inl known)
       (λ (newer : IsNewer (last_read s) at y × IsBegun s.bounds.middle z.begun at y).
       let below = newer.1.number in
@@ -220,21 +303,21 @@ sound-begin z s b number more within most ahead = record {
       (newer.0,
       record {
         number = omega (arith, below, more);
-        save = contains-more z.fresh y.save z.begun newer.1.save;
+        save = contains-more save y.save z.begun newer.1.save;
       }))
       (s.only f at y kind base whole);
   beside = λ f x kind whole.
       ⊎_elim {C = IsPassed (last_read s).last.number (image f z.beside) x
-      ⊎ IsAhead b (z.fresh ∷ z.begun) (image f z.beside) x}
+      ⊎ IsAhead b (save ∷ z.begun) (image f z.beside) x}
       (λ (passed : IsPassed (last_read s).last.number (image f z.beside) x). inl passed)
       (λ (a : IsAhead s.bounds z.begun (image f z.beside) x). inr (ahead (image f z.beside) x a))
       (s.beside f x kind whole);
   good_here = λ f.
-      all-good-more (last_read s).last.number (last_read s).last.number z.fresh (z.fresh + 1)
-      (image f z.here) (omega arith) (omega arith) (s.good_here f);
+      all-good-more (last_read s).last.number (last_read s).last.number z.fresh fresh
+      (image f z.here) (omega arith) older (s.good_here f);
   good_beside = λ f.
-      all-good-more (last_read s).last.number (last_read s).last.number z.fresh (z.fresh + 1)
-      (image f z.beside) (omega arith) (omega arith) (s.good_beside f);
+      all-good-more (last_read s).last.number (last_read s).last.number z.fresh fresh
+      (image f z.beside) (omega arith) older (s.good_beside f);
   end = s.end;
   seal = s.seal;
   base = s.base;

@@ -154,7 +154,7 @@ adds-holds h bytes k idle = record {
         omega (arith, middle, top)
     s1 : Sound (record z { number = number; fresh = z.fresh + 1; begun = z.fresh ∷ z.begun })
     s1 =
-        sound-begin z s b number grown (omega arith) (omega arith)
+        sound-begin z s b number z.fresh (z.fresh + 1) (omega arith) grown (omega arith) (omega arith)
         (λ c y ahead.
         let above = ahead.middle in
         let below = ahead.top in
@@ -321,7 +321,7 @@ replaces-holds h bytes k may = record {
     w = written x 0
     s1 : Sound (record z { number = number; fresh = z.fresh + 1; begun = z.fresh ∷ z.begun })
     s1 =
-        sound-begin z s b number (omega arith) (omega (arith, middle)) (omega arith)
+        sound-begin z s b number z.fresh (z.fresh + 1) (omega arith) (omega arith) (omega (arith, middle)) (omega arith)
         (λ c y a. record {
           entries = a.entries;
           begins = a.begins;

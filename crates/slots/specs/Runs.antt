@@ -1,15 +1,40 @@
 -- What can happen to a folder in which a value is kept, step by step.
-use Rattle.std.specs.Prelude.{◌≡◌, ℕ, ◌+◌, Bool, true, false, cond, ◌||◌, ◌==◌, List, [], ◌∷◌, Option, Some, None}
-use Rattle.slots.specs.declared.saving.TheConstants.{ENTRY, WHOLE}
+use Rattle.std.specs.Prelude.{◌≡◌, ℕ, ◌+◌, Bool, true, false, cond, ◌||◌, ◌==◌, List, [], ◌∷◌, ◌++◌, length, take, drop, Option, Some, None}
+use Rattle.slots.specs.declared.saving.TheConstants.{ENTRY, LAST, TOP, WHOLE}
 use Rattle.slots.specs.declared.saving.Slots.{Slots}
 use Rattle.slots.specs.declared.saving.Target.{Target}
 use Rattle.slots.specs.declared.saving.Mark.{Mark}
+use Rattle.slots.specs.declared.rewrite.Copying.{Copying}
+use Rattle.slots.specs.declared.rewrite.Rewrite.{Rewrite}
 use Rattle.slots.specs.declared.opening.Choice.{Choice}
 use Rattle.slots.specs.declared.opening.Choice.TheVariants as choice
-use Rattle.slots.specs.Decisions.{after_entry, after_failure, after_stored, after_whole, created, entry_place, entry_size, mark_of, opened, other, replacing, switched, unsure, value_size, whole_place, zeros_at}
+use Rattle.slots.specs.Decisions.{after_copies, after_entry, after_failure, after_last, after_rewrite, after_stored, after_value, after_whole, copying, created, entry_place, entry_size, last_place, mark_of, opened, other, replacing, rewrite_of, switched, unsure, value_place, value_size, whole_place, zeros_at}
+use Rattle.slots.specs.Beside.{all_written, copies_of, head_of, last_seal, size_of, without_head}
 use Rattle.slots.specs.Openings.{chosen}
 use Rattle.slots.specs.Disk.{image, looked_all, no_item, read, synced_after, with_write, written, Content, Fates, File, Item, Look, Other, Reading, Write}
 use Rattle.slots.specs.Disk as disk
+
+-- What a rewrite is doing: nothing; it writes its value, of this length; it writes copies.
+pub data Doing : Type 0 where
+  Rests : Doing
+  WritesValue : ℕ → Doing
+  WritesCopies : Doing
+
+-- A rewrite. It may be done by another thread than the one that saves.
+pub record Beside : Type 0 where
+  pub state : Rewrite
+  -- the save that its value holds, and that value
+  pub holds : ℕ
+  pub value : Item
+  -- the copies that are synced, and the entries of which no copy was begun
+  pub copies : List Item
+  pub rest : List Item
+  -- what it writes, to which slot; and if that is copies: these, of these entries
+  pub doing : Doing
+  pub write : Write
+  pub to : ℕ
+  pub next : List Item
+  pub next_of : List Item
 
 -- A folder, and the process that has it.
 pub record Folder : Type 0 where
@@ -20,6 +45,9 @@ pub record Folder : Type 0 where
   pub item : Item
   pub write : Write
   pub to : ℕ
+  -- if it ends a rewrite: the value of that, whose head is written last
+  pub headless : Item
+  pub beside : Option Beside
   -- the last save that is known to be stored, and those that were begun since
   pub stored : ℕ
   pub begun : List ℕ
@@ -63,6 +91,8 @@ new_folder number length = record {
   item = no_item;
   write = written no_item 0;
   to = 0;
+  headless = no_item;
+  beside = None;
   stored = 1;
   begun = [];
   fresh = 2;
@@ -115,20 +145,38 @@ new_whole h length place = record {
 abbrev pub begins_whole : Folder → ℕ → Option Target → Folder
 begins_whole h length None = h
 begins_whole h length (Some place) =
-    begins h (after_whole h.slots length) place (new_whole h length place)
+    record (begins h (after_whole h.slots length) place (new_whole h length place)) {
+      beside = None;
+    }
 
--- a save is under way
+-- a save is under way, which a sync ends
 abbrev pub is_saving : Folder → Bool
-is_saving h = h.slots.phase == ENTRY || h.slots.phase == WHOLE
+is_saving h = h.slots.phase == ENTRY || (h.slots.phase == WHOLE || h.slots.phase == TOP)
+
+-- there is one more entry to be copied
+abbrev pub with_rest : Item → Option Beside → Option Beside
+with_rest x None = None
+with_rest x (Some b) = Some (record b { rest = b.rest ++ x ∷ [] })
 
 -- the write of the save has succeeded, and the sync after it
-abbrev pub ends : Folder → Fates → Folder
-ends h fates =
+abbrev pub syncs : Folder → Fates → Folder
+syncs h fates =
     record (with_file h h.to (synced_after h.write fates (h.files h.to))) {
       slots = after_stored h.slots h.item.seal;
+    }
+
+abbrev pub ends : Folder → Fates → Folder
+ends h fates =
+    record (syncs h fates) {
       stored = h.item.save;
       begun = [];
+      beside = with_rest h.item h.beside;
     }
+
+-- all that a rewrite needs is synced but its head, which is written now
+abbrev pub tops : Folder → Fates → Folder
+tops h fates =
+    record (writes (syncs h fates) h.to (head_of h.headless)) { write = head_of h.headless }
 
 -- a mark of the last save
 abbrev pub new_mark : Mark → Item
@@ -154,6 +202,144 @@ zeros at count = record { from = at; count = count; bytes = nothing }
 abbrev pub puts_zeros : Folder → ℕ → Option ℕ → Folder
 puts_zeros h count None = h
 puts_zeros h count (Some at) = writes h h.slots.counts (zeros at count)
+
+-- ---- rewrites
+
+abbrev pub count_of : List Item → ℕ
+count_of xs = length xs
+
+abbrev pub new_beside : Folder → Rewrite → Beside
+new_beside h state = record {
+  state = state;
+  holds = h.stored;
+  value = no_item;
+  copies = [];
+  rest = [];
+  doing = Rests;
+  write = written no_item 0;
+  to = 0;
+  next = [];
+  next_of = [];
+}
+
+abbrev pub starts : Folder → Option Rewrite → Folder
+starts h None = h
+starts h (Some state) =
+    record h { slots = after_rewrite h.slots; beside = Some (new_beside h state) }
+
+abbrev pub value_of : Folder → Beside → ℕ → Target → Item
+value_of h b length place = record {
+  kind = disk.Value;
+  size = value_size length;
+  number = place.number;
+  seal = h.fresh;
+  before = 0;
+  base = h.fresh;
+  save = b.holds;
+  since = 0;
+}
+
+-- its value is written, with zeros in place of its head
+abbrev pub writes_value : Folder → Beside → ℕ → Option Target → Folder
+writes_value h b length None = h
+writes_value h b length (Some place) =
+    record (writes h place.slot (without_head (value_of h b length place))) {
+      beside = Some
+          (record b {
+            value = value_of h b length place;
+            doing = WritesValue length;
+            write = without_head (value_of h b length place);
+            to = place.slot;
+          });
+      fresh = h.fresh + 1;
+    }
+
+-- copies of these entries
+abbrev pub new_copies : Folder → Beside → List Item → List Item
+new_copies h b es = copies_of b.value.seal b.state.seal h.fresh es
+
+abbrev pub writes_copies : Folder → Beside → (es rest : List Item) → Option Copying → Folder
+writes_copies h b es rest None = h
+writes_copies h b es rest (Some c) =
+    record (writes h c.to_slot (all_written (new_copies h b es) c.to)) {
+      beside = Some
+          (record b {
+            doing = WritesCopies;
+            write = all_written (new_copies h b es) c.to;
+            to = c.to_slot;
+            rest = rest;
+            next = new_copies h b es;
+            next_of = es;
+          });
+      fresh = h.fresh + length es;
+    }
+
+-- what the rewrite has written is synced
+abbrev pub done_by : Beside → Doing → Beside
+done_by b Rests = b
+done_by b (WritesValue length) =
+    record b { state = after_value b.state length b.value.seal; doing = Rests }
+done_by b WritesCopies =
+    record b {
+      state = after_copies b.state (b.state.from_end + size_of b.next_of)
+          (last_seal b.state.from_seal b.next_of) (last_seal b.state.seal b.next);
+      copies = b.copies ++ b.next;
+      doing = Rests;
+    }
+
+abbrev pub rests : Doing → Bool
+rests Rests = true
+rests doing = false
+
+abbrev pub settles : Folder → Beside → Fates → Folder
+settles h b fates =
+    record (with_file h b.to (synced_after b.write fates (h.files b.to))) {
+      beside = Some (done_by b b.doing);
+    }
+
+-- The copies that are left, and the entry that ends the rewrite, as one write before one sync.
+abbrev pub all_copied : Folder → Beside → Rewrite
+all_copied h b =
+    after_copies b.state h.slots.end (last_seal b.state.from_seal b.rest)
+    (last_seal b.state.seal (new_copies h b b.rest))
+
+abbrev pub last_entry : Folder → Beside → ℕ → Target → Item
+last_entry h b length place = record {
+  kind = disk.Entry;
+  size = entry_size length;
+  number = place.number;
+  seal = h.fresh + count_of b.rest;
+  before = place.before;
+  base = b.value.seal;
+  save = h.fresh + count_of b.rest;
+  since = h.stored;
+}
+
+abbrev pub last_items : Folder → Beside → ℕ → Target → List Item
+last_items h b length place =
+    new_copies h b b.rest ++ last_entry h b length place ∷ []
+
+abbrev pub begins_last : Folder → Beside → ℕ → Option Copying → Option Target → Folder
+begins_last h b length (Some c) (Some place) =
+    record (writes h place.slot (all_written (last_items h b length place) c.to)) {
+      slots = after_last h.slots (all_copied h b) length;
+      item = last_entry h b length place;
+      write = all_written (last_items h b length place) c.to;
+      to = place.slot;
+      headless = b.value;
+      beside = None;
+      begun = (h.fresh + count_of b.rest) ∷ h.begun;
+      fresh = h.fresh + count_of b.rest + 1;
+    }
+begins_last h b length c place = h
+
+-- a step of a rewrite, if one is under way; and if what it wrote before is synced
+abbrev pub by_rewrite : Folder → Option Beside → (Beside → Folder) → Folder
+by_rewrite h None change = h
+by_rewrite h (Some b) change = change b
+
+abbrev pub if_rests : Folder → (Beside → Folder) → Folder
+if_rests h change = by_rewrite h h.beside (λ b. cond (rests b.doing) (change b) h)
 
 -- ---- openings
 
@@ -195,6 +381,7 @@ goes_on h s slot r =
     record h {
       slots = opened slot r.found r.end r.last.seal r.last.base 0;
       files = settled h s;
+      beside = None;
       stored = r.holds;
       begun = [];
     }
@@ -216,6 +403,16 @@ pub data Step : Type 0 where
   -- its write has failed; or a sync has
   Fail : Step
   Doubt : Step
+  -- A rewrite begins, and any other one is over. Its value of this length is written; then copies of
+  -- so many of the entries that were stored meanwhile. What it writes is synced before it goes on.
+  -- Or it is given up.
+  StartRewrite : Step
+  WriteValue : ℕ → Step
+  WriteCopies : ℕ → Step
+  SyncBeside : Fates → Step
+  GiveUp : Step
+  -- a save of an entry of this length begins that ends it
+  AddLast : ℕ → Step
   -- a mark is written, or zeros behind an entry; nobody waits for them
   PutMark : Step
   PutZeros : ℕ → Step
@@ -226,7 +423,24 @@ pub data Step : Type 0 where
 abbrev pub step : Folder → Step → Folder
 step h (AddEntry length) = begins_entry h length (entry_place h.slots length)
 step h (Replace length) = begins_whole h length (whole_place h.slots length)
-step h (Store fates) = cond (is_saving h) (ends h fates) h
+step h (Store fates) =
+    cond (is_saving h) (ends h fates) (cond (h.slots.phase == LAST) (tops h fates) h)
+step h StartRewrite = starts h (rewrite_of h.slots)
+step h (WriteValue length) =
+    if_rests h (λ b. writes_value h b length (value_place b.state length))
+step h (WriteCopies count) =
+    if_rests h
+    (λ b.
+    writes_copies h b (take count b.rest) (drop count b.rest)
+    (copying b.state (b.state.from_end + size_of (take count b.rest))))
+step h (SyncBeside fates) =
+    by_rewrite h h.beside (λ b. cond (rests b.doing) h (settles h b fates))
+step h GiveUp = record h { beside = None }
+step h (AddLast length) =
+    if_rests h
+    (λ b.
+    begins_last h b length (copying b.state h.slots.end)
+    (last_place h.slots (all_copied h b) length))
 step h Fail = record h { slots = after_failure h.slots }
 step h Doubt = record h { slots = unsure h.slots }
 step h PutMark = puts_mark h (mark_of h.slots)
