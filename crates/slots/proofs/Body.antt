@@ -6,8 +6,7 @@ use Rattle.slots.specs.Beside.{all_written, bytes_of, head_of, size_of, without_
 use Rattle.slots.specs.Disk.{covers, first_read, put, Cell, Content, Entry, Item, Kind, Of, Other, Reading, Value, Write}
 use Rattle.slots.proofs.Copies.{chain-both, chain-written, tail-both, tail-size, written-known, next-number, next-seal, AreNext, HasBytes}
 use Rattle.slots.proofs.Disk.{outside-below, put-makes, IsWhole, Makes, MayBe}
-use Rattle.slots.proofs.Reading.{all_read, begins-same, begins-together, tail, tail-end, whole-same, AreSame, Begins, Chain, IsKnown, Only, IsNewer}
-use Rattle.slots.proofs.Sound.{Nothing}
+use Rattle.slots.proofs.Reading.{all_read, begins-same, begins-together, tail, tail-end, whole-same, AreSame, Begins, Chain, IsKnown, Only, IsNewer, Nothing}
 
 -- A slot that begins so once the head is written. No entry belongs there but those up to this last one.
 pub record IsBody (c : Content) (v : Item) (ys : List Item) : Type 0 where

@@ -7,5 +7,7 @@ pub mod Copies
 pub mod Body
 pub mod Openings
 pub mod Saves
+pub mod Works
 pub mod Steps
+pub mod Ends
 pub mod Theorems

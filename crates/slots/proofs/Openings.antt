@@ -10,8 +10,8 @@ use Rattle.slots.specs.Openings.{chosen, counts, is_expected, nothing_found, wit
 use Rattle.slots.specs.Disk.{first_read, fits_behind, image, is_mark_of, looked, looked_all, marked, next_of, nothing_read, read, read_if, read_on, same_kind, shown, whole_at, with_item, Cell, Content, Entry, ForEntry, ForMark, Fates, File, Item, Kind, Look, Mark, Of, Other, Reading, Value}
 use Rattle.slots.proofs.Disk.{kind-same, whole-alone, whole-complete, whole-sound, IsWhole}
 use Rattle.slots.proofs.Lists.{contains-head, contains-more}
-use Rattle.slots.proofs.Reading.{all_read, begins-together, chain-more, finds, next-is, next-sound, none-behind, tail, tail-base, tail-more, tail-number, tail-seal, together-first, together-more, Begins, Chain, Finds, Fits, GoesTogether, IsBehind, IsKnown, IsNewer, More, Only, Same}
-use Rattle.slots.proofs.Sound.{last_read, AreGood, Bounds, Good, IsAhead, IsBegun, IsBeside, IsPassed, Nothing, Sound, View}
+use Rattle.slots.proofs.Reading.{all_read, begins-together, chain-more, finds, next-is, next-sound, none-behind, tail, tail-base, tail-more, tail-number, tail-seal, together-first, together-more, Begins, Chain, Finds, Fits, GoesTogether, IsBehind, IsKnown, IsNewer, More, Only, Same, Nothing}
+use Rattle.slots.proofs.Sound.{last_read, AreGood, Bounds, Good, IsAhead, IsBegun, IsBeside, IsPassed, Sound, View}
 
 -- ---- what shows that more was whole
 

@@ -281,6 +281,10 @@ Only P c r =
     (at : ℕ) (y : Item) → y.kind ≡ Entry → y.base ≡ r.last.base → IsWhole c at y
     → IsKnown r.last y ⊎ (IsNewer r at y × P at y)
 
+-- no entry counts but those of the chain
+abbrev pub Nothing : ℕ → Item → Type 0
+Nothing at y = ⊥
+
 -- an entry behind the chain is a newer one
 pub next-newer : (P : ℕ → Item → Type 0) (c : Content) (r : Reading) (y : Item) → Only P c r
     → next_of c r ≡ Some y

@@ -6,8 +6,8 @@ use Rattle.slots.specs.Disk.{first_read, image, put, same_item, synced_after, wi
 use Rattle.slots.proofs.Disk.{free-of, image-makes, item-itself, item-same, put-makes, put-whole, same-below, whole-alone, whole-before, IsFree, IsWhole, Makes, MayBe}
 use Rattle.slots.proofs.Lists.{contains-head, contains-more}
 use Rattle.slots.proofs.Openings.{passed-weaker, Chosen}
-use Rattle.slots.proofs.Reading.{all_read, begins-same, begins-together, chain-more, tail-base, tail-end, tail-more, tail-number, together-first, AreSame, Begins, IsBehind, IsKnown, IsNewer, Only}
-use Rattle.slots.proofs.Sound.{last_read, Adds, AreGood, Bounds, Good, IsAhead, IsBegun, IsBeside, IsPassed, Nothing, Replaces, Sound, View}
+use Rattle.slots.proofs.Reading.{all_read, begins-same, begins-together, chain-more, tail-base, tail-end, tail-more, tail-number, together-first, AreSame, Begins, IsBehind, IsKnown, IsNewer, Only, Nothing}
+use Rattle.slots.proofs.Sound.{last_read, Adds, AreGood, Bounds, Good, IsAhead, IsBegun, IsBeside, IsPassed, Replaces, Sound, View}
 
 -- ---- what is good
 

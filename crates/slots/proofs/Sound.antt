@@ -1,12 +1,16 @@
 -- What holds of a folder after any steps.
-use Rattle.std.proofs.Common.{◌≡◌, ◌≢◌, ◌<◌, ◌≤◌, ◌+◌, ℕ, Bool, false, List, [], ◌∷◌, ◌⊎◌}
+use Rattle.std.proofs.Common.{◌≡◌, ◌≢◌, ◌<◌, ◌≤◌, ◌+◌, ℕ, Bool, false, true, List, [], ◌∷◌, ◌++◌, Option, Some, None, ◌⊎◌}
+use Rattle.std.specs.Prelude.{nat_le}
 use Rattle.std.specs.List.{Contains}
-use Rattle.slots.specs.declared.saving.TheConstants.{ENTRY, IDLE, TOP, UNSURE, WHOLE}
-use Rattle.slots.specs.Decisions.{other}
-use Rattle.slots.specs.Disk.{image, written, Cell, Content, Entry, Fates, File, Item, Mark, Of, Reading, Value}
-use Rattle.slots.specs.Runs.{Folder}
+use Rattle.slots.specs.declared.saving.TheConstants.{ENTRY, HEAD, IDLE, LAST, MOST, TOP, UNSURE, WHOLE}
+use Rattle.slots.specs.Decisions.{may_copy, other, value_size}
+use Rattle.slots.specs.Beside.{all_written, head_of, last_seal, size_of, without_head}
+use Rattle.slots.specs.Disk.{image, put, written, Cell, Content, Entry, Fates, File, Item, Mark, Of, Reading, Value, Write}
+use Rattle.slots.specs.Runs.{Beside, Folder, Rests, WritesCopies, WritesValue}
+use Rattle.slots.proofs.Body.{IsBody}
+use Rattle.slots.proofs.Copies.{last_number, last_save, AreNext, GoOn}
 use Rattle.slots.proofs.Disk.{IsWhole}
-use Rattle.slots.proofs.Reading.{all_read, Begins, IsNewer, Only}
+use Rattle.slots.proofs.Reading.{all_read, Begins, IsNewer, Nothing, Only}
 
 -- A folder as the process knows it: the file of the slot that counts, and the other one.
 pub record View : Type 0 where
@@ -53,10 +57,6 @@ pub record IsPassed (number : ℕ) (c : Content) (x : Item) : Type 0 where
   pub value : x.number < number
   pub entries : (at : ℕ) (y : Item) → y.kind ≡ Entry → y.base ≡ x.base → IsWhole c at y
       → y.number < number
-
--- no entry counts but those of the chain
-abbrev pub Nothing : ℕ → Item → Type 0
-Nothing at y = ⊥
 
 -- between these numbers, and whether a value that was saved may have entries behind it
 pub record Bounds : Type 0 where
@@ -136,10 +136,166 @@ pub record Holds (z : View) (phase next_end : ℕ) (item : Item) : Type 0 where
   pub entry : phase ≡ ENTRY → (next_end ≡ z.end + item.size) × Adds z sound item
   pub whole : phase ≡ WHOLE → (next_end ≡ item.size) × Replaces z sound item
 
+-- ---- rewrites
+
+-- What is under way: the save, and the rewrite.
+pub record Under : Type 0 where
+  pub phase : ℕ
+  pub next_end : ℕ
+  pub next_base : ℕ
+  pub counts : ℕ
+  pub to : ℕ
+  pub item : Item
+  pub headless : Item
+  pub write : Write
+  pub beside : Option Beside
+
+abbrev pub under_of : Folder → Under
+under_of h = record {
+  phase = h.slots.phase;
+  next_end = h.slots.next_end;
+  next_base = h.slots.next_base;
+  counts = h.slots.counts;
+  to = h.to;
+  item = h.item;
+  headless = h.headless;
+  write = h.write;
+  beside = h.beside;
+}
+
+-- Up to where a rewrite has copied: a save, its number, where the next entry begins; and the last seal
+-- of the copies.
+pub record Reached : Type 0 where
+  pub save : ℕ
+  pub number : ℕ
+  pub from : ℕ
+  pub seal : ℕ
+
+-- the entries that are left lead from there to what counts
+pub record LeadsTo (stored number end : ℕ) (r : Reached) (rest : List Item) : Type 0 where
+  pub on : GoOn r.save r.number rest
+  pub save : last_save r.save rest ≡ stored
+  pub last : last_number r.number rest ≡ number
+  pub size : r.from + size_of rest ≡ end
+
+-- it has begun
+pub record IsStarted (b : Beside) (r : Reached) : Type 0 where
+  pub rests : b.doing ≡ Rests
+  pub end : b.state.end ≡ 0
+  pub save : r.save ≡ b.holds
+  pub number : r.number ≡ b.state.number
+  pub from : r.from ≡ b.state.from_end
+
+-- it writes its value
+pub record IsValue (g : File) (counts : ℕ) (b : Beside) (r : Reached) : Type 0 where
+  pub length : ℕ
+  pub doing : b.doing ≡ WritesValue length
+  pub end : b.state.end ≡ 0
+  pub fits : nat_le length MOST ≡ true
+  pub to : b.to ≡ other counts
+  pub write : b.write ≡ without_head b.value
+  pub own : b.value.base ≡ b.value.seal
+  pub kind : b.value.kind ≡ Value
+  pub size : b.value.size ≡ value_size length
+  pub soon : (f : Fates) → IsBody (put (without_head b.value) (image f g)) b.value []
+  pub save : r.save ≡ b.value.save
+  pub number : r.number ≡ b.value.number
+  pub from : r.from ≡ b.state.from_end
+  pub seal : r.seal ≡ b.value.seal
+
+-- its value is written, and these copies
+pub record IsTied (b : Beside) : Type 0 where
+  pub end : b.state.end ≡ (all_read b.value b.copies).end
+  pub seal : b.state.seal ≡ (all_read b.value b.copies).last.seal
+  pub base : b.state.base ≡ b.value.seal
+  pub large : HEAD < b.value.size
+
+pub record IsReady (g : File) (b : Beside) (r : Reached) : Type 0 where
+  pub rests : b.doing ≡ Rests
+  pub tied : IsTied b
+  pub body : (f : Fates) → IsBody (image f g) b.value b.copies
+  pub save : r.save ≡ (all_read b.value b.copies).last.save
+  pub number : r.number ≡ (all_read b.value b.copies).last.number
+  pub from : r.from ≡ b.state.from_end
+  pub seal : r.seal ≡ (all_read b.value b.copies).last.seal
+
+-- it writes more copies
+pub record IsCopying (g : File) (counts : ℕ) (b : Beside) (r : Reached) : Type 0 where
+  pub doing : b.doing ≡ WritesCopies
+  pub tied : IsTied b
+  pub fits : may_copy b.state (b.state.from_end + size_of b.next_of) ≡ true
+  pub to : b.to ≡ other counts
+  pub write : b.write ≡ all_written b.next (all_read b.value b.copies).end
+  pub next : AreNext (all_read b.value b.copies) b.next
+  pub soon : (f : Fates)
+      → IsBody (put (all_written b.next (all_read b.value b.copies).end) (image f g)) b.value
+      (b.copies ++ b.next)
+  pub size : size_of b.next ≡ size_of b.next_of
+  pub save : r.save ≡ (all_read b.value (b.copies ++ b.next)).last.save
+  pub number : r.number ≡ (all_read b.value (b.copies ++ b.next)).last.number
+  pub from : r.from ≡ b.state.from_end + size_of b.next_of
+  pub seal : r.seal ≡ (all_read b.value (b.copies ++ b.next)).last.seal
+  pub last : last_seal b.state.seal b.next ≡ (all_read b.value (b.copies ++ b.next)).last.seal
+
+pub data Part (g : File) (counts : ℕ) (b : Beside) (r : Reached) : Type 0 where
+  AtStart : IsStarted b r → Part g counts b r
+  AtValue : IsValue g counts b r → Part g counts b r
+  AtRest : IsReady g b r → Part g counts b r
+  AtCopies : IsCopying g counts b r → Part g counts b r
+
+-- a rewrite is sound
+pub record Works (z : View) (s : Sound z) (counts : ℕ) (b : Beside) : Type 0 where
+  pub short : s.bounds.long ≡ false
+  pub from : b.state.from ≡ counts
+  pub reached : Reached
+  pub leads : LeadsTo z.stored (last_read s).last.number z.end reached b.rest
+  pub below : reached.seal < z.fresh
+  -- (whatever is left)
+  pub part : Part z.beside counts (record b { rest = [] }) reached
+
+-- the value and the entries that the save which ends a rewrite makes count
+pub record Leaves (u : Under) (entries : List Item) : Type 0 where
+  pub last : (all_read u.headless entries).last ≡ u.item
+  pub end : u.next_end ≡ (all_read u.headless entries).end
+  pub base : u.next_base ≡ u.headless.seal
+  pub to : u.to ≡ other u.counts
+
+-- the entry that ends a rewrite is being saved, with all before it
+pub record Ends (z : View) (s : Sound z) (u : Under) : Type 0 where
+  pub entries : List Item
+  pub makes : Leaves u entries
+  pub number : u.item.number ≡ z.number
+  pub next : u.item.number ≡ (last_read s).last.number + 1
+  pub top : s.bounds.top ≡ (last_read s).last.number
+  pub short : s.bounds.long ≡ false
+  pub save : Contains z.begun u.item.save
+  pub soon : (f : Fates) → IsBody (put u.write (image f z.beside)) u.headless entries
+  pub whose : (k n : ℕ) (x : Item) → u.write.bytes k ≡ Of x n
+      → (x.base ≡ u.headless.seal) × Good (last_read s).last.number z.fresh x
+  pub seal : u.headless.seal < z.fresh
+
+-- its head is
+pub record Tops (z : View) (s : Sound z) (u : Under) : Type 0 where
+  pub entries : List Item
+  pub makes : Leaves u entries
+  pub write : u.write ≡ head_of u.headless
+  pub number : u.item.number ≡ z.number
+  pub middle : s.bounds.middle < z.number
+  pub soon : (f : Fates)
+      → Begins (put (head_of u.headless) (image f z.beside)) u.headless entries
+      × Only Nothing (put (head_of u.headless) (image f z.beside)) (all_read u.headless entries)
+  pub seal : u.headless.seal < z.fresh
+
+pub record All (z : View) (u : Under) : Type 0 where
+  pub holds : Holds z u.phase u.next_end u.item
+  pub works : (b : Beside) → u.beside ≡ Some b → Works z holds.sound u.counts b
+  pub last : u.phase ≡ LAST → Ends z holds.sound u
+  pub top : u.phase ≡ TOP → Tops z holds.sound u
+
 pub record IsSound (h : Folder) : Type 0 where
   pub two : (h.slots.counts ≡ 0) ⊎ (h.slots.counts ≡ 1)
-  pub holds : Holds (view_of h) h.slots.phase h.slots.next_end h.item
+  pub all : All (view_of h) (under_of h)
   pub entry : h.slots.phase ≡ ENTRY
       → (h.to ≡ h.slots.counts) × (h.write ≡ written h.item h.slots.end)
   pub whole : h.slots.phase ≡ WHOLE
-      → (h.to ≡ other h.slots.counts) × (h.write ≡ written h.item 0)
+      → (h.to ≡ other h.slots.counts) × (h.write ≡ written h.item 0) × (h.beside ≡ None)

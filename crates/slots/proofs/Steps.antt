@@ -17,32 +17,33 @@ use Rattle.slots.proofs.Lists.{contains-head, contains-more}
 use Rattle.slots.proofs.Openings.{last-good}
 use Rattle.slots.proofs.Reading.{all_read, tail-base, Begins, IsNewer}
 use Rattle.slots.proofs.Saves.{good-of, item-written, added-last, replaced-last, reopened-last, sound-added, sound-begin, sound-beside, sound-here, sound-replaced, sound-reopened, replaced, reopened, synced, this-or-free, with_added, BringsEntries, BringsValues}
-use Rattle.slots.proofs.Sound.{last_read, view_of, Adds, AreGood, Bounds, Good, Holds, IsAhead, IsBegun, IsSound, Replaces, Sound, View}
+use Rattle.slots.proofs.Works.{works-keep}
+use Rattle.slots.proofs.Sound.{last_read, under_of, view_of, Adds, All, AreGood, Bounds, Good, Holds, IsAhead, IsBegun, IsSound, Replaces, Sound, View}
 
 -- ---- files by their slots
 
-abbrev Two : ℕ → Type 0
+abbrev pub Two : ℕ → Type 0
 Two i = (i ≡ 0) ⊎ (i ≡ 1)
 
-other-apart : (i : ℕ) → Two i → (eqb (other i) i ≡ false) × (eqb i (other i) ≡ false)
+pub other-apart : (i : ℕ) → Two i → (eqb (other i) i ≡ false) × (eqb i (other i) ≡ false)
 other-apart i two =
     ⊎_elim {C = (eqb (other i) i ≡ false) × (eqb i (other i) ≡ false)}
     (λ (e : i ≡ 0). rw (e) (refl, refl)) (λ (e : i ≡ 1). rw (e) (refl, refl)) two
 
-other-two : (i : ℕ) → Two i → Two (other i)
+pub other-two : (i : ℕ) → Two i → Two (other i)
 other-two i two =
     ⊎_elim {C = Two (other i)} (λ (e : i ≡ 0). rw (e) (inr refl)) (λ (e : i ≡ 1). rw (e) (inl refl))
     two
 
-other-back : (i : ℕ) → Two i → other (other i) ≡ i
+pub other-back : (i : ℕ) → Two i → other (other i) ≡ i
 other-back i two =
     ⊎_elim {C = other (other i) ≡ i} (λ (e : i ≡ 0). rw (e) refl) (λ (e : i ≡ 1). rw (e) refl) two
 
-abbrev changed : (ℕ → File) → ℕ → File → ℕ → File
+abbrev pub changed : (ℕ → File) → ℕ → File → ℕ → File
 changed files slot f i = cond (eqb i slot) f (files i)
 
 -- what holds of two files, the first of which is replaced
-file-here : (P : File → File → Type 0) (files : ℕ → File) (i slot : ℕ) (f : File) → Two i
+pub file-here : (P : File → File → Type 0) (files : ℕ → File) (i slot : ℕ) (f : File) → Two i
     → slot ≡ i
     → P f (files (other i))
     → P (changed files slot f i) (changed files slot f (other i))
@@ -50,7 +51,7 @@ file-here P files i slot f two is p =
     subst (λ (s : ℕ). P (changed files s f i) (changed files s f (other i))) (sym is)
     (rw (eq-eqb i i refl, (other-apart i two).0) p)
 
-file-beside : (P : File → File → Type 0) (files : ℕ → File) (i slot : ℕ) (f : File) → Two i
+pub file-beside : (P : File → File → Type 0) (files : ℕ → File) (i slot : ℕ) (f : File) → Two i
     → slot ≡ other i
     → P (files i) f
     → P (changed files slot f i) (changed files slot f (other i))
@@ -102,10 +103,9 @@ abbrev adds : Folder → ℕ → Folder
 adds h bytes =
     begins h (adding h.slots bytes) (place_here h) (new_entry h bytes (place_here h))
 
-adds-holds : (h : Folder) (bytes : ℕ)
-    → Holds (view_of h) h.slots.phase h.slots.next_end h.item
+adds-holds : (h : Folder) (bytes : ℕ) → All (view_of h) (under_of h)
     → h.slots.phase ≡ IDLE
-    → Holds
+    → All
     (record (view_of h) {
       here = with_write (h.files h.slots.counts)
           (written (new_entry h bytes (place_here h)) h.slots.end);
@@ -113,28 +113,43 @@ adds-holds : (h : Folder) (bytes : ℕ)
       fresh = h.fresh + 1;
       begun = h.fresh ∷ h.begun;
     })
-    ENTRY (adding h.slots bytes).next_end (new_entry h bytes (place_here h))
+    (under_of (adds h bytes))
 unfolding sound-begin sound-here
-adds-holds h bytes k idle = record {
-  sound = after;
-  idle = λ e. absurd cc;
-  short = λ a b. refl;
-  entry = λ e. (
-      refl,
-      record {
-        kind = refl;
-        base = s.base;
-        newer = newer;
-        save = contains-head h.fresh h.begun;
-        fresh = omega arith;
-        next = ap (λ (n : ℕ). n + 1) rest;
-        number = refl;
-        middle = refl;
-      },
-    );
-  whole = λ e. absurd cc;
+adds-holds h bytes all idle = record {
+  holds = record {
+    sound = after;
+    idle = λ e. absurd cc;
+    short = λ a b. refl;
+    entry = λ e. (
+        refl,
+        record {
+          kind = refl;
+          base = s.base;
+          newer = newer;
+          save = contains-head h.fresh h.begun;
+          fresh = omega arith;
+          next = ap (λ (n : ℕ). n + 1) rest;
+          number = refl;
+          middle = refl;
+        },
+      );
+    whole = λ e. absurd cc;
+  };
+  works = λ o e.
+      works-keep z s h.slots.counts o
+      (record {
+        here = with_write z.here (written x z.end);
+        number = number;
+        fresh = z.fresh + 1;
+        begun = z.fresh ∷ z.begun;
+      })
+      after (omega arith, refl, refl) (all.works o e);
+  last = λ e. absurd cc;
+  top = λ e. absurd cc;
 }
   where
+    k : Holds (view_of h) h.slots.phase h.slots.next_end h.item
+    k = all.holds
     z : View
     z = view_of h
     s : Sound z
@@ -228,10 +243,10 @@ adds-sound : (h : Folder) (bytes : ℕ) → IsSound h → h.slots.phase ≡ IDLE
     → IsSound (adds h bytes)
 adds-sound h bytes s idle = record {
   two = s.two;
-  holds =
+  all =
       file-here
       (λ (a b : File).
-      Holds
+      All
       (record (view_of h) {
         here = a;
         beside = b;
@@ -239,11 +254,11 @@ adds-sound h bytes s idle = record {
         fresh = h.fresh + 1;
         begun = h.fresh ∷ h.begun;
       })
-      ENTRY (adding h.slots bytes).next_end (new_entry h bytes (place_here h)))
+      (under_of (adds h bytes)))
       h.files h.slots.counts h.slots.counts
       (with_write (h.files h.slots.counts)
       (written (new_entry h bytes (place_here h)) h.slots.end))
-      s.two refl (adds-holds h bytes s.holds idle);
+      s.two refl (adds-holds h bytes s.all idle);
   entry = λ e. (refl, refl);
   whole = λ e. absurd cc;
 }
@@ -263,12 +278,14 @@ place_beside h = record {
 
 abbrev replaces : Folder → ℕ → Folder
 replaces h bytes =
-    begins h (replacing h.slots bytes) (place_beside h) (new_whole h bytes (place_beside h))
+    record
+    (begins h (replacing h.slots bytes) (place_beside h) (new_whole h bytes (place_beside h))) {
+      beside = None;
+    }
 
-replaces-holds : (h : Folder) (bytes : ℕ)
-    → Holds (view_of h) h.slots.phase h.slots.next_end h.item
+replaces-holds : (h : Folder) (bytes : ℕ) → All (view_of h) (under_of h)
     → (h.slots.phase ≡ IDLE) ⊎ (h.slots.phase ≡ DUE)
-    → Holds
+    → All
     (record (view_of h) {
       beside = with_write (h.files (other h.slots.counts))
           (written (new_whole h bytes (place_beside h)) 0);
@@ -276,27 +293,34 @@ replaces-holds : (h : Folder) (bytes : ℕ)
       fresh = h.fresh + 1;
       begun = h.fresh ∷ h.begun;
     })
-    WHOLE (replacing h.slots bytes).next_end (new_whole h bytes (place_beside h))
+    (under_of (replaces h bytes))
 unfolding sound-begin sound-beside
-replaces-holds h bytes k may = record {
-  sound = after;
-  idle = λ e. absurd cc;
-  short = λ a b. refl;
-  entry = λ e. absurd cc;
-  whole = λ e. (
-      refl,
-      record {
-        kind = refl;
-        own = refl;
-        some = omega arith;
-        fresh = omega arith;
-        number = refl;
-        middle = middle;
-        unused = λ f at n y is kind base. new-cell f at n y is kind base;
-      },
-    );
+replaces-holds h bytes all may = record {
+  holds = record {
+    sound = after;
+    idle = λ e. absurd cc;
+    short = λ a b. refl;
+    entry = λ e. absurd cc;
+    whole = λ e. (
+        refl,
+        record {
+          kind = refl;
+          own = refl;
+          some = omega arith;
+          fresh = omega arith;
+          number = refl;
+          middle = middle;
+          unused = λ f at n y is kind base. new-cell f at n y is kind base;
+        },
+      );
+  };
+  works = λ o e. absurd cc;
+  last = λ e. absurd cc;
+  top = λ e. absurd cc;
 }
   where
+    k : Holds (view_of h) h.slots.phase h.slots.next_end h.item
+    k = all.holds
     z : View
     z = view_of h
     s : Sound z
@@ -421,10 +445,10 @@ replaces-sound : (h : Folder) (bytes : ℕ) → IsSound h
     → IsSound (replaces h bytes)
 replaces-sound h bytes s may = record {
   two = s.two;
-  holds =
+  all =
       file-beside
       (λ (a b : File).
-      Holds
+      All
       (record (view_of h) {
         here = a;
         beside = b;
@@ -432,13 +456,13 @@ replaces-sound h bytes s may = record {
         fresh = h.fresh + 1;
         begun = h.fresh ∷ h.begun;
       })
-      WHOLE (replacing h.slots bytes).next_end (new_whole h bytes (place_beside h)))
+      (under_of (replaces h bytes)))
       h.files h.slots.counts (other h.slots.counts)
       (with_write (h.files (other h.slots.counts))
       (written (new_whole h bytes (place_beside h)) 0))
-      s.two refl (replaces-holds h bytes s.holds may);
+      s.two refl (replaces-holds h bytes s.all may);
   entry = λ e. absurd cc;
-  whole = λ e. (refl, refl);
+  whole = λ e. (refl, refl, refl);
 }
 
 -- ---- steps that may do nothing
@@ -468,7 +492,9 @@ replace-sound h bytes s = go (may_replace h.slots bytes) refl
         elim (cond b (Some (place_beside h)) None) as (λ o. Folder)
         [ None ↦ h
         | Some place ↦
-          begins h (cond b (replacing h.slots bytes) h.slots) place (new_whole h bytes place)
+          record (begins h (cond b (replacing h.slots bytes) h.slots) place (new_whole h bytes place)) {
+            beside = None;
+          }
         ]
     may : (a b : Bool) → (a || b) ≡ true → (a ≡ true) ⊎ (b ≡ true)
     may true b e = inl refl
@@ -483,364 +509,3 @@ replace-sound h bytes s = go (may_replace h.slots bytes) refl
         (and_parts (eqb h.slots.phase IDLE || eqb h.slots.phase DUE) _ e).0))
     go false e = s
 
--- ---- failures
-
-
-abbrev pub in_phase : Folder → ℕ → Folder
-in_phase h phase = record h { slots = record (h.slots) { phase = phase } }
-
-pub doubt-sound : (h : Folder) → IsSound h → IsSound (in_phase h UNSURE)
-doubt-sound h s = record {
-  two = s.two;
-  holds = record {
-    sound = s.holds.sound;
-    idle = λ e. absurd cc;
-    short = λ top unsure. absurd (unsure refl);
-    entry = λ e. absurd cc;
-    whole = λ e. absurd cc;
-  };
-  entry = λ e. absurd cc;
-  whole = λ e. absurd cc;
-}
-
-due-sound : (h : Folder) → IsSound h → h.slots.phase ≢ TOP → h.slots.phase ≢ UNSURE
-    → IsSound (in_phase h DUE)
-due-sound h s top unsure = record {
-  two = s.two;
-  holds = record {
-    sound = s.holds.sound;
-    idle = λ e. absurd cc;
-    short = λ a b. s.holds.short top unsure;
-    entry = λ e. absurd cc;
-    whole = λ e. absurd cc;
-  };
-  entry = λ e. absurd cc;
-  whole = λ e. absurd cc;
-}
-
-pub fail-sound : (h : Folder) → IsSound h → IsSound (step h Fail)
-fail-sound h s = go (eqb h.slots.phase TOP) (saving) refl refl
-  where
-    saving : Bool
-    saving = (eqb h.slots.phase ENTRY || eqb h.slots.phase WHOLE) || eqb h.slots.phase LAST
-    either : (a b : Bool) → (a || b) ≡ true → (a ≡ true) ⊎ (b ≡ true)
-    either true b e = inl refl
-    either false b e = inr e
-    one : saving ≡ true → (n : ℕ) → (n ≢ ENTRY) → (n ≢ WHOLE) → (n ≢ LAST)
-        → h.slots.phase ≢ n
-    one e n a b c is =
-        ⊎_elim {C = ⊥}
-        (λ (first : (eqb h.slots.phase ENTRY || eqb h.slots.phase WHOLE) ≡ true).
-        ⊎_elim {C = ⊥}
-        (λ (f : eqb h.slots.phase ENTRY ≡ true). a (sym is ∙ eqb-true h.slots.phase ENTRY f))
-        (λ (f : eqb h.slots.phase WHOLE ≡ true). b (sym is ∙ eqb-true h.slots.phase WHOLE f))
-        (either (eqb h.slots.phase ENTRY) (eqb h.slots.phase WHOLE) first))
-        (λ (f : eqb h.slots.phase LAST ≡ true). c (sym is ∙ eqb-true h.slots.phase LAST f))
-        (either (eqb h.slots.phase ENTRY || eqb h.slots.phase WHOLE) (eqb h.slots.phase LAST) e)
-    go : (a b : Bool) → eqb h.slots.phase TOP ≡ a → saving ≡ b
-        → IsSound
-        (record h {
-          slots = cond a (record (h.slots) { phase = UNSURE })
-              (cond b (record (h.slots) { phase = DUE }) h.slots);
-        })
-    go true b e f = doubt-sound h s
-    go false true e f =
-        due-sound h s
-        (one f TOP (λ e. absurd cc) (λ e. absurd cc) (λ e. absurd cc))
-        (one f UNSURE (λ e. absurd cc) (λ e. absurd cc) (λ e. absurd cc))
-    go false false e f = s
-
--- ---- a save is stored
-
-abbrev stored_with : Folder → Fates → Slots → Folder
-stored_with h fates slots =
-    record (with_file h h.to (synced_after h.write fates (h.files h.to))) {
-      slots = slots;
-      stored = h.item.save;
-      begun = [];
-    }
-
-added-holds : (h : Folder) (fates : Fates) (k : Holds (view_of h) h.slots.phase h.slots.next_end h.item)
-    → Adds (view_of h) k.sound h.item
-    → Holds (with_added (view_of h) h.item fates) IDLE h.slots.next_end h.item
-added-holds h fates k a = record {
-  sound = sound-added (view_of h) k.sound h.item a fates;
-  idle = λ e. sym a.number ∙ sym (added-last (view_of h) k.sound h.item a fates).0;
-  short = λ top unsure. (added-last (view_of h) k.sound h.item a fates).1;
-  entry = λ e. absurd cc;
-  whole = λ e. absurd cc;
-}
-
-stored-entry : (h : Folder) (fates : Fates) → IsSound h → h.slots.phase ≡ ENTRY
-    → IsSound (stored_with h fates (added h.slots h.item.seal))
-stored-entry h fates s is = record {
-  two = s.two;
-  holds =
-      file-here P h.files h.slots.counts h.to (synced_after h.write fates (h.files h.to)) s.two
-      way.0
-      (subst
-      (λ (w : Write).
-      P (synced_after w fates (h.files h.to)) (h.files (other h.slots.counts)))
-      (sym way.1)
-      (subst
-      (λ (t : ℕ).
-      P (synced_after (written h.item h.slots.end) fates (h.files t))
-      (h.files (other h.slots.counts)))
-      (sym way.0)
-      (subst
-      (λ (end : ℕ).
-      Holds (record (with_added (view_of h) h.item fates) { end = end }) IDLE h.slots.next_end h.item)
-      (sym under.0) (added-holds h fates s.holds under.1))));
-  entry = λ e. absurd cc;
-  whole = λ e. absurd cc;
-}
-  where
-    way : (h.to ≡ h.slots.counts) × (h.write ≡ written h.item h.slots.end)
-    way = s.entry is
-    under : (h.slots.next_end ≡ h.slots.end + h.item.size)
-        × Adds (view_of h) s.holds.sound h.item
-    under = s.holds.entry is
-    P : File → File → Type 0
-    P a b =
-        Holds
-        (record (view_of h) {
-          here = a;
-          beside = b;
-          end = h.slots.next_end;
-          seal = h.item.seal;
-          stored = h.item.save;
-          begun = [];
-        })
-        IDLE h.slots.next_end h.item
-
-replaced-holds : (h : Folder) (fates : Fates) (k : Holds (view_of h) h.slots.phase h.slots.next_end h.item)
-    → Replaces (view_of h) k.sound h.item
-    → Holds (replaced (view_of h) h.item fates) IDLE h.slots.next_end h.item
-replaced-holds h fates k r = record {
-  sound = sound-replaced (view_of h) k.sound h.item r fates;
-  idle = λ e. sym r.number ∙ sym (replaced-last (view_of h) k.sound h.item r fates).0;
-  short = λ top unsure. (replaced-last (view_of h) k.sound h.item r fates).1;
-  entry = λ e. absurd cc;
-  whole = λ e. absurd cc;
-}
-
-stored-whole : (h : Folder) (fates : Fates) → IsSound h → h.slots.phase ≡ WHOLE
-    → IsSound (stored_with h fates (switched h.slots h.item.seal h.item.seal))
-stored-whole h fates s is = record {
-  two = other-two h.slots.counts s.two;
-  holds =
-      file-here P h.files (other h.slots.counts) h.to
-      (synced_after h.write fates (h.files h.to)) (other-two h.slots.counts s.two)
-      way.0
-      (subst
-      (λ (w : Write).
-      P (synced_after w fates (h.files h.to)) (h.files (other (other h.slots.counts))))
-      (sym way.1)
-      (subst
-      (λ (t : ℕ).
-      P (synced_after (written h.item 0) fates (h.files t))
-      (h.files (other (other h.slots.counts))))
-      (sym way.0)
-      (subst
-      (λ (i : ℕ).
-      P (synced_after (written h.item 0) fates (h.files (other h.slots.counts))) (h.files i))
-      (sym (other-back h.slots.counts s.two))
-      (subst
-      (λ (end : ℕ).
-      Holds (record (replaced (view_of h) h.item fates) { end = end }) IDLE h.slots.next_end h.item)
-      (sym under.0) (replaced-holds h fates s.holds under.1)))));
-  entry = λ e. absurd cc;
-  whole = λ e. absurd cc;
-}
-  where
-    way : (h.to ≡ other h.slots.counts) × (h.write ≡ written h.item 0)
-    way = s.whole is
-    under : (h.slots.next_end ≡ h.item.size) × Replaces (view_of h) s.holds.sound h.item
-    under = s.holds.whole is
-    P : File → File → Type 0
-    P a b =
-        Holds
-        (record (view_of h) {
-          here = a;
-          beside = b;
-          end = h.slots.next_end;
-          seal = h.item.seal;
-          base = h.item.seal;
-          stored = h.item.save;
-          begun = [];
-        })
-        IDLE h.slots.next_end h.item
-
-pub store-sound : (h : Folder) (fates : Fates) → IsSound h → IsSound (step h (Store fates))
-store-sound h fates s =
-    go (eqb h.slots.phase ENTRY) (eqb h.slots.phase WHOLE) refl refl
-  where
-    S : Slots
-    S = h.slots
-    seal : ℕ
-    seal = h.item.seal
-    rest : Bool → Slots
-    rest b =
-        cond b (switched S seal seal)
-        (cond (eqb S.phase LAST) (record S { phase = TOP })
-        (cond (eqb S.phase TOP) (switched S S.next_base seal) S))
-    go : (a b : Bool) → eqb S.phase ENTRY ≡ a → eqb S.phase WHOLE ≡ b
-        → IsSound (cond (a || b) (stored_with h fates (cond a (added S seal) (rest b))) h)
-    go true b e f = stored-entry h fates s (eqb-true S.phase ENTRY e)
-    go false true e f = stored-whole h fates s (eqb-true S.phase WHOLE f)
-    go false false e f = s
-
--- ---- marks and zeros
-
-marks-holds : (h : Folder) → Holds (view_of h) h.slots.phase h.slots.next_end h.item
-    → h.slots.phase ≡ IDLE
-    → (m : Mark)
-    → m ≡ record {
-      offset = h.slots.end;
-      number = h.slots.number;
-      length = h.slots.length;
-      base = h.slots.base;
-      slot = h.slots.counts;
-    }
-    → Holds
-    (record (view_of h) {
-      here = with_write (h.files h.slots.counts) (written (new_mark m) h.slots.end);
-    })
-    h.slots.phase h.slots.next_end h.item
-unfolding sound-here
-marks-holds h k is m same = record {
-  sound =
-      sound-here z s w (omega arith)
-      (item-written (last_read s).last.number z.fresh (new_mark m) z.end
-      (record {
-        seal = omega (arith, base_low);
-        base = rw (same) base_low;
-        entry = λ e. absurd cc;
-        mark = λ e.
-            let low = k.idle is in
-            rw (same) (omega (arith, low));
-      }))
-      (λ f at y kind base whole.
-      inl
-      (free-of (new_mark m) y z.end
-      (λ e. not-mark (ap (λ (i : Item). i.kind) e ∙ kind))));
-  idle = k.idle;
-  short = k.short;
-  entry = λ e. absurd cc;
-  whole = λ e. absurd cc;
-}
-  where
-    z : View
-    z = view_of h
-    s : Sound z
-    s = k.sound
-    w : Write
-    w = written (new_mark m) z.end
-    not-mark : disk.Mark ≡ Entry → ⊥
-    not-mark e = cc
-    last : Good (last_read s).last.number z.fresh (last_read s).last
-    last =
-        last-good (last_read s).last.number z.fresh (image (λ i k. disk.Lost) z.here) s.value
-        s.entries (s.here (λ i k. disk.Lost)) (s.good_here (λ i k. disk.Lost))
-    base_low : z.base < z.fresh
-    base_low =
-        let low = last.base in
-        let e = s.base in
-        omega (arith, low, e)
-
-pub mark-sound : (h : Folder) → IsSound h → IsSound (step h PutMark)
-mark-sound h s = go (is_idle h.slots) refl
-  where
-    m : Mark
-    m = record {
-      offset = h.slots.end;
-      number = h.slots.number;
-      length = h.slots.length;
-      base = h.slots.base;
-      slot = h.slots.counts;
-    }
-    P : File → File → Type 0
-    P a b =
-        Holds (record (view_of h) { here = a; beside = b }) h.slots.phase h.slots.next_end h.item
-    go : (b : Bool) → is_idle h.slots ≡ b → IsSound (puts_mark h (cond b (Some m) None))
-    go true e =
-        let is = eqb-true h.slots.phase IDLE e in
-        record {
-          two = s.two;
-          holds =
-              file-here P h.files h.slots.counts h.slots.counts
-              (with_write (h.files h.slots.counts) (written (new_mark m) h.slots.end)) s.two refl
-              (marks-holds h s.holds is m refl);
-          entry = s.entry;
-          whole = s.whole;
-        }
-    go false e = s
-
-zeros-holds : (h : Folder) (count : ℕ)
-    → Holds (view_of h) h.slots.phase h.slots.next_end h.item
-    → h.slots.phase ≡ ENTRY
-    → Holds
-    (record (view_of h) {
-      here = with_write (h.files h.slots.counts) (zeros h.slots.next_end count);
-    })
-    h.slots.phase h.slots.next_end h.item
-unfolding sound-here
-zeros-holds h count k is = record {
-  sound =
-      sound-here z s w behind (λ k n x e. absurd (apart k n x e))
-      (λ f at y kind base whole. inl (λ k n e. apart k n y e));
-  idle = λ e. absurd cc;
-  short = k.short;
-  entry = λ e. (
-      under.0,
-      record {
-        kind = a.kind;
-        base = a.base;
-        newer = a.newer;
-        save = a.save;
-        fresh = a.fresh;
-        next = a.next;
-        number = a.number;
-        middle = a.middle;
-      },
-    );
-  whole = λ e. absurd cc;
-}
-  where
-    z : View
-    z = view_of h
-    s : Sound z
-    s = k.sound
-    w : Write
-    w = zeros h.slots.next_end count
-    under : (h.slots.next_end ≡ z.end + h.item.size) × Adds z s h.item
-    under = k.entry is
-    a : Adds z s h.item
-    a = under.1
-    behind : z.end ≤ h.slots.next_end
-    behind =
-        let same = under.0 in
-        omega (arith, same)
-    apart : (k n : ℕ) (x : Item) → nothing k ≡ Of x n → ⊥
-    apart k n x e = cc
-
-pub zeros-sound : (h : Folder) (count : ℕ) → IsSound h → IsSound (step h (PutZeros count))
-zeros-sound h count s = go (eqb h.slots.phase ENTRY) refl
-  where
-    P : File → File → Type 0
-    P a b =
-        Holds (record (view_of h) { here = a; beside = b }) h.slots.phase h.slots.next_end h.item
-    go : (b : Bool) → eqb h.slots.phase ENTRY ≡ b
-        → IsSound (puts_zeros h count (cond b (Some h.slots.next_end) None))
-    go true e =
-        let is = eqb-true h.slots.phase ENTRY e in
-        record {
-          two = s.two;
-          holds =
-              file-here P h.files h.slots.counts h.slots.counts
-              (with_write (h.files h.slots.counts) (zeros h.slots.next_end count)) s.two refl
-              (zeros-holds h count s.holds is);
-          entry = s.entry;
-          whole = s.whole;
-        }
-    go false e = s
