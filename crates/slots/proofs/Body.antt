@@ -44,9 +44,8 @@ pub put-there : (w : Write) (c : Content) (k : ℕ) → w.from ≤ k → k < w.f
 put-there w c k above below =
     ap (λ (b : Bool). cond b (w.bytes k) (c k)) (covered w k above below)
 
-pub put-behind : (w : Write) (c : Content) (k : ℕ) → w.from + w.count ≤ k → put w c k ≡ c k
-put-behind w c k above =
-    ap (λ (b : Bool). cond b (w.bytes k) (c k)) (out (leb w.from k) (ltb k (w.from + w.count)) refl)
+outside-behind : (w : Write) (k : ℕ) → w.from + w.count ≤ k → covers w k ≡ false
+outside-behind w k above = out (leb w.from k) (ltb k (w.from + w.count)) refl
   where
     out : (a b : Bool) → ltb k (w.from + w.count) ≡ b → (a && b) ≡ false
     out true true e =
@@ -54,6 +53,13 @@ put-behind w c k above =
         absurd (omega (arith, below, above))
     out true false e = refl
     out false b e = refl
+
+pub outside-head : (v : Item) (k : ℕ) → HEAD ≤ k → covers (head_of v) k ≡ false
+outside-head v k above = outside-behind (head_of v) k (omega (arith, above))
+
+pub put-behind : (w : Write) (c : Content) (k : ℕ) → w.from + w.count ≤ k → put w c k ≡ c k
+put-behind w c k above =
+    ap (λ (b : Bool). cond b (w.bytes k) (c k)) (outside-behind w k above)
 
 -- the head changes nothing behind it, and hides what is there
 pub same-with-head : (v : Item) (c d : Content) (end : ℕ)

@@ -8,6 +8,7 @@ pub mod Body
 pub mod Openings
 pub mod Saves
 pub mod Works
+pub mod Heads
 pub mod Steps
 pub mod Ends
 pub mod Theorems

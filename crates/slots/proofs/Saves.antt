@@ -528,7 +528,7 @@ replaced z x fates =
     }
 
 -- all of what counted is passed then
-passed-here : (z : View) (s : Sound z) (number : ℕ) → s.bounds.middle < number → (f : Fates)
+pub passed-here : (z : View) (s : Sound z) (number : ℕ) → s.bounds.middle < number → (f : Fates)
     → (y : Item)
     → IsWhole (image f z.here) 0 y
     → IsPassed number (image f z.here) y

@@ -259,6 +259,7 @@ pub record Leaves (u : Under) (entries : List Item) : Type 0 where
   pub end : u.next_end ≡ (all_read u.headless entries).end
   pub base : u.next_base ≡ u.headless.seal
   pub to : u.to ≡ other u.counts
+  pub none : u.beside ≡ None
 
 -- the entry that ends a rewrite is being saved, with all before it
 pub record Ends (z : View) (s : Sound z) (u : Under) : Type 0 where
@@ -270,6 +271,7 @@ pub record Ends (z : View) (s : Sound z) (u : Under) : Type 0 where
   pub short : s.bounds.long ≡ false
   pub save : Contains z.begun u.item.save
   pub soon : (f : Fates) → IsBody (put u.write (image f z.beside)) u.headless entries
+  pub large : HEAD ≤ u.headless.size
   pub whose : (k n : ℕ) (x : Item) → u.write.bytes k ≡ Of x n
       → (x.base ≡ u.headless.seal) × Good (last_read s).last.number z.fresh x
   pub seal : u.headless.seal < z.fresh
