@@ -17,9 +17,11 @@ use Rattle.slots.proofs.Lists.{contains-head, contains-more}
 use Rattle.slots.proofs.Openings.{last-good}
 use Rattle.slots.proofs.Reading.{all_read, tail-base, Begins, IsNewer}
 use Rattle.slots.proofs.Saves.{good-of, item-written, added-last, replaced-last, reopened-last, sound-added, sound-begin, sound-beside, sound-here, sound-replaced, sound-reopened, replaced, reopened, synced, this-or-free, with_added, BringsEntries, BringsValues}
+use Rattle.slots.specs.Beside.{head_of}
+use Rattle.slots.proofs.Heads.{sound-switched, sound-topped, switched-last, switched_to, topped, tops-after}
 use Rattle.slots.proofs.Works.{works-keep, works-stored}
 use Rattle.slots.proofs.Steps.{changed, file-beside, file-here, other-apart, other-back, other-two, Two}
-use Rattle.slots.proofs.Sound.{last_read, under_of, view_of, Adds, All, AreGood, Bounds, Good, Holds, IsAhead, IsBegun, IsSound, Replaces, Sound, View}
+use Rattle.slots.proofs.Sound.{last_read, under_of, view_of, Adds, All, Ends, Tops, AreGood, Bounds, Good, Holds, IsAhead, IsBegun, IsSound, Replaces, Sound, View}
 
 -- ---- failures
 
@@ -170,6 +172,9 @@ stored-entry h fates s is = record {
         })
         (under_of (stored_with h fates (added h.slots h.item.seal)))
 
+none-some : (o : Option Beside) (b : Beside) → o ≡ None → o ≡ Some b → ⊥
+none-some o b e f = absurd cc
+
 none-rest : (x : Item) (o : Option Beside) (b : Beside) → o ≡ None → with_rest x o ≡ Some b → ⊥
 none-rest x None b e f = absurd cc
 none-rest x (Some c) b e f = absurd cc
@@ -239,6 +244,172 @@ stored-whole h fates s is = record {
           begun = [];
         })
         (under_of (stored_with h fates (switched h.slots h.item.seal h.item.seal)))
+
+-- ---- a rewrite ends
+
+file-twice : (P : File → File → Type 0) (files : ℕ → File) (i slot : ℕ) (f : File) (w : Write)
+    → Two i
+    → slot ≡ other i
+    → P (files i) (with_write f w)
+    → P
+    (changed (changed files slot f) slot (with_write (changed files slot f slot) w) i)
+    (changed (changed files slot f) slot (with_write (changed files slot f slot) w) (other i))
+file-twice P files i slot f w two is p =
+    subst
+    (λ (s : ℕ).
+    P (changed (changed files s f) s (with_write (changed files s f s) w) i)
+    (changed (changed files s f) s (with_write (changed files s f s) w) (other i)))
+    (sym is)
+    (rw ((other-apart i two).1, eq-eqb (other i) (other i) refl) p)
+
+abbrev topped_with : Folder → Fates → Folder
+topped_with h fates =
+    record
+    (writes
+    (record (with_file h h.to (synced_after h.write fates (h.files h.to))) {
+      slots = record (h.slots) { phase = TOP };
+    })
+    h.to (head_of h.headless)) {
+      write = head_of h.headless;
+    }
+
+tops-all : (h : Folder) (fates : Fates) (k : All (view_of h) (under_of h))
+    → Ends (view_of h) k.holds.sound (under_of h)
+    → All (topped (view_of h) (under_of h) fates) (under_of (topped_with h fates))
+unfolding sound-topped
+tops-all h fates k e = record {
+  holds = record {
+    sound = sound-topped (view_of h) k.holds.sound (under_of h) e fates;
+    idle = λ e. absurd cc;
+    short = λ top unsure. absurd (top refl);
+    entry = λ e. absurd cc;
+    whole = λ e. absurd cc;
+  };
+  works = λ b is. absurd (none-some h.beside b e.makes.none is);
+  last = λ e. absurd cc;
+  top = λ is. tops-after (view_of h) k.holds.sound (under_of h) e fates;
+}
+
+tops-sound : (h : Folder) (fates : Fates) → IsSound h → h.slots.phase ≡ LAST
+    → IsSound (topped_with h fates)
+tops-sound h fates s is = record {
+  two = s.two;
+  all =
+      file-twice P h.files h.slots.counts h.to (synced_after h.write fates (h.files h.to))
+      (head_of h.headless) s.two e.makes.to
+      (subst
+      (λ (t : ℕ).
+      P (h.files h.slots.counts)
+      (with_write (synced_after h.write fates (h.files t)) (head_of h.headless)))
+      (sym e.makes.to) (tops-all h fates s.all e));
+  entry = λ e. absurd cc;
+  whole = λ e. absurd cc;
+}
+  where
+    e : Ends (view_of h) s.all.holds.sound (under_of h)
+    e = s.all.last is
+    P : File → File → Type 0
+    P a b = All (record (view_of h) { here = a; beside = b }) (under_of (topped_with h fates))
+
+switched-all : (h : Folder) (fates : Fates) (k : All (view_of h) (under_of h))
+    → Tops (view_of h) k.holds.sound (under_of h)
+    → All (switched_to (view_of h) (under_of h) fates)
+    (under_of (stored_with h fates (switched h.slots h.slots.next_base h.item.seal)))
+switched-all h fates k t = record {
+  holds = record {
+    sound = sound-switched (view_of h) k.holds.sound (under_of h) t fates;
+    idle = λ e. (switched-last (view_of h) k.holds.sound (under_of h) t fates).0;
+    short = λ top unsure. (switched-last (view_of h) k.holds.sound (under_of h) t fates).1;
+    entry = λ e. absurd cc;
+    whole = λ e. absurd cc;
+  };
+  works = λ b e. absurd (none-rest h.item h.beside b t.makes.none e);
+  last = λ e. absurd cc;
+  top = λ e. absurd cc;
+}
+
+stored-top : (h : Folder) (fates : Fates) → IsSound h → h.slots.phase ≡ TOP
+    → IsSound (stored_with h fates (switched h.slots h.slots.next_base h.item.seal))
+stored-top h fates s is = record {
+  two = other-two h.slots.counts s.two;
+  all =
+      file-here P h.files (other h.slots.counts) h.to
+      (synced_after h.write fates (h.files h.to)) (other-two h.slots.counts s.two)
+      t.makes.to
+      (subst
+      (λ (w : Write).
+      P (synced_after w fates (h.files h.to)) (h.files (other (other h.slots.counts))))
+      (sym t.write)
+      (subst
+      (λ (n : ℕ).
+      P (synced_after (head_of h.headless) fates (h.files n))
+      (h.files (other (other h.slots.counts))))
+      (sym t.makes.to)
+      (subst
+      (λ (i : ℕ).
+      P (synced_after (head_of h.headless) fates (h.files (other h.slots.counts))) (h.files i))
+      (sym (other-back h.slots.counts s.two)) (switched-all h fates s.all t))));
+  entry = λ e. absurd cc;
+  whole = λ e. absurd cc;
+}
+  where
+    t : Tops (view_of h) s.all.holds.sound (under_of h)
+    t = s.all.top is
+    P : File → File → Type 0
+    P a b =
+        All
+        (record (view_of h) {
+          here = a;
+          beside = b;
+          end = h.slots.next_end;
+          seal = h.item.seal;
+          base = h.slots.next_base;
+          stored = h.item.save;
+          begun = [];
+        })
+        (under_of (stored_with h fates (switched h.slots h.slots.next_base h.item.seal)))
+
+-- ---- whatever is stored
+
+pub store-sound : (h : Folder) (fates : Fates) → IsSound h → IsSound (step h (Store fates))
+store-sound h fates s =
+    go (eqb S.phase ENTRY) (eqb S.phase WHOLE) (eqb S.phase LAST) (eqb S.phase TOP) refl refl refl
+    refl
+  where
+    S : Slots
+    S = h.slots
+    seal : ℕ
+    seal = h.item.seal
+    after : (a b c d : Bool) → Slots
+    after a b c d =
+        cond a (added S seal)
+        (cond b (switched S seal seal)
+        (cond c (record S { phase = TOP })
+        (cond d (switched S S.next_base seal) S)))
+    go : (a b c d : Bool) → eqb S.phase ENTRY ≡ a → eqb S.phase WHOLE ≡ b
+        → eqb S.phase LAST ≡ c
+        → eqb S.phase TOP ≡ d
+        → IsSound
+        (cond (a || (b || d)) (stored_with h fates (after a b c d))
+        (cond c
+        (record
+        (writes
+        (record (with_file h h.to (synced_after h.write fates (h.files h.to))) {
+          slots = after a b c d;
+        })
+        h.to (head_of h.headless)) {
+          write = head_of h.headless;
+        })
+        h))
+    go true b c d e f g i = stored-entry h fates s (eqb-true S.phase ENTRY e)
+    go false true c d e f g i = stored-whole h fates s (eqb-true S.phase WHOLE f)
+    go false false true true e f g i =
+        let last = eqb-true S.phase LAST g in
+        let top = eqb-true S.phase TOP i in
+        absurd cc
+    go false false false true e f g i = stored-top h fates s (eqb-true S.phase TOP i)
+    go false false true false e f g i = tops-sound h fates s (eqb-true S.phase LAST g)
+    go false false false false e f g i = s
 
 -- ---- marks and zeros
 
