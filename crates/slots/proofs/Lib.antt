@@ -11,4 +11,5 @@ pub mod Works
 pub mod Heads
 pub mod Steps
 pub mod Ends
+pub mod Rewrites
 pub mod Theorems

@@ -196,6 +196,32 @@ sound-beside z s w short good free brings = record {
       short = a.short;
     }
 
+-- ---- more seals are used
+
+unfoldable pub sound-fresh : (z : View) (s : Sound z) (fresh : ℕ) → z.fresh ≤ fresh
+    → Sound (record z { fresh = fresh })
+sound-fresh z s fresh older = record {
+  value = s.value;
+  entries = s.entries;
+  bounds = s.bounds;
+  here = s.here;
+  only = s.only;
+  beside = s.beside;
+  good_here = λ f.
+      all-good-more (last_read s).last.number (last_read s).last.number z.fresh fresh
+      (image f z.here) (omega arith) older (s.good_here f);
+  good_beside = λ f.
+      all-good-more (last_read s).last.number (last_read s).last.number z.fresh fresh
+      (image f z.beside) (omega arith) older (s.good_beside f);
+  end = s.end;
+  seal = s.seal;
+  base = s.base;
+  stored = s.stored;
+  low = s.low;
+  middle = s.middle;
+  top = s.top;
+}
+
 -- ---- what a rewrite writes
 
 -- Something was written, and perhaps synced, that is all of one value, whose head isn't there.

@@ -180,6 +180,7 @@ pub record LeadsTo (stored number end : ℕ) (r : Reached) (rest : List Item) : 
 
 -- it has begun
 pub record IsStarted (b : Beside) (r : Reached) : Type 0 where
+  pub none : b.copies ≡ []
   pub rests : b.doing ≡ Rests
   pub end : b.state.end ≡ 0
   pub save : r.save ≡ b.holds
@@ -189,6 +190,7 @@ pub record IsStarted (b : Beside) (r : Reached) : Type 0 where
 -- it writes its value
 pub record IsValue (g : File) (counts : ℕ) (b : Beside) (r : Reached) : Type 0 where
   pub length : ℕ
+  pub none : b.copies ≡ []
   pub doing : b.doing ≡ WritesValue length
   pub end : b.state.end ≡ 0
   pub fits : nat_le length MOST ≡ true
