@@ -33,6 +33,11 @@ pub chain-both : (c : Content) (r : Reading) (xs ys : List Item) → Chain c r x
 chain-both c r [] ys a b = b
 chain-both c r (x ∷ xs) ys a b = (a.0, chain-both c (with_item r x) xs ys a.1 b)
 
+pub chain-first : (c : Content) (r : Reading) (xs ys : List Item) → Chain c r (xs ++ ys)
+    → Chain c r xs
+chain-first c r [] ys chain = tt
+chain-first c r (x ∷ xs) ys chain = (chain.0, chain-first c (with_item r x) xs ys chain.1)
+
 -- ---- their bytes
 
 abbrev pub HasBytes : Content → ℕ → List Item → Type 0

@@ -12,4 +12,5 @@ pub mod Heads
 pub mod Steps
 pub mod Ends
 pub mod Rewrites
+pub mod Syncs
 pub mod Theorems

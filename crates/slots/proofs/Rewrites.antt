@@ -7,13 +7,13 @@ use Rattle.slots.specs.declared.saving.Slots.{Slots}
 use Rattle.slots.specs.declared.saving.Target.{Target}
 use Rattle.slots.specs.declared.rewrite.Copying.{Copying}
 use Rattle.slots.specs.declared.rewrite.Rewrite.{Rewrite}
-use Rattle.slots.specs.Decisions.{is_idle, may_copy, may_end, may_rewrite, may_write, other, value_size}
-use Rattle.slots.specs.Beside.{all_written, bytes_of, copies_of, last_seal, size_of, without_head}
-use Rattle.slots.specs.Disk.{image, put, synced_after, with_write, Cell, Content, Entry, Fates, File, Item, Of, Other, Reading, Value, Write}
+use Rattle.slots.specs.Decisions.{copying, is_idle, may_copy, may_end, may_rewrite, may_write, other, value_place, value_size}
+use Rattle.slots.specs.Beside.{all_written, bytes_of, copies_of, head_of, last_seal, size_of, without_head}
+use Rattle.slots.specs.Disk.{first_read, image, put, synced_after, with_write, Cell, Content, Entry, Fates, File, Item, Of, Other, Reading, Value, Write}
 use Rattle.slots.specs.Disk as disk
 use Rattle.slots.specs.Runs.{done_by, new_beside, new_copies, rests, settles, step, value_of, with_file, writes, writes_copies, writes_value, Beside, Doing, Folder, GiveUp, Rests, StartRewrite, WritesCopies, WritesValue}
 use Rattle.slots.proofs.Body.{body-first, body-more, value-of-bytes, IsBody}
-use Rattle.slots.proofs.Copies.{copied, copies-size, parts, tail-both, tail-size, written-known, AreNext, Copied, GoOn, Parts, last_number, last_save}
+use Rattle.slots.proofs.Copies.{copied, copies-size, next-seal, parts, tail-both, tail-size, written-known, AreNext, Copied, GoOn, Parts, last_number, last_save}
 use Rattle.slots.proofs.Disk.{image-makes, outside-below, put-makes, IsWhole, Makes}
 use Rattle.slots.proofs.Openings.{last-good}
 use Rattle.slots.proofs.Reading.{all_read, begins-together, tail, tail-base, tail-end, tail-seal, Begins, GoesTogether, IsKnown}
@@ -21,24 +21,24 @@ use Rattle.slots.proofs.Saves.{sound-body, sound-fresh, synced, BringsBody}
 use Rattle.slots.proofs.Sound.{last_read, under_of, view_of, Adds, All, AtCopies, AtRest, AtStart, AtValue, Ends, Good, Holds, IsCopying, IsReady, IsSound, IsStarted, IsTied, IsValue, LeadsTo, Leaves, Part, Reached, Replaces, Sound, Tops, Under, View, Works}
 use Rattle.slots.proofs.Steps.{changed, file-beside, Two}
 
-none-some : (o : Option Beside) (b : Beside) → o ≡ None → o ≡ Some b → ⊥
+pub none-some : (o : Option Beside) (b : Beside) → o ≡ None → o ≡ Some b → ⊥
 none-some o b e f = absurd cc
 
 -- ---- what a rewrite changes
 
 -- Another file beside, more seals, and how far the rewrite is.
-record News (h : Folder) (s : IsSound h) (b : Beside) : Type 0 where
-  file : File
-  fresh : ℕ
-  older : h.fresh ≤ fresh
-  seal : ℕ
-  brings : BringsBody (record (view_of h) { fresh = fresh })
+pub record News (h : Folder) (s : IsSound h) (b : Beside) : Type 0 where
+  pub file : File
+  pub fresh : ℕ
+  pub older : h.fresh ≤ fresh
+  pub seal : ℕ
+  pub brings : BringsBody (record (view_of h) { fresh = fresh })
       (sound-fresh (view_of h) s.all.holds.sound fresh older) file seal
-  from : b.state.from ≡ h.slots.counts
-  reached : Reached
-  leads : LeadsTo h.stored (last_read s.all.holds.sound).last.number h.slots.end reached b.rest
-  below : reached.seal < fresh
-  part : Part file h.slots.counts (record b { rest = [] }) reached
+  pub from : b.state.from ≡ h.slots.counts
+  pub reached : Reached
+  pub leads : LeadsTo h.stored (last_read s.all.holds.sound).last.number h.slots.end reached b.rest
+  pub below : reached.seal < fresh
+  pub part : Part file h.slots.counts (record b { rest = [] }) reached
 
 news-all : (h : Folder) (s : IsSound h) (old b : Beside) → h.beside ≡ Some old
     → (n : News h s b)
@@ -93,11 +93,11 @@ news-all h s old b is n = record {
         sound-body (record (view_of h) { fresh = n.fresh })
         (sound-fresh (view_of h) s.all.holds.sound n.fresh n.older) n.file n.seal short n.brings
 
-abbrev with_news : Folder → ℕ → File → Beside → ℕ → Folder
+abbrev pub with_news : Folder → ℕ → File → Beside → ℕ → Folder
 with_news h slot f b fresh =
     record (with_file h slot f) { beside = Some b; fresh = fresh }
 
-news-sound : (h : Folder) (s : IsSound h) (old b : Beside) → h.beside ≡ Some old
+pub news-sound : (h : Folder) (s : IsSound h) (old b : Beside) → h.beside ≡ Some old
     → (n : News h s b)
     → (slot : ℕ)
     → slot ≡ other h.slots.counts
@@ -258,3 +258,478 @@ give-up-sound h s = record {
       let x = s.whole e in
       (x.0, x.1, refl);
 }
+
+-- ---- its value is written
+
+pub value-not-entry : Value ≡ Entry → ⊥
+value-not-entry e = cc
+
+pub value-not-mark : Value ≡ disk.Mark → ⊥
+value-not-mark e = cc
+
+pub none-of : (n : ℕ) (x : Item) → Other ≡ Of x n → ⊥
+none-of n x e = cc
+
+-- no byte of a value that is new is there
+value-cell : (v : Item) (number fresh k n : ℕ) (c d : Content) (x : Item)
+    → Makes (without_head v) c d
+    → ((k n : ℕ) (x : Item) → c k ≡ Of x n → Good number fresh x)
+    → d k ≡ Of x n
+    → (Good number fresh x) ⊎ (v ≡ x)
+value-cell v number fresh k n c d x makes old is =
+    ⊎_elim {C = Good number fresh x ⊎ (v ≡ x)} (λ (same : d k ≡ c k). inl (old k n x (sym same ∙ is)))
+    (λ (new : (d k ≡ (without_head v).bytes k) ⊎ (d k ≡ Other)).
+    ⊎_elim {C = Good number fresh x ⊎ (v ≡ x)}
+    (λ (this : d k ≡ (without_head v).bytes k). inr (value-of-bytes v k n x (sym this ∙ is)))
+    (λ (torn : d k ≡ Other). absurd (none-of n x (sym torn ∙ is))) new)
+    (makes k).cases
+
+value-news : (h : Folder) (s : IsSound h) (b : Beside) (bytes : ℕ) (place : Target)
+    → h.beside ≡ Some b
+    → (r : Reached)
+    → IsStarted (record b { rest = [] }) r
+    → LeadsTo h.stored (last_read s.all.holds.sound).last.number h.slots.end r b.rest
+    → (b.state.from ≡ h.slots.counts) × (leb bytes MOST ≡ true)
+    × (place ≡ record { offset = 0; number = b.state.number; before = 0; slot = other b.state.from })
+    → News h s
+    (record b {
+      value = value_of h b bytes place;
+      doing = WritesValue bytes;
+      write = without_head (value_of h b bytes place);
+      to = place.slot;
+    })
+unfolding sound-fresh
+value-news h s b bytes place is r started leads with_it = record {
+  file = with_write z.beside w;
+  fresh = h.fresh + 1;
+  older = omega arith;
+  seal = v.seal;
+  brings = record {
+    write = w;
+    back = λ f. f;
+    makes = makes;
+    good = λ k n x e. subst (Good number (h.fresh + 1)) (value-of-bytes v k n x e) good;
+    whose = λ k n x e. ap (λ (i : Item). i.base) (sym (value-of-bytes v k n x e));
+    headless = λ f n x e. headless f n x e;
+  };
+  from = with_it.0;
+  reached = record { save = r.save; number = r.number; from = r.from; seal = h.fresh };
+  leads = record { on = leads.on; save = leads.save; last = leads.last; size = leads.size };
+  below = omega arith;
+  part =
+      AtValue
+      (record {
+        length = bytes;
+        none = started.none;
+        doing = refl;
+        end = started.end;
+        fits = with_it.1;
+        to = ap (λ (t : Target). t.slot) with_it.2 ∙ ap other with_it.0;
+        write = refl;
+        own = refl;
+        kind = refl;
+        size = refl;
+        soon = λ f.
+            body-first v (image f (with_write z.beside w)) refl refl large
+            (λ k n y e kind base.
+            ⊎_elim {C = ⊥}
+            (λ (g : Good number h.fresh y).
+            let low = g.base in
+            omega (arith, low, base))
+            (λ (it : v ≡ y). value-not-entry (ap (λ (i : Item). i.kind) it ∙ kind))
+            (value-cell v number h.fresh k n (image f z.beside) (image f (with_write z.beside w)) y
+            (makes f) (k0.good_beside f) e));
+        save = started.save;
+        number = started.number ∙ ap (λ (t : Target). t.number) (sym with_it.2);
+        from = started.from;
+        seal = refl;
+      });
+}
+  where
+    z : View
+    z = view_of h
+    k0 : Sound z
+    k0 = s.all.holds.sound
+    number : ℕ
+    number = (last_read k0).last.number
+    v : Item
+    v = value_of h b bytes place
+    w : Write
+    w = without_head v
+    large : HEAD < v.size
+    large = omega arith
+    makes : (f : Fates) → Makes w (image f z.beside) (image f (with_write z.beside w))
+    makes f = image-makes f z.beside.synced w z.beside.writes
+    good : Good number (h.fresh + 1) v
+    good = record {
+      seal = omega arith;
+      base = omega arith;
+      entry = λ e. absurd (value-not-entry e);
+      mark = λ e. absurd cc;
+    }
+    headless : (f : Fates) (n : ℕ) (x : Item) → image f (with_write z.beside w) 0 ≡ Of x n
+        → x.base ≢ v.seal
+    headless f n x e base =
+        ⊎_elim {C = ⊥}
+        (λ (same : image f (with_write z.beside w) 0 ≡ image f z.beside 0).
+        let low = (k0.good_beside f 0 n x (sym same ∙ e)).base in
+        omega (arith, low, base))
+        (λ (new : (image f (with_write z.beside w) 0 ≡ Other)
+        ⊎ (image f (with_write z.beside w) 0 ≡ Other)).
+        ⊎_elim {C = ⊥}
+        (λ (this : image f (with_write z.beside w) 0 ≡ Other). none-of n x (sym this ∙ e))
+        (λ (torn : image f (with_write z.beside w) 0 ≡ Other). none-of n x (sym torn ∙ e)) new)
+        (makes f 0).cases
+
+-- a rewrite at rest has no value yet, or has one
+pub resting : (b : Beside) → rests b.doing ≡ true → (length : ℕ)
+    → (b.doing ≡ WritesValue length → ⊥) × (b.doing ≡ WritesCopies → ⊥)
+resting b e length =
+    (
+      (λ f. wrong (sym e ∙ ap rests f)),
+      (λ f. wrong (sym e ∙ ap rests f)),
+    )
+  where
+    wrong : true ≡ false → ⊥
+    wrong e = cc
+
+pub tied-end : (g : File) (b : Beside) (r : Reached) → IsReady g b r → 0 < b.state.end
+tied-end g b r ready =
+    let large = ready.tied.large in
+    let end = ready.tied.end in
+    let above = tail-end (first_of b.value) b.copies in
+    omega (arith, large, end, above)
+  where
+    first_of : Item → Reading
+    first_of v = first_read v
+
+pub value-sound : (h : Folder) (s : IsSound h) (b : Beside) (bytes : ℕ) → h.beside ≡ Some b
+    → rests b.doing ≡ true
+    → IsSound (writes_value h b bytes (value_place b.state bytes))
+unfolding value-news
+value-sound h s b bytes is rest = go (may_write b.state bytes) refl
+  where
+    place : Target
+    place = record { offset = 0; number = b.state.number; before = 0; slot = other b.state.from }
+    w : Works (view_of h) s.all.holds.sound h.slots.counts b
+    w = s.all.works b is
+    P : Type 0
+    P = IsSound (writes_value h b bytes (Some place))
+    new : Beside
+    new =
+        record b {
+          value = value_of h b bytes place;
+          doing = WritesValue bytes;
+          write = without_head (value_of h b bytes place);
+          to = place.slot;
+        }
+    by-part : (eqb b.state.end 0 ≡ true) → (leb bytes MOST ≡ true)
+        → Part (view_of h).beside h.slots.counts (record b { rest = [] }) w.reached
+        → P
+    by-part first fits (AtStart started) =
+        let n = value-news h s b bytes place is w.reached started w.leads (w.from, fits, refl) in
+        let there = ap other w.from in
+        subst (λ (f : File). IsSound (with_news h place.slot f new (h.fresh + 1)))
+        (ap (λ (i : ℕ). with_write (h.files i) (without_head (value_of h b bytes place))) (sym there))
+        (news-sound h s b new is n place.slot there)
+    by-part first fits (AtRest ready) =
+        let none = eqb-true b.state.end 0 first in
+        let some = tied-end (view_of h).beside (record b { rest = [] }) w.reached ready in
+        absurd (omega (arith, none, some))
+    by-part first fits (AtValue v) = absurd ((resting b rest v.length).0 v.doing)
+    by-part first fits (AtCopies c) = absurd ((resting b rest 0).1 c.doing)
+    go : (t : Bool) → may_write b.state bytes ≡ t
+        → IsSound (writes_value h b bytes (cond t (Some place) None))
+    go true e =
+        let both = and_parts (eqb b.state.end 0) (leb bytes MOST) e in
+        by-part both.0 both.1 w.part
+    go false e = s
+
+-- ---- copies are written
+
+pub go-grows : (save number : ℕ) (xs : List Item) → GoOn save number xs
+    → number ≤ last_number number xs
+go-grows save number [] all = omega arith
+go-grows save number (x ∷ xs) all =
+    let more = go-grows x.save x.number xs all.1 in
+    let first = all.0.more in
+    omega (arith, more, first)
+
+-- what a rewrite that is ready knows of its copies
+pub record Ahead (h : Folder) (s : IsSound h) (b : Beside) (es : List Item) : Type 0 where
+  pub copies : Copied (all_read b.value b.copies) h.fresh es (new_copies h b es)
+  pub base : (all_read b.value b.copies).last.base ≡ b.value.seal
+  pub together : GoesTogether (all_read b.value b.copies)
+  pub value : b.value.seal ≤ (all_read b.value b.copies).last.seal
+  pub above : b.value.size ≤ (all_read b.value b.copies).end
+
+pub ahead-of : (h : Folder) (s : IsSound h) (b : Beside) (es : List Item) (r : Reached)
+    → IsReady (view_of h).beside (record b { rest = [] }) r
+    → r.seal < h.fresh
+    → GoOn r.save r.number es
+    → Ahead h s b es
+ahead-of h s b es r ready below on = record {
+  copies =
+      subst (λ (seal : ℕ). Copied R h.fresh es (copies_of b.value.seal seal h.fresh es))
+      (sym ready.tied.seal)
+      (subst (λ (base : ℕ). Copied R h.fresh es (copies_of base R.last.seal h.fresh es)) base
+      (copied R h.fresh es together (subst (λ (n : ℕ). n < h.fresh) ready.seal below)
+      (subst (λ (n : ℕ). GoOn R.last.save n es) ready.number
+      (subst (λ (n : ℕ). GoOn n r.number es) ready.save on))));
+  base = base;
+  together = together;
+  value =
+      let grows = tail-seal (put (head_of b.value) c) (first_read b.value) b.copies body.begins.chain in
+      omega (arith, grows);
+  above = tail-end (first_read b.value) b.copies;
+}
+  where
+    R : Reading
+    R = all_read b.value b.copies
+    c : Content
+    c = image (λ i k. disk.Lost) (view_of h).beside
+    body : IsBody c b.value b.copies
+    body = ready.body (λ i k. disk.Lost)
+    base : R.last.base ≡ b.value.seal
+    base =
+        tail-base (put (head_of b.value) c) (first_read b.value) b.copies body.begins.chain
+        ∙ body.begins.own
+    together : GoesTogether R
+    together = begins-together (put (head_of b.value) c) b.value b.copies body.begins
+
+-- what brings items that go on behind a rewrite's copies
+pub items-bring : (z : View) (s : Sound z) (b : Beside) (g : File) (xs : List Item)
+    → (R : Reading)
+    → R ≡ all_read b.value b.copies
+    → IsTied b
+    → (AreNext R xs) × (R.last.base ≡ b.value.seal) × (R.found.number ≡ R.last.number)
+    × (b.value.seal ≤ R.last.seal)
+    × ((tail R xs).last.seal < z.fresh)
+    × ((tail R xs).last.number ≤ (last_read s).last.number + 1)
+    → ((f : Fates) → Makes (all_written xs b.state.end) (image f z.beside) (image f g))
+    → ((f : Fates) (n : ℕ) (x : Item) → image f z.beside 0 ≡ Of x n → x.base ≢ b.value.seal)
+    → BringsBody z s g b.value.seal
+items-bring z s b g xs R is tied facts makes headless = record {
+  write = all_written xs b.state.end;
+  back = λ f. f;
+  makes = makes;
+  good = λ k n x e.
+      let known = written-known R xs b.state.end k n x facts.2 facts.0 e in
+      let base = known.1 in
+      let own = facts.1 in
+      let first = facts.3 in
+      let last = facts.4 in
+      let number = facts.5 in
+      let seal = known.2.seal in
+      let low = known.2.number in
+      let newer = next-seal R xs facts.0 in
+      let kind = known.0 in
+      record {
+        seal = omega (arith, seal, last);
+        base = omega (arith, base, own, first, last, newer);
+        entry = λ e. omega (arith, low, number);
+        mark = λ e. absurd (not-mark (sym kind ∙ e));
+      };
+  whose = λ k n x e.
+      (written-known R xs b.state.end k n x facts.2 facts.0 e).1 ∙ facts.1;
+  headless = λ f n x e.
+      headless f n x
+      (sym
+      ((makes f 0).outside
+      (outside-below (all_written xs b.state.end) 0 some))
+      ∙ e);
+}
+  where
+    not-mark : Entry ≡ disk.Mark → ⊥
+    not-mark e = cc
+    some : 0 < b.state.end
+    some =
+        let large = tied.large in
+        let end = tied.end in
+        let above = tail-end (first_read b.value) b.copies in
+        omega (arith, large, end, above)
+
+copies-news : (h : Folder) (s : IsSound h) (b : Beside) (count : ℕ)
+    → h.beside ≡ Some b
+    → (r : Reached)
+    → IsReady (view_of h).beside (record b { rest = [] }) r
+    → LeadsTo h.stored (last_read s.all.holds.sound).last.number h.slots.end r b.rest
+    → (b.state.from ≡ h.slots.counts) × (r.seal < h.fresh)
+    × (may_copy b.state (b.state.from_end + size_of (take count b.rest)) ≡ true)
+    → News h s
+    (record b {
+      doing = WritesCopies;
+      write = all_written (new_copies h b (take count b.rest)) b.state.end;
+      to = other b.state.from;
+      rest = drop count b.rest;
+      next = new_copies h b (take count b.rest);
+      next_of = take count b.rest;
+    })
+unfolding sound-fresh
+copies-news h s b count is r ready leads with_it = record {
+  file = g;
+  fresh = fresh;
+  older = omega arith;
+  seal = b.value.seal;
+  brings =
+      items-bring (record z { fresh = fresh }) (sound-fresh z k0 fresh (omega arith)) b g xs R refl
+      tied
+      (C.next, a.base, a.together.number, a.value, C.below, number_low)
+      makes
+      (λ f n x e. (ready.body f).headless n x e);
+  from = with_it.0;
+  reached = record {
+    save = T.last.save;
+    number = T.last.number;
+    from = b.state.from_end + size_of es;
+    seal = T.last.seal;
+  };
+  leads = record {
+    on =
+        subst (λ (n : ℕ). GoOn n T.last.number (drop count b.rest)) (sym save)
+        (subst (λ (n : ℕ). GoOn (last_save r.save es) n (drop count b.rest)) (sym number)
+        p.rest_on);
+    save =
+        ap (λ (n : ℕ). last_save n (drop count b.rest)) save ∙ p.save_is ∙ leads.save;
+    last =
+        ap (λ (n : ℕ). last_number n (drop count b.rest)) number ∙ p.number_is ∙ leads.last;
+    size =
+        let whole = leads.size in
+        let sum = p.size in
+        let from = ready.from in
+        omega (arith, whole, sum, from);
+  };
+  below = C.below;
+  part =
+      AtCopies
+      (record {
+        doing = refl;
+        tied = record {
+          end = tied.end;
+          seal = tied.seal;
+          base = tied.base;
+          large = tied.large;
+        };
+        fits = with_it.2;
+        to = ap other with_it.0;
+        write = ap (all_written xs) tied.end;
+        next = C.next;
+        soon = λ f.
+            body-more b.value b.copies xs (image f z.beside) (image f g) tied.large (ready.body f)
+            C.next
+            (subst (λ (n : ℕ). Makes (all_written xs n) (image f z.beside) (image f g)) tied.end
+            (makes f));
+        size = copies-size b.value.seal b.state.seal h.fresh es;
+        save = ap (λ (x : Reading). x.last.save) (sym both);
+        number = ap (λ (x : Reading). x.last.number) (sym both);
+        from = refl;
+        seal = ap (λ (x : Reading). x.last.seal) (sym both);
+        last =
+            ap (λ (n : ℕ). last_seal n xs) tied.seal
+            ∙ sym C.seal
+            ∙ ap (λ (x : Reading). x.last.seal) (sym both);
+      });
+}
+  where
+    z : View
+    z = view_of h
+    k0 : Sound z
+    k0 = s.all.holds.sound
+    es : List Item
+    es = take count b.rest
+    xs : List Item
+    xs = new_copies h b es
+    fresh : ℕ
+    fresh = h.fresh + length es
+    g : File
+    g = with_write z.beside (all_written xs b.state.end)
+    R : Reading
+    R = all_read b.value b.copies
+    T : Reading
+    T = tail R xs
+    p : Parts r.save r.number es (drop count b.rest) b.rest
+    p = parts count r.save r.number b.rest leads.on
+    a : Ahead h s b es
+    a = ahead-of h s b es r ready with_it.1 p.first_on
+    C : Copied R h.fresh es xs
+    C = a.copies
+    tied : IsTied b
+    tied = record {
+      end = ready.tied.end;
+      seal = ready.tied.seal;
+      base = ready.tied.base;
+      large = ready.tied.large;
+    }
+    both : all_read b.value (b.copies ++ xs) ≡ T
+    both = tail-both (first_read b.value) b.copies xs
+    save : T.last.save ≡ last_save r.save es
+    save = C.save ∙ ap (λ (n : ℕ). last_save n es) (sym ready.save)
+    number : T.last.number ≡ last_number r.number es
+    number = C.number ∙ ap (λ (n : ℕ). last_number n es) (sym ready.number)
+    number_low : T.last.number ≤ (last_read k0).last.number + 1
+    number_low =
+        let grows = go-grows (last_save r.save es) (last_number r.number es) (drop count b.rest) p.rest_on in
+        let last = leads.last in
+        let same = p.number_is in
+        omega (arith, grows, last, same, number)
+    makes : (f : Fates) → Makes (all_written xs b.state.end) (image f z.beside) (image f g)
+    makes f = image-makes f z.beside.synced (all_written xs b.state.end) z.beside.writes
+
+pub copies-sound : (h : Folder) (s : IsSound h) (b : Beside) (count : ℕ) → h.beside ≡ Some b
+    → rests b.doing ≡ true
+    → IsSound
+    (writes_copies h b (take count b.rest) (drop count b.rest)
+    (copying b.state (b.state.from_end + size_of (take count b.rest))))
+unfolding copies-news
+copies-sound h s b count is rest = go (may_copy b.state end) refl
+  where
+    end : ℕ
+    end = b.state.from_end + size_of (take count b.rest)
+    place : Copying
+    place = record {
+      length = end - b.state.from_end;
+      from = b.state.from_end;
+      to = b.state.end;
+      from_slot = b.state.from;
+      to_slot = other b.state.from;
+    }
+    w : Works (view_of h) s.all.holds.sound h.slots.counts b
+    w = s.all.works b is
+    new : Beside
+    new =
+        record b {
+          doing = WritesCopies;
+          write = all_written (new_copies h b (take count b.rest)) b.state.end;
+          to = other b.state.from;
+          rest = drop count b.rest;
+          next = new_copies h b (take count b.rest);
+          next_of = take count b.rest;
+        }
+    P : Type 0
+    P = IsSound (writes_copies h b (take count b.rest) (drop count b.rest) (Some place))
+    by-part : (may_copy b.state end ≡ true)
+        → Part (view_of h).beside h.slots.counts (record b { rest = [] }) w.reached
+        → P
+    by-part fits (AtStart started) =
+        let some =
+        eqb-false b.state.end 0
+        (not-true (eqb b.state.end 0) (and_parts _ _ (and_parts _ _ fits).0).0) in
+        absurd (some started.end)
+    by-part fits (AtRest ready) =
+        let n = copies-news h s b count is w.reached ready w.leads (w.from, w.below, fits) in
+        let there = ap other w.from in
+        subst
+        (λ (f : File). IsSound (with_news h place.to_slot f new (h.fresh + length (take count b.rest))))
+        (ap
+        (λ (i : ℕ).
+        with_write (h.files i) (all_written (new_copies h b (take count b.rest)) b.state.end))
+        (sym there))
+        (news-sound h s b new is n place.to_slot there)
+    by-part fits (AtValue v) = absurd ((resting b rest v.length).0 v.doing)
+    by-part fits (AtCopies c) = absurd ((resting b rest 0).1 c.doing)
+    go : (t : Bool) → may_copy b.state end ≡ t
+        → IsSound
+        (writes_copies h b (take count b.rest) (drop count b.rest) (cond t (Some place) None))
+    go true e = by-part e w.part
+    go false e = s
+

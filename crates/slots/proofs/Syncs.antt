@@ -1,0 +1,319 @@
+-- What a rewrite has written is synced, and it ends with an entry.
+use Rattle.std.proofs.Common.{◌≡◌, ◌≢◌, ◌<◌, ◌≤◌, ◌+◌, ◌-◌, ℕ, zero, suc, Bool, cond, true, false, ◌&&◌, List, [], ◌∷◌, ◌++◌, Option, Some, None, length, take, drop, refl, sym, ap, ◌∙◌, subst, arith, ◌⊎◌, inl, inr, ⊎_elim, eqb, leb, not}
+use Rattle.std.proofs.lemmas.Bool.{and_from, and_parts, eq-eqb, eqb-false, eqb-true, not-true}
+use Rattle.std.specs.List.{Contains}
+use Rattle.slots.specs.declared.saving.TheConstants.{DUE, ENTRY, HEAD, IDLE, LAST, MOST, NUMBERS, TAIL, TOP, UNSURE, WHOLE}
+use Rattle.slots.specs.declared.saving.Slots.{Slots}
+use Rattle.slots.specs.declared.saving.Target.{Target}
+use Rattle.slots.specs.declared.rewrite.Copying.{Copying}
+use Rattle.slots.specs.declared.rewrite.Rewrite.{Rewrite}
+use Rattle.slots.specs.Decisions.{copying, is_idle, may_copy, may_end, may_rewrite, may_write, other, value_place, value_size}
+use Rattle.slots.specs.Beside.{all_written, bytes_of, copies_of, head_of, last_seal, size_of, without_head}
+use Rattle.slots.specs.Disk.{first_read, image, put, synced_after, with_write, Cell, Content, Entry, Fates, File, Item, Of, Other, Reading, Value, Write}
+use Rattle.slots.specs.Disk as disk
+use Rattle.slots.specs.Runs.{done_by, new_beside, new_copies, rests, settles, step, value_of, with_file, writes, writes_copies, writes_value, Beside, Doing, Folder, GiveUp, Rests, StartRewrite, WritesCopies, WritesValue}
+use Rattle.slots.proofs.Body.{body-first, body-more, value-of-bytes, IsBody}
+use Rattle.slots.proofs.Copies.{chain-first, copied, copies-size, next-seal, parts, tail-both, tail-size, written-known, AreNext, Copied, GoOn, Parts, last_number, last_save}
+use Rattle.slots.proofs.Disk.{image-makes, outside-below, put-makes, IsWhole, Makes}
+use Rattle.slots.proofs.Openings.{last-good}
+use Rattle.slots.proofs.Reading.{all_read, begins-together, tail, tail-base, tail-end, tail-seal, together, together-first, Begins, Chain, GoesTogether, IsKnown}
+use Rattle.slots.proofs.Saves.{sound-body, sound-fresh, synced, BringsBody}
+use Rattle.slots.proofs.Sound.{last_read, under_of, view_of, Adds, All, AtCopies, AtRest, AtStart, AtValue, Ends, Good, Holds, IsCopying, IsReady, IsSound, IsStarted, IsTied, IsValue, LeadsTo, Leaves, Part, Reached, Replaces, Sound, Tops, Under, View, Works}
+use Rattle.slots.proofs.Steps.{changed, file-beside, Two}
+
+use Rattle.slots.proofs.Rewrites.{go-grows, none-some, resting, tied-end, ahead-of, items-bring, news-sound, value-not-entry, value-not-mark, with_news, Ahead, News}
+
+-- ---- what was written is synced
+
+value-synced : (h : Folder) (s : IsSound h) (b : Beside) (fates : Fates)
+    → h.beside ≡ Some b
+    → (r : Reached)
+    → IsValue (view_of h).beside h.slots.counts (record b { rest = [] }) r
+    → LeadsTo h.stored (last_read s.all.holds.sound).last.number h.slots.end r b.rest
+    → (b.state.from ≡ h.slots.counts) × (r.seal < h.fresh)
+    → (length : ℕ)
+    → b.value.size ≡ value_size length
+    → News h s
+    (record b {
+      state = record (b.state) {
+          base = b.value.seal;
+          seal = b.value.seal;
+          length = length;
+          end = value_size length;
+        };
+      doing = Rests;
+    })
+unfolding sound-fresh
+value-synced h s b fates is r v leads with_it length size = record {
+  file = synced_after w fates z.beside;
+  fresh = h.fresh;
+  older = omega arith;
+  seal = b.value.seal;
+  brings = record {
+    write = w;
+    back = λ f. fates;
+    makes = λ f. put-makes w (image fates z.beside);
+    good = λ k n x e. subst (Good number h.fresh) (value-of-bytes b.value k n x e) good;
+    whose = λ k n x e.
+        ap (λ (i : Item). i.base) (sym (value-of-bytes b.value k n x e)) ∙ v.own;
+    headless = λ f n x e. (v.soon fates).headless n x e;
+  };
+  from = with_it.0;
+  reached = r;
+  leads = leads;
+  below = with_it.1;
+  part =
+      AtRest
+      (record {
+        rests = refl;
+        tied = record {
+          end = sym size ∙ ap (λ (ys : List Item). (all_read b.value ys).end) (sym v.none);
+          seal = ap (λ (ys : List Item). (all_read b.value ys).last.seal) (sym v.none);
+          base = refl;
+          large = omega (arith, size);
+        };
+        body = λ f.
+            subst (IsBody (put w (image fates z.beside)) b.value) (sym v.none) (v.soon fates);
+        save =
+            v.save ∙ ap (λ (ys : List Item). (all_read b.value ys).last.save) (sym v.none);
+        number =
+            v.number ∙ ap (λ (ys : List Item). (all_read b.value ys).last.number) (sym v.none);
+        from = v.from;
+        seal =
+            v.seal ∙ ap (λ (ys : List Item). (all_read b.value ys).last.seal) (sym v.none);
+      });
+}
+  where
+    z : View
+    z = view_of h
+    number : ℕ
+    number = (last_read s.all.holds.sound).last.number
+    w : Write
+    w = without_head b.value
+    good : Good number h.fresh b.value
+    good =
+        let below = with_it.1 in
+        let seal = v.seal in
+        let own = v.own in
+        let kind = v.kind in
+        record {
+          seal = omega (arith, below, seal);
+          base = omega (arith, below, seal, own);
+          entry = λ e. absurd (value-not-entry (sym kind ∙ e));
+          mark = λ e. absurd (value-not-mark (sym kind ∙ e));
+        }
+
+copies-synced : (h : Folder) (s : IsSound h) (b : Beside) (fates : Fates)
+    → h.beside ≡ Some b
+    → (r : Reached)
+    → IsCopying (view_of h).beside h.slots.counts (record b { rest = [] }) r
+    → LeadsTo h.stored (last_read s.all.holds.sound).last.number h.slots.end r b.rest
+    → (b.state.from ≡ h.slots.counts) × (r.seal < h.fresh)
+    → News h s
+    (record b {
+      state = record (b.state) {
+          from_end = b.state.from_end + size_of b.next_of;
+          from_seal = last_seal b.state.from_seal b.next_of;
+          seal = last_seal b.state.seal b.next;
+          end = b.state.end
+              + (b.state.from_end + size_of b.next_of - b.state.from_end);
+        };
+      copies = b.copies ++ b.next;
+      doing = Rests;
+    })
+unfolding sound-fresh
+copies-synced h s b fates is r c leads with_it = record {
+  file = synced_after w fates z.beside;
+  fresh = h.fresh;
+  older = omega arith;
+  seal = b.value.seal;
+  brings = record {
+    write = w;
+    back = λ f. fates;
+    makes = λ f. put-makes w (image fates z.beside);
+    good = λ k n x e.
+        let known = written-known R b.next R.end k n x number c.next e in
+        let base = known.1 in
+        let last = with_it.1 in
+        let seal = known.2.seal in
+        let low = known.2.number in
+        let kind = known.0 in
+        let newer = next-seal R b.next c.next in
+        let first = tail-seal (put (head_of b.value) d0) (first_read b.value) b.copies chain in
+        let same = c.seal in
+        let both = ap (λ (x : Reading). x.last.seal) all in
+        let numbers = ap (λ (x : Reading). x.last.number) all in
+        let reached = c.number in
+        let own = base_own in
+        record {
+          seal = omega (arith, seal, last, same, both);
+          base = omega (arith, base, own, first, newer, last, same, both);
+          entry = λ e. omega (arith, low, numbers, reached, number_low);
+          mark = λ e. absurd (not-mark (sym kind ∙ e));
+        };
+    whose = λ k n x e.
+        (written-known R b.next R.end k n x number c.next e).1 ∙ base_own;
+    headless = λ f n x e. (c.soon fates).headless n x e;
+  };
+  from = with_it.0;
+  reached = r;
+  leads = leads;
+  below = with_it.1;
+  part =
+      AtRest
+      (record {
+        rests = refl;
+        tied = record {
+          end =
+              let size = c.size in
+              let more = tail-size R b.next in
+              let end = c.tied.end in
+              let both = ap (λ (x : Reading). x.end) all in
+              omega (arith, size, more, end, both);
+          seal = c.last;
+          base = c.tied.base;
+          large = c.tied.large;
+        };
+        body = λ f. c.soon fates;
+        save = c.save;
+        number = c.number;
+        from = c.from;
+        seal = c.seal;
+      });
+}
+  where
+    not-mark : Entry ≡ disk.Mark → ⊥
+    not-mark e = cc
+    z : View
+    z = view_of h
+    R : Reading
+    R = all_read b.value b.copies
+    w : Write
+    w = all_written b.next R.end
+    d0 : Content
+    d0 = put w (image fates z.beside)
+    body : IsBody d0 b.value (b.copies ++ b.next)
+    body = c.soon fates
+    all : all_read b.value (b.copies ++ b.next) ≡ tail R b.next
+    all = tail-both (first_read b.value) b.copies b.next
+    chain : Chain (put (head_of b.value) d0) (first_read b.value) b.copies
+    chain =
+        chain-first (put (head_of b.value) d0) (first_read b.value) b.copies b.next
+        body.begins.chain
+    base_own : R.last.base ≡ b.value.seal
+    base_own =
+        tail-base (put (head_of b.value) d0) (first_read b.value) b.copies chain ∙ body.begins.own
+    number : R.found.number ≡ R.last.number
+    number =
+        (together (put (head_of b.value) d0) (first_read b.value) b.copies
+        (together-first b.value) chain).number
+    number_low : r.number ≤ (last_read s.all.holds.sound).last.number + 1
+    number_low =
+        let grows = go-grows r.save r.number b.rest leads.on in
+        let last = leads.last in
+        omega (arith, grows, last)
+
+pub settle-sound : (h : Folder) (s : IsSound h) (b : Beside) (fates : Fates) → h.beside ≡ Some b
+    → IsSound (cond (rests b.doing) h (settles h b fates))
+unfolding value-synced copies-synced
+settle-sound h s b fates is = by-part w.part
+  where
+    w : Works (view_of h) s.all.holds.sound h.slots.counts b
+    w = s.all.works b is
+    F : Doing → Folder
+    F d =
+        cond (rests d) h
+        (record (with_file h b.to (synced_after b.write fates (h.files b.to))) {
+          beside = Some (done_by b d);
+        })
+    of-value : (length : ℕ) → (eqb b.state.end 0 && leb length MOST ≡ true)
+        → (v : IsValue (view_of h).beside h.slots.counts (record b { rest = [] }) w.reached)
+        → b.value.size ≡ value_size length
+        → IsSound (F (WritesValue length))
+    of-value length fits v size =
+        let n = value-synced h s b fates is w.reached v w.leads (w.from, w.below) length size in
+        subst
+        (λ (t : Bool).
+        IsSound
+        (record (with_file h b.to (synced_after b.write fates (h.files b.to))) {
+          beside = Some
+              (record b {
+                state = cond t
+                    (record (b.state) {
+                      base = b.value.seal;
+                      seal = b.value.seal;
+                      length = length;
+                      end = value_size length;
+                    })
+                    b.state;
+                doing = Rests;
+              });
+        }))
+        (sym fits)
+        (subst
+        (λ (x : Write).
+        IsSound
+        (with_news h b.to (synced_after x fates (h.files b.to)) (value_after length) h.fresh))
+        (sym v.write)
+        (subst
+        (λ (i : ℕ).
+        IsSound
+        (with_news h b.to (synced_after (without_head b.value) fates (h.files i))
+        (value_after length) h.fresh))
+        (sym v.to) (news-sound h s b (value_after length) is n b.to v.to)))
+      where
+        value_after : ℕ → Beside
+        value_after length =
+            record b {
+              state = record (b.state) {
+                  base = b.value.seal;
+                  seal = b.value.seal;
+                  length = length;
+                  end = value_size length;
+                };
+              doing = Rests;
+            }
+    of-copies : (c : IsCopying (view_of h).beside h.slots.counts (record b { rest = [] }) w.reached)
+        → IsSound (F WritesCopies)
+    of-copies c =
+        let n = copies-synced h s b fates is w.reached c w.leads (w.from, w.below) in
+        subst
+        (λ (t : Bool).
+        IsSound
+        (record (with_file h b.to (synced_after b.write fates (h.files b.to))) {
+          beside = Some
+              (record b { state = cond t state b.state; copies = b.copies ++ b.next; doing = Rests });
+        }))
+        (sym c.fits)
+        (subst
+        (λ (x : Write).
+        IsSound (with_news h b.to (synced_after x fates (h.files b.to)) new h.fresh)) (sym c.write)
+        (subst
+        (λ (i : ℕ).
+        IsSound
+        (with_news h b.to
+        (synced_after (all_written b.next (all_read b.value b.copies).end) fates (h.files i)) new
+        h.fresh))
+        (sym c.to) (news-sound h s b new is n b.to c.to)))
+      where
+        state : Rewrite
+        state =
+            record (b.state) {
+              from_end = b.state.from_end + size_of b.next_of;
+              from_seal = last_seal b.state.from_seal b.next_of;
+              seal = last_seal b.state.seal b.next;
+              end = b.state.end
+                  + (b.state.from_end + size_of b.next_of - b.state.from_end);
+            }
+        new : Beside
+        new = record b { state = state; copies = b.copies ++ b.next; doing = Rests }
+    by-part : Part (view_of h).beside h.slots.counts (record b { rest = [] }) w.reached
+        → IsSound (F b.doing)
+    by-part (AtStart started) = subst (λ (d : Doing). IsSound (F d)) (sym started.rests) s
+    by-part (AtRest ready) = subst (λ (d : Doing). IsSound (F d)) (sym ready.rests) s
+    by-part (AtValue v) =
+        subst (λ (d : Doing). IsSound (F d)) (sym v.doing)
+        (of-value v.length
+        (and_from (eqb b.state.end 0) (leb v.length MOST) (eq-eqb b.state.end 0 v.end) v.fits) v
+        v.size)
+    by-part (AtCopies c) = subst (λ (d : Doing). IsSound (F d)) (sym c.doing) (of-copies c)
