@@ -13,4 +13,5 @@ pub mod Steps
 pub mod Ends
 pub mod Rewrites
 pub mod Syncs
+pub mod Last
 pub mod Theorems

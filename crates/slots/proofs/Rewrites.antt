@@ -498,7 +498,7 @@ ahead-of h s b es r ready below on = record {
     together = begins-together (put (head_of b.value) c) b.value b.copies body.begins
 
 -- what brings items that go on behind a rewrite's copies
-pub items-bring : (z : View) (s : Sound z) (b : Beside) (g : File) (xs : List Item)
+unfoldable pub items-bring : (z : View) (s : Sound z) (b : Beside) (g : File) (xs : List Item)
     → (R : Reading)
     → R ≡ all_read b.value b.copies
     → IsTied b

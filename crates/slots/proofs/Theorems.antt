@@ -1,22 +1,27 @@
 -- The theorems, from what holds after any steps.
-use Rattle.std.proofs.Common.{◌≡◌, ◌≢◌, ◌<◌, ◌≤◌, ◌+◌, ◌-◌, ℕ, zero, suc, Bool, cond, true, false, List, [], ◌∷◌, get_or, refl, sym, ap, ◌∙◌, subst, arith, ◌⊎◌, inl, inr, ⊎_elim, eqb}
+use Rattle.std.proofs.Common.{◌≡◌, ◌≢◌, ◌<◌, ◌≤◌, ◌+◌, ◌-◌, ℕ, zero, suc, Bool, cond, true, false, List, [], ◌∷◌, Option, Some, None, drop, get_or, refl, sym, ap, ◌∙◌, subst, take, arith, ◌⊎◌, inl, inr, ⊎_elim, eqb}
 use Rattle.std.proofs.lemmas.Bool.{eq-eqb}
 use Rattle.std.specs.List.{Contains}
-use Rattle.slots.specs.declared.saving.TheConstants.{DUE, IDLE}
+use Rattle.slots.specs.declared.saving.TheConstants.{DUE, IDLE, LAST}
 use Rattle.slots.specs.declared.opening.Choice.{Choice}
 use Rattle.slots.specs.declared.opening.Choice.TheVariants as choice
 use Rattle.slots.specs.declared.opening.Found.{Found}
-use Rattle.slots.specs.Decisions.{other}
+use Rattle.slots.specs.Beside.{size_of}
+use Rattle.slots.specs.Decisions.{copying, last_place, other, value_place}
 use Rattle.slots.specs.Openings.{chosen, Counts}
 use Rattle.slots.specs.Disk.{image, put, written, Cell, Content, Entry, Fates, Item, Of, Other, Reading, Value}
-use Rattle.slots.specs.Runs.{choice_of, content, ends, goes_on, is_saving, new_folder, new_value, nothing, opens, reading_first, reading_second, run, step, AddEntry, Doubt, Fail, Folder, Open, PutMark, PutZeros, Replace, Sight, Step, Store, OfEveryRun}
+use Rattle.slots.specs.Runs.{all_copied, begins_last, by_rewrite, choice_of, content, ends, goes_on, if_rests, is_saving, new_folder, new_value, nothing, opens, reading_first, reading_second, run, step, rests, settles, tops, writes_copies, writes_value, AddEntry, AddLast, Beside, Doubt, Fail, Folder, GiveUp, Open, PutMark, PutZeros, Replace, Sight, StartRewrite, Step, Store, SyncBeside, WriteCopies, WriteValue, OfEveryRun}
 use Rattle.slots.specs.Laws.{FindsLast, FindsStored, NeverDamaged}
 use Rattle.slots.proofs.Disk.{put-makes, put-whole, IsWhole}
 use Rattle.slots.proofs.Openings.{chooses-first, chooses-second, outcome, read_beside, read_here, seen_beside, seen_here, Chosen, Outcome, Sights}
 use Rattle.slots.proofs.Reading.{all_read}
 use Rattle.slots.proofs.Saves.{reopened, reopened-last, sound-reopened}
-use Rattle.slots.proofs.Sound.{last_read, view_of, AreGood, Good, Holds, IsSound, Sound, View}
-use Rattle.slots.proofs.Steps.{add-sound, doubt-sound, fail-sound, mark-sound, replace-sound, store-sound, zeros-sound}
+use Rattle.slots.proofs.Sound.{last_read, view_of, All, AreGood, Good, Holds, IsSound, Sound, Under, View}
+use Rattle.slots.proofs.Ends.{doubt-sound, fail-sound, mark-sound, store-sound, zeros-sound}
+use Rattle.slots.proofs.Last.{last-sound}
+use Rattle.slots.proofs.Rewrites.{copies-sound, give-up-sound, start-sound, value-sound}
+use Rattle.slots.proofs.Steps.{add-sound, replace-sound}
+use Rattle.slots.proofs.Syncs.{settle-sound}
 
 -- ---- openings
 
@@ -44,20 +49,41 @@ abbrev view_at : Folder → ℕ → View
 view_at h slot =
     record (view_of h) { here = h.files slot; beside = h.files (other slot) }
 
+-- what is under way when a folder was opened
+abbrev under_in : Folder → (slot phase : ℕ) → Under
+under_in h slot phase = record {
+  phase = phase;
+  next_end = 0;
+  next_base = 0;
+  counts = slot;
+  to = h.to;
+  item = h.item;
+  headless = h.headless;
+  write = h.write;
+  beside = None;
+}
+
 reopened-holds : (h : Folder) (number : ℕ) (c d : Content) (r : Reading)
     → Chosen (view_of h) number c d r
     → AreGood number h.fresh c
     → AreGood number h.fresh d
-    → Holds (reopened (view_of h) c d r) (cond (eqb r.found.version 2) IDLE DUE) 0 h.item
-reopened-holds h number c d r chosen good_c good_d =
-    subst (λ (phase : ℕ). Holds (reopened (view_of h) c d r) phase 0 h.item)
+    → (slot : ℕ)
+    → All (reopened (view_of h) c d r)
+    (under_in h slot (cond (eqb r.found.version 2) IDLE DUE))
+reopened-holds h number c d r chosen good_c good_d slot =
+    subst (λ (phase : ℕ). All (reopened (view_of h) c d r) (under_in h slot phase))
     (sym (ap (λ (b : Bool). cond b IDLE DUE) (eq-eqb r.found.version 2 chosen.version)))
     (record {
-      sound = sound-reopened (view_of h) number c d r chosen good_c good_d;
-      idle = λ e. (reopened-last (view_of h) number c d r chosen good_c good_d).0;
-      short = λ top unsure. (reopened-last (view_of h) number c d r chosen good_c good_d).1;
-      entry = λ e. absurd cc;
-      whole = λ e. absurd cc;
+      holds = record {
+        sound = sound-reopened (view_of h) number c d r chosen good_c good_d;
+        idle = λ e. (reopened-last (view_of h) number c d r chosen good_c good_d).0;
+        short = λ top unsure. (reopened-last (view_of h) number c d r chosen good_c good_d).1;
+        entry = λ e. absurd cc;
+        whole = λ e. absurd cc;
+      };
+      works = λ b e. absurd cc;
+      last = λ e. absurd cc;
+      top = λ e. absurd cc;
     })
 
 not-saving : (b : Bool) → (cond b IDLE DUE ≡ 1 → ⊥) × (cond b IDLE DUE ≡ 2 → ⊥)
@@ -78,9 +104,9 @@ opens-first : (h : Folder) (s : Sight) (number : ℕ)
 opens-first h s number chosen good_c good_d = record {
   sound = record {
     two = inl refl;
-    holds =
+    all =
         reopened-holds h number (content h s.first 0) (content h s.second 1) (reading_first h s)
-        chosen good_c good_d;
+        chosen good_c good_d 0;
     entry = λ e. absurd ((not-saving (eqb (reading_first h s).found.version 2)).0 e);
     whole = λ e. absurd ((not-saving (eqb (reading_first h s).found.version 2)).1 e);
   };
@@ -97,9 +123,9 @@ opens-second : (h : Folder) (s : Sight) (number : ℕ)
 opens-second h s number chosen good_c good_d = record {
   sound = record {
     two = inr refl;
-    holds =
+    all =
         reopened-holds h number (content h s.second 1) (content h s.first 0)
-        (reading_second h s) chosen good_c good_d;
+        (reading_second h s) chosen good_c good_d 1;
     entry = λ e. absurd ((not-saving (eqb (reading_second h s).found.version 2)).0 e);
     whole = λ e. absurd ((not-saving (eqb (reading_second h s).found.version 2)).1 e);
   };
@@ -205,12 +231,32 @@ open-any : (h : Folder) (s : Sight) → IsSound h → Opened h s
 open-any h s k =
     ⊎_elim {C = Opened h s}
     (λ (e : h.slots.counts ≡ 0).
-    open-first h s (subst (λ (i : ℕ). Sound (view_at h i)) e k.holds.sound))
+    open-first h s (subst (λ (i : ℕ). Sound (view_at h i)) e k.all.holds.sound))
     (λ (e : h.slots.counts ≡ 1).
-    open-second h s (subst (λ (i : ℕ). Sound (view_at h i)) e k.holds.sound))
+    open-second h s (subst (λ (i : ℕ). Sound (view_at h i)) e k.all.holds.sound))
     k.two
 
 -- ---- all steps
+
+rewrite-sound : (h : Folder) (change : Beside → Folder) → IsSound h
+    → ((b : Beside) → h.beside ≡ Some b → IsSound (change b))
+    → (o : Option Beside)
+    → h.beside ≡ o
+    → IsSound (by_rewrite h o change)
+rewrite-sound h change s each None e = s
+rewrite-sound h change s each (Some b) e = each b e
+
+rest-sound : (h : Folder) (change : Beside → Folder) → IsSound h
+    → ((b : Beside) → h.beside ≡ Some b → rests b.doing ≡ true → IsSound (change b))
+    → IsSound (if_rests h change)
+rest-sound h change s each =
+    rewrite-sound h (λ b. cond (rests b.doing) (change b) h) s
+    (λ b is. go b is (rests b.doing) refl) h.beside refl
+  where
+    go : (b : Beside) → h.beside ≡ Some b → (t : Bool) → rests b.doing ≡ t
+        → IsSound (cond t (change b) h)
+    go b is true e = each b is e
+    go b is false e = s
 
 step-sound : (h : Folder) (t : Step) → IsSound h → IsSound (step h t)
 step-sound h (AddEntry bytes) s = add-sound h bytes s
@@ -220,6 +266,26 @@ step-sound h Fail s = fail-sound h s
 step-sound h Doubt s = doubt-sound h s
 step-sound h PutMark s = mark-sound h s
 step-sound h (PutZeros count) s = zeros-sound h count s
+step-sound h StartRewrite s = start-sound h s
+step-sound h (WriteValue bytes) s =
+    rest-sound h (λ b. writes_value h b bytes (value_place b.state bytes)) s
+    (λ b is rest. value-sound h s b bytes is rest)
+step-sound h (WriteCopies count) s =
+    rest-sound h
+    (λ b.
+    writes_copies h b (take count b.rest) (drop count b.rest)
+    (copying b.state (b.state.from_end + size_of (take count b.rest))))
+    s (λ b is rest. copies-sound h s b count is rest)
+step-sound h (SyncBeside fates) s =
+    rewrite-sound h (λ b. cond (rests b.doing) h (settles h b fates)) s
+    (λ b is. settle-sound h s b fates is) h.beside refl
+step-sound h GiveUp s = give-up-sound h s
+step-sound h (AddLast bytes) s =
+    rest-sound h
+    (λ b.
+    begins_last h b bytes (copying b.state h.slots.end)
+    (last_place h.slots (all_copied h b) bytes))
+    s (λ b is rest. last-sound h s b bytes is rest)
 step-sound h (Open sight) s = (open-any h sight s).sound
 
 run-sound : (steps : List Step) (h : Folder) → IsSound h → IsSound (run h steps)
@@ -254,7 +320,8 @@ new-cell number bytes k n y is =
 new-sound : (number bytes : ℕ) → IsSound (new_folder number bytes)
 new-sound number bytes = record {
   two = inl refl;
-  holds = record {
+  all = record {
+   holds = record {
     sound = record {
       value = x;
       entries = [];
@@ -291,6 +358,10 @@ new-sound number bytes = record {
     short = λ top unsure. refl;
     entry = λ e. absurd cc;
     whole = λ e. absurd cc;
+   };
+   works = λ b e. absurd cc;
+   last = λ e. absurd cc;
+   top = λ e. absurd cc;
   };
   entry = λ e. absurd cc;
   whole = λ e. absurd cc;
@@ -328,7 +399,7 @@ stored-alone h fates s k saving =
     only-one h.item.save (step (step h (Store fates)) (Open s)).stored
     (subst
     (λ (b : Folder). Contains (b.stored ∷ b.begun) (step (step h (Store fates)) (Open s)).stored)
-    (ap (λ (b : Bool). cond b (ends h fates) h) saving)
+    (ap (λ (b : Bool). cond b (ends h fates) (cond (eqb h.slots.phase LAST) (tops h fates) h)) saving)
     (open-any (step h (Store fates)) s (store-sound h fates k)).finds)
 
 pub finds-stored : OfEveryRun FindsStored
