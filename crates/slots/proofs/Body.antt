@@ -1,12 +1,12 @@
 -- What a rewrite has written: a value without its head, and entries behind it.
-use Rattle.std.proofs.Common.{◌≡◌, ◌≢◌, ◌<◌, ◌≤◌, ◌+◌, ◌-◌, ℕ, Bool, cond, true, false, ◌&&◌, List, [], ◌∷◌, ◌++◌, refl, sym, ap, ◌∙◌, subst, arith, ◌⊎◌, inl, inr, ⊎_elim, leb, ltb}
-use Rattle.std.proofs.lemmas.Bool.{and_from, and_parts, cases_Bool, le-leb, lt-ltb, ltb-false, ltb-true}
+use Rattle.std.proofs.Common.{◌≡◌, ◌≢◌, ◌<◌, ◌≤◌, ◌+◌, ℕ, Bool, cond, true, false, ◌&&◌, List, [], ◌++◌, refl, sym, ap, ◌∙◌, subst, arith, ◌⊎◌, inl, inr, ⊎_elim, leb, ltb}
+use Rattle.std.proofs.lemmas.Bool.{and_from, cases_Bool, le-leb, lt-ltb, ltb-false, ltb-true}
 use Rattle.slots.specs.declared.saving.TheConstants.{HEAD}
-use Rattle.slots.specs.Beside.{all_written, bytes_of, head_of, size_of, without_head}
-use Rattle.slots.specs.Disk.{covers, first_read, put, Cell, Content, Entry, Item, Kind, Of, Other, Reading, Value, Write}
-use Rattle.slots.proofs.Copies.{chain-both, chain-written, tail-both, tail-size, written-known, next-number, next-seal, AreNext, HasBytes}
-use Rattle.slots.proofs.Disk.{outside-below, put-makes, IsWhole, Makes, MayBe}
-use Rattle.slots.proofs.Reading.{all_read, begins-same, begins-together, tail, tail-end, whole-same, AreSame, Begins, Chain, IsKnown, Only, IsNewer, Nothing}
+use Rattle.slots.specs.Beside.{all_written, head_of, without_head}
+use Rattle.slots.specs.Disk.{covers, first_read, put, Content, Entry, Item, Of, Other, Reading, Value, Write}
+use Rattle.slots.proofs.Copies.{chain-both, chain-written, tail-both, written-known, next-number, next-seal, AreNext, HasBytes}
+use Rattle.slots.proofs.Disk.{outside-below, put-makes, Makes}
+use Rattle.slots.proofs.Reading.{all_read, begins-same, begins-together, tail, tail-end, AreSame, Begins, IsKnown, Only, Nothing}
 
 -- A slot that begins so once the head is written. No entry belongs there but those up to this last one.
 pub record IsBody (c : Content) (v : Item) (ys : List Item) : Type 0 where
@@ -130,10 +130,13 @@ body-first v c kind own large old = record {
   where
     d : Content
     d = put (without_head v) c
+
     not-entry : Value ≡ Entry → ⊥
     not-entry e = cc
+
     plus : (n : ℕ) → 0 + n ≡ n
     plus n = omega arith
+
     byte : (n : ℕ) → n < v.size → put (head_of v) d n ≡ Of v n
     byte n below =
         ⊎_elim {C = put (head_of v) d n ≡ Of v n}
@@ -171,27 +174,36 @@ body-more v ys xs c e large body next makes = record {
   where
     w : Write
     w = all_written xs (all_read v ys).end
+
     d : Content
     d = put w e
+
     twice : Makes w c d
     twice = makes-again w c e d makes (put-makes w e)
+
     above : v.size ≤ (all_read v ys).end
     above = tail-end (first_read v) ys
+
     before : (k : ℕ) → k < (all_read v ys).end → d k ≡ c k
     before k below = (twice k).outside (outside-below w k below)
+
     still : Begins (put (head_of v) d) v ys
     still =
         begins-same (put (head_of v) c) (put (head_of v) d) (all_read v ys).end v ys
         (same-with-head v c d (all_read v ys).end (λ k more below. before k below))
         (omega arith) body.begins
+
     bytes : HasBytes (put (head_of v) d) (all_read v ys).end xs
     bytes k over below =
         put-behind (head_of v) d k (omega (arith, above, large, over))
         ∙ put-there w e k over below
+
     number : (all_read v ys).found.number ≡ (all_read v ys).last.number
     number = (begins-together (put (head_of v) c) v ys body.begins).number
+
     last : all_read v (ys ++ xs) ≡ tail (all_read v ys) xs
     last = tail-both (first_read v) ys xs
+
     known : (k n : ℕ) (y : Item) → d k ≡ Of y n → y.kind ≡ Entry → y.base ≡ v.seal
         → IsKnown (all_read v (ys ++ xs)).last y
     known k n y is kind base =
@@ -239,5 +251,6 @@ body-only c v ys body is_base is_value at y kind base whole =
   where
     same-item : Of v at ≡ Of y 0 → v ≡ y
     same-item e = cc
+
     not-entry : Value ≡ Entry → ⊥
     not-entry e = cc

@@ -1,10 +1,10 @@
 -- Items that are written one behind another, and copies of entries.
-use Rattle.std.proofs.Common.{◌≡◌, ◌≢◌, ◌<◌, ◌≤◌, ◌+◌, ◌-◌, ℕ, zero, suc, Bool, cond, true, false, List, [], ◌∷◌, ◌++◌, length, take, drop, refl, sym, ap, ◌∙◌, subst, arith, ◌⊎◌, inl, inr, ⊎_elim, ltb}
-use Rattle.std.proofs.lemmas.Bool.{lt-ltb, ltb-false, ltb-true}
-use Rattle.slots.specs.Beside.{all_written, bytes_of, copies_of, last_seal, size_of}
-use Rattle.slots.specs.Disk.{with_item, Cell, Content, Entry, Item, Of, Other, Reading}
+use Rattle.std.proofs.Common.{◌≡◌, ◌<◌, ◌≤◌, ◌+◌, ◌-◌, ℕ, zero, suc, Bool, cond, true, false, List, [], ◌∷◌, ◌++◌, length, take, drop, refl, sym, ap, ◌∙◌, subst, arith, ltb}
+use Rattle.std.proofs.lemmas.Bool.{lt-ltb, ltb-true}
+use Rattle.slots.specs.Beside.{bytes_of, copies_of, last_seal, size_of}
+use Rattle.slots.specs.Disk.{with_item, Content, Entry, Item, Of, Other, Reading}
 use Rattle.slots.proofs.Disk.{IsWhole}
-use Rattle.slots.proofs.Reading.{next-true, tail, together-with, Chain, Fits, GoesTogether, IsBehind, IsKnown}
+use Rattle.slots.proofs.Reading.{next-true, tail, together-with, Chain, Fits, GoesTogether, IsKnown}
 
 -- ---- items that go together, wherever they are
 
@@ -75,6 +75,7 @@ first-whole c at x xs some has = record {
   where
     plus : (n : ℕ) → n ≡ n + 0
     plus n = omega arith
+
     byte : (n : ℕ) → n < x.size → c (at + n) ≡ Of x n
     byte n below =
         has (at + n) (omega arith) (omega (arith, below)) ∙ first-bytes at x xs n below
@@ -84,8 +85,7 @@ pub chain-written : (c : Content) (r : Reading) (xs : List Item) → AreNext r x
     → Chain c r xs
 chain-written c r [] all has = tt
 chain-written c r (x ∷ xs) all has =
-    let n = all.0 in
-    (
+    let n = all.0 in (
       record {
         whole = first-whole c r.end x xs n.some has;
         fits = n.fits;
@@ -94,9 +94,9 @@ chain-written c r (x ∷ xs) all has =
         some = n.some;
       },
       chain-written c (with_item r x) xs all.1
-      (λ k above below.
-      has k (omega (arith, above)) (omega (arith, below))
-      ∙ more-bytes r.end x xs k above),
+          (λ k above below.
+          has k (omega (arith, above)) (omega (arith, below))
+          ∙ more-bytes r.end x xs k above),
     )
 
 pub tail-size : (r : Reading) (xs : List Item) → (tail r xs).end ≡ r.end + size_of xs
@@ -158,6 +158,7 @@ written-known r (x ∷ xs) at k n y same all is =
         ap
         (λ (b : Bool). (cond b (record (r.found) { number = x.number }) r.found).number)
         (next-true r x fits)
+
     go : (b : Bool)
         → cond b (Of x (k - at)) (bytes_of (at + x.size) xs k) ≡ Of y n
         → (bytes_of (at + x.size) xs k ≡ Of y n
@@ -169,10 +170,11 @@ written-known r (x ∷ xs) at k n y same all is =
         let seal = next-seal (with_item r x) xs all.1 in
         subst
         (λ (z : Item).
-        (z.kind ≡ Entry) × (z.base ≡ r.last.base) × IsKnown (tail (with_item r x) xs).last z) it
-        (all.0.fits.kind,
-        all.0.fits.base,
-        record { seal = seal; number = number; newer = all.0.newer })
+        (z.kind ≡ Entry) × (z.base ≡ r.last.base) × IsKnown (tail (with_item r x) xs).last z) it (
+          all.0.fits.kind,
+          all.0.fits.base,
+          record { seal = seal; number = number; newer = all.0.newer },
+        )
     go false e more = more e
 
 -- ---- copies

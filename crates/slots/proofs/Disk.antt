@@ -1,6 +1,6 @@
 -- What writes leave of a file, and what is whole in it.
-use Rattle.std.proofs.Common.{◌≡◌, ◌≢◌, ◌<◌, ◌≤◌, ◌+◌, ◌-◌, ℕ, zero, suc, Bool, cond, true, false, ◌&&◌, List, [], ◌∷◌, ◌++◌, Option, Some, None, length, refl, sym, ap, ◌∙◌, subst, arith, ◌⊎◌, inl, inr, ⊎_elim, leb, ltb, eqb}
-use Rattle.std.proofs.lemmas.Bool.{and_cases, and_from, and_parts, cases_Bool, eq-eqb, eqb-false, eqb-true, le-leb, leb-true, lt-ltb, ltb-true, leb-false, ltb-false}
+use Rattle.std.proofs.Common.{◌≡◌, ◌<◌, ◌+◌, ◌-◌, ℕ, zero, suc, Bool, cond, true, false, ◌&&◌, List, ◌∷◌, Some, None, length, refl, sym, ap, ◌∙◌, subst, arith, ◌⊎◌, inl, inr, ⊎_elim, leb, ltb, eqb}
+use Rattle.std.proofs.lemmas.Bool.{and_from, and_parts, cases_Bool, eq-eqb, eqb-false, eqb-true, le-leb, leb-true, lt-ltb}
 use Rattle.slots.specs.Disk.{covers, has_bytes, image_of, is_byte, left_by, put, same_item, same_kind, whole_at, whole_if, written, Cell, Content, Done, Entry, Fate, Fates, Item, Kind, Lost, Mark, Of, Other, Torn, Value, Write}
 
 -- ---- items
@@ -219,11 +219,14 @@ put-whole x at c some = record {
   where
     plus-zero : (n : ℕ) → n ≡ n + 0
     plus-zero n = omega arith
+
     back : (at n : ℕ) → at + n - at ≡ n
     back at n = omega arith
+
     inside : (n : ℕ) → n < x.size → covers (written x at) (at + n) ≡ true
     inside n below = and_from _ _ (le-leb at (at + n) (omega arith))
         (lt-ltb (at + n) (at + x.size) (omega (arith, below)))
+
     byte : (n : ℕ) → n < x.size → put (written x at) c (at + n) ≡ Of x n
     byte n below =
         ap (λ (b : Bool). cond b (Of x (at + n - at)) (c (at + n))) (inside n below)

@@ -1,30 +1,23 @@
 -- How saves end, and what needs no sync.
-use Rattle.std.proofs.Common.{◌≡◌, ◌≢◌, ◌<◌, ◌≤◌, ◌+◌, ◌-◌, ℕ, zero, suc, Bool, cond, true, false, ◌&&◌, ◌||◌, List, [], ◌∷◌, Option, Some, None, length, refl, sym, ap, ◌∙◌, subst, arith, ◌⊎◌, inl, inr, ⊎_elim, eqb, leb, ltb}
-use Rattle.std.proofs.lemmas.Bool.{and_parts, cases_Bool, eq-eqb, eqb-true, leb-true}
-use Rattle.std.specs.List.{Contains}
-use Rattle.slots.specs.declared.saving.TheConstants.{DUE, ENTRY, ENTRY_HEAD, HEAD, IDLE, LAST, TAIL, TOP, UNSURE, WHOLE}
+use Rattle.std.proofs.Common.{◌≡◌, ◌≢◌, ◌<◌, ◌≤◌, ◌+◌, ℕ, Bool, cond, true, false, ◌||◌, [], Option, Some, None, refl, sym, ap, ◌∙◌, subst, arith, ◌⊎◌, inl, inr, ⊎_elim, eqb}
+use Rattle.std.proofs.lemmas.Bool.{eq-eqb, eqb-true}
+use Rattle.slots.specs.declared.saving.TheConstants.{DUE, ENTRY, IDLE, LAST, TOP, UNSURE, WHOLE}
 use Rattle.slots.specs.declared.saving.Mark.{Mark}
-use Rattle.slots.specs.declared.saving.Target.{Target}
 use Rattle.slots.specs.declared.saving.Slots.{Slots}
-use Rattle.slots.specs.declared.opening.Choice.{Choice}
-use Rattle.slots.specs.declared.opening.Choice.TheVariants as choice
-use Rattle.slots.specs.Decisions.{added, adding, after_entry, after_stored, after_whole, entry_place, fits, is_idle, mark_of, may_add, may_replace, other, replacing, switched, whole_place}
+use Rattle.slots.specs.Decisions.{added, is_idle, other, switched}
 use Rattle.slots.specs.Disk.{covers, image, put, synced_after, with_write, written, Cell, Content, Entry, Fates, File, Item, Kind, Of, Other, Reading, Value, Write}
 use Rattle.slots.specs.Disk as disk
-use Rattle.slots.specs.Runs.{begins, begins_entry, begins_whole, ends, goes_on, new_entry, new_mark, new_whole, nothing, opens, puts_mark, puts_zeros, settled, step, with_file, with_rest, writes, zeros, AddEntry, Beside, Fail, Folder, PutMark, PutZeros, Replace, Sight, Step, Store}
-use Rattle.slots.proofs.Disk.{free-of, image-makes, IsFree, IsWhole, Makes}
-use Rattle.slots.proofs.Lists.{contains-head, contains-more}
+use Rattle.slots.specs.Runs.{new_mark, nothing, puts_mark, puts_zeros, step, with_file, with_rest, writes, zeros, Beside, Fail, Folder, PutMark, PutZeros, Store}
+use Rattle.slots.proofs.Disk.{free-of}
 use Rattle.slots.proofs.Openings.{last-good}
-use Rattle.slots.proofs.Reading.{all_read, tail-base, Begins, IsNewer}
-use Rattle.slots.proofs.Saves.{good-of, item-written, added-last, replaced-last, reopened-last, sound-added, sound-begin, sound-beside, sound-here, sound-replaced, sound-reopened, replaced, reopened, synced, this-or-free, with_added, BringsEntries, BringsValues}
+use Rattle.slots.proofs.Saves.{item-written, added-last, replaced-last, sound-added, sound-here, sound-replaced, replaced, with_added}
 use Rattle.slots.specs.Beside.{head_of}
 use Rattle.slots.proofs.Heads.{sound-switched, sound-topped, switched-last, switched_to, topped, tops-after}
 use Rattle.slots.proofs.Works.{works-keep, works-stored}
-use Rattle.slots.proofs.Steps.{changed, file-beside, file-here, other-apart, other-back, other-two, Two}
-use Rattle.slots.proofs.Sound.{last_read, under_of, view_of, Adds, All, Ends, Tops, AreGood, Bounds, Good, Holds, IsAhead, IsBegun, IsSound, Replaces, Sound, View}
+use Rattle.slots.proofs.Steps.{changed, file-here, other-apart, other-back, other-two, Two}
+use Rattle.slots.proofs.Sound.{last_read, under_of, view_of, Adds, All, Ends, Tops, Good, Holds, IsSound, Replaces, Sound, View}
 
 -- ---- failures
-
 
 abbrev pub in_phase : Folder → ℕ → Folder
 in_phase h phase = record h { slots = record (h.slots) { phase = phase } }
@@ -73,9 +66,11 @@ fail-sound h s = go (eqb h.slots.phase TOP) (saving) refl refl
   where
     saving : Bool
     saving = (eqb h.slots.phase ENTRY || eqb h.slots.phase WHOLE) || eqb h.slots.phase LAST
+
     either : (a b : Bool) → (a || b) ≡ true → (a ≡ true) ⊎ (b ≡ true)
     either true b e = inl refl
     either false b e = inr e
+
     one : saving ≡ true → (n : ℕ) → (n ≢ ENTRY) → (n ≢ WHOLE) → (n ≢ LAST)
         → h.slots.phase ≢ n
     one e n a b c is =
@@ -87,6 +82,7 @@ fail-sound h s = go (eqb h.slots.phase TOP) (saving) refl refl
         (either (eqb h.slots.phase ENTRY) (eqb h.slots.phase WHOLE) first))
         (λ (f : eqb h.slots.phase LAST ≡ true). c (sym is ∙ eqb-true h.slots.phase LAST f))
         (either (eqb h.slots.phase ENTRY || eqb h.slots.phase WHOLE) (eqb h.slots.phase LAST) e)
+
     go : (a b : Bool) → eqb h.slots.phase TOP ≡ a → saving ≡ b
         → IsSound
         (record h {
@@ -156,9 +152,11 @@ stored-entry h fates s is = record {
   where
     way : (h.to ≡ h.slots.counts) × (h.write ≡ written h.item h.slots.end)
     way = s.entry is
+
     under : (h.slots.next_end ≡ h.slots.end + h.item.size)
         × Adds (view_of h) s.all.holds.sound h.item
     under = s.all.holds.entry is
+
     P : File → File → Type 0
     P a b =
         All
@@ -229,8 +227,10 @@ stored-whole h fates s is = record {
   where
     way : (h.to ≡ other h.slots.counts) × (h.write ≡ written h.item 0) × (h.beside ≡ None)
     way = s.whole is
+
     under : (h.slots.next_end ≡ h.item.size) × Replaces (view_of h) s.all.holds.sound h.item
     under = s.all.holds.whole is
+
     P : File → File → Type 0
     P a b =
         All
@@ -308,6 +308,7 @@ tops-sound h fates s is = record {
   where
     e : Ends (view_of h) s.all.holds.sound (under_of h)
     e = s.all.last is
+
     P : File → File → Type 0
     P a b = All (record (view_of h) { here = a; beside = b }) (under_of (topped_with h fates))
 
@@ -355,6 +356,7 @@ stored-top h fates s is = record {
   where
     t : Tops (view_of h) s.all.holds.sound (under_of h)
     t = s.all.top is
+
     P : File → File → Type 0
     P a b =
         All
@@ -378,14 +380,17 @@ store-sound h fates s =
   where
     S : Slots
     S = h.slots
+
     seal : ℕ
     seal = h.item.seal
+
     after : (a b c d : Bool) → Slots
     after a b c d =
         cond a (added S seal)
         (cond b (switched S seal seal)
         (cond c (record S { phase = TOP })
         (cond d (switched S S.next_base seal) S)))
+
     go : (a b c d : Bool) → eqb S.phase ENTRY ≡ a → eqb S.phase WHOLE ≡ b
         → eqb S.phase LAST ≡ c
         → eqb S.phase TOP ≡ d
@@ -452,39 +457,46 @@ marks-holds h all is m same = record {
   where
     k : Holds (view_of h) h.slots.phase h.slots.next_end h.item
     k = all.holds
+
     z : View
     z = view_of h
+
     s : Sound z
     s = k.sound
+
     w : Write
     w = written (new_mark m) z.end
+
     not-mark : disk.Mark ≡ Entry → ⊥
     not-mark e = cc
+
     last : Good (last_read s).last.number z.fresh (last_read s).last
     last =
         last-good (last_read s).last.number z.fresh (image (λ i k. disk.Lost) z.here) s.value
         s.entries (s.here (λ i k. disk.Lost)) (s.good_here (λ i k. disk.Lost))
+
     base_low : z.base < z.fresh
     base_low =
         let low = last.base in
         let e = s.base in
         omega (arith, low, e)
+
     after : Sound (record (view_of h) { here = with_write z.here w })
     after =
-      sound-here z s w (omega arith)
-      (item-written (last_read s).last.number z.fresh (new_mark m) z.end
-      (record {
-        seal = omega (arith, base_low);
-        base = rw (same) base_low;
-        entry = λ e. absurd cc;
-        mark = λ e.
-            let low = k.idle is in
-            rw (same) (omega (arith, low));
-      }))
-      (λ f at y kind base whole.
-      inl
-      (free-of (new_mark m) y z.end
-      (λ e. not-mark (ap (λ (i : Item). i.kind) e ∙ kind))))
+        sound-here z s w (omega arith)
+        (item-written (last_read s).last.number z.fresh (new_mark m) z.end
+        (record {
+          seal = omega (arith, base_low);
+          base = rw (same) base_low;
+          entry = λ e. absurd cc;
+          mark = λ e.
+              let low = k.idle is in
+              rw (same) (omega (arith, low));
+        }))
+        (λ f at y kind base whole.
+        inl
+        (free-of (new_mark m) y z.end
+        (λ e. not-mark (ap (λ (i : Item). i.kind) e ∙ kind))))
 
 pub mark-sound : (h : Folder) → IsSound h → IsSound (step h PutMark)
 mark-sound h s = go (is_idle h.slots) refl
@@ -497,9 +509,11 @@ mark-sound h s = go (is_idle h.slots) refl
       base = h.slots.base;
       slot = h.slots.counts;
     }
+
     P : File → File → Type 0
     P a b =
         All (record (view_of h) { here = a; beside = b }) (under_of h)
+
     go : (b : Bool) → is_idle h.slots ≡ b → IsSound (puts_mark h (cond b (Some m) None))
     go true e =
         let is = eqb-true h.slots.phase IDLE e in
@@ -528,18 +542,18 @@ zeros-holds h count all is = record {
     idle = λ e. absurd cc;
     short = k.short;
     entry = λ e. (
-        under.0,
-        record {
-          kind = a.kind;
-          base = a.base;
-          newer = a.newer;
-          save = a.save;
-          fresh = a.fresh;
-          next = a.next;
-          number = a.number;
-          middle = a.middle;
-        },
-      );
+      under.0,
+      record {
+        kind = a.kind;
+        base = a.base;
+        newer = a.newer;
+        save = a.save;
+        fresh = a.fresh;
+        next = a.next;
+        number = a.number;
+        middle = a.middle;
+      },
+    );
     whole = λ e. absurd cc;
   };
   works = λ b e.
@@ -557,22 +571,30 @@ zeros-holds h count all is = record {
   where
     k : Holds (view_of h) h.slots.phase h.slots.next_end h.item
     k = all.holds
+
     z : View
     z = view_of h
+
     s : Sound z
     s = k.sound
+
     w : Write
     w = zeros h.slots.next_end count
+
     under : (h.slots.next_end ≡ z.end + h.item.size) × Adds z s h.item
     under = k.entry is
+
     a : Adds z s h.item
     a = under.1
+
     behind : z.end ≤ h.slots.next_end
     behind =
         let same = under.0 in
         omega (arith, same)
+
     apart : (k n : ℕ) (x : Item) → nothing k ≡ Of x n → ⊥
     apart k n x e = cc
+
     after : Sound (record (view_of h) { here = with_write z.here w })
     after =
         sound-here z s w behind (λ k n x e. absurd (apart k n x e))
@@ -584,6 +606,7 @@ zeros-sound h count s = go (eqb h.slots.phase ENTRY) refl
     P : File → File → Type 0
     P a b =
         All (record (view_of h) { here = a; beside = b }) (under_of h)
+
     go : (b : Bool) → eqb h.slots.phase ENTRY ≡ b
         → IsSound (puts_zeros h count (cond b (Some h.slots.next_end) None))
     go true e =

@@ -1,15 +1,15 @@
 -- The end of a rewrite: all but its head is synced, and then its head.
-use Rattle.std.proofs.Common.{◌≡◌, ◌≢◌, ◌<◌, ◌≤◌, ◌+◌, ◌-◌, ℕ, Bool, true, false, List, [], ◌∷◌, None, refl, sym, ap, ◌∙◌, subst, arith, ◌⊎◌, inl, inr, ⊎_elim, ltb}
+use Rattle.std.proofs.Common.{◌≡◌, ◌<◌, ◌≤◌, ◌+◌, ℕ, Bool, true, false, List, [], refl, sym, ap, ◌∙◌, subst, arith, ◌⊎◌, inl, inr, ⊎_elim, ltb}
 use Rattle.std.proofs.lemmas.Bool.{cases_Bool, ltb-false, ltb-true}
 use Rattle.std.specs.List.{Contains}
 use Rattle.slots.specs.declared.saving.TheConstants.{HEAD, TOP}
 use Rattle.slots.specs.Beside.{head_of}
-use Rattle.slots.specs.Disk.{covers, first_read, image, put, same_item, synced_after, with_write, Content, Entry, Fates, File, Item, Mark, Of, Other, Reading, Value, Write}
+use Rattle.slots.specs.Disk.{first_read, image, put, same_item, synced_after, with_write, Content, Entry, Fates, Item, Mark, Of, Reading, Value, Write}
 use Rattle.slots.proofs.Body.{body-only, outside-head, put-behind, put-there, IsBody}
 use Rattle.slots.proofs.Disk.{image-makes, item-itself, item-same, put-makes, whole-before, IsFree, IsWhole, Makes}
 use Rattle.slots.proofs.Reading.{all_read, begins-same, tail-base, Begins, IsKnown, IsNewer, Nothing, Only}
-use Rattle.slots.proofs.Saves.{all-good-more, good-after, passed-here, sound-body, synced}
-use Rattle.slots.proofs.Sound.{last_read, AreGood, Bounds, Ends, Good, IsAhead, IsBegun, IsBeside, IsPassed, Leaves, Sound, Tops, Under, View}
+use Rattle.slots.proofs.Saves.{all-good-more, good-after, passed-here, sound-body}
+use Rattle.slots.proofs.Sound.{last_read, AreGood, Ends, Good, IsAhead, IsBegun, IsBeside, IsPassed, Sound, Tops, Under, View}
 
 -- ---- the same bytes
 
@@ -69,6 +69,7 @@ head-there v c d makes large whole k =
   where
     w : Write
     w = head_of v
+
     plus : (n : ℕ) → n ≡ 0 + n
     plus n = omega arith
 
@@ -115,8 +116,10 @@ head-good number fresh v kind own below k n x e =
   where
     same : v ≡ x
     same = cc
+
     not-entry : Value ≡ Entry → ⊥
     not-entry e = cc
+
     not-mark : Value ≡ Mark → ⊥
     not-mark e = cc
 
@@ -183,14 +186,19 @@ topped-beside z s u e fates f x kind whole =
   where
     v : Item
     v = u.headless
+
     d : Content
     d = put u.write (image fates z.beside)
+
     c : Content
     c = image f (topped z u fates).beside
+
     makes : Makes (head_of v) d c
     makes = image-makes f d (head_of v) []
+
     body : IsBody d v e.entries
     body = e.soon fates
+
     Ahead : Item → Type 0
     Ahead i =
         IsAhead
@@ -200,17 +208,23 @@ topped-beside z s u e fates f x kind whole =
           long = true;
         })
         z.begun c i
+
     Either : Item → Type 0
     Either i = IsPassed (last_read s).last.number c i ⊎ Ahead i
+
     of-item : (k n : ℕ) (y : Item) → Of v k ≡ Of y n → v ≡ y
     of-item k n y same = cc
+
     last : (all_read v e.entries).last ≡ u.item
     last = e.makes.last
+
     number : (all_read v e.entries).last.number ≡ (last_read s).last.number + 1
     number = ap (λ (i : Item). i.number) last ∙ e.next
+
     base : (all_read v e.entries).last.base ≡ v.seal
     base =
         tail-base (put (head_of v) d) (first_read v) e.entries body.begins.chain ∙ body.begins.own
+
     ahead : IsWhole c 0 v → Ahead v
     ahead there =
         let same = head-there v d c makes e.large there in
@@ -282,22 +296,24 @@ tops-after z s u e fates = record {
   soon = λ f.
       let same =
       head-twice v d (image f (topped z u fates).beside)
-      (image-makes f d (head_of v) []) in
-      (
+      (image-makes f d (head_of v) []) in (
         begins-equal (put (head_of v) d) (put (head_of v) (image f (topped z u fates).beside)) v
-        e.entries same body.begins,
+            e.entries same body.begins,
         only-equal (put (head_of v) d) (put (head_of v) (image f (topped z u fates).beside))
-        (all_read v e.entries) same (body-only d v e.entries body base body.begins.kind),
+            (all_read v e.entries) same (body-only d v e.entries body base body.begins.kind),
       );
   seal = e.seal;
 }
   where
     v : Item
     v = u.headless
+
     d : Content
     d = put u.write (image fates z.beside)
+
     body : IsBody d v e.entries
     body = e.soon fates
+
     base : (all_read v e.entries).last.base ≡ v.seal
     base =
         tail-base (put (head_of v) d) (first_read v) e.entries body.begins.chain ∙ body.begins.own
@@ -350,16 +366,21 @@ sound-switched z s u t fates = record {
   where
     v : Item
     v = u.headless
+
     last : Item
     last = (all_read v t.entries).last
+
     begins : Begins (put (head_of v) (image fates z.beside)) v t.entries
     begins = (t.soon fates).0
+
     number : last.number ≡ z.number
     number = ap (λ (i : Item). i.number) t.makes.last ∙ t.number
+
     above : s.bounds.middle < last.number
     above =
         let middle = t.middle in
         omega (arith, middle, number)
+
     grows : (last_read s).last.number ≤ last.number
     grows =
         let low = s.low in

@@ -1,28 +1,24 @@
 -- The save that ends a rewrite begins.
-use Rattle.std.proofs.Common.{◌≡◌, ◌≢◌, ◌<◌, ◌≤◌, ◌+◌, ◌-◌, ℕ, zero, suc, Bool, cond, true, false, ◌&&◌, List, [], ◌∷◌, ◌++◌, Option, Some, None, length, take, drop, refl, sym, ap, ◌∙◌, subst, arith, ◌⊎◌, inl, inr, ⊎_elim, eqb, leb, not}
-use Rattle.std.proofs.lemmas.Bool.{and_from, and_parts, eq-eqb, eqb-false, eqb-true, not-true}
-use Rattle.std.specs.List.{Contains}
-use Rattle.slots.specs.declared.saving.TheConstants.{DUE, ENTRY, HEAD, IDLE, LAST, MOST, NUMBERS, TAIL, TOP, UNSURE, WHOLE}
+use Rattle.std.proofs.Common.{◌≡◌, ◌<◌, ◌≤◌, ◌+◌, ◌-◌, ℕ, Bool, cond, true, false, List, [], ◌∷◌, ◌++◌, Option, Some, None, length, refl, sym, ap, ◌∙◌, subst, arith, eqb}
+use Rattle.std.proofs.lemmas.Bool.{and_parts, eqb-false, eqb-true, not-true}
+use Rattle.slots.specs.declared.saving.TheConstants.{IDLE}
 use Rattle.slots.specs.declared.saving.Slots.{Slots}
 use Rattle.slots.specs.declared.saving.Target.{Target}
 use Rattle.slots.specs.declared.rewrite.Copying.{Copying}
 use Rattle.slots.specs.declared.rewrite.Rewrite.{Rewrite}
-use Rattle.slots.specs.Decisions.{copying, ending, is_idle, last_place, may_copy, may_end, may_rewrite, may_write, other, value_place, value_size}
-use Rattle.slots.specs.Beside.{all_written, bytes_of, copies_of, head_of, last_seal, size_of, without_head}
-use Rattle.slots.specs.Disk.{first_read, image, put, synced_after, with_item, with_write, Cell, Content, Entry, Fates, File, Item, Of, Other, Reading, Value, Write}
-use Rattle.slots.specs.Disk as disk
-use Rattle.slots.specs.Runs.{all_copied, begins_last, done_by, last_entry, last_items, new_beside, new_copies, rests, settles, step, value_of, with_file, writes, writes_copies, writes_value, Beside, Doing, Folder, GiveUp, Rests, StartRewrite, WritesCopies, WritesValue}
-use Rattle.slots.proofs.Body.{body-first, body-more, value-of-bytes, IsBody}
-use Rattle.slots.proofs.Copies.{chain-first, copied, copies-size, next-seal, parts, tail-both, tail-size, written-known, next-base, next-more, AreNext, Copied, IsNext, GoOn, Parts, last_number, last_save}
-use Rattle.slots.proofs.Disk.{image-makes, outside-below, put-makes, IsWhole, Makes}
+use Rattle.slots.specs.Decisions.{copying, ending, last_place, may_copy, may_end, other}
+use Rattle.slots.specs.Beside.{all_written, last_seal}
+use Rattle.slots.specs.Disk.{first_read, image, put, with_item, with_write, Fates, File, Item, Reading}
+use Rattle.slots.specs.Runs.{all_copied, begins_last, last_entry, last_items, new_copies, rests, writes, Beside, Folder}
+use Rattle.slots.proofs.Body.{body-more, IsBody}
+use Rattle.slots.proofs.Copies.{copies-size, next-seal, tail-both, tail-size, next-base, next-more, AreNext, Copied, IsNext, last_number, last_save}
+use Rattle.slots.proofs.Disk.{image-makes, Makes}
 use Rattle.slots.proofs.Lists.{contains-head, contains-more}
-use Rattle.slots.proofs.Openings.{last-good}
-use Rattle.slots.proofs.Reading.{all_read, begins-together, tail, tail-base, tail-end, tail-seal, together, together-first, Begins, Chain, Fits, GoesTogether, IsKnown}
-use Rattle.slots.proofs.Saves.{sound-begin, sound-body, sound-fresh, synced, BringsBody}
-use Rattle.slots.proofs.Sound.{last_read, under_of, view_of, Adds, All, AtCopies, AtRest, AtStart, AtValue, Ends, Good, Holds, IsCopying, IsReady, IsSound, IsStarted, IsTied, IsValue, LeadsTo, Leaves, Part, Reached, Replaces, Sound, Tops, Under, View, Works}
-use Rattle.slots.proofs.Steps.{changed, file-beside, Two}
-
-use Rattle.slots.proofs.Rewrites.{go-grows, none-some, resting, tied-end, ahead-of, items-bring, news-sound, value-not-entry, value-not-mark, with_news, Ahead, News}
+use Rattle.slots.proofs.Reading.{all_read, tail, Fits}
+use Rattle.slots.proofs.Saves.{sound-begin, sound-body, BringsBody}
+use Rattle.slots.proofs.Sound.{last_read, under_of, view_of, All, AtCopies, AtRest, AtStart, AtValue, IsReady, IsSound, IsTied, LeadsTo, Part, Reached, Sound, View, Works}
+use Rattle.slots.proofs.Steps.{file-beside}
+use Rattle.slots.proofs.Rewrites.{resting, ahead-of, items-bring, Ahead}
 
 last-tail : (R : Reading) (cs : List Item) (x : Item) → tail R (cs ++ x ∷ []) ≡ with_item (tail R cs) x
 last-tail R cs x = tail-both R cs (x ∷ [])
@@ -90,55 +86,66 @@ ends-all h s b bytes e = record {
   };
   works = λ o e. absurd cc;
   last = λ is. record {
-      entries = b.copies ++ xs;
-      makes = record {
-        last = ap (λ (r : Reading). r.last) all;
-        end = next_end;
-        base = tied.base;
-        to = refl;
-        none = refl;
-      };
-      number = refl;
-      next = ap (λ (n : ℕ). n + 1) idle;
-      top = omega (arith, low, middle, top, idle);
-      short = e.short;
-      save = contains-head (h.fresh + length b.rest) h.begun;
-      soon = λ f. body-soon f;
-      large =
-          let large = tied.large in
-          omega (arith, large);
-      whose = λ k n x is. (brings.whose k n x is, brings.good k n x is);
-      seal =
-          let first = a.value in
-          let below = C.below in
-          let more = next-seal R cs C.next in
-          omega (arith, first, below, more);
+    entries = b.copies ++ xs;
+    makes = record {
+      last = ap (λ (r : Reading). r.last) all;
+      end = next_end;
+      base = tied.base;
+      to = refl;
+      none = refl;
     };
+    number = refl;
+    next = ap (λ (n : ℕ). n + 1) idle;
+    top = omega (arith, low, middle, top, idle);
+    short = e.short;
+    save = contains-head (h.fresh + length b.rest) h.begun;
+    soon = λ f. body-soon f;
+    large =
+        let large = tied.large in
+        omega (arith, large);
+    whose = λ k n x is. (brings.whose k n x is, brings.good k n x is);
+    seal =
+        let first = a.value in
+        let below = C.below in
+        let more = next-seal R cs C.next in
+        omega (arith, first, below, more);
+  };
   top = λ e. absurd cc;
 }
   where
     z : View
     z = view_of h
+
     k0 : Sound z
     k0 = s.all.holds.sound
+
     idle : h.slots.number ≡ (last_read k0).last.number
     idle = s.all.holds.idle e.idle
+
     low : (last_read k0).last.number ≤ k0.bounds.middle
     low = k0.low
+
     middle : k0.bounds.middle ≤ k0.bounds.top
     middle = k0.middle
+
     top : k0.bounds.top ≤ h.slots.number
     top = k0.top
+
     R : Reading
     R = all_read b.value b.copies
+
     cs : List Item
     cs = new_copies h b b.rest
+
     a : Ahead h s b b.rest
     a = ahead-of h s b b.rest e.reached e.ready e.below e.leads.on
+
     C : Copied R h.fresh b.rest cs
     C = a.copies
+
     T : Reading
     T = tail R cs
+
     tied : IsTied b
     tied = record {
       end = e.ready.tied.end;
@@ -146,15 +153,20 @@ ends-all h s b bytes e = record {
       base = e.ready.tied.base;
       large = e.ready.tied.large;
     }
+
     x : Item
     x = last_entry h b bytes (last_at h b)
+
     xs : List Item
     xs = cs ++ x ∷ []
+
     number : T.last.number ≡ h.slots.number
     number =
         C.number ∙ ap (λ (n : ℕ). last_number n b.rest) (sym e.ready.number) ∙ e.leads.last ∙ sym idle
+
     save : T.last.save ≡ h.stored
     save = C.save ∙ ap (λ (n : ℕ). last_save n b.rest) (sym e.ready.save) ∙ e.leads.save
+
     fits : Fits T x
     fits =
         let found = C.together.number in
@@ -166,6 +178,7 @@ ends-all h s b bytes e = record {
           version = C.together.version;
           number = omega (arith, found, number);
         }
+
     next_x : IsNext T x
     next_x = record {
       fits = fits;
@@ -176,12 +189,16 @@ ends-all h s b bytes e = record {
           omega (arith, below, before);
       some = omega arith;
     }
+
     next : AreNext R xs
     next = next-more R cs x C.next next_x
+
     last : tail R xs ≡ with_item T x
     last = last-tail R cs x
+
     all : all_read b.value (b.copies ++ xs) ≡ with_item T x
     all = tail-both (first_read b.value) b.copies xs ∙ last
+
     next_end : (ending h.slots (last_state h b) bytes).next_end
         ≡ (all_read b.value (b.copies ++ xs)).end
     next_end =
@@ -192,10 +209,13 @@ ends-all h s b bytes e = record {
         let end = tied.end in
         let both = ap (λ (r : Reading). r.end) all in
         omega (arith, size, same, sum, from, end, both)
+
     g : File
     g = with_write z.beside (all_written xs b.state.end)
+
     fresh : ℕ
     fresh = h.fresh + length b.rest + 1
+
     s1 : Sound
         (record z {
           number = h.slots.number + 1;
@@ -216,8 +236,10 @@ ends-all h s b bytes e = record {
               ahead.save;
           short = ahead.short;
         })
+
     makes : (f : Fates) → Makes (all_written xs b.state.end) (image f z.beside) (image f g)
     makes f = image-makes f z.beside.synced (all_written xs b.state.end) z.beside.writes
+
     brings : BringsBody
         (record z {
           number = h.slots.number + 1;
@@ -232,15 +254,17 @@ ends-all h s b bytes e = record {
           fresh = fresh;
           begun = (h.fresh + length b.rest) ∷ h.begun;
         })
-        s1 b g xs R refl tied
-        (next,
-        a.base,
-        a.together.number,
-        a.value,
-        subst (λ (r : Reading). r.last.seal < fresh) (sym last) (omega arith),
-        subst (λ (r : Reading). r.last.number ≤ (last_read k0).last.number + 1) (sym last)
-        (omega (arith, idle)))
+        s1 b g xs R refl tied (
+          next,
+          a.base,
+          a.together.number,
+          a.value,
+          subst (λ (r : Reading). r.last.seal < fresh) (sym last) (omega arith),
+          subst (λ (r : Reading). r.last.number ≤ (last_read k0).last.number + 1) (sym last)
+              (omega (arith, idle)),
+        )
         makes (λ f n y is. (e.ready.body f).headless n y is)
+
     t : Sound
         (record z {
           beside = g;
@@ -256,6 +280,7 @@ ends-all h s b bytes e = record {
           begun = (h.fresh + length b.rest) ∷ h.begun;
         })
         s1 g b.value.seal e.short brings
+
     body-soon : (f : Fates)
         → IsBody (put (all_written xs b.state.end) (image f g)) b.value (b.copies ++ xs)
     body-soon f =
@@ -315,6 +340,7 @@ last-sound h s b bytes is rest =
   where
     w : Works (view_of h) s.all.holds.sound h.slots.counts b
     w = s.all.works b is
+
     copy : Copying
     copy = record {
       length = h.slots.end - b.state.from_end;
@@ -323,8 +349,10 @@ last-sound h s b bytes is rest =
       from_slot = b.state.from;
       to_slot = other b.state.from;
     }
+
     state : Bool → Rewrite
     state x = cond x (last_state h b) b.state
+
     place : Rewrite → Target
     place r = record {
       offset = r.end;
@@ -332,10 +360,12 @@ last-sound h s b bytes is rest =
       before = r.seal;
       slot = other h.slots.counts;
     }
+
     F : (x y : Bool) → Folder
     F x y =
         with_last h b bytes (cond y (ending h.slots (state x) bytes) h.slots)
         (cond x (Some copy) None) (cond y (Some (place (state x))) None)
+
     by-part : (may_copy b.state h.slots.end ≡ true) → h.slots.phase ≡ IDLE
         → Part (view_of h).beside h.slots.counts (record b { rest = [] }) w.reached
         → IsSound (F true true)
@@ -357,6 +387,7 @@ last-sound h s b bytes is rest =
         })
     by-part copies idle (AtValue v) = absurd ((resting b rest v.length).0 v.doing)
     by-part copies idle (AtCopies c) = absurd ((resting b rest 0).1 c.doing)
+
     go : (x y : Bool) → may_copy b.state h.slots.end ≡ x
         → may_end h.slots (state x) bytes ≡ y
         → IsSound (F x y)

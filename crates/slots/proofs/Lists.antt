@@ -1,5 +1,5 @@
 -- Elements of a list.
-use Rattle.std.proofs.Common.{◌≡◌, ◌<◌, ℕ, zero, suc, List, [], ◌∷◌, get_or, length, refl, arith, ◌⊎◌, inl, inr}
+use Rattle.std.proofs.Common.{suc, List, ◌∷◌, refl, arith}
 use Rattle.std.specs.List.{Contains}
 
 pub contains-head : {X : Type 0} (x : X) (xs : List X) → Contains (x ∷ xs) x

@@ -1,10 +1,8 @@
 -- A mark that is seen shows that its save was whole.
-use Rattle.std.proofs.Common.{◌≡◌, ◌≢◌, ◌<◌, ◌≤◌, ◌+◌, ◌-◌, ℕ, zero, suc, Bool, cond, true, false, ◌&&◌, not, List, [], ◌∷◌, Option, Some, None, get_or, length, refl, sym, ap, ◌∙◌, subst, arith, ◌⊎◌, inl, inr, ⊎_elim, eqb, ltb}
-use Rattle.std.proofs.lemmas.Bool.{and_parts, cases_Bool, lt-ltb, ltb-false, ltb-true, not-true}
-use Rattle.std.specs.List.{Contains}
+use Rattle.std.proofs.Common.{◌≡◌, ◌<◌, ◌≤◌, ◌-◌, ℕ, zero, suc, Bool, cond, true, false, List, [], ◌∷◌, Option, Some, None, get_or, length, refl, sym, ◌∙◌, subst, arith, ⊎_elim, ltb}
+use Rattle.std.proofs.lemmas.Bool.{and_parts, lt-ltb, ltb-false, ltb-true, not-true}
 use Rattle.slots.specs.declared.saving.TheConstants.{NUMBERS}
 use Rattle.slots.specs.declared.opening.Found.{Found}
-use Rattle.slots.specs.declared.opening.Choice.{Choice}
 use Rattle.slots.specs.declared.opening.Choice.TheVariants as choice
 use Rattle.slots.specs.Openings.{chosen, counts, is_expected, with_behind, with_mark, with_synced}
 use Rattle.slots.specs.Disk.{is_mark_of, looked, looked_all, marked, read, same_kind, shown, whole_at, Content, Entry, ForEntry, ForMark, Item, Look, Reading}
@@ -119,8 +117,7 @@ sees most c looks m s =
 counts-last : (a b : Found) → counts a b ≡ true
     → (a.synced ≤ a.number) × (b.synced ≤ a.number)
 counts-last a b e =
-    let parts = and_parts _ _ (and_parts _ _ e).1 in
-    (
+    let parts = and_parts _ _ (and_parts _ _ e).1 in (
       ltb-false a.number a.synced (not-true (ltb a.number a.synced) parts.0),
       ltb-false a.number b.synced (not-true (ltb a.number b.synced) parts.1),
     )
@@ -147,35 +144,35 @@ second-last a b e = go (counts a b) (counts b a) refl e
     go false false is e = absurd cc
 
 pub marks-hold : MarksHold
-marks-hold most first second looks_first looks_second m seen =
-    (
-      (λ e.
-          let last = first-last a b e in
-          let x = last.0 in
-          let y = last.1 in
-          ⊎_elim {C = m.number ≤ a.number}
-          (λ (s : SeesMark most first looks_first m).
-          let z = sees most first looks_first m s in
-          omega (arith, x, z))
-          (λ (s : SeesMark most second looks_second m).
-          let z = sees most second looks_second m s in
-          omega (arith, y, z))
-          seen),
-      (λ e.
-          let last = second-last a b e in
-          let x = last.0 in
-          let y = last.1 in
-          ⊎_elim {C = m.number ≤ b.number}
-          (λ (s : SeesMark most first looks_first m).
-          let z = sees most first looks_first m s in
-          omega (arith, y, z))
-          (λ (s : SeesMark most second looks_second m).
-          let z = sees most second looks_second m s in
-          omega (arith, x, z))
-          seen),
-    )
+marks-hold most first second looks_first looks_second m seen = (
+  (λ e.
+      let last = first-last a b e in
+      let x = last.0 in
+      let y = last.1 in
+      ⊎_elim {C = m.number ≤ a.number}
+      (λ (s : SeesMark most first looks_first m).
+      let z = sees most first looks_first m s in
+      omega (arith, x, z))
+      (λ (s : SeesMark most second looks_second m).
+      let z = sees most second looks_second m s in
+      omega (arith, y, z))
+      seen),
+  (λ e.
+      let last = second-last a b e in
+      let x = last.0 in
+      let y = last.1 in
+      ⊎_elim {C = m.number ≤ b.number}
+      (λ (s : SeesMark most first looks_first m).
+      let z = sees most first looks_first m s in
+      omega (arith, y, z))
+      (λ (s : SeesMark most second looks_second m).
+      let z = sees most second looks_second m s in
+      omega (arith, x, z))
+      seen),
+)
   where
     a : Found
     a = (reading_of most first looks_first).found
+
     b : Found
     b = (reading_of most second looks_second).found

@@ -1,16 +1,15 @@
 -- An opening finds what was saved last, or what was being saved.
-use Rattle.std.proofs.Common.{◌≡◌, ◌≢◌, ◌<◌, ◌≤◌, ◌+◌, ◌-◌, ℕ, zero, suc, Bool, cond, true, false, ◌&&◌, ◌||◌, not, List, [], ◌∷◌, ◌++◌, Option, Some, None, length, refl, sym, ap, ◌∙◌, subst, arith, ◌⊎◌, inl, inr, ⊎_elim, leb, ltb, eqb}
-use Rattle.std.proofs.lemmas.Bool.{and_from, and_parts, cases_Bool, eq-eqb, eqb-false, eqb-true, lt-ltb, ltb-true, ltb-false, not-true, not_from_false, or_left, or_right}
+use Rattle.std.proofs.Common.{◌≡◌, ◌≢◌, ◌<◌, ◌≤◌, ◌+◌, ◌-◌, ℕ, zero, suc, Bool, cond, true, false, ◌||◌, not, List, [], ◌∷◌, ◌++◌, Option, Some, None, length, refl, sym, ap, ◌∙◌, subst, arith, ◌⊎◌, inl, inr, ⊎_elim, ltb, eqb}
+use Rattle.std.proofs.lemmas.Bool.{and_from, and_parts, cases_Bool, eq-eqb, eqb-false, eqb-true, lt-ltb, ltb-true, not-true, not_from_false}
 use Rattle.std.specs.List.{Contains}
 use Rattle.slots.specs.declared.opening.Found.{Found}
-use Rattle.slots.specs.declared.opening.Choice.{Choice}
 use Rattle.slots.specs.declared.opening.Choice.TheVariants.{First, Second}
 use Rattle.slots.specs.declared.saving.TheConstants.{NUMBERS}
-use Rattle.slots.specs.Openings.{chosen, counts, is_expected, nothing_found, with_behind, with_mark, with_synced, Counts}
-use Rattle.slots.specs.Disk.{first_read, fits_behind, image, is_mark_of, looked, looked_all, marked, next_of, nothing_read, read, read_if, read_on, same_kind, shown, whole_at, with_item, Cell, Content, Entry, ForEntry, ForMark, Fates, File, Item, Kind, Look, Mark, Of, Other, Reading, Value}
+use Rattle.slots.specs.Openings.{chosen, counts, is_expected, with_behind, with_mark, with_synced, Counts}
+use Rattle.slots.specs.Disk.{first_read, image, is_mark_of, looked, looked_all, marked, next_of, nothing_read, read, read_if, read_on, same_kind, shown, whole_at, with_item, Content, Entry, ForEntry, ForMark, Fates, Item, Kind, Look, Mark, Of, Reading, Value}
 use Rattle.slots.proofs.Disk.{kind-same, whole-alone, whole-complete, whole-sound, IsWhole}
 use Rattle.slots.proofs.Lists.{contains-head, contains-more}
-use Rattle.slots.proofs.Reading.{all_read, begins-together, chain-more, finds, next-is, next-sound, none-behind, tail, tail-base, tail-more, tail-number, tail-seal, together-first, together-more, Begins, Chain, Finds, Fits, GoesTogether, IsBehind, IsKnown, IsNewer, More, Only, Same, Nothing}
+use Rattle.slots.proofs.Reading.{all_read, begins-together, chain-more, finds, next-is, next-sound, tail, tail-base, tail-more, tail-number, tail-seal, together-first, Begins, Chain, Finds, Fits, GoesTogether, IsBehind, IsKnown, IsNewer, More, Only, Same, Nothing}
 use Rattle.slots.proofs.Sound.{last_read, AreGood, Bounds, Good, IsAhead, IsBegun, IsBeside, IsPassed, Sound, View}
 
 -- ---- what shows that more was whole
@@ -198,6 +197,7 @@ choose-true a b c =
     apart n some =
         ⊎_elim {C = eqb n 0 ≡ false} (λ (e : eqb n 0 ≡ true). absurd (some (eqb-true n 0 e)))
         (λ (e : eqb n 0 ≡ false). e) (cases_Bool (eqb n 0))
+
     not-less : (n m : ℕ) → m ≤ n → ltb n m ≡ false
     not-less n m within =
         ⊎_elim {C = ltb n m ≡ false}
@@ -205,6 +205,7 @@ choose-true a b c =
         let above = ltb-true n m e in
         absurd (omega (arith, above, within)))
         (λ (e : ltb n m ≡ false). e) (cases_Bool (ltb n m))
+
     later : (z : Bool) → eqb b.version 0 ≡ z → (z || ltb b.number a.number) ≡ true
     later true e = refl
     later false e = lt-ltb b.number a.number (c.later (eqb-false b.version 0 e))
@@ -326,14 +327,19 @@ has-read z s f =
   where
     c : Content
     c = image f z.here
+
     b : Begins c s.value s.entries
     b = s.here f
+
     only : Only (IsBegun s.bounds.middle z.begun) c (last_read s)
     only = s.only f
+
     few : length s.entries < z.fresh
     few = few-entries (last_read s).last.number z.fresh c s.value s.entries b (s.good_here f)
+
     all : GoesTogether (last_read s)
     all = begins-together c s.value s.entries b
+
     go : Finds (IsBegun s.bounds.middle z.begun) c (last_read s) (read z.fresh c)
         → HasRead z s c
     go (Same is none) = record {
@@ -409,6 +415,7 @@ beside-cases b number begun d beside = go (whole_at d 0) refl
     Either =
         ((x : Item) → x.kind ≡ Value → IsWhole d 0 x → IsPassed number d x)
         ⊎ ((x : Item) × IsAhead b begun d x)
+
     go : (o : Option Item) → whole_at d 0 ≡ o → Either
     go None e =
         inl
@@ -419,6 +426,7 @@ beside-cases b number begun d beside = go (whole_at d 0) refl
       where
         is : (y : Item) → IsWhole d 0 y → x ≡ y
         is y whole = whole-alone d 0 x y (whole-sound d 0 x e) whole
+
         last : (t : Bool) → same_kind x.kind Value ≡ t → Either
         last true k =
             ⊎_elim {C = Either}
@@ -546,24 +554,26 @@ outcome z s f =
     let same = here.number in
     let last = here.synced in
     let alone = shows_beside.synced (omega (arith, none)) in
-    inl
-    (record {
-      whole = λ e. two-not-zero (read_here z f).found.version here.version e;
-      later = λ some.
-          let number = shows_beside.number in
-          let under =
-          low.found (λ e. some (shows_beside.version ∙ e)) in
-          omega (arith, under, number, within, same);
-      last = omega (arith, last, within, same);
-      alone = omega (arith, alone, within, same);
-    },
-    chosen-from z most c d s.value h.entries (read_here z f)
-    (h.begins,
-    h.only,
-    h.low,
-    h.save,
-    here,
-    λ x kind whole. passed-weaker most all.last.number d x within (passed x kind whole))))
+    inl (
+      record {
+        whole = λ e. two-not-zero (read_here z f).found.version here.version e;
+        later = λ some.
+            let number = shows_beside.number in
+            let under =
+            low.found (λ e. some (shows_beside.version ∙ e)) in
+            omega (arith, under, number, within, same);
+        last = omega (arith, last, within, same);
+        alone = omega (arith, alone, within, same);
+      },
+      chosen-from z most c d s.value h.entries (read_here z f) (
+        h.begins,
+        h.only,
+        h.low,
+        h.save,
+        here,
+        λ x kind whole. passed-weaker most all.last.number d x within (passed x kind whole),
+      ),
+    ))
     (λ (ahead : (x : Item) × IsAhead s.bounds z.begun d x).
     let x = ahead.0 in
     let a = ahead.1 in
@@ -576,50 +586,62 @@ outcome z s f =
     let number = there.number in
     let last = there.synced in
     let alone = here.synced in
-    inr
-    (record {
-      whole = λ e. two-not-zero (read_beside z f).found.version there.version e;
-      later = λ some. omega (arith, middle, above, same, number);
-      last = omega (arith, last, within, middle, above, number);
-      alone = omega (arith, alone, within, middle, above, number);
-    },
-    chosen-from z most d c x a.entries (read_beside z f)
-    (a.begins,
-    a.only,
-    omega (arith, within, middle, above),
-    contains-more z.stored (all_read x a.entries).last.save z.begun a.save,
-    there,
-    λ y kind whole.
-    passed-chain (all_read x a.entries).last.number c s.value h.entries h.begins h.only
-    (omega (arith, middle, above)) y whole)))
+    inr (
+      record {
+        whole = λ e. two-not-zero (read_beside z f).found.version there.version e;
+        later = λ some. omega (arith, middle, above, same, number);
+        last = omega (arith, last, within, middle, above, number);
+        alone = omega (arith, alone, within, middle, above, number);
+      },
+      chosen-from z most d c x a.entries (read_beside z f) (
+        a.begins,
+        a.only,
+        omega (arith, within, middle, above),
+        contains-more z.stored (all_read x a.entries).last.save z.begun a.save,
+        there,
+        λ y kind whole.
+            passed-chain (all_read x a.entries).last.number c s.value h.entries h.begins h.only
+            (omega (arith, middle, above)) y whole,
+      ),
+    ))
     (beside-cases s.bounds most z.begun d (s.beside f.beside))
   where
     most : ℕ
     most = (last_read s).last.number
+
     c : Content
     c = seen_here z f
+
     d : Content
     d = seen_beside z f
+
     h : HasRead z s c
     h = has-read z s f.here
+
     all : Reading
     all = all_read s.value h.entries
+
     shows_here : OnlyShows most (read z.fresh c) (read_here z f)
     shows_here = looks-show most z.fresh c (read z.fresh c) f.looks_here (s.good_here f.here)
+
     shows_beside : OnlyShows most (read z.fresh d) (read_beside z f)
     shows_beside =
         looks-show most z.fresh d (read z.fresh d) f.looks_beside (s.good_beside f.beside)
+
     reads_here : Reads most (read_here z f) all
     reads_here =
         reads-all most (read z.fresh c) all (read_here z f) h.is
         (begins-together c s.value h.entries h.begins) shows_here
+
     two-not-zero : (n : ℕ) → n ≡ 2 → n ≡ 0 → ⊥
     two-not-zero n e g = omega (arith, e, g)
+
     ahead-read : (x : Item) (a : IsAhead s.bounds z.begun d x)
         → Finds Nothing d (all_read x a.entries) (read z.fresh d)
         → read z.fresh d ≡ all_read x a.entries
     ahead-read x a (Same is none) = is
     ahead-read x a (More y is behind never) = absurd never
+
     reads_ahead : (x : Item) (a : IsAhead s.bounds z.begun d x)
         → Reads most (read_beside z f) (all_read x a.entries)
     reads_ahead x a =

@@ -1,11 +1,10 @@
 -- What a reader finds in a file that begins with a value and entries behind it.
-use Rattle.std.proofs.Common.{◌≡◌, ◌≢◌, ◌<◌, ◌≤◌, ◌+◌, ◌-◌, ℕ, zero, suc, Bool, cond, true, false, ◌&&◌, List, [], ◌∷◌, ◌++◌, Option, Some, None, length, refl, sym, ap, ◌∙◌, subst, arith, ◌⊎◌, inl, inr, ⊎_elim, leb, ltb, eqb}
-use Rattle.std.proofs.lemmas.Bool.{and_from, and_parts, cases_Bool, eq-eqb, eqb-true, lt-ltb, ltb-true, ltb-false}
+use Rattle.std.proofs.Common.{◌≡◌, ◌<◌, ◌≤◌, ◌+◌, ◌-◌, ℕ, zero, suc, Bool, cond, true, false, List, [], ◌∷◌, ◌++◌, Option, Some, None, length, refl, sym, ap, ◌∙◌, subst, arith, ◌⊎◌, ⊎_elim}
+use Rattle.std.proofs.lemmas.Bool.{and_from, and_parts, eq-eqb, eqb-true, lt-ltb, ltb-true}
 use Rattle.slots.specs.declared.opening.Found.{Found}
-use Rattle.slots.specs.declared.saving.TheConstants.{NUMBERS}
-use Rattle.slots.specs.Openings.{is_expected, is_next, nothing_found, with_behind, with_entry, with_mark, with_synced, with_value}
-use Rattle.slots.specs.Disk.{behind_if, first_read, fits_behind, is_mark_of, looked, looked_all, marked, next_of, nothing_read, read, read_if, read_on, same_kind, shown, whole_at, with_item, Cell, Content, Entry, ForEntry, ForMark, Item, Kind, Look, Mark, Of, Other, Reading, Value}
-use Rattle.slots.proofs.Disk.{kind-itself, kind-same, whole-alone, whole-complete, whole-sound, IsWhole}
+use Rattle.slots.specs.Openings.{is_next, with_entry}
+use Rattle.slots.specs.Disk.{behind_if, first_read, fits_behind, next_of, nothing_read, read, read_if, read_on, same_kind, whole_at, with_item, Content, Entry, Item, Kind, Reading, Value}
+use Rattle.slots.proofs.Disk.{kind-same, whole-complete, whole-sound, IsWhole}
 
 -- ---- one more entry
 
@@ -181,8 +180,7 @@ pub chain-same : (c d : Content) (end : ℕ) (r : Reading) (ys : List Item) → 
 chain-same c d end r [] same within chain = tt
 chain-same c d end r (y ∷ ys) same within chain =
     let more = tail-end (with_item r y) ys in
-    let b = chain.0 in
-    (
+    let b = chain.0 in (
       record {
         whole = whole-same c d end r.end y same b.some (omega (arith, more, within)) b.whole;
         fits = b.fits;
@@ -337,10 +335,12 @@ finds P n c v ys b only most =
   where
     rest : ℕ
     rest = n - length ys - 1
+
     reads : read n c ≡ read_on (suc rest) c (all_read v ys)
     reads =
         begins-read n c v ys b
         ∙ read-chain n (suc rest) c (first_read v) ys b.chain (omega (arith, most))
+
     go : (o : Option Item) → next_of c (all_read v ys) ≡ o
         → Finds P c (all_read v ys) (read_on (suc rest) c (all_read v ys))
     go None e =

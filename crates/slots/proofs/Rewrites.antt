@@ -1,25 +1,23 @@
 -- Each step of a rewrite leaves a sound folder sound.
-use Rattle.std.proofs.Common.{◌≡◌, ◌≢◌, ◌<◌, ◌≤◌, ◌+◌, ◌-◌, ℕ, zero, suc, Bool, cond, true, false, ◌&&◌, List, [], ◌∷◌, ◌++◌, Option, Some, None, length, take, drop, refl, sym, ap, ◌∙◌, subst, arith, ◌⊎◌, inl, inr, ⊎_elim, eqb, leb, not}
-use Rattle.std.proofs.lemmas.Bool.{and_from, and_parts, eq-eqb, eqb-false, eqb-true, not-true}
-use Rattle.std.specs.List.{Contains}
-use Rattle.slots.specs.declared.saving.TheConstants.{DUE, ENTRY, HEAD, IDLE, LAST, MOST, NUMBERS, TAIL, TOP, UNSURE, WHOLE}
-use Rattle.slots.specs.declared.saving.Slots.{Slots}
+use Rattle.std.proofs.Common.{◌≡◌, ◌≢◌, ◌<◌, ◌≤◌, ◌+◌, ◌-◌, ℕ, Bool, cond, true, false, List, [], ◌∷◌, ◌++◌, Option, Some, None, length, take, drop, refl, sym, ap, ◌∙◌, subst, arith, ◌⊎◌, inl, inr, ⊎_elim, eqb, leb}
+use Rattle.std.proofs.lemmas.Bool.{and_parts, eqb-false, eqb-true, not-true}
+use Rattle.slots.specs.declared.saving.TheConstants.{HEAD, IDLE, MOST}
 use Rattle.slots.specs.declared.saving.Target.{Target}
 use Rattle.slots.specs.declared.rewrite.Copying.{Copying}
 use Rattle.slots.specs.declared.rewrite.Rewrite.{Rewrite}
-use Rattle.slots.specs.Decisions.{copying, is_idle, may_copy, may_end, may_rewrite, may_write, other, value_place, value_size}
-use Rattle.slots.specs.Beside.{all_written, bytes_of, copies_of, head_of, last_seal, size_of, without_head}
+use Rattle.slots.specs.Decisions.{copying, is_idle, may_copy, may_rewrite, may_write, other, value_place}
+use Rattle.slots.specs.Beside.{all_written, copies_of, head_of, last_seal, size_of, without_head}
 use Rattle.slots.specs.Disk.{first_read, image, put, synced_after, with_write, Cell, Content, Entry, Fates, File, Item, Of, Other, Reading, Value, Write}
 use Rattle.slots.specs.Disk as disk
-use Rattle.slots.specs.Runs.{done_by, new_beside, new_copies, rests, settles, step, value_of, with_file, writes, writes_copies, writes_value, Beside, Doing, Folder, GiveUp, Rests, StartRewrite, WritesCopies, WritesValue}
+use Rattle.slots.specs.Runs.{new_beside, new_copies, rests, step, value_of, with_file, writes_copies, writes_value, Beside, Folder, GiveUp, StartRewrite, WritesCopies, WritesValue}
 use Rattle.slots.proofs.Body.{body-first, body-more, value-of-bytes, IsBody}
-use Rattle.slots.proofs.Copies.{copied, copies-size, next-seal, parts, tail-both, tail-size, written-known, AreNext, Copied, GoOn, Parts, last_number, last_save}
-use Rattle.slots.proofs.Disk.{image-makes, outside-below, put-makes, IsWhole, Makes}
+use Rattle.slots.proofs.Copies.{copied, copies-size, next-seal, parts, tail-both, written-known, AreNext, Copied, GoOn, Parts, last_number, last_save}
+use Rattle.slots.proofs.Disk.{image-makes, outside-below, Makes}
 use Rattle.slots.proofs.Openings.{last-good}
-use Rattle.slots.proofs.Reading.{all_read, begins-together, tail, tail-base, tail-end, tail-seal, Begins, GoesTogether, IsKnown}
-use Rattle.slots.proofs.Saves.{sound-body, sound-fresh, synced, BringsBody}
-use Rattle.slots.proofs.Sound.{last_read, under_of, view_of, Adds, All, AtCopies, AtRest, AtStart, AtValue, Ends, Good, Holds, IsCopying, IsReady, IsSound, IsStarted, IsTied, IsValue, LeadsTo, Leaves, Part, Reached, Replaces, Sound, Tops, Under, View, Works}
-use Rattle.slots.proofs.Steps.{changed, file-beside, Two}
+use Rattle.slots.proofs.Reading.{all_read, begins-together, tail, tail-base, tail-end, tail-seal, GoesTogether}
+use Rattle.slots.proofs.Saves.{sound-body, sound-fresh, BringsBody}
+use Rattle.slots.proofs.Sound.{last_read, under_of, view_of, All, AtCopies, AtRest, AtStart, AtValue, Good, IsReady, IsSound, IsStarted, IsTied, LeadsTo, Part, Reached, Sound, View, Works}
+use Rattle.slots.proofs.Steps.{file-beside}
 
 pub none-some : (o : Option Beside) (b : Beside) → o ≡ None → o ≡ Some b → ⊥
 none-some o b e f = absurd cc
@@ -54,8 +52,7 @@ news-all h s old b is n = record {
         let x = s.all.holds.entry e in
         let a = x.1 in
         let fresh = a.fresh in
-        let older = n.older in
-        (
+        let older = n.older in (
           x.0,
           record {
             kind = a.kind;
@@ -88,6 +85,7 @@ news-all h s old b is n = record {
   where
     short : s.all.holds.sound.bounds.long ≡ false
     short = (s.all.works old is).short
+
     t : Sound (record (view_of h) { beside = n.file; fresh = n.fresh })
     t =
         sound-body (record (view_of h) { fresh = n.fresh })
@@ -156,6 +154,7 @@ start-works h s state idle is = record {
   where
     k : Sound (view_of h)
     k = s.all.holds.sound
+
     last : Good (last_read k).last.number h.fresh (last_read k).last
     last =
         last-good (last_read k).last.number h.fresh
@@ -177,16 +176,18 @@ start-sound h s = go (may_rewrite h.slots) refl
       end = 0;
       from = h.slots.counts;
     }
+
     F : Bool → Folder
     F b =
-        elim (cond b (Some state) None) as (λ o. Folder)
-        [ None ↦ h
-        | Some r ↦
-          record h {
-            slots = cond b (record (h.slots) { turns = h.slots.turns + 1 }) h.slots;
-            beside = Some (new_beside h r);
-          }
+        elim (cond b (Some state) None) as (λ o. Folder) [
+          | None ↦ h
+          | Some r ↦
+              record h {
+                slots = cond b (record (h.slots) { turns = h.slots.turns + 1 }) h.slots;
+                beside = Some (new_beside h r);
+              }
         ]
+
     go : (b : Bool) → may_rewrite h.slots ≡ b → IsSound (F b)
     go true e =
         let idle = eqb-true h.slots.phase IDLE (and_parts (is_idle h.slots) _ e).0 in
@@ -348,18 +349,25 @@ value-news h s b bytes place is r started leads with_it = record {
   where
     z : View
     z = view_of h
+
     k0 : Sound z
     k0 = s.all.holds.sound
+
     number : ℕ
     number = (last_read k0).last.number
+
     v : Item
     v = value_of h b bytes place
+
     w : Write
     w = without_head v
+
     large : HEAD < v.size
     large = omega arith
+
     makes : (f : Fates) → Makes w (image f z.beside) (image f (with_write z.beside w))
     makes f = image-makes f z.beside.synced w z.beside.writes
+
     good : Good number (h.fresh + 1) v
     good = record {
       seal = omega arith;
@@ -367,6 +375,7 @@ value-news h s b bytes place is r started leads with_it = record {
       entry = λ e. absurd (value-not-entry e);
       mark = λ e. absurd cc;
     }
+
     headless : (f : Fates) (n : ℕ) (x : Item) → image f (with_write z.beside w) 0 ≡ Of x n
         → x.base ≢ v.seal
     headless f n x e base =
@@ -384,11 +393,10 @@ value-news h s b bytes place is r started leads with_it = record {
 -- a rewrite at rest has no value yet, or has one
 pub resting : (b : Beside) → rests b.doing ≡ true → (length : ℕ)
     → (b.doing ≡ WritesValue length → ⊥) × (b.doing ≡ WritesCopies → ⊥)
-resting b e length =
-    (
-      (λ f. wrong (sym e ∙ ap rests f)),
-      (λ f. wrong (sym e ∙ ap rests f)),
-    )
+resting b e length = (
+  (λ f. wrong (sym e ∙ ap rests f)),
+  (λ f. wrong (sym e ∙ ap rests f)),
+)
   where
     wrong : true ≡ false → ⊥
     wrong e = cc
@@ -411,10 +419,13 @@ value-sound h s b bytes is rest = go (may_write b.state bytes) refl
   where
     place : Target
     place = record { offset = 0; number = b.state.number; before = 0; slot = other b.state.from }
+
     w : Works (view_of h) s.all.holds.sound h.slots.counts b
     w = s.all.works b is
+
     P : Type 0
     P = IsSound (writes_value h b bytes (Some place))
+
     new : Beside
     new =
         record b {
@@ -423,6 +434,7 @@ value-sound h s b bytes is rest = go (may_write b.state bytes) refl
           write = without_head (value_of h b bytes place);
           to = place.slot;
         }
+
     by-part : (eqb b.state.end 0 ≡ true) → (leb bytes MOST ≡ true)
         → Part (view_of h).beside h.slots.counts (record b { rest = [] }) w.reached
         → P
@@ -438,6 +450,7 @@ value-sound h s b bytes is rest = go (may_write b.state bytes) refl
         absurd (omega (arith, none, some))
     by-part first fits (AtValue v) = absurd ((resting b rest v.length).0 v.doing)
     by-part first fits (AtCopies c) = absurd ((resting b rest 0).1 c.doing)
+
     go : (t : Bool) → may_write b.state bytes ≡ t
         → IsSound (writes_value h b bytes (cond t (Some place) None))
     go true e =
@@ -486,14 +499,18 @@ ahead-of h s b es r ready below on = record {
   where
     R : Reading
     R = all_read b.value b.copies
+
     c : Content
     c = image (λ i k. disk.Lost) (view_of h).beside
+
     body : IsBody c b.value b.copies
     body = ready.body (λ i k. disk.Lost)
+
     base : R.last.base ≡ b.value.seal
     base =
         tail-base (put (head_of b.value) c) (first_read b.value) b.copies body.begins.chain
         ∙ body.begins.own
+
     together : GoesTogether R
     together = begins-together (put (head_of b.value) c) b.value b.copies body.begins
 
@@ -542,6 +559,7 @@ items-bring z s b g xs R is tied facts makes headless = record {
   where
     not-mark : Entry ≡ disk.Mark → ⊥
     not-mark e = cc
+
     some : 0 < b.state.end
     some =
         let large = tied.large in
@@ -633,26 +651,37 @@ copies-news h s b count is r ready leads with_it = record {
   where
     z : View
     z = view_of h
+
     k0 : Sound z
     k0 = s.all.holds.sound
+
     es : List Item
     es = take count b.rest
+
     xs : List Item
     xs = new_copies h b es
+
     fresh : ℕ
     fresh = h.fresh + length es
+
     g : File
     g = with_write z.beside (all_written xs b.state.end)
+
     R : Reading
     R = all_read b.value b.copies
+
     T : Reading
     T = tail R xs
+
     p : Parts r.save r.number es (drop count b.rest) b.rest
     p = parts count r.save r.number b.rest leads.on
+
     a : Ahead h s b es
     a = ahead-of h s b es r ready with_it.1 p.first_on
+
     C : Copied R h.fresh es xs
     C = a.copies
+
     tied : IsTied b
     tied = record {
       end = ready.tied.end;
@@ -660,18 +689,23 @@ copies-news h s b count is r ready leads with_it = record {
       base = ready.tied.base;
       large = ready.tied.large;
     }
+
     both : all_read b.value (b.copies ++ xs) ≡ T
     both = tail-both (first_read b.value) b.copies xs
+
     save : T.last.save ≡ last_save r.save es
     save = C.save ∙ ap (λ (n : ℕ). last_save n es) (sym ready.save)
+
     number : T.last.number ≡ last_number r.number es
     number = C.number ∙ ap (λ (n : ℕ). last_number n es) (sym ready.number)
+
     number_low : T.last.number ≤ (last_read k0).last.number + 1
     number_low =
         let grows = go-grows (last_save r.save es) (last_number r.number es) (drop count b.rest) p.rest_on in
         let last = leads.last in
         let same = p.number_is in
         omega (arith, grows, last, same, number)
+
     makes : (f : Fates) → Makes (all_written xs b.state.end) (image f z.beside) (image f g)
     makes f = image-makes f z.beside.synced (all_written xs b.state.end) z.beside.writes
 
@@ -685,6 +719,7 @@ copies-sound h s b count is rest = go (may_copy b.state end) refl
   where
     end : ℕ
     end = b.state.from_end + size_of (take count b.rest)
+
     place : Copying
     place = record {
       length = end - b.state.from_end;
@@ -693,8 +728,10 @@ copies-sound h s b count is rest = go (may_copy b.state end) refl
       from_slot = b.state.from;
       to_slot = other b.state.from;
     }
+
     w : Works (view_of h) s.all.holds.sound h.slots.counts b
     w = s.all.works b is
+
     new : Beside
     new =
         record b {
@@ -705,8 +742,10 @@ copies-sound h s b count is rest = go (may_copy b.state end) refl
           next = new_copies h b (take count b.rest);
           next_of = take count b.rest;
         }
+
     P : Type 0
     P = IsSound (writes_copies h b (take count b.rest) (drop count b.rest) (Some place))
+
     by-part : (may_copy b.state end ≡ true)
         → Part (view_of h).beside h.slots.counts (record b { rest = [] }) w.reached
         → P
@@ -727,9 +766,9 @@ copies-sound h s b count is rest = go (may_copy b.state end) refl
         (news-sound h s b new is n place.to_slot there)
     by-part fits (AtValue v) = absurd ((resting b rest v.length).0 v.doing)
     by-part fits (AtCopies c) = absurd ((resting b rest 0).1 c.doing)
+
     go : (t : Bool) → may_copy b.state end ≡ t
         → IsSound
         (writes_copies h b (take count b.rest) (drop count b.rest) (cond t (Some place) None))
     go true e = by-part e w.part
     go false e = s
-

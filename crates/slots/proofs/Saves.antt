@@ -1,12 +1,10 @@
 -- What each write and each sync leaves of a sound folder.
-use Rattle.std.proofs.Common.{◌≡◌, ◌≢◌, ◌<◌, ◌≤◌, ◌+◌, ◌-◌, ℕ, zero, suc, Bool, cond, true, false, List, [], ◌∷◌, ◌++◌, length, refl, sym, ap, ◌∙◌, subst, arith, ◌⊎◌, inl, inr, ⊎_elim}
-use Rattle.std.proofs.lemmas.Bool.{cases_Bool}
-use Rattle.std.specs.List.{Contains}
-use Rattle.slots.specs.Disk.{first_read, image, put, same_item, synced_after, with_item, with_write, written, Cell, Content, Entry, Fates, File, Item, Kind, Of, Other, Reading, Value, Write}
-use Rattle.slots.proofs.Disk.{free-of, image-makes, item-itself, item-same, put-makes, put-whole, same-below, whole-alone, whole-before, IsFree, IsWhole, Makes, MayBe}
-use Rattle.slots.proofs.Lists.{contains-head, contains-more}
+use Rattle.std.proofs.Common.{◌≡◌, ◌≢◌, ◌<◌, ◌≤◌, ◌+◌, ℕ, Bool, true, false, List, [], ◌∷◌, ◌++◌, refl, sym, ap, ◌∙◌, subst, arith, ◌⊎◌, inl, inr, ⊎_elim}
+use Rattle.slots.specs.Disk.{first_read, image, put, same_item, synced_after, with_item, with_write, written, Content, Entry, Fates, File, Item, Of, Other, Reading, Value, Write}
+use Rattle.slots.proofs.Disk.{free-of, image-makes, item-itself, item-same, put-makes, put-whole, same-below, whole-alone, whole-before, IsFree, IsWhole, Makes}
+use Rattle.slots.proofs.Lists.{contains-more}
 use Rattle.slots.proofs.Openings.{passed-weaker, Chosen}
-use Rattle.slots.proofs.Reading.{all_read, begins-same, begins-together, chain-more, tail-base, tail-end, tail-more, tail-number, together-first, AreSame, Begins, IsBehind, IsKnown, IsNewer, Only, Nothing}
+use Rattle.slots.proofs.Reading.{all_read, begins-same, begins-together, chain-more, tail-base, tail-more, tail-number, together-first, Begins, IsBehind, IsKnown, IsNewer}
 use Rattle.slots.proofs.Sound.{last_read, Adds, AreGood, Bounds, Good, IsAhead, IsBegun, IsBeside, IsPassed, Replaces, Sound, View}
 
 -- ---- what is good
@@ -106,6 +104,7 @@ sound-here z s w behind good brings = record {
   where
     makes : (f : Fates) → Makes w (image f z.here) (image f (with_write z.here w))
     makes f = image-makes f z.here.synced w z.here.writes
+
     before : (k : ℕ) → k < (last_read s).end → k < w.from
     before k below =
         let same = s.end in
@@ -163,14 +162,17 @@ sound-beside z s w short good free brings = record {
     Beside f x =
         IsPassed (last_read s).last.number (image f (with_write z.beside w)) x
         ⊎ IsAhead s.bounds z.begun (image f (with_write z.beside w)) x
+
     makes : (f : Fates) → Makes w (image f z.beside) (image f (with_write z.beside w))
     makes f = image-makes f z.beside.synced w z.beside.writes
+
     before : (f : Fates) (at : ℕ) (y : Item) → IsFree w y
         → IsWhole (image f (with_write z.beside w)) at y
         → IsWhole (image f z.beside) at y
     before f at y apart whole =
         whole-before w (image f z.beside) (image f (with_write z.beside w)) at y (makes f) apart
         whole
+
     alone : (f : Fates) (x : Item) → (ys : List Item) → ys ≡ []
         → IsWhole (image f (with_write z.beside w)) 0 x
         → Begins (image f z.beside) x ys
@@ -183,6 +185,7 @@ sound-beside z s w short good free brings = record {
       chain = tt;
     }
     alone f x (y ∷ ys) e whole b = absurd cc
+
     still : (f : Fates) (x : Item) → IsWhole (image f (with_write z.beside w)) 0 x
         → IsAhead s.bounds z.begun (image f z.beside) x
         → IsAhead s.bounds z.begun (image f (with_write z.beside w)) x
@@ -261,14 +264,17 @@ beside-after z s g seal short b f x kind whole =
   where
     apart : x.base ≢ seal
     apart = b.headless f 0 x whole.head
+
     before : (at : ℕ) (y : Item) → y.base ≡ x.base → IsWhole (image f g) at y
         → IsWhole (image (b.back f) z.beside) at y
     before at y base inside =
         whole-before b.write (image (b.back f) z.beside) (image f g) at y (b.makes f)
         (λ k n e. apart (sym base ∙ b.whose k n y e)) inside
+
     same : (a : IsAhead s.bounds z.begun (image (b.back f) z.beside) x)
         → (all_read x a.entries).last.base ≡ x.base
     same a = tail-base (image (b.back f) z.beside) (first_read x) a.entries a.begins.chain
+
     alone : (ys : List Item) → ys ≡ [] → Begins (image (b.back f) z.beside) x ys
         → Begins (image f g) x ys
     alone [] e k = record {
@@ -325,12 +331,13 @@ sound-begin z s b number save fresh older more within most ahead = record {
       (λ (known : IsKnown (last_read s).last y). inl known)
       (λ (newer : IsNewer (last_read s) at y × IsBegun s.bounds.middle z.begun at y).
       let below = newer.1.number in
-      inr
-      (newer.0,
-      record {
-        number = omega (arith, below, more);
-        save = contains-more save y.save z.begun newer.1.save;
-      }))
+      inr (
+        newer.0,
+        record {
+          number = omega (arith, below, more);
+          save = contains-more save y.save z.begun newer.1.save;
+        },
+      ))
       (s.only f at y kind base whole);
   beside = λ f x kind whole.
       ⊎_elim {C = IsPassed (last_read s).last.number (image f z.beside) x
@@ -423,20 +430,28 @@ sound-added z s x a fates = record {
   where
     all : Reading
     all = all_read s.value (s.entries ++ x ∷ [])
+
     more : all ≡ with_item (last_read s) x
     more = tail-more (first_read s.value) s.entries x
+
     w : Write
     w = written x z.end
+
     c : Content
     c = image fates z.here
+
     d : Content
     d = after_sync w fates z.here
+
     makes : Makes w c d
     makes = put-makes w c
+
     whole : IsWhole d z.end x
     whole = put-whole x z.end c a.newer.some
+
     s_end : z.end + x.size ≡ (with_item (last_read s) x).end
     s_end = ap (λ (n : ℕ). n + x.size) s.end
+
     behind : IsBehind d (last_read s) x
     behind =
         let together = begins-together c s.value s.entries (s.here fates) in
@@ -455,6 +470,7 @@ sound-added z s x a fates = record {
           newer = subst (λ (k : ℕ). k < x.seal) (sym a.newer.before) a.newer.newer;
           some = a.newer.some;
         }
+
     old : Begins d s.value s.entries
     old =
         begins-same c d (last_read s).end s.value s.entries
@@ -462,6 +478,7 @@ sound-added z s x a fates = record {
         let same = s.end in
         same-below w c d makes k (omega (arith, below, same)))
         (omega arith) (s.here fates)
+
     begins : Begins d s.value (s.entries ++ x ∷ [])
     begins = record {
       value = old.value;
@@ -470,12 +487,15 @@ sound-added z s x a fates = record {
       some = old.some;
       chain = chain-more d (first_read s.value) s.entries x old.chain behind;
     }
+
     itself : IsKnown x x
     itself = record { seal = omega arith; number = omega arith; newer = behind.newer }
+
     grows : (last_read s).last.number ≤ all.last.number
     grows =
         let next = a.newer.number in
         rw more (omega (arith, next))
+
     known-of : (at : ℕ) (y : Item) → y.kind ≡ Entry → y.base ≡ (last_read s).last.base
         → IsWhole d at y
         → IsKnown x y
@@ -500,11 +520,13 @@ sound-added z s x a fates = record {
         subst (IsKnown x) is itself)
         (s.only fates at y kind base (whole-before w c d at y makes free whole_y)))
         (this-or-free x y z.end)
+
     known : (at : ℕ) (y : Item) → y.kind ≡ Entry → y.base ≡ all.last.base → IsWhole d at y
         → IsKnown all.last y
     known at y kind base whole_y =
         subst (λ (r : Reading). IsKnown r.last y) (sym more)
         (known-of at y kind (base ∙ ap (λ (r : Reading). r.last.base) more ∙ a.base) whole_y)
+
     passed : (f : Fates) (y : Item) → y.kind ≡ Value → IsWhole (image f z.beside) 0 y
         → IsPassed all.last.number (image f z.beside) y
     passed f y kind whole_y =
@@ -518,12 +540,14 @@ sound-added z s x a fates = record {
         let same = a.middle in
         absurd (omega (arith, above, below, top, same)))
         (s.beside f y kind whole_y)
+
     base_low : x.base < z.fresh
     base_low =
         subst (λ (n : ℕ). n < z.fresh) (sym a.base)
         (subst (λ (n : ℕ). n < z.fresh)
         (sym (tail-base c (first_read s.value) s.entries (s.here fates).chain))
         (s.good_here fates 0 0 s.value (s.here fates).value.head).base)
+
     good : AreGood all.last.number z.fresh d
     good =
         good-after all.last.number z.fresh w c d makes
@@ -580,6 +604,7 @@ passed-here z s number above f y whole =
   where
     c : Content
     c = image f z.here
+
     b : Begins c s.value s.entries
     b = s.here f
 
@@ -590,12 +615,12 @@ sound-replaced z s x r fates = record {
   entries = [];
   bounds = record { middle = x.number; top = x.number; long = false };
   here = λ f. record {
-      value = whole;
-      kind = r.kind;
-      own = r.own;
-      some = r.some;
-      chain = tt;
-    };
+    value = whole;
+    kind = r.kind;
+    own = r.own;
+    some = r.some;
+    chain = tt;
+  };
   only = λ f at y kind base inside. absurd (none at y kind base inside);
   beside = λ f y kind inside. inl (passed-here z s x.number above f y inside);
   good_here = λ f.
@@ -620,23 +645,30 @@ sound-replaced z s x r fates = record {
   where
     w : Write
     w = written x 0
+
     c : Content
     c = image fates z.beside
+
     d : Content
     d = after_sync w fates z.beside
+
     makes : Makes w c d
     makes = put-makes w c
+
     whole : IsWhole d 0 x
     whole = put-whole x 0 c r.some
+
     above : s.bounds.middle < x.number
     above =
         let middle = r.middle in
         let same = r.number in
         omega (arith, middle, same)
+
     grows : (last_read s).last.number ≤ x.number
     grows =
         let low = s.low in
         omega (arith, low, above)
+
     none : (at : ℕ) (y : Item) → y.kind ≡ Entry → y.base ≡ x.base → IsWhole d at y → ⊥
     none at y kind base inside =
         ⊎_elim {C = ⊥}

@@ -1,11 +1,11 @@
 -- What holds of a folder after any steps.
-use Rattle.std.proofs.Common.{◌≡◌, ◌≢◌, ◌<◌, ◌≤◌, ◌+◌, ℕ, Bool, false, true, List, [], ◌∷◌, ◌++◌, Option, Some, None, ◌⊎◌}
+use Rattle.std.proofs.Common.{◌≡◌, ◌≢◌, ◌<◌, ◌≤◌, ◌+◌, ℕ, Bool, false, true, List, [], ◌++◌, Option, Some, None, ◌⊎◌}
 use Rattle.std.specs.Prelude.{nat_le}
 use Rattle.std.specs.List.{Contains}
 use Rattle.slots.specs.declared.saving.TheConstants.{ENTRY, HEAD, IDLE, LAST, MOST, TOP, UNSURE, WHOLE}
 use Rattle.slots.specs.Decisions.{may_copy, other, value_size}
 use Rattle.slots.specs.Beside.{all_written, head_of, last_seal, size_of, without_head}
-use Rattle.slots.specs.Disk.{image, put, written, Cell, Content, Entry, Fates, File, Item, Mark, Of, Reading, Value, Write}
+use Rattle.slots.specs.Disk.{image, put, written, Content, Entry, Fates, File, Item, Mark, Of, Reading, Value, Write}
 use Rattle.slots.specs.Runs.{Beside, Folder, Rests, WritesCopies, WritesValue}
 use Rattle.slots.proofs.Body.{IsBody}
 use Rattle.slots.proofs.Copies.{last_number, last_save, AreNext, GoOn}

@@ -1,24 +1,19 @@
 -- Each step leaves a sound folder sound.
-use Rattle.std.proofs.Common.{◌≡◌, ◌≢◌, ◌<◌, ◌≤◌, ◌+◌, ◌-◌, ℕ, zero, suc, Bool, cond, true, false, ◌&&◌, ◌||◌, List, [], ◌∷◌, Option, Some, None, length, refl, sym, ap, ◌∙◌, subst, arith, ◌⊎◌, inl, inr, ⊎_elim, eqb, leb, ltb}
+use Rattle.std.proofs.Common.{◌≡◌, ◌<◌, ◌≤◌, ◌+◌, ◌-◌, ℕ, Bool, cond, true, false, ◌||◌, [], ◌∷◌, Some, None, refl, sym, ap, ◌∙◌, subst, arith, ◌⊎◌, inl, inr, ⊎_elim, eqb}
 use Rattle.std.proofs.lemmas.Bool.{and_parts, cases_Bool, eq-eqb, eqb-true, leb-true}
-use Rattle.std.specs.List.{Contains}
-use Rattle.slots.specs.declared.saving.TheConstants.{DUE, ENTRY, ENTRY_HEAD, HEAD, IDLE, LAST, TAIL, TOP, UNSURE, WHOLE}
-use Rattle.slots.specs.declared.saving.Mark.{Mark}
+use Rattle.slots.specs.declared.saving.TheConstants.{DUE, IDLE}
 use Rattle.slots.specs.declared.saving.Target.{Target}
-use Rattle.slots.specs.declared.saving.Slots.{Slots}
-use Rattle.slots.specs.declared.opening.Choice.{Choice}
-use Rattle.slots.specs.declared.opening.Choice.TheVariants as choice
-use Rattle.slots.specs.Decisions.{added, adding, after_entry, after_stored, after_whole, entry_place, fits, is_idle, mark_of, may_add, may_replace, other, replacing, switched, whole_place}
+use Rattle.slots.specs.Decisions.{adding, is_idle, may_add, may_replace, other, replacing}
 use Rattle.slots.specs.Disk.{covers, image, put, synced_after, with_write, written, Cell, Content, Entry, Fates, File, Item, Kind, Of, Other, Reading, Value, Write}
 use Rattle.slots.specs.Disk as disk
-use Rattle.slots.specs.Runs.{begins, begins_entry, begins_whole, ends, goes_on, new_entry, new_mark, new_whole, nothing, opens, puts_mark, puts_zeros, settled, step, with_file, writes, zeros, AddEntry, Fail, Folder, PutMark, PutZeros, Replace, Sight, Step, Store}
+use Rattle.slots.specs.Runs.{begins, new_entry, new_whole, step, AddEntry, Folder, Replace}
 use Rattle.slots.proofs.Disk.{free-of, image-makes, IsFree, IsWhole, Makes}
 use Rattle.slots.proofs.Lists.{contains-head, contains-more}
 use Rattle.slots.proofs.Openings.{last-good}
-use Rattle.slots.proofs.Reading.{all_read, tail-base, Begins, IsNewer}
-use Rattle.slots.proofs.Saves.{good-of, item-written, added-last, replaced-last, reopened-last, sound-added, sound-begin, sound-beside, sound-here, sound-replaced, sound-reopened, replaced, reopened, synced, this-or-free, with_added, BringsEntries, BringsValues}
+use Rattle.slots.proofs.Reading.{all_read, IsNewer}
+use Rattle.slots.proofs.Saves.{item-written, sound-begin, sound-beside, sound-here, this-or-free, BringsEntries, BringsValues}
 use Rattle.slots.proofs.Works.{works-keep}
-use Rattle.slots.proofs.Sound.{last_read, under_of, view_of, Adds, All, AreGood, Bounds, Good, Holds, IsAhead, IsBegun, IsSound, Replaces, Sound, View}
+use Rattle.slots.proofs.Sound.{last_read, under_of, view_of, All, AreGood, Bounds, Good, Holds, IsAhead, IsBegun, IsSound, Sound, View}
 
 -- ---- files by their slots
 
@@ -84,8 +79,10 @@ place-of x from at number fresh c d good is makes whole =
   where
     same-place : (k n : ℕ) → Of x k ≡ Of x n → k ≡ n
     same-place k n e = cc
+
     apart : Other ≡ Of x 0 → ⊥
     apart e = cc
+
     old : d at ≡ c at → ⊥
     old same =
         let below = (good at 0 x (sym same ∙ whole.head)).seal in
@@ -121,18 +118,18 @@ adds-holds h bytes all idle = record {
     idle = λ e. absurd cc;
     short = λ a b. refl;
     entry = λ e. (
-        refl,
-        record {
-          kind = refl;
-          base = s.base;
-          newer = newer;
-          save = contains-head h.fresh h.begun;
-          fresh = omega arith;
-          next = ap (λ (n : ℕ). n + 1) rest;
-          number = refl;
-          middle = refl;
-        },
-      );
+      refl,
+      record {
+        kind = refl;
+        base = s.base;
+        newer = newer;
+        save = contains-head h.fresh h.begun;
+        fresh = omega arith;
+        next = ap (λ (n : ℕ). n + 1) rest;
+        number = refl;
+        middle = refl;
+      },
+    );
     whole = λ e. absurd cc;
   };
   works = λ o e.
@@ -150,23 +147,31 @@ adds-holds h bytes all idle = record {
   where
     k : Holds (view_of h) h.slots.phase h.slots.next_end h.item
     k = all.holds
+
     z : View
     z = view_of h
+
     s : Sound z
     s = k.sound
+
     rest : z.number ≡ (last_read s).last.number
     rest = k.idle idle
+
     number : ℕ
     number = h.slots.number + 1
+
     b : Bounds
     b = record { middle = number; top = number; long = false }
+
     x : Item
     x = new_entry h bytes (place_here h)
+
     grown : s.bounds.middle ≤ number
     grown =
         let middle = s.middle in
         let top = s.top in
         omega (arith, middle, top)
+
     s1 : Sound (record z { number = number; fresh = z.fresh + 1; begun = z.fresh ∷ z.begun })
     s1 =
         sound-begin z s b number z.fresh (z.fresh + 1) (omega arith) grown (omega arith) (omega arith)
@@ -177,10 +182,12 @@ adds-holds h bytes all idle = record {
         let top = s.top in
         let same = rest in
         absurd (omega (arith, above, below, low, top, same)))
+
     last : Good (last_read s).last.number z.fresh (last_read s).last
     last =
         last-good (last_read s).last.number z.fresh (image (λ i k. disk.Lost) z.here) s.value
         s.entries (s.here (λ i k. disk.Lost)) (s.good_here (λ i k. disk.Lost))
+
     newer : IsNewer (last_read s) z.end x
     newer =
         let same = rest in
@@ -192,11 +199,13 @@ adds-holds h bytes all idle = record {
           since = s.stored;
           some = omega arith;
         }
+
     base_low : z.base < z.fresh + 1
     base_low =
         let low = last.base in
         let same = s.base in
         omega (arith, low, same)
+
     brings : BringsEntries
         (record z { number = number; fresh = z.fresh + 1; begun = z.fresh ∷ z.begun }) s1
         (written x z.end)
@@ -213,10 +222,12 @@ adds-holds h bytes all idle = record {
         (image-makes f z.here.synced (written x z.end) z.here.writes) whole_x in
         inr
         (subst
-        (λ (i : Item). IsNewer (last_read s) at i × IsBegun number (z.fresh ∷ z.begun) at i) is
-        (subst (λ (n : ℕ). IsNewer (last_read s) n x) (sym place) newer,
-        record { number = omega arith; save = contains-head z.fresh z.begun })))
+        (λ (i : Item). IsNewer (last_read s) at i × IsBegun number (z.fresh ∷ z.begun) at i) is (
+          subst (λ (n : ℕ). IsNewer (last_read s) n x) (sym place) newer,
+          record { number = omega arith; save = contains-head z.fresh z.begun },
+        )))
         (λ (free : IsFree (written x z.end) y). inl free) (this-or-free x y z.end)
+
     after : Sound
         (record z {
           here = with_write z.here (written x z.end);
@@ -302,17 +313,17 @@ replaces-holds h bytes all may = record {
     short = λ a b. refl;
     entry = λ e. absurd cc;
     whole = λ e. (
-        refl,
-        record {
-          kind = refl;
-          own = refl;
-          some = omega arith;
-          fresh = omega arith;
-          number = refl;
-          middle = middle;
-          unused = λ f at n y is kind base. new-cell f at n y is kind base;
-        },
-      );
+      refl,
+      record {
+        kind = refl;
+        own = refl;
+        some = omega arith;
+        fresh = omega arith;
+        number = refl;
+        middle = middle;
+        unused = λ f at n y is kind base. new-cell f at n y is kind base;
+      },
+    );
   };
   works = λ o e. absurd cc;
   last = λ e. absurd cc;
@@ -321,28 +332,37 @@ replaces-holds h bytes all may = record {
   where
     k : Holds (view_of h) h.slots.phase h.slots.next_end h.item
     k = all.holds
+
     z : View
     z = view_of h
+
     s : Sound z
     s = k.sound
+
     short : s.bounds.long ≡ false
     short =
         ⊎_elim {C = s.bounds.long ≡ false}
         (λ (e : h.slots.phase ≡ IDLE). k.short (λ top. absurd cc) (λ unsure. absurd cc))
         (λ (e : h.slots.phase ≡ DUE). k.short (λ top. absurd cc) (λ unsure. absurd cc)) may
+
     number : ℕ
     number = h.slots.number + 1
+
     b : Bounds
     b = record { middle = s.bounds.middle; top = number; long = false }
+
     middle : s.bounds.middle < number
     middle =
         let first = s.middle in
         let top = s.top in
         omega (arith, first, top)
+
     x : Item
     x = new_whole h bytes (place_beside h)
+
     w : Write
     w = written x 0
+
     s1 : Sound (record z { number = number; fresh = z.fresh + 1; begun = z.fresh ∷ z.begun })
     s1 =
         sound-begin z s b number z.fresh (z.fresh + 1) (omega arith) (omega arith) (omega (arith, middle)) (omega arith)
@@ -358,12 +378,15 @@ replaces-holds h bytes all may = record {
           save = contains-more z.fresh (all_read y a.entries).last.save z.begun a.save;
           short = λ e. a.short short;
         })
+
     value-entry : (k n : ℕ) (y : Item) → Of x k ≡ Of y n → y.kind ≡ Entry → ⊥
     value-entry k n y e kind =
         let is : x ≡ y = cc in
         not-value (ap (λ (i : Item). i.kind) is ∙ kind)
+
     apart : (n : ℕ) (y : Item) → Other ≡ Of y n → ⊥
     apart n y e = cc
+
     new-cell : (f : Fates) (k n : ℕ) (y : Item)
         → image f (with_write z.beside w) k ≡ Of y n
         → y.kind ≡ Entry
@@ -381,6 +404,7 @@ replaces-holds h bytes all may = record {
         value-entry (k - 0) n y (sym this ∙ is) kind)
         (λ (torn : image f (with_write z.beside w) k ≡ Other). apart n y (sym torn ∙ is)) other)
         (image-makes f z.beside.synced w z.beside.writes k).cases
+
     only-this : (f : Fates)
         → (at : ℕ)
         → (y : Item)
@@ -389,8 +413,10 @@ replaces-holds h bytes all may = record {
         → IsWhole (image f (with_write z.beside w)) at y
         → ⊥
     only-this f at y kind base whole = new-cell f at 0 y whole.head kind base
+
     number_low : (last_read s).last.number ≤ s.bounds.middle
     number_low = s.low
+
     ahead : (f : Fates) → IsWhole (image f (with_write z.beside w)) 0 x
         → IsAhead b (z.fresh ∷ z.begun) (image f (with_write z.beside w)) x
     ahead f whole = record {
@@ -408,6 +434,7 @@ replaces-holds h bytes all may = record {
       save = contains-head z.fresh z.begun;
       short = λ e. refl;
     }
+
     brings : BringsValues
         (record z { number = number; fresh = z.fresh + 1; begun = z.fresh ∷ z.begun }) s1 w
     brings f y kind whole =
@@ -420,6 +447,7 @@ replaces-holds h bytes all may = record {
         (ahead f
         (subst (λ (i : Item). IsWhole (image f (with_write z.beside w)) 0 i) (sym is) whole))))
         (λ (free : IsFree w y). inl free) (this-or-free x y 0)
+
     after : Sound
         (record z {
           beside = with_write z.beside w;
@@ -473,11 +501,12 @@ add-sound h bytes s = go (may_add h.slots bytes) refl
   where
     F : Bool → Folder
     F b =
-        elim (cond b (Some (place_here h)) None) as (λ o. Folder)
-        [ None ↦ h
-        | Some place ↦
-          begins h (cond b (adding h.slots bytes) h.slots) place (new_entry h bytes place)
+        elim (cond b (Some (place_here h)) None) as (λ o. Folder) [
+          | None ↦ h
+          | Some place ↦
+              begins h (cond b (adding h.slots bytes) h.slots) place (new_entry h bytes place)
         ]
+
     go : (b : Bool) → may_add h.slots bytes ≡ b → IsSound (F b)
     go true e =
         adds-sound h bytes s
@@ -489,16 +518,18 @@ replace-sound h bytes s = go (may_replace h.slots bytes) refl
   where
     F : Bool → Folder
     F b =
-        elim (cond b (Some (place_beside h)) None) as (λ o. Folder)
-        [ None ↦ h
-        | Some place ↦
-          record (begins h (cond b (replacing h.slots bytes) h.slots) place (new_whole h bytes place)) {
-            beside = None;
-          }
+        elim (cond b (Some (place_beside h)) None) as (λ o. Folder) [
+          | None ↦ h
+          | Some place ↦
+              record (begins h (cond b (replacing h.slots bytes) h.slots) place (new_whole h bytes place)) {
+                beside = None;
+              }
         ]
+
     may : (a b : Bool) → (a || b) ≡ true → (a ≡ true) ⊎ (b ≡ true)
     may true b e = inl refl
     may false b e = inr e
+
     go : (b : Bool) → may_replace h.slots bytes ≡ b → IsSound (F b)
     go true e =
         replaces-sound h bytes s
@@ -508,4 +539,3 @@ replace-sound h bytes s = go (may_replace h.slots bytes) refl
         (may (eqb h.slots.phase IDLE) (eqb h.slots.phase DUE)
         (and_parts (eqb h.slots.phase IDLE || eqb h.slots.phase DUE) _ e).0))
     go false e = s
-

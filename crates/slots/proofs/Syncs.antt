@@ -1,27 +1,20 @@
 -- What a rewrite has written is synced, and it ends with an entry.
-use Rattle.std.proofs.Common.{◌≡◌, ◌≢◌, ◌<◌, ◌≤◌, ◌+◌, ◌-◌, ℕ, zero, suc, Bool, cond, true, false, ◌&&◌, List, [], ◌∷◌, ◌++◌, Option, Some, None, length, take, drop, refl, sym, ap, ◌∙◌, subst, arith, ◌⊎◌, inl, inr, ⊎_elim, eqb, leb, not}
-use Rattle.std.proofs.lemmas.Bool.{and_from, and_parts, eq-eqb, eqb-false, eqb-true, not-true}
-use Rattle.std.specs.List.{Contains}
-use Rattle.slots.specs.declared.saving.TheConstants.{DUE, ENTRY, HEAD, IDLE, LAST, MOST, NUMBERS, TAIL, TOP, UNSURE, WHOLE}
-use Rattle.slots.specs.declared.saving.Slots.{Slots}
-use Rattle.slots.specs.declared.saving.Target.{Target}
-use Rattle.slots.specs.declared.rewrite.Copying.{Copying}
+use Rattle.std.proofs.Common.{◌≡◌, ◌<◌, ◌≤◌, ◌+◌, ◌-◌, ℕ, Bool, cond, true, ◌&&◌, List, [], ◌++◌, Some, length, refl, sym, ap, ◌∙◌, subst, arith, eqb, leb}
+use Rattle.std.proofs.lemmas.Bool.{and_from, eq-eqb}
+use Rattle.slots.specs.declared.saving.TheConstants.{MOST}
 use Rattle.slots.specs.declared.rewrite.Rewrite.{Rewrite}
-use Rattle.slots.specs.Decisions.{copying, is_idle, may_copy, may_end, may_rewrite, may_write, other, value_place, value_size}
-use Rattle.slots.specs.Beside.{all_written, bytes_of, copies_of, head_of, last_seal, size_of, without_head}
+use Rattle.slots.specs.Decisions.{value_size}
+use Rattle.slots.specs.Beside.{all_written, head_of, last_seal, size_of, without_head}
 use Rattle.slots.specs.Disk.{first_read, image, put, synced_after, with_write, Cell, Content, Entry, Fates, File, Item, Of, Other, Reading, Value, Write}
 use Rattle.slots.specs.Disk as disk
-use Rattle.slots.specs.Runs.{done_by, new_beside, new_copies, rests, settles, step, value_of, with_file, writes, writes_copies, writes_value, Beside, Doing, Folder, GiveUp, Rests, StartRewrite, WritesCopies, WritesValue}
-use Rattle.slots.proofs.Body.{body-first, body-more, value-of-bytes, IsBody}
-use Rattle.slots.proofs.Copies.{chain-first, copied, copies-size, next-seal, parts, tail-both, tail-size, written-known, AreNext, Copied, GoOn, Parts, last_number, last_save}
-use Rattle.slots.proofs.Disk.{image-makes, outside-below, put-makes, IsWhole, Makes}
-use Rattle.slots.proofs.Openings.{last-good}
-use Rattle.slots.proofs.Reading.{all_read, begins-together, tail, tail-base, tail-end, tail-seal, together, together-first, Begins, Chain, GoesTogether, IsKnown}
-use Rattle.slots.proofs.Saves.{sound-body, sound-fresh, synced, BringsBody}
-use Rattle.slots.proofs.Sound.{last_read, under_of, view_of, Adds, All, AtCopies, AtRest, AtStart, AtValue, Ends, Good, Holds, IsCopying, IsReady, IsSound, IsStarted, IsTied, IsValue, LeadsTo, Leaves, Part, Reached, Replaces, Sound, Tops, Under, View, Works}
-use Rattle.slots.proofs.Steps.{changed, file-beside, Two}
-
-use Rattle.slots.proofs.Rewrites.{go-grows, none-some, resting, tied-end, ahead-of, items-bring, news-sound, value-not-entry, value-not-mark, with_news, Ahead, News}
+use Rattle.slots.specs.Runs.{done_by, rests, settles, with_file, Beside, Doing, Folder, Rests, WritesCopies, WritesValue}
+use Rattle.slots.proofs.Body.{value-of-bytes, IsBody}
+use Rattle.slots.proofs.Copies.{chain-first, next-seal, tail-both, tail-size, written-known}
+use Rattle.slots.proofs.Disk.{put-makes}
+use Rattle.slots.proofs.Reading.{all_read, tail, tail-base, tail-seal, together, together-first, Chain}
+use Rattle.slots.proofs.Saves.{sound-fresh}
+use Rattle.slots.proofs.Sound.{last_read, view_of, AtCopies, AtRest, AtStart, AtValue, Good, IsCopying, IsSound, IsValue, LeadsTo, Part, Reached, View, Works}
+use Rattle.slots.proofs.Rewrites.{go-grows, news-sound, value-not-entry, value-not-mark, with_news, News}
 
 -- ---- what was written is synced
 
@@ -36,11 +29,11 @@ value-synced : (h : Folder) (s : IsSound h) (b : Beside) (fates : Fates)
     → News h s
     (record b {
       state = record (b.state) {
-          base = b.value.seal;
-          seal = b.value.seal;
-          length = length;
-          end = value_size length;
-        };
+        base = b.value.seal;
+        seal = b.value.seal;
+        length = length;
+        end = value_size length;
+      };
       doing = Rests;
     })
 unfolding sound-fresh
@@ -86,10 +79,13 @@ value-synced h s b fates is r v leads with_it length size = record {
   where
     z : View
     z = view_of h
+
     number : ℕ
     number = (last_read s.all.holds.sound).last.number
+
     w : Write
     w = without_head b.value
+
     good : Good number h.fresh b.value
     good =
         let below = with_it.1 in
@@ -112,12 +108,12 @@ copies-synced : (h : Folder) (s : IsSound h) (b : Beside) (fates : Fates)
     → News h s
     (record b {
       state = record (b.state) {
-          from_end = b.state.from_end + size_of b.next_of;
-          from_seal = last_seal b.state.from_seal b.next_of;
-          seal = last_seal b.state.seal b.next;
-          end = b.state.end
-              + (b.state.from_end + size_of b.next_of - b.state.from_end);
-        };
+        from_end = b.state.from_end + size_of b.next_of;
+        from_seal = last_seal b.state.from_seal b.next_of;
+        seal = last_seal b.state.seal b.next;
+        end = b.state.end
+            + (b.state.from_end + size_of b.next_of - b.state.from_end);
+      };
       copies = b.copies ++ b.next;
       doing = Rests;
     })
@@ -184,29 +180,39 @@ copies-synced h s b fates is r c leads with_it = record {
   where
     not-mark : Entry ≡ disk.Mark → ⊥
     not-mark e = cc
+
     z : View
     z = view_of h
+
     R : Reading
     R = all_read b.value b.copies
+
     w : Write
     w = all_written b.next R.end
+
     d0 : Content
     d0 = put w (image fates z.beside)
+
     body : IsBody d0 b.value (b.copies ++ b.next)
     body = c.soon fates
+
     all : all_read b.value (b.copies ++ b.next) ≡ tail R b.next
     all = tail-both (first_read b.value) b.copies b.next
+
     chain : Chain (put (head_of b.value) d0) (first_read b.value) b.copies
     chain =
         chain-first (put (head_of b.value) d0) (first_read b.value) b.copies b.next
         body.begins.chain
+
     base_own : R.last.base ≡ b.value.seal
     base_own =
         tail-base (put (head_of b.value) d0) (first_read b.value) b.copies chain ∙ body.begins.own
+
     number : R.found.number ≡ R.last.number
     number =
         (together (put (head_of b.value) d0) (first_read b.value) b.copies
         (together-first b.value) chain).number
+
     number_low : r.number ≤ (last_read s.all.holds.sound).last.number + 1
     number_low =
         let grows = go-grows r.save r.number b.rest leads.on in
@@ -220,12 +226,14 @@ settle-sound h s b fates is = by-part w.part
   where
     w : Works (view_of h) s.all.holds.sound h.slots.counts b
     w = s.all.works b is
+
     F : Doing → Folder
     F d =
         cond (rests d) h
         (record (with_file h b.to (synced_after b.write fates (h.files b.to))) {
           beside = Some (done_by b d);
         })
+
     of-value : (length : ℕ) → (eqb b.state.end 0 && leb length MOST ≡ true)
         → (v : IsValue (view_of h).beside h.slots.counts (record b { rest = [] }) w.reached)
         → b.value.size ≡ value_size length
@@ -266,13 +274,14 @@ settle-sound h s b fates is = by-part w.part
         value_after length =
             record b {
               state = record (b.state) {
-                  base = b.value.seal;
-                  seal = b.value.seal;
-                  length = length;
-                  end = value_size length;
-                };
+                base = b.value.seal;
+                seal = b.value.seal;
+                length = length;
+                end = value_size length;
+              };
               doing = Rests;
             }
+
     of-copies : (c : IsCopying (view_of h).beside h.slots.counts (record b { rest = [] }) w.reached)
         → IsSound (F WritesCopies)
     of-copies c =
@@ -305,8 +314,10 @@ settle-sound h s b fates is = by-part w.part
               end = b.state.end
                   + (b.state.from_end + size_of b.next_of - b.state.from_end);
             }
+
         new : Beside
         new = record b { state = state; copies = b.copies ++ b.next; doing = Rests }
+
     by-part : Part (view_of h).beside h.slots.counts (record b { rest = [] }) w.reached
         → IsSound (F b.doing)
     by-part (AtStart started) = subst (λ (d : Doing). IsSound (F d)) (sym started.rests) s

@@ -1,22 +1,21 @@
 -- The theorems, from what holds after any steps.
-use Rattle.std.proofs.Common.{◌≡◌, ◌≢◌, ◌<◌, ◌≤◌, ◌+◌, ◌-◌, ℕ, zero, suc, Bool, cond, true, false, List, [], ◌∷◌, Option, Some, None, drop, get_or, refl, sym, ap, ◌∙◌, subst, take, arith, ◌⊎◌, inl, inr, ⊎_elim, eqb}
+use Rattle.std.proofs.Common.{◌≡◌, ◌≢◌, ◌<◌, ◌+◌, ◌-◌, ℕ, zero, suc, Bool, cond, true, false, List, [], ◌∷◌, Option, Some, None, drop, get_or, refl, sym, ap, ◌∙◌, subst, take, arith, ◌⊎◌, inl, inr, ⊎_elim, eqb}
 use Rattle.std.proofs.lemmas.Bool.{eq-eqb}
 use Rattle.std.specs.List.{Contains}
 use Rattle.slots.specs.declared.saving.TheConstants.{DUE, IDLE, LAST}
 use Rattle.slots.specs.declared.opening.Choice.{Choice}
 use Rattle.slots.specs.declared.opening.Choice.TheVariants as choice
-use Rattle.slots.specs.declared.opening.Found.{Found}
 use Rattle.slots.specs.Beside.{size_of}
 use Rattle.slots.specs.Decisions.{copying, last_place, other, value_place}
 use Rattle.slots.specs.Openings.{chosen, Counts}
-use Rattle.slots.specs.Disk.{image, put, written, Cell, Content, Entry, Fates, Item, Of, Other, Reading, Value}
-use Rattle.slots.specs.Runs.{all_copied, begins_last, by_rewrite, choice_of, content, ends, goes_on, if_rests, is_saving, new_folder, new_value, nothing, opens, reading_first, reading_second, run, step, rests, settles, tops, writes_copies, writes_value, AddEntry, AddLast, Beside, Doubt, Fail, Folder, GiveUp, Open, PutMark, PutZeros, Replace, Sight, StartRewrite, Step, Store, SyncBeside, WriteCopies, WriteValue, OfEveryRun}
+use Rattle.slots.specs.Disk.{put, written, Content, Entry, Fates, Item, Of, Other, Reading, Value}
+use Rattle.slots.specs.Runs.{all_copied, begins_last, by_rewrite, choice_of, content, ends, if_rests, is_saving, new_folder, new_value, nothing, opens, reading_first, reading_second, run, step, rests, settles, tops, writes_copies, writes_value, AddEntry, AddLast, Beside, Doubt, Fail, Folder, GiveUp, Open, PutMark, PutZeros, Replace, Sight, StartRewrite, Step, Store, SyncBeside, WriteCopies, WriteValue, OfEveryRun}
 use Rattle.slots.specs.Laws.{FindsLast, FindsStored, NeverDamaged}
-use Rattle.slots.proofs.Disk.{put-makes, put-whole, IsWhole}
-use Rattle.slots.proofs.Openings.{chooses-first, chooses-second, outcome, read_beside, read_here, seen_beside, seen_here, Chosen, Outcome, Sights}
+use Rattle.slots.proofs.Disk.{put-makes, put-whole}
+use Rattle.slots.proofs.Openings.{chooses-first, chooses-second, outcome, Chosen, Sights}
 use Rattle.slots.proofs.Reading.{all_read}
 use Rattle.slots.proofs.Saves.{reopened, reopened-last, sound-reopened}
-use Rattle.slots.proofs.Sound.{last_read, view_of, All, AreGood, Good, Holds, IsSound, Sound, Under, View}
+use Rattle.slots.proofs.Sound.{last_read, view_of, All, AreGood, Good, IsSound, Sound, Under, View}
 use Rattle.slots.proofs.Ends.{doubt-sound, fail-sound, mark-sound, store-sound, zeros-sound}
 use Rattle.slots.proofs.Last.{last-sound}
 use Rattle.slots.proofs.Rewrites.{copies-sound, give-up-sound, start-sound, value-sound}
@@ -312,8 +311,10 @@ new-cell number bytes k n y is =
   where
     x : Item
     x = new_value number bytes
+
     c : Content
     c = put (written x 0) nothing
+
     same-item : (k : ℕ) → Of x k ≡ Of y n → x ≡ y
     same-item k e = cc
 
@@ -321,47 +322,47 @@ new-sound : (number bytes : ℕ) → IsSound (new_folder number bytes)
 new-sound number bytes = record {
   two = inl refl;
   all = record {
-   holds = record {
-    sound = record {
-      value = x;
-      entries = [];
-      bounds = record { middle = number + 1; top = number + 1; long = false };
-      here = λ f. record {
+    holds = record {
+      sound = record {
+        value = x;
+        entries = [];
+        bounds = record { middle = number + 1; top = number + 1; long = false };
+        here = λ f. record {
           value = put-whole x 0 nothing some;
           kind = refl;
           own = refl;
           some = some;
           chain = tt;
         };
-      only = λ f at y kind base whole.
-          let same = new-cell number bytes at 0 y whole.head in
-          absurd (not-entry (ap (λ (i : Item). i.kind) same ∙ kind));
-      beside = λ f y kind whole. absurd (nothing-of 0 0 y whole.head);
-      good_here = λ f k n y is.
-          subst (Good (number + 1) 2) (new-cell number bytes k n y is)
-          (record {
-            seal = omega arith;
-            base = omega arith;
-            entry = λ e. absurd cc;
-            mark = λ e. absurd cc;
-          });
-      good_beside = λ f k n y is. absurd (nothing-of k n y is);
-      end = refl;
-      seal = refl;
-      base = refl;
-      stored = refl;
-      low = omega arith;
-      middle = omega arith;
-      top = omega arith;
+        only = λ f at y kind base whole.
+            let same = new-cell number bytes at 0 y whole.head in
+            absurd (not-entry (ap (λ (i : Item). i.kind) same ∙ kind));
+        beside = λ f y kind whole. absurd (nothing-of 0 0 y whole.head);
+        good_here = λ f k n y is.
+            subst (Good (number + 1) 2) (new-cell number bytes k n y is)
+            (record {
+              seal = omega arith;
+              base = omega arith;
+              entry = λ e. absurd cc;
+              mark = λ e. absurd cc;
+            });
+        good_beside = λ f k n y is. absurd (nothing-of k n y is);
+        end = refl;
+        seal = refl;
+        base = refl;
+        stored = refl;
+        low = omega arith;
+        middle = omega arith;
+        top = omega arith;
+      };
+      idle = λ e. refl;
+      short = λ top unsure. refl;
+      entry = λ e. absurd cc;
+      whole = λ e. absurd cc;
     };
-    idle = λ e. refl;
-    short = λ top unsure. refl;
-    entry = λ e. absurd cc;
-    whole = λ e. absurd cc;
-   };
-   works = λ b e. absurd cc;
-   last = λ e. absurd cc;
-   top = λ e. absurd cc;
+    works = λ b e. absurd cc;
+    last = λ e. absurd cc;
+    top = λ e. absurd cc;
   };
   entry = λ e. absurd cc;
   whole = λ e. absurd cc;
@@ -369,6 +370,7 @@ new-sound number bytes = record {
   where
     x : Item
     x = new_value number bytes
+
     some : 0 < x.size
     some = omega arith
 

@@ -1,8 +1,8 @@
 -- What a save leaves of a rewrite that is under way.
-use Rattle.std.proofs.Common.{◌≡◌, ◌<◌, ◌≤◌, ◌+◌, ℕ, false, List, [], ◌∷◌, ◌++◌, Option, Some, None, refl, sym, ◌∙◌, subst, arith}
+use Rattle.std.proofs.Common.{◌≡◌, ◌≤◌, ℕ, false, List, [], ◌∷◌, ◌++◌, Option, Some, None, refl, sym, ◌∙◌, subst, arith}
 use Rattle.slots.specs.Disk.{Fates, File, Item}
 use Rattle.slots.specs.Runs.{with_rest, Beside}
-use Rattle.slots.proofs.Copies.{go-more, last-number-more, last-save-more, size-more, GoesOn}
+use Rattle.slots.proofs.Copies.{go-more, last-number-more, last-save-more, size-more}
 use Rattle.slots.proofs.Saves.{added-last, sound-added, with_added}
 use Rattle.slots.proofs.Sound.{last_read, Adds, LeadsTo, Sound, View, Works}
 

@@ -1,5 +1,5 @@
 -- What a rewrite writes to the slot that doesn't count.
-use Rattle.std.specs.Prelude.{ℕ, ◌+◌, ◌-◌, Bool, cond, nat_lt, List, [], ◌∷◌, ◌++◌}
+use Rattle.std.specs.Prelude.{ℕ, ◌+◌, ◌-◌, cond, nat_lt, List, [], ◌∷◌}
 use Rattle.slots.specs.declared.saving.TheConstants.{HEAD}
 use Rattle.slots.specs.Disk.{Content, Item, Of, Other, Write}
 

@@ -1,6 +1,6 @@
 -- Where saves are written, and what is so of the slots after each call. All numbers are below
 -- 2 ^ 64.
-use Rattle.std.specs.Prelude.{◌≡◌, ℕ, ◌+◌, ◌-◌, Bool, ◌&&◌, ◌||◌, not, cond, nat_lt, nat_le, ◌==◌, Option, Some, None}
+use Rattle.std.specs.Prelude.{ℕ, ◌+◌, ◌-◌, Bool, ◌&&◌, ◌||◌, not, cond, nat_lt, nat_le, ◌==◌, Option, Some, None}
 use Rattle.slots.specs.declared.saving.TheConstants.{DUE, ENTRY, ENTRY_HEAD, HEAD, IDLE, LAST, MOST, NUMBERS, TAIL, TOP, UNSURE, WHOLE}
 use Rattle.slots.specs.declared.saving.Slots.{Slots}
 use Rattle.slots.specs.declared.saving.Target.{Target}

@@ -3,7 +3,7 @@
 -- A byte is known by what it is a byte of. So what is read as a whole value, entry or mark was
 -- written as such, with all its bytes. This is the premise on seals: no torn write has a right
 -- seal, and a seal fits only what it was made over, which is all that is before it.
-use Rattle.std.specs.Prelude.{◌≡◌, ◌<◌, ℕ, zero, suc, ◌+◌, ◌-◌, Bool, true, false, ◌&&◌, cond, nat_le, nat_lt, ◌==◌, List, [], ◌∷◌, length, Option, Some, None}
+use Rattle.std.specs.Prelude.{ℕ, zero, suc, ◌+◌, ◌-◌, Bool, true, false, ◌&&◌, cond, nat_le, nat_lt, ◌==◌, List, [], ◌∷◌, length, Option, Some, None}
 use Rattle.slots.specs.declared.opening.Found.{Found}
 use Rattle.slots.specs.Openings.{is_next, nothing_found, with_behind, with_entry, with_mark, with_value}
 

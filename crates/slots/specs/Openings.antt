@@ -1,5 +1,5 @@
 -- What an opening finds in a slot, and which of two slots counts.
-use Rattle.std.specs.Prelude.{◌≡◌, ◌≢◌, ◌<◌, ◌≤◌, ◌⊎◌, ℕ, ◌+◌, ◌-◌, Bool, ◌&&◌, ◌||◌, not, cond, nat_lt, ◌==◌}
+use Rattle.std.specs.Prelude.{◌≢◌, ◌<◌, ◌≤◌, ℕ, ◌+◌, ◌-◌, Bool, ◌&&◌, ◌||◌, not, cond, nat_lt, ◌==◌}
 use Rattle.slots.specs.declared.saving.TheConstants.{NUMBERS}
 use Rattle.slots.specs.declared.opening.Found.{Found}
 use Rattle.slots.specs.declared.opening.Choice.{Choice}

@@ -1,5 +1,5 @@
 -- What can happen to a folder in which a value is kept, step by step.
-use Rattle.std.specs.Prelude.{◌≡◌, ℕ, ◌+◌, Bool, true, false, cond, ◌||◌, ◌==◌, List, [], ◌∷◌, ◌++◌, length, take, drop, Option, Some, None}
+use Rattle.std.specs.Prelude.{ℕ, ◌+◌, Bool, true, false, cond, ◌||◌, ◌==◌, List, [], ◌∷◌, ◌++◌, length, take, drop, Option, Some, None}
 use Rattle.slots.specs.declared.saving.TheConstants.{ENTRY, LAST, TOP, WHOLE}
 use Rattle.slots.specs.declared.saving.Slots.{Slots}
 use Rattle.slots.specs.declared.saving.Target.{Target}
@@ -8,7 +8,7 @@ use Rattle.slots.specs.declared.rewrite.Copying.{Copying}
 use Rattle.slots.specs.declared.rewrite.Rewrite.{Rewrite}
 use Rattle.slots.specs.declared.opening.Choice.{Choice}
 use Rattle.slots.specs.declared.opening.Choice.TheVariants as choice
-use Rattle.slots.specs.Decisions.{after_copies, after_entry, after_failure, after_last, after_rewrite, after_stored, after_value, after_whole, copying, created, entry_place, entry_size, last_place, mark_of, opened, other, replacing, rewrite_of, switched, unsure, value_place, value_size, whole_place, zeros_at}
+use Rattle.slots.specs.Decisions.{after_copies, after_entry, after_failure, after_last, after_rewrite, after_stored, after_value, after_whole, copying, created, entry_place, entry_size, last_place, mark_of, opened, replacing, rewrite_of, switched, unsure, value_place, value_size, whole_place, zeros_at}
 use Rattle.slots.specs.Beside.{all_written, copies_of, head_of, last_seal, size_of, without_head}
 use Rattle.slots.specs.Openings.{chosen}
 use Rattle.slots.specs.Disk.{image, looked_all, no_item, read, synced_after, with_write, written, Content, Fates, File, Item, Look, Other, Reading, Write}

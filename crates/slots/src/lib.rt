@@ -19,4 +19,4 @@ mod saving;
 pub use headline::laws;
 pub use opening::{Choice, Found, choose, wholes_due};
 pub use rewrite::{Copying, Rewrite};
-pub use saving::{Mark, Target, Slots};
+pub use saving::{Mark, Slots, Target};

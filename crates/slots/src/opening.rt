@@ -92,11 +92,19 @@ pub fn choose(first: &Found, second: &Found) -> Choice
         return Choice::Damaged;
     }
     let is_second = first.version == 0 || (second.version != 0 && second.number > first.number);
-    let last = if is_second { second.number } else { first.number };
+    let last = if is_second {
+        second.number
+    } else {
+        first.number
+    };
     if first.synced > last || second.synced > last {
         return Choice::Damaged;
     }
-    if is_second { Choice::Second } else { Choice::First }
+    if is_second {
+        Choice::Second
+    } else {
+        Choice::First
+    }
 }
 
 /// How many saves have to be whole values before an entry is added, if the first slot counts: a

@@ -2,7 +2,7 @@
 ghost use Rattle.std.specs.Prelude.{◌≡◌};
 ghost use Rattle.slots.specs.Decisions.{after_copies, after_value, copying, value_place};
 
-use crate::saving::{HEAD, MOST, Target, TAIL, other};
+use crate::saving::{HEAD, MOST, TAIL, Target, other};
 
 /// A rewrite. It may be used by another thread than [`Slots`](crate::Slots), which says where it
 /// begins and ends it.

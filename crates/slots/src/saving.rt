@@ -11,6 +11,7 @@ use crate::rewrite::Rewrite;
 
 /// What stands around a value: its head, and its seal.
 pub const HEAD: u64 = 20;
+
 pub const TAIL: u64 = 8;
 /// What stands before an entry.
 pub const ENTRY_HEAD: u64 = 16;
