@@ -183,9 +183,6 @@ passed-read number n c passed = go (whole_at c 0) refl
 
 -- ---- which slot counts
 
-zero-not-two : (n : ℕ) → n ≡ 2 → not (eqb n 0) ≡ true
-zero-not-two n e = rw e refl
-
 choose-true : (a b : Found) → Counts a b → counts a b ≡ true
 choose-true a b c =
     and_from _ _

@@ -36,9 +36,6 @@ with_behind f claimed behind =
 
 -- ---- which slot counts
 
-abbrev pub has_value : Found → Type 0
-has_value f = f.version ≢ 0
-
 -- This slot has the last save, and nothing shows that a later one was whole.
 pub record Counts (it other : Found) : Type 0 where
   pub whole : it.version ≢ 0

@@ -3,11 +3,13 @@
 ghost use Rattle.slots.specs.Laws.{FindsLast, FindsStored, MarksHold, NeverDamaged};
 ghost use Rattle.slots.specs.Runs.{OfEveryRun};
 
-/// The theorems. They hold after any list of steps of a new folder: saves that are stored, or of
-/// which a write or a sync fails; marks; the end of the process or of the machine at any moment,
-/// which leaves of each byte that was written since the last sync of its file what was there, what
-/// was written, or anything else; and openings. The premise is that no torn write has a right seal,
-/// and that a seal fits only what it was made over.
+/// The theorems. They hold after any list of steps of a new folder: saves of entries and of whole
+/// values, and rewrites while entries are saved, of which a write or a sync may fail; marks; the end
+/// of the process or of the machine at any moment, which leaves of each byte that was written since
+/// the last sync of its file what was there, what was written, or anything else; and openings.
+///
+/// The premise is that no torn write has a right seal, and that a seal fits only what it was made
+/// over. A new folder is one whose first save is stored; its values have the second version.
 ///
 /// The function does nothing; its contract states the theorems.
 pub fn laws()
