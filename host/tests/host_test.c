@@ -216,7 +216,7 @@ static void deliver_head(station *at, packet_head head)
 {
     uint8_t bytes[PACKET_HEAD];
     writer to = writer_of(bytes, sizeof bytes);
-    memcpy(head.space, SPACE, SPACE_ID);
+    head.space = space_number(SPACE);
     write_packet_head(&to, &head);
     HOLDS(to.ok);
     host_packet(at->host, at->now, head.from, bytes, to.length);
@@ -225,7 +225,7 @@ static void deliver_head(station *at, packet_head head)
 // A packet of a process of node 1, of an earlier version, which knows this of node 0's process.
 static void deliver(station *at, process sender, uint64_t known_nonce, uint64_t known_saves)
 {
-    deliver_head(at, (packet_head){{0}, 1, 0, sender, known_nonce, known_saves, 0, 0, 0});
+    deliver_head(at, (packet_head){0, 1, 0, sender, known_nonce, known_saves, 0, 0, 0});
 }
 
 static bool is_process(const process *it, uint64_t nonce, uint64_t run, uint64_t saves)
@@ -500,7 +500,7 @@ static void test_long_line(void)
     // Once all know the process that runs, nothing before it has to be known.
     HOLDS(at.host->line_count == LINE);
     for (uint8_t node = 1; node < 3; node++) {
-        packet_head head = {{0}, node, 0, {node, 1, 1}, at.nonce, at.number, 0, 0, NO_WORD};
+        packet_head head = {0, node, 0, {node, 1, 1}, at.nonce, at.number, 0, 0, NO_WORD};
         deliver_head(&at, head);
         HOLDS(at.host->line_count == (node == 1 ? LINE : 2));
     }
@@ -526,14 +526,14 @@ static void test_meeting(void)
         deliver(&at, (process){9, 5, 7}, NONCE, 11);
         settle(&at, STORE_OK);
         int packets = at.packets;
-        deliver_head(&at, (packet_head){{0}, 1, 0, {20, 8, 9}, NONCE + 1, 10, 0, 0, fits[i]});
+        deliver_head(&at, (packet_head){0, 1, 0, {20, 8, 9}, NONCE + 1, 10, 0, 0, fits[i]});
         HOLDS(is_process(&at.host->peers[1].known, 20, 8, 9) == is_taken);
         settle(&at, STORE_OK);
         HOLDS(at.packets == packets + 1 && at.last.to == 1);
         HOLDS(at.last.known_nonce == (is_taken ? 20 : 9));
         HOLDS(at.last.fits == ((NONCE + 1) ^ 10));
         // It says so, having heard that.
-        deliver_head(&at, (packet_head){{0}, 1, 0, {20, 8, 9}, NONCE, 11, 0, 0, 9 ^ 7});
+        deliver_head(&at, (packet_head){0, 1, 0, {20, 8, 9}, NONCE, 11, 0, 0, 9 ^ 7});
         HOLDS(is_process(&at.host->peers[1].known, 20, 8, 9));
         HOLDS(host_counted(at.host)->outdated == 0 && host_ended(at.host) == HOST_RUNS);
         drop(&at);
