@@ -9,25 +9,11 @@
 #include NODE
 #undef main
 
+#include "check.h"
 #include "nats_model.h"
 #include "rows.h"
 
-#include <stdatomic.h>
-
 enum { HOLDER = 7, PROGRAM = 5, SOON = 800, SHORT = 60 };
-
-static unsigned long passed, failed;
-
-static void check(bool holds, const char *text, int line)
-{
-    if (holds) {
-        passed++;
-    } else if (failed++ < 20) {
-        printf("FAILED: asked_test.c:%d: %s\n", line, text);
-    }
-}
-
-#define HOLDS(condition) check((condition), #condition, __LINE__)
 
 static running at;
 static pthread_t loop;
@@ -558,6 +544,5 @@ int main(void)
     rows_free(&server);
     rows_kill(&client);
     rows_kill(&apart);
-    printf("%lu passed, %lu failed\n", passed, failed);
-    return failed != 0 || passed == 0;
+    return report();
 }

@@ -7,12 +7,12 @@
 //
 //     client_test
 #include "../packets.h"
+#include "check.h"
 #include "nats_model.h"
 
 #include <errno.h>
 #include <poll.h>
 #include <pthread.h>
-#include <stdio.h>
 #include <stdlib.h>
 #include <time.h>
 
@@ -21,19 +21,6 @@ enum { EVENTS = 5, SHORT = 4, LONG = 2000, ROOM = 400 };
 enum { SET = 3, PATCHED = 2, FETCHED = 6 };
 // How many records follow the result of an answer about objects.
 enum { RECORDS = 2, RECORDS_ROOM = 5 };
-
-static atomic_ulong passed, failed;
-
-static void check(bool holds, const char *text, int line)
-{
-    if (holds) {
-        passed++;
-    } else if (failed++ < 20) {
-        printf("FAILED: client_test.c:%d: %s\n", line, text);
-    }
-}
-
-#define HOLDS(condition) check((condition), #condition, __LINE__)
 
 // ## Memory
 
@@ -1868,6 +1855,5 @@ int main(void)
     markring_remote_close(program);
     markring_remote_disconnect(space);
     HOLDS(model.alive == 0);
-    printf("%lu passed, %lu failed\n", passed, failed);
-    return failed != 0 || passed == 0;
+    return report();
 }

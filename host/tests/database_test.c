@@ -4,27 +4,15 @@
 // that are asked for without waiting, and with a rewrite, whose value another connection puts there.
 //
 //     database_test
+#include "check.h"
 #include "rows.h"
 
-#include <stdio.h>
 #include <stdlib.h>
 #include <string.h>
 
 enum { SAVES = 7, LARGE = PIECE_MOST + 1000, MOST_CALLS = 80, HOLDER = 7, OTHER = 9, WHOLE = 99 };
 
-static unsigned long passed, failed;
 static uint64_t seed = 88172645463325252u;
-
-static void check(bool holds, const char *text, int line)
-{
-    if (holds) {
-        passed++;
-    } else if (failed++ < 20) {
-        printf("FAILED: database_test.c:%d: %s\n", line, text);
-    }
-}
-
-#define HOLDS(condition) check((condition), #condition, __LINE__)
 
 // The saves of a run: each a value or an entry, whose bytes are all its index.
 typedef struct plan {
@@ -701,6 +689,5 @@ int main(void)
     test_damage(false);
     test_damage(true);
     test_pauses();
-    printf("%lu passed, %lu failed\n", passed, failed);
-    return failed != 0 || passed == 0;
+    return report();
 }

@@ -4,11 +4,11 @@
 //
 //     files_test
 #include "../store.h"
+#include "check.h"
 
 #include <errno.h>
 #include <fcntl.h>
 #include <stdarg.h>
-#include <stdio.h>
 #include <stdlib.h>
 #include <string.h>
 #include <sys/file.h>
@@ -16,19 +16,6 @@
 #include <unistd.h>
 
 enum { LENGTH = 1000, CALLS = 512, PATH = 300, DEPTH = 3, OTHER = -1 };
-
-static unsigned long passed, failed;
-
-static void check(bool holds, const char *text, int line)
-{
-    if (holds) {
-        passed++;
-    } else if (failed++ < 20) {
-        printf("FAILED: files_test.c:%d: %s\n", line, text);
-    }
-}
-
-#define HOLDS(condition) check((condition), #condition, __LINE__)
 
 // ## Calls
 
@@ -601,6 +588,5 @@ int main(void)
     test_locks();
     remove_all(place);
     HOLDS(rmdir(place) == 0);
-    printf("%lu passed, %lu failed\n", passed, failed);
-    return failed != 0 || passed == 0;
+    return report();
 }

@@ -3,24 +3,11 @@
 //
 //     host_test
 #include "../inside.h"
+#include "check.h"
 
-#include <stdio.h>
 #include <stdlib.h>
 
 enum { TURNS = 200, ROOM = LONGEST_ANSWER + 1, LETTERS = 300, ENTRY_HEAD = 16, STARTS = LINE + 60 };
-
-static unsigned long passed, failed;
-
-static void check(bool holds, const char *text, int line)
-{
-    if (holds) {
-        passed++;
-    } else if (failed++ < 20) {
-        printf("FAILED: host_test.c:%d: %s\n", line, text);
-    }
-}
-
-#define HOLDS(condition) check((condition), #condition, __LINE__)
 
 // ## The library
 
@@ -79,10 +66,8 @@ typedef struct station {
 } station;
 
 static host_options options;
-static uint32_t slots = 64;
-static uint16_t registers = 8;
-static uint8_t wide_places; // of a wide space; 0 for a plain one
-static uint32_t wide_bytes;
+// The shape of the next node, or of the next pair, if it isn't a plain one.
+static host_shape next;
 static uint64_t folder_limit, folder_byte_limit;
 static const uint8_t SPACE[SPACE_ID] = {1, 2, 3, 4, 5, 6, 7, 8};
 enum { NONCE = 77 };
@@ -136,14 +121,21 @@ static void open_host(station *at)
     HOLDS(status == MARKRING_OK);
 }
 
+// A space that has places for its objects is a wide one.
 static void make_node(station *at, uint8_t own, uint8_t nodes, bool has_entries)
 {
     store_value value = {NULL, 0, 0, false, 0, 0};
-    host_shape shape = {
-        "test", {0}, own, nodes, registers, slots, folder_limit, folder_byte_limit, wide_places > 0,
-        wide_places, wide_bytes};
-    memset(at, 0, sizeof *at);
+    host_shape shape = next;
+    memcpy(shape.name, "test", 5);
+    shape.own = own;
+    shape.nodes = nodes;
+    shape.registers = next.registers > 0 ? next.registers : 8;
+    shape.slots = next.slots > 0 ? next.slots : 64;
+    shape.limit = folder_limit;
+    shape.byte_limit = folder_byte_limit;
+    shape.wide = next.places > 0;
     memcpy(shape.space, SPACE, SPACE_ID);
+    memset(at, 0, sizeof *at);
     at->nonce = NONCE;
     at->now = 1000;
     at->number = 10;
@@ -155,15 +147,16 @@ static void make_node(station *at, uint8_t own, uint8_t nodes, bool has_entries)
     open_host(at);
 }
 
-static void make(station *at)
-{
-    make_node(at, 0, 3, false);
-}
-
 static void drop(station *at)
 {
     host_free(at->host);
     at->host = NULL;
+}
+
+static void end(station *at)
+{
+    drop(at);
+    free(at->stored);
 }
 
 // Stores what is being saved.
@@ -211,6 +204,21 @@ static void settle(station *at, store_status status)
     }
 }
 
+// A node of three, which has made its first save.
+static void make(station *at, bool has_entries)
+{
+    make_node(at, 0, 3, has_entries);
+    next = (host_shape){0};
+    settle(at, STORE_OK);
+}
+
+static void open_again(station *at)
+{
+    drop(at);
+    open_host(at);
+    settle(at, STORE_OK);
+}
+
 // A packet of a node to node 0.
 static void deliver_head(station *at, packet_head head)
 {
@@ -228,6 +236,13 @@ static void deliver(station *at, process sender, uint64_t known_nonce, uint64_t 
     deliver_head(at, (packet_head){{0}, 1, 0, sender, known_nonce, known_saves, 0, 0, 0});
 }
 
+static markring_state state_of(station *at)
+{
+    markring_state state = {0};
+    HOLDS(markring_node_state(host_node(at->host), &state) == MARKRING_OK);
+    return state;
+}
+
 static bool is_process(const process *it, uint64_t nonce, uint64_t run, uint64_t saves)
 {
     return it->nonce == nonce && it->run == run && it->saves == saves;
@@ -240,8 +255,7 @@ static void test_sizes(void)
 {
     for (int i = 0; i < 2; i++) {
         station at;
-        make(&at);
-        settle(&at, STORE_OK);
+        make(&at, false);
         HOLDS(host_ended(at.host) == HOST_RUNS && host_counted(at.host)->saves == 1);
         wrong_size = i == 0 ? 1 : SIZE_MAX;
         host_changed(at.host);
@@ -250,8 +264,7 @@ static void test_sizes(void)
         HOLDS(host_ended(at.host) == HOST_BROKEN);
         HOLDS(strstr(host_reason(at.host), "no image or batch") != NULL);
         HOLDS(host_counted(at.host)->failed_saves == 0);
-        drop(&at);
-        free(at.stored);
+        end(&at);
     }
 }
 
@@ -260,8 +273,7 @@ static void test_leaving(void)
 {
     for (int way = 0; way < 4; way++) {
         station at;
-        make(&at);
-        settle(&at, STORE_OK);
+        make(&at, false);
         deliver(&at, (process){9, 5, 7}, NONCE, 11);
         settle(&at, STORE_OK);
         HOLDS(host_counted(at.host)->saves == 1);
@@ -291,18 +303,15 @@ static void test_leaving(void)
         drop(&at);
         open_host(&at);
         HOLDS(is_process(&at.host->peers[1].known, 9, 5, way == 1 ? 8 : 7));
-        drop(&at);
-        free(at.stored);
+        end(&at);
     }
     // Nothing new: no save.
     station at;
-    make(&at);
-    settle(&at, STORE_OK);
+    make(&at, false);
     host_leave(at.host);
     settle(&at, STORE_OK);
     HOLDS(host_ended(at.host) == HOST_LEFT && host_counted(at.host)->saves == 1);
-    drop(&at);
-    free(at.stored);
+    end(&at);
 }
 
 // A packet that knows as many saves as there can be, of this process or of the sender's.
@@ -311,8 +320,7 @@ static void test_lies(void)
     for (int way = 0; way < 3; way++) {
         station at;
         options.trusts_folder = way > 0;
-        make(&at);
-        settle(&at, STORE_OK);
+        make(&at, false);
         deliver(&at, (process){9, 5, UINT64_MAX}, NONCE, 11);
         HOLDS(host_ended(at.host) == HOST_RUNS);
         settle(&at, STORE_OK);
@@ -339,8 +347,7 @@ static void test_lies(void)
             HOLDS(is_process(&at.host->peers[1].known, 10, 8, 8) == (way == 2));
             HOLDS(host_counted(at.host)->outdated == (way != 2));
         }
-        drop(&at);
-        free(at.stored);
+        end(&at);
     }
     options.trusts_folder = false;
 }
@@ -350,20 +357,17 @@ static void test_ages(void)
 {
     for (uint64_t known = 10; known <= 12; known++) {
         station at;
-        make(&at);
-        settle(&at, STORE_OK);
+        make(&at, false);
         // It began with save 11.
         HOLDS(at.number == 11);
         deliver(&at, (process){9, 5, 7}, 0, known);
         HOLDS(host_ended(at.host) == HOST_RUNS);
         deliver(&at, (process){9, 5, 7}, NONCE + 1, known);
         HOLDS(host_ended(at.host) == (known >= 11 ? HOST_OLDER : HOST_RUNS));
-        drop(&at);
-        free(at.stored);
+        end(&at);
     }
     station at;
-    make(&at);
-    settle(&at, STORE_OK);
+    make(&at, false);
     deliver(&at, (process){9, 5, 7}, NONCE, 11);
     settle(&at, STORE_OK);
     int packets = at.packets;
@@ -380,8 +384,7 @@ static void test_ages(void)
     HOLDS(is_process(&at.host->peers[1].known, 9, 5, 7));
     deliver(&at, (process){10, 8, 8}, NONCE, 11);
     HOLDS(is_process(&at.host->peers[1].known, 10, 8, 8) && host_counted(at.host)->outdated == 2);
-    drop(&at);
-    free(at.stored);
+    end(&at);
 }
 
 // A snapshot of a machine with its memory: another node knows saves that this process didn't make.
@@ -389,22 +392,19 @@ static void test_snapshots(void)
 {
     for (uint64_t known = 11; known <= 13; known++) {
         station at;
-        make(&at);
-        settle(&at, STORE_OK);
+        make(&at, false);
         host_changed(at.host);
         settle(&at, STORE_OK);
         HOLDS(at.number == 12);
         deliver(&at, (process){9, 5, 7}, NONCE, known);
         HOLDS(host_ended(at.host) == (known > 12 ? HOST_OLDER : HOST_RUNS));
         HOLDS(known <= 12 || strstr(host_reason(at.host), "this process hasn't made") != NULL);
-        drop(&at);
-        free(at.stored);
+        end(&at);
     }
     // Of two packets of one process, the one with fewer saves is late, or of a snapshot, which is
     // told.
     station at;
-    make(&at);
-    settle(&at, STORE_OK);
+    make(&at, false);
     deliver(&at, (process){9, 5, 7}, NONCE, 11);
     settle(&at, STORE_OK);
     int packets = at.packets;
@@ -414,8 +414,7 @@ static void test_snapshots(void)
     deliver(&at, (process){9, 5, 6}, NONCE, 11);
     settle(&at, STORE_OK);
     HOLDS(at.packets == packets + 1 && at.last.to == 1 && at.last.known_saves == 7);
-    drop(&at);
-    free(at.stored);
+    end(&at);
 }
 
 // The nonces and the saves of the processes on one folder.
@@ -473,8 +472,7 @@ static void test_line(void)
             // The first process, and no process.
             HOLDS(accepts(&at, NONCE, ran[0].run - 1) && accepts(&at, 0, 0));
         }
-        drop(&at);
-        free(at.stored);
+        end(&at);
     }
 }
 
@@ -508,8 +506,7 @@ static void test_long_line(void)
     settle(&at, STORE_OK);
     start_again(&at, 1);
     HOLDS(at.host->line_count == 3 && accepts(&at, 5, ran[0].run));
-    drop(&at);
-    free(at.stored);
+    end(&at);
 }
 
 // Another process of node 1 shows itself: nothing of it is taken before it says that it has heard
@@ -520,8 +517,7 @@ static void test_meeting(void)
     for (size_t i = 0; i < sizeof fits / sizeof *fits; i++) {
         station at;
         bool is_taken = i >= 3;
-        make(&at);
-        settle(&at, STORE_OK);
+        make(&at, false);
         HOLDS(at.last.fits == NO_WORD);
         deliver(&at, (process){9, 5, 7}, NONCE, 11);
         settle(&at, STORE_OK);
@@ -536,8 +532,7 @@ static void test_meeting(void)
         deliver_head(&at, (packet_head){{0}, 1, 0, {20, 8, 9}, NONCE, 11, 0, 0, 9 ^ 7});
         HOLDS(is_process(&at.host->peers[1].known, 20, 8, 9));
         HOLDS(host_counted(at.host)->outdated == 0 && host_ended(at.host) == HOST_RUNS);
-        drop(&at);
-        free(at.stored);
+        end(&at);
     }
 }
 
@@ -591,8 +586,7 @@ static void test_old_folder(void)
         HOLDS(is_process(&at.host->peers[1].known, 9, 5, 7));
         HOLDS(at.host->programs[3].now.number == 1 && at.host->programs[3].now.session == 100);
         HOLDS(at.host->programs[3].count == 1 && at.host->line_count == 2u + (unsigned)i);
-        markring_state state = {0};
-        HOLDS(markring_node_state(host_node(at.host), &state) == MARKRING_OK && state.live == 1);
+        HOLDS(state_of(&at).live == 1);
         settle(&at, STORE_OK);
         HOLDS(at.end > STORE_HEAD + at.length + STORE_TAIL || i == 0);
         HOLDS(at.stored[STORE_HEAD] == 0x83);
@@ -606,21 +600,19 @@ static void test_old_folder(void)
 static void test_taken_over(void)
 {
     station at;
-    make(&at);
-    settle(&at, STORE_OK);
+    make(&at, false);
     deliver(&at, (process){9, 5, 7}, NONCE, 11);
     host_control(at.host, at.now, "stop", 4, "r");
     settle(&at, STORE_TAKEN);
     HOLDS(host_ended(at.host) == HOST_OLDER && at.answers == 0);
-    drop(&at);
-    free(at.stored);
+    end(&at);
 }
 
 // Each node is told of a save within a second; of many saves, once a second; of none, never.
 static void test_telling(void)
 {
     station at;
-    make(&at);
+    make_node(&at, 0, 3, false);
     for (int i = 0; i < 300; i++) {
         turn(&at, 10, STORE_OK);
     }
@@ -651,8 +643,7 @@ static void test_telling(void)
     settle(&at, STORE_OK);
     HOLDS(host_ended(at.host) == HOST_LEFT && at.packets == packets + 2);
     HOLDS(at.last.sender.saves == at.number);
-    drop(&at);
-    free(at.stored);
+    end(&at);
 }
 
 // ## Requests
@@ -685,9 +676,7 @@ static int ask(station *at, request_head request, int length, answer_head *head)
 
 static uint32_t live(station *at)
 {
-    markring_state state = {0};
-    HOLDS(markring_node_state(host_node(at->host), &state) == MARKRING_OK);
-    return state.live;
+    return state_of(at).live;
 }
 
 // The request that is next is done, once, and no other one; nothing of a request that is cut.
@@ -695,8 +684,7 @@ static void test_requests(void)
 {
     station at;
     answer_head head;
-    make(&at);
-    settle(&at, STORE_OK);
+    make(&at, false);
     request_head request = {REQUEST_PERFORM, 3, 100, 1, 2};
     HOLDS(ask(&at, request, -1, &head) == 1 && head.verdict == VERDICT_SUPERSEDED);
     HOLDS(ask(&at, (request_head){REQUEST_OPEN, 3, 0, 1, 0}, -1, &head) == 1);
@@ -744,8 +732,7 @@ static void test_requests(void)
     HOLDS(ask(&at, (request_head){REQUEST_PERFORM, 3, 100, 6, 257}, -1, &head) == 1);
     HOLDS(head.verdict == VERDICT_MALFORMED && head.count == 0);
     HOLDS(head.last == 5);
-    drop(&at);
-    free(at.stored);
+    end(&at);
 }
 
 // No answer comes before what it shows is stored, and one save is made at a time.
@@ -755,8 +742,7 @@ static void test_order(void)
         {REQUEST_PERFORM, 3, 100, 1, 2}, {REQUEST_READ, 3, 100, 1, 0},
         {REQUEST_OPEN, 3, 200, 2, 0}, {REQUEST_PERFORM, 3, 200, 2, 1}};
     station at;
-    make(&at);
-    settle(&at, STORE_OK);
+    make(&at, false);
     for (size_t i = 0; i < sizeof requests / sizeof *requests; i++) {
         uint8_t bytes[REQUEST_BYTES] = {0};
         writer to = writer_of(bytes, sizeof bytes);
@@ -783,8 +769,7 @@ static void test_order(void)
         settle(&at, STORE_OK);
         HOLDS(at.answers == 1);
     }
-    drop(&at);
-    free(at.stored);
+    end(&at);
 }
 
 // Says a request that has nothing behind its head.
@@ -804,8 +789,7 @@ static void test_taken_over_program(void)
     for (int way = 0; way < 2; way++) {
         station at;
         answer_head head;
-        make(&at);
-        settle(&at, STORE_OK);
+        make(&at, false);
         HOLDS(ask(&at, (request_head){REQUEST_OPEN, 3, 100, 1, 0}, -1, &head) == 1);
         HOLDS(ask(&at, (request_head){REQUEST_PERFORM, 3, 100, 1, 0}, -1, &head) == 1);
         at.answers = 0;
@@ -825,8 +809,7 @@ static void test_taken_over_program(void)
         open_host(&at);
         HOLDS(at.host->programs[3].now.round == (way == 0 ? 2 : 1));
         HOLDS(at.host->programs[3].now.session == (way == 0 ? 200 : 100));
-        drop(&at);
-        free(at.stored);
+        end(&at);
     }
 }
 
@@ -835,8 +818,7 @@ static void test_greatest_numbers(void)
 {
     station at;
     answer_head head;
-    make(&at);
-    settle(&at, STORE_OK);
+    make(&at, false);
     HOLDS(ask(&at, (request_head){REQUEST_OPEN, 3, 100, 1, 0}, -1, &head) == 1);
     HOLDS(head.verdict == VERDICT_DONE);
     at.host->programs[3].now.number = UINT64_MAX;
@@ -852,8 +834,7 @@ static void test_greatest_numbers(void)
         HOLDS(head.verdict == VERDICT_STALE && head.round == UINT64_MAX);
     }
     HOLDS(at.host->programs[3].now.session == 100);
-    drop(&at);
-    free(at.stored);
+    end(&at);
 }
 
 // The next process knows what was done, from whole values and from entries: programs, and objects.
@@ -862,16 +843,13 @@ static void test_restarts(void)
     for (int way = 0; way < 2; way++) {
         station at;
         answer_head head;
-        make_node(&at, 0, 3, way == 1);
-        settle(&at, STORE_OK);
+        make(&at, way == 1);
         HOLDS(ask(&at, (request_head){REQUEST_OPEN, 3, 100, 1, 0}, -1, &head) == 1);
         for (uint64_t number = 1; number <= 3; number++) {
             request_head request = {REQUEST_PERFORM, 3, 100, number, 2};
             HOLDS(ask(&at, request, -1, &head) == 1 && head.verdict == VERDICT_DONE);
             if (number % 2 == 1) {
-                drop(&at);
-                open_host(&at);
-                settle(&at, STORE_OK);
+                open_again(&at);
             }
             HOLDS(live(&at) == 2 * number);
             HOLDS(ask(&at, request, -1, &head) == 1 && head.count == 2 && head.last == number);
@@ -881,15 +859,12 @@ static void test_restarts(void)
         HOLDS(ask(&at, (request_head){REQUEST_OPEN, 3, 200, 2, 0}, -1, &head) == 1);
         HOLDS(head.verdict == VERDICT_DONE && head.last == 3 && head.round == 2);
         // The opening lasts, too.
-        drop(&at);
-        open_host(&at);
-        settle(&at, STORE_OK);
+        open_again(&at);
         HOLDS(ask(&at, (request_head){REQUEST_PERFORM, 3, 100, 4, 2}, -1, &head) == 1);
         HOLDS(head.verdict == VERDICT_SUPERSEDED && head.round == 2);
         HOLDS(ask(&at, (request_head){REQUEST_PERFORM, 3, 200, 4, 2}, -1, &head) == 1);
         HOLDS(head.verdict == VERDICT_DONE && live(&at) == 8);
-        drop(&at);
-        free(at.stored);
+        end(&at);
     }
 }
 
@@ -897,8 +872,7 @@ static void test_restarts(void)
 static void test_held(void)
 {
     station at;
-    make(&at);
-    settle(&at, STORE_OK);
+    make(&at, false);
     host_changed(at.host);
     host_turn(at.host, at.now += 10);
     HOLDS(at.job != NULL);
@@ -913,8 +887,7 @@ static void test_held(void)
     finish_save(&at, STORE_OK);
     settle(&at, STORE_OK);
     HOLDS(at.answers == HELD_ANSWERS);
-    drop(&at);
-    free(at.stored);
+    end(&at);
 }
 
 // ## Programs with registers for themselves
@@ -1018,8 +991,7 @@ static void test_apart(void)
     for (int way = 0; way < 2; way++) {
         station at;
         answer_head head;
-        make_node(&at, 0, 3, way == 1);
-        settle(&at, STORE_OK);
+        make(&at, way == 1);
         HOLDS(open_apart(&at, 3, 103, 7, 2) == VERDICT_REGISTERS);
         HOLDS(open_apart(&at, 3, 103, 65535, 65535) == VERDICT_REGISTERS);
         HOLDS(open_apart(&at, 3, 103, 2, 0) == VERDICT_MALFORMED);
@@ -1037,8 +1009,7 @@ static void test_apart(void)
         HOLDS(ask(&at, (request_head){REQUEST_OPEN, 4, 104, 1, 0}, -1, &head) == 1);
         HOLDS(head.verdict == VERDICT_DONE);
         HOLDS(open_apart(&at, 4, 204, 6, 1) == VERDICT_REGISTERS && read_one(&at, 4, 6) != 0);
-        drop(&at);
-        free(at.stored);
+        end(&at);
     }
 }
 
@@ -1048,8 +1019,7 @@ static void test_forgetting(void)
         station at;
         answer_head head;
         markring_event alloc = {.kind = MARKRING_EVENT_ALLOC, .reg = 2, .place = 1};
-        make_node(&at, 0, 3, way == 1);
-        settle(&at, STORE_OK);
+        make(&at, way == 1);
         HOLDS(open_apart(&at, 3, 103, 2, 2) == VERDICT_DONE);
         HOLDS(ask(&at, (request_head){REQUEST_OPEN, 4, 104, 1, 0}, -1, &head) == 1);
         expect_apart(&at);
@@ -1058,9 +1028,7 @@ static void test_forgetting(void)
         HOLDS(open_apart(&at, 3, 203, 2, 2) == VERDICT_DONE);
         HOLDS(ask(&at, (request_head){REQUEST_OPEN, 3, 103, 3, 0}, -1, &head) == 1);
         HOLDS(head.verdict == VERDICT_DONE);
-        drop(&at);
-        open_host(&at);
-        settle(&at, STORE_OK);
+        open_again(&at);
         expect_apart(&at);
         HOLDS(perform_one(&at, 3, 103, alloc) == MARKRING_OK);
         HOLDS(perform_one(&at, 4, 104, (markring_event){.kind = 1, .reg = 7}) == MARKRING_OK);
@@ -1081,15 +1049,12 @@ static void test_forgetting(void)
         settle(&at, STORE_OK);
         HOLDS(at.answers == 1 && memcmp(at.text, "{\"forgotten\": 3", 15) == 0);
         HOLDS(read_one(&at, 3, 2) == MARKRING_NOTHING && read_one(&at, 4, 7) == MARKRING_OK);
-        drop(&at);
-        open_host(&at);
-        settle(&at, STORE_OK);
+        open_again(&at);
         HOLDS(read_one(&at, 3, 2) == MARKRING_NOTHING);
         HOLDS(perform_one(&at, 3, 103, alloc) == -1 - VERDICT_SUPERSEDED);
         HOLDS(open_apart(&at, 3, 303, 2, 2) == VERDICT_DONE);
         HOLDS(perform_one(&at, 3, 303, alloc) == MARKRING_OK);
-        drop(&at);
-        free(at.stored);
+        end(&at);
     }
 }
 
@@ -1112,16 +1077,10 @@ static unsigned long long image_of(station *at)
 
 // ## Wide spaces
 
-static void make_wide(station *at, uint16_t count, bool has_entries)
+static void make_wide(station *at, uint16_t count, uint32_t bytes, bool has_entries)
 {
-    slots = 16777216;
-    registers = count;
-    wide_places = 255;
-    make_node(at, 0, 3, has_entries);
-    slots = 64;
-    registers = 8;
-    wide_places = 0;
-    settle(at, STORE_OK);
+    next = (host_shape){.slots = 16777216, .registers = count, .places = 255, .bytes = bytes};
+    make(at, has_entries);
 }
 
 // Two programs have all registers. One has an object with the most places in its last one, and
@@ -1139,7 +1098,7 @@ static void test_wide(void)
         beyond.place = 255;
         other.reg = 65532;
         last.reg = 65535;
-        make_wide(&at, 65535, way == 1);
+        make_wide(&at, 65535, 0, way == 1);
         HOLDS(open_apart(&at, 3, 103, 65534, 2) == VERDICT_REGISTERS);
         HOLDS(open_apart(&at, 3, 103, 65535, 1) == VERDICT_REGISTERS);
         HOLDS(open_apart(&at, 3, 103, 65533, 2) == VERDICT_DONE);
@@ -1160,24 +1119,19 @@ static void test_wide(void)
             HOLDS(read_one(&at, 4, 65533) == MARKRING_NO_REGISTER);
             HOLDS(number_of(&at, "registers") == 65535 && number_of(&at, "slots") == 16777216);
             HOLDS(number_of(&at, "places") == 255 && number_of(&at, "wide") == 1);
-            drop(&at);
-            open_host(&at);
-            settle(&at, STORE_OK);
+            open_again(&at);
         }
         host_control(at.host, at.now, "forget 4", 8, "r");
         settle(&at, STORE_OK);
         at.text[at.told] = 0;
         HOLDS(strstr((const char *)at.text, "\"registers\": 65533}") != NULL);
         HOLDS(read_one(&at, 4, 65532) == MARKRING_NOTHING && read_one(&at, 3, 65534) == MARKRING_OK);
-        drop(&at);
-        free(at.stored);
+        end(&at);
     }
     station plain;
-    make_node(&plain, 0, 3, true);
-    settle(&plain, STORE_OK);
+    make(&plain, true);
     HOLDS(number_of(&plain, "places") == 8 && number_of(&plain, "wide") == 0);
-    drop(&plain);
-    free(plain.stored);
+    end(&plain);
 }
 
 // The image hasn't more bytes than the host reckons.
@@ -1217,7 +1171,7 @@ static void test_wide_growth(void)
     enum { OBJECTS = 20 };
     station at;
     uint32_t number = 0;
-    make_wide(&at, OBJECTS + 1, true);
+    make_wide(&at, OBJECTS + 1, 0, true);
     HOLDS(open_apart(&at, 3, 103, 1, OBJECTS) == VERDICT_DONE);
     for (uint16_t i = 0; i < OBJECTS; i++) {
         markring_event alloc = {
@@ -1233,9 +1187,7 @@ static void test_wide_growth(void)
         expect_bound(&at);
     }
     // From here on the host knows the size.
-    drop(&at);
-    open_host(&at);
-    settle(&at, STORE_OK);
+    open_again(&at);
     host_control(at.host, at.now, "begin", 5, "r");
     for (int i = 0; i < 10; i++) {
         turn(&at, 10, STORE_OK);
@@ -1244,8 +1196,7 @@ static void test_wide_growth(void)
     markring_link link = {0};
     HOLDS(markring_node_link(host_node(at.host), 1, &link) == MARKRING_OK);
     HOLDS(link.appended > OBJECTS * 255);
-    drop(&at);
-    free(at.stored);
+    end(&at);
 }
 
 // ## Bytes of objects
@@ -1332,19 +1283,10 @@ static bool has(station *at, uint16_t object, uint32_t kind, uint32_t length, ui
 // object in register 1.
 static void make_with_bytes(station *at, uint32_t most, bool has_entries)
 {
-    wide_bytes = most;
-    make_wide(at, 6, has_entries);
-    wide_bytes = 0;
+    make_wide(at, 6, most, has_entries);
     HOLDS(open_apart(at, 3, 103, 1, 4) == VERDICT_DONE);
     markring_event alloc = {.kind = MARKRING_EVENT_ALLOC, .reg = 1, .place = 1};
     HOLDS(perform_one(at, 3, 103, alloc) == MARKRING_OK);
-}
-
-static void open_again(station *at)
-{
-    drop(at);
-    open_host(at);
-    settle(at, STORE_OK);
 }
 
 // Parts of the bytes of the object in register 1.
@@ -1391,8 +1333,7 @@ static void test_bytes(void)
         open_again(&at);
         HOLDS(has(&at, 1, 1005, MOST, 900, 77, 100));
         HOLDS((at.end > STORE_HEAD + at.length + STORE_TAIL) == (way == 1));
-        drop(&at);
-        free(at.stored);
+        end(&at);
     }
 }
 
@@ -1416,17 +1357,14 @@ static void test_byte_refusals(void)
         HOLDS(patch(&at, cases[i].object, 2, 1, 8) == cases[i].status);
         HOLDS(status_of_reading(&at, cases[i].object, 0, 0) == cases[i].status);
     }
-    drop(&at);
-    free(at.stored);
-    make_node(&at, 0, 3, false);
-    settle(&at, STORE_OK);
+    end(&at);
+    make(&at, false);
     HOLDS(open_apart(&at, 3, 103, 1, 4) == VERDICT_DONE);
     HOLDS(perform_one(&at, 3, 103, (markring_event){.kind = MARKRING_EVENT_ALLOC, .reg = 1})
         == MARKRING_OK);
     HOLDS(set_bytes(&at, 1, 1, 1) == MARKRING_TOO_MANY_BYTES && number_of(&at, "bytes") == 0);
     HOLDS(patch(&at, 1, 0, 1, 1) == MARKRING_NO_BYTES && has(&at, 1, 0, 0, 0, 0, 0));
-    drop(&at);
-    free(at.stored);
+    end(&at);
 }
 
 // Writes a request with three events, of which two have 5 and 3 bytes.
@@ -1490,8 +1428,7 @@ static void test_byte_requests(void)
     // And the next one.
     HOLDS(write_three(bytes, WHOLE, 3, 30) == WHOLE);
     HOLDS(judge_bytes(&at, bytes, WHOLE) == VERDICT_DONE && has(&at, 1, 30, 5, 1, 80, 3));
-    drop(&at);
-    free(at.stored);
+    end(&at);
 }
 
 // The same of readings.
@@ -1510,8 +1447,7 @@ static void test_cut_readings(void)
             HOLDS(said == (is_right ? VERDICT_DONE : VERDICT_MALFORMED));
         }
     }
-    drop(&at);
-    free(at.stored);
+    end(&at);
 }
 
 // The most bytes that a request and an answer carry, and one more.
@@ -1544,8 +1480,7 @@ static void test_most_bytes(void)
     settle(&at, STORE_OK);
     largest = 0;
     HOLDS(status_of_reading(&at, 1, 0, BYTES_MOST) == MARKRING_NO_BYTES && largest < 1000);
-    drop(&at);
-    free(at.stored);
+    end(&at);
 }
 
 // No answer shows bytes before they are stored; and a process that ends before takes them along.
@@ -1582,8 +1517,7 @@ static void test_bytes_wait(void)
             HOLDS(has(&at, 1, 2, 10, 0, 0, 0));
         }
     }
-    drop(&at);
-    free(at.stored);
+    end(&at);
 }
 
 // Answers with bytes that wait for a save have a limit of their own.
@@ -1612,8 +1546,7 @@ static void test_held_bytes(void)
         HOLDS(at.answers == HELD_BYTES / ANSWER);
         HOLDS(host_counted(at.host)->dropped == dropped + 100 - HELD_BYTES / ANSWER);
     }
-    drop(&at);
-    free(at.stored);
+    end(&at);
 }
 
 // The host reckons with the bytes of objects: the image is never larger, programs can't fill it
@@ -1642,9 +1575,7 @@ static void test_bytes_growth(void)
     // What needs no room is done.
     HOLDS(patch(&at, 1, 0, 2, LENGTH) == MARKRING_OK && has(&at, 1, 1, LENGTH, 0, 2, LENGTH));
     options.image_most = 100 * MOST;
-    drop(&at);
-    open_host(&at);
-    settle(&at, STORE_OK);
+    open_again(&at);
     for (int i = 0; i < 200; i++) {
         HOLDS(set_bytes(&at, 1, 1, (uint32_t)(i % 2) * LENGTH) == MARKRING_OK);
         expect_bound(&at);
@@ -1661,8 +1592,7 @@ static void test_bytes_growth(void)
         HOLDS(set_bytes(&at, 1, 1, (uint32_t)(i % 2) * LENGTH) == MARKRING_OK);
     }
     HOLDS(looks == 0 && at.wholes == 0);
-    drop(&at);
-    free(at.stored);
+    end(&at);
     // Bytes that are replaced by none.
     make_with_bytes(&at, 10 * MOST, true);
     HOLDS(set_bytes(&at, 1, 1, 10 * MOST) == MARKRING_OK);
@@ -1670,8 +1600,7 @@ static void test_bytes_growth(void)
     HOLDS(image_of(&at) > 10 * MOST && set_bytes(&at, 1, 1, 0) == MARKRING_OK);
     settle(&at, STORE_OK);
     HOLDS(image_of(&at) < MOST);
-    drop(&at);
-    free(at.stored);
+    end(&at);
 }
 
 // ## Rewrites
@@ -1701,8 +1630,7 @@ static void begin_rewrites(station *at)
 
 static void end_rewrites(station *at)
 {
-    drop(at);
-    free(at->stored);
+    end(at);
     rewrites = false;
     options.entries_least = 0;
 }
@@ -1730,9 +1658,7 @@ static void test_rewrite(void)
     HOLDS(at.host->entries == added && asked == 1);
     HOLDS(add_entries(&at, 2) < 2 * REWRITE_LEAST && asked == 2 && at.wholes == 0);
     size_t image = image_of(&at);
-    drop(&at);
-    open_host(&at);
-    settle(&at, STORE_OK);
+    open_again(&at);
     HOLDS(image_of(&at) == image && has(&at, 1, 1, REWRITE_LENGTH, 0, 0, 0));
     end_rewrites(&at);
 }
@@ -1787,7 +1713,7 @@ static void test_wide_size(void)
     markring_answer answer;
     markring_event alloc = {.kind = MARKRING_EVENT_ALLOC, .reg = 1};
     bool all = true;
-    make_wide(&at, 2, true);
+    make_wide(&at, 2, 0, true);
     HOLDS(open_apart(&at, 3, 103, 1, 1) == VERDICT_DONE);
     for (uint32_t i = 0; i <= IMAGE_LIMIT / OBJECT; i++) {
         all = all && markring_node_alloc(host_node(at.host), 0, 0, &answer) == MARKRING_OK;
@@ -1799,12 +1725,9 @@ static void test_wide_size(void)
         HOLDS(perform_one(&at, 3, 103, alloc) == MARKRING_OK);
         HOLDS(number_of(&at, "image") > IMAGE_LIMIT);
         HOLDS(takes_messages(at.host) && host_ended(at.host) == HOST_RUNS);
-        drop(&at);
-        open_host(&at);
-        settle(&at, STORE_OK);
+        open_again(&at);
     }
-    drop(&at);
-    free(at.stored);
+    end(&at);
 }
 
 // A node of a wide space whose programs have made this many objects, each in place of the last one.
@@ -1812,11 +1735,9 @@ static void fill_wide(station *at, uint32_t least, int objects)
 {
     markring_event alloc = {.kind = MARKRING_EVENT_ALLOC, .reg = 1};
     options.reclaim_objects = least;
-    wide_places = 8;
-    make_node(at, 0, 3, true);
-    wide_places = 0;
+    next.places = 8;
+    make(at, true);
     options.reclaim_objects = 0;
-    settle(at, STORE_OK);
     HOLDS(open_apart(at, 3, 103, 1, 2) == VERDICT_DONE);
     for (int i = 0; i < objects; i++) {
         HOLDS(perform_one(at, 3, 103, alloc) == MARKRING_OK);
@@ -1859,25 +1780,20 @@ static void test_reclaims(void)
     fill_wide(&at, 0, SLOTS);
     HOLDS(perform_one(&at, 3, 103, alloc) == MARKRING_ARENA_FULL);
     HOLDS(number_of(&at, "reclaimed") == 0 && number_of(&at, "live") == SLOTS);
-    drop(&at);
-    free(at.stored);
+    end(&at);
     fill_wide(&at, 1000, SLOTS);
     HOLDS(number_of(&at, "reclaimed") == 0 && number_of(&at, "live") == SLOTS);
     HOLDS(perform_one(&at, 3, 103, alloc) == MARKRING_OK);
     HOLDS(number_of(&at, "reclaimed") == SLOTS - 1 && number_of(&at, "live") == 2);
-    drop(&at);
-    open_host(&at);
-    settle(&at, STORE_OK);
+    open_again(&at);
     HOLDS(number_of(&at, "live") == 2 && read_one(&at, 3, 1) == MARKRING_OK);
-    drop(&at);
-    free(at.stored);
+    end(&at);
     fill_wide(&at, LEAST, LEAST - 1);
     HOLDS(number_of(&at, "reclaimed") == 0);
     HOLDS(perform_one(&at, 3, 103, alloc) == MARKRING_OK);
     settle(&at, STORE_OK);
     HOLDS(number_of(&at, "reclaimed") == LEAST - 1 && number_of(&at, "live") == 1);
-    drop(&at);
-    free(at.stored);
+    end(&at);
 }
 
 // It reclaims all when that leaves it full, and when it has twice as many objects as the last time
@@ -1897,8 +1813,7 @@ static void test_old_reclaims(void)
     HOLDS(perform_one(&at, 3, 103, drop_first) == MARKRING_OK);
     make_list(&at, SLOTS);
     HOLDS(number_of(&at, "reclaimed") == SLOTS + 1 && number_of(&at, "live") == SLOTS);
-    drop(&at);
-    free(at.stored);
+    end(&at);
     fill_wide(&at, LEAST, 0);
     make_list(&at, 2 * LEAST);
     for (int i = 0; i < LEAST; i++) {
@@ -1911,8 +1826,7 @@ static void test_old_reclaims(void)
     make_list(&at, 2 * LEAST);
     settle(&at, STORE_OK);
     HOLDS(number_of(&at, "live") == 2 * LEAST);
-    drop(&at);
-    free(at.stored);
+    end(&at);
 }
 
 // ## Large images
@@ -1927,12 +1841,8 @@ enum { LARGE = 50000, LARGE_IMAGE = 40 * LARGE };
 static void make_large(station *at, uint8_t places)
 {
     markring_answer answer;
-    slots = 1048576;
-    wide_places = places;
-    make_node(at, 0, 3, true);
-    slots = 64;
-    wide_places = 0;
-    settle(at, STORE_OK);
+    next = (host_shape){.slots = 1048576, .places = places};
+    make(at, true);
     markring_node *node = host_node(at->host);
     bool all = markring_node_alloc(node, 0, 1, &answer) == MARKRING_OK;
     for (int i = 1; i < LARGE; i++) {
@@ -1958,12 +1868,6 @@ static size_t true_size(station *at)
     size_t size = 0;
     HOLDS(__real_markring_node_image_size(host_node(at->host), &size) == MARKRING_OK);
     return size;
-}
-
-static void end_large(station *at)
-{
-    drop(at);
-    free(at->stored);
 }
 
 // Makes a list in register 2, whose objects refer to another one first: while it is marked, most of
@@ -2001,7 +1905,7 @@ static void test_large_marking(void)
     host_control(at.host, at.now, "begin", 5, "r");
     for (int i = 0; i < LARGE && state.grey > 0; i++) {
         turn(&at, 10, STORE_OK);
-        HOLDS(markring_node_state(host_node(at.host), &state) == MARKRING_OK);
+        state = state_of(&at);
         most = state.grey > most ? state.grey : most;
         if (i % 20 == 0) {
             expect_bound(&at);
@@ -2010,7 +1914,7 @@ static void test_large_marking(void)
     HOLDS(state.cycle == 1 && state.grey == 0 && most > LEAVES / 2 && looks == 0);
     expect_bound(&at);
     HOLDS(at.host->size < true_size(&at) + 4 * GROWTH);
-    end_large(&at);
+    end(&at);
 }
 
 // Garbage that comes and goes doesn't let the reckoned size grow.
@@ -2041,7 +1945,7 @@ static void test_large_churn(void)
         HOLDS(i % 50 > 0 || at.host->size >= true_size(&at));
     }
     options.reclaim_objects = 0;
-    end_large(&at);
+    end(&at);
 }
 
 // Of many objects the old ones are left to a cycle, for which nobody waits; but not while a node that
@@ -2073,7 +1977,7 @@ static void test_large_reclaims(void)
         settle(&at, STORE_OK);
         HOLDS(!at.host->asked);
         options.reclaim_objects = 0;
-        end_large(&at);
+        end(&at);
     }
 }
 
@@ -2119,7 +2023,7 @@ static void test_large_limit(void)
     turn(&at, 10, STORE_OK);
     HOLDS(perform_one(&at, 3, 103, alloc) == MARKRING_IMAGE_TOO_LARGE && looks == 1);
     at.host->options.image_most = 0;
-    end_large(&at);
+    end(&at);
 }
 
 // A node whose messages filled its image takes some again, though the estimate was wrong.
@@ -2134,7 +2038,7 @@ static void test_large_tight(void)
         turn(&at, 10, STORE_OK);
     }
     HOLDS(!is_tight(at.host) && looks > 0 && looks <= 2);
-    end_large(&at);
+    end(&at);
 }
 
 // Before the image may be too large, a rewrite is asked for, and shows how many bytes it has.
@@ -2164,7 +2068,7 @@ static void test_size_by_rewrite(void)
         turn(&at, 10, STORE_OK);
     }
     HOLDS(asked == 1 && at.wholes == 0);
-    end_large(&at);
+    end(&at);
     rewrites = false;
 }
 
@@ -2174,8 +2078,7 @@ static void test_image(void)
     station at;
     markring_answer answer;
     size_t size = 0;
-    make_node(&at, 0, 3, true);
-    settle(&at, STORE_OK);
+    make(&at, true);
     markring_node *node = host_node(at.host);
     HOLDS(markring_node_alloc(node, 0, 8, &answer) == MARKRING_OK);
     for (uint64_t word = 0; word < 5000; word++) {
@@ -2191,8 +2094,7 @@ static void test_image(void)
     }
     HOLDS(markring_node_image_size(node, &size) == MARKRING_OK && size > 20000);
     HOLDS(image_of(&at) <= size && image_of(&at) > size / 2);
-    drop(&at);
-    free(at.stored);
+    end(&at);
 }
 
 // A saved value whose program had more results than a request has events isn't one.
@@ -2202,8 +2104,7 @@ static void test_results(void)
         station at;
         answer_head head;
         uint16_t count = (uint16_t)(REQUEST_EVENTS + way % 2);
-        make_node(&at, 0, 3, way >= 2);
-        settle(&at, STORE_OK);
+        make(&at, way >= 2);
         HOLDS(ask(&at, (request_head){REQUEST_OPEN, 3, 100, 1, 0}, -1, &head) == 1);
         at.host->programs[3].results = calloc(count, RESULT_BYTES);
         at.host->programs[3].count = count;
@@ -2215,8 +2116,7 @@ static void test_results(void)
         host_calls calls = {&at, on_send, on_answer, on_save, NULL};
         int status = host_open(&at.host, &value, at.number, NONCE, &options, &calls, at.now);
         HOLDS(status == (count > REQUEST_EVENTS ? MARKRING_BAD_IMAGE : MARKRING_OK));
-        drop(&at);
-        free(at.stored);
+        end(&at);
     }
 }
 
@@ -2224,19 +2124,19 @@ static void test_results(void)
 
 static station pair[2];
 
-static void make_pair(void)
+static void open_pair(void)
 {
     for (uint8_t own = 0; own < 2; own++) {
         make_node(&pair[own], own, 2, true);
         pair[own].other = &pair[1 - own];
     }
+    next = (host_shape){0};
 }
 
 static void drop_pair(void)
 {
     for (int own = 0; own < 2; own++) {
-        drop(&pair[own]);
-        free(pair[own].stored);
+        end(&pair[own]);
     }
 }
 
@@ -2249,17 +2149,21 @@ static void go_on(int turns, uint64_t time)
     }
 }
 
+// Two nodes that have made their first saves.
+static void make_pair(void)
+{
+    open_pair();
+    go_on(20, 10);
+}
+
 // Once an object with bytes is freed, the status shows how large the image is without it.
 static void test_swept_bytes(void)
 {
     enum { LENGTH = 100000 };
     markring_answer answer;
-    wide_places = 8;
-    wide_bytes = LENGTH;
+    next.places = 8;
+    next.bytes = LENGTH;
     make_pair();
-    wide_places = 0;
-    wide_bytes = 0;
-    go_on(20, 10);
     markring_node *node = host_node(pair[0].host);
     HOLDS(markring_node_alloc(node, 1, 0, &answer) == MARKRING_OK);
     HOLDS(markring_node_set_bytes(node, 1, bytes_of(1, LENGTH), LENGTH, &answer) == MARKRING_OK);
@@ -2280,12 +2184,9 @@ static void test_work_that_is_left(void)
 {
     enum { OBJECTS = 600 };
     markring_answer answer;
-    uint32_t few = slots;
     int turns = 0;
-    slots = OBJECTS;
+    next.slots = OBJECTS;
     make_pair();
-    slots = few;
-    go_on(20, 10);
     markring_node *node = host_node(pair[0].host);
     for (int i = 0; i < OBJECTS; i++) {
         HOLDS(markring_node_alloc(node, 1, 1, &answer) == MARKRING_OK);
@@ -2328,7 +2229,6 @@ static uint64_t acknowledged(int from)
 static void test_pace(void)
 {
     make_pair();
-    go_on(20, 10);
     for (uint32_t label = 0; label < LETTERS; label++) {
         give((int)(label & 1), label);
         go_on(label % 7 == 0 ? 10 : 1, 5);
@@ -2347,7 +2247,6 @@ static void test_pace(void)
 static void test_absence(void)
 {
     make_pair();
-    go_on(20, 10);
     pair[0].other = NULL;
     give(0, 1);
     uint64_t before = host_counted(pair[0].host)->resends;
@@ -2377,7 +2276,6 @@ static void test_absence(void)
 static void test_losses(void)
 {
     make_pair();
-    go_on(20, 10);
     for (uint32_t label = 1; label <= 6; label++) {
         int deaf = label % 2 == 0;
         pair[deaf].other = NULL;
@@ -2397,7 +2295,6 @@ static void test_cycle(void)
 {
     markring_answer answer;
     make_pair();
-    go_on(20, 10);
     for (int own = 0; own < 2; own++) {
         markring_node *node = host_node(pair[own].host);
         HOLDS(markring_node_alloc(node, 0, 1, &answer) == MARKRING_OK);
@@ -2409,9 +2306,7 @@ static void test_cycle(void)
         go_on(200, 10);
     }
     for (int own = 0; own < 2; own++) {
-        markring_state state = {0};
-        HOLDS(markring_node_state(host_node(pair[own].host), &state) == MARKRING_OK);
-        HOLDS(state.swept == 2 && state.live == 1);
+        HOLDS(state_of(&pair[own]).swept == 2 && live(&pair[own]) == 1);
     }
     drop_pair();
 }
@@ -2421,24 +2316,15 @@ static void test_letters(void)
 {
     options.letters_most = 5;
     make_pair();
-    go_on(20, 10);
     for (uint32_t label = 0; label < LETTERS; label++) {
         give(0, label);
     }
     go_on(200, 10);
-    markring_state state = {0};
-    HOLDS(markring_node_state(host_node(pair[1].host), &state) == MARKRING_OK);
-    HOLDS(state.letters >= 5 && state.letters < 5 + 64);
-    HOLDS(host_counted(pair[1].host)->full > 0 && acknowledged(0) == state.letters);
+    uint64_t letters = state_of(&pair[1]).letters;
+    HOLDS(letters >= 5 && letters < 5 + 64);
+    HOLDS(host_counted(pair[1].host)->full > 0 && acknowledged(0) == letters);
     drop_pair();
     options.letters_most = 0;
-}
-
-static markring_state state_of(int own)
-{
-    markring_state state = {0};
-    HOLDS(markring_node_state(host_node(pair[own].host), &state) == MARKRING_OK);
-    return state;
 }
 
 static void accept(int own, uint64_t count)
@@ -2456,43 +2342,41 @@ static void test_tight(void)
 {
     options.image_tight = 4000;
     make_pair();
-    go_on(20, 10);
     for (uint32_t label = 0; label < LETTERS; label++) {
         give(0, label);
     }
     go_on(300, 10);
-    uint64_t letters = state_of(1).letters;
+    uint64_t letters = state_of(&pair[1]).letters;
     HOLDS(letters > 20 && letters < 4000 / JOINING && acknowledged(0) == letters);
     HOLDS(host_counted(pair[1].host)->full > 0);
     // There is room for others. (A window of messages may come beyond the limit.)
     accept(1, 40);
     go_on(300, 10);
-    HOLDS(acknowledged(0) > letters && state_of(1).letters <= letters);
-    letters = state_of(1).letters;
+    HOLDS(acknowledged(0) > letters && state_of(&pair[1]).letters <= letters);
+    letters = state_of(&pair[1]).letters;
     // The same after a restart.
     drop(&pair[1]);
     pair[1].nonce++;
     open_host(&pair[1]);
     go_on(300, 10);
-    HOLDS(state_of(1).letters >= letters && state_of(1).letters < 4000 / JOINING);
+    HOLDS(state_of(&pair[1]).letters >= letters && state_of(&pair[1]).letters < 4000 / JOINING);
     // No cycle begins at a node that has no room for it.
     drop_pair();
     options.image_tight = 0;
     make_pair();
-    go_on(20, 10);
     for (uint32_t label = 0; label < LETTERS; label++) {
         give(1, label);
     }
     go_on(300, 10);
-    HOLDS(state_of(0).letters == LETTERS);
+    HOLDS(state_of(&pair[0]).letters == LETTERS);
     pair[0].host->options.image_tight = 8000;
     host_control(pair[0].host, pair[0].now, "begin", 5, "r");
     go_on(100, 10);
-    HOLDS(state_of(0).cycle == 0 && host_wait(pair[0].host, pair[0].now) <= RETRY);
-    HOLDS(state_of(1).cycle == 0);
+    HOLDS(state_of(&pair[0]).cycle == 0 && host_wait(pair[0].host, pair[0].now) <= RETRY);
+    HOLDS(state_of(&pair[1]).cycle == 0);
     accept(0, LETTERS);
     go_on(100, 10);
-    HOLDS(state_of(0).cycle == 1 && state_of(0).swept == 1);
+    HOLDS(state_of(&pair[0]).cycle == 1 && state_of(&pair[0]).swept == 1);
     for (int own = 0; own < 2; own++) {
         HOLDS(host_ended(pair[own].host) == HOST_RUNS);
     }
@@ -2503,7 +2387,6 @@ static void test_tight(void)
 static void test_acknowledged_size(void)
 {
     make_pair();
-    go_on(20, 10);
     for (uint32_t label = 0; label < LETTERS; label++) {
         give(0, label);
     }
@@ -2522,19 +2405,18 @@ static void test_room(void)
 {
     options.image_tight = 4000;
     make_pair();
-    go_on(20, 10);
     for (uint32_t label = 0; label < LETTERS; label++) {
         give(0, label);
     }
     for (uint64_t accepted = 0; accepted < LETTERS;) {
         go_on(200, 10);
-        uint64_t letters = state_of(1).letters;
+        uint64_t letters = state_of(&pair[1]).letters;
         HOLDS(letters > 0);
         accept(1, letters);
         accepted = letters > 0 ? accepted + letters : LETTERS;
     }
     go_on(100, 10);
-    HOLDS(acknowledged(0) == LETTERS && state_of(1).letters == 0);
+    HOLDS(acknowledged(0) == LETTERS && state_of(&pair[1]).letters == 0);
     options.image_tight = 0;
     drop_pair();
 }
@@ -2565,7 +2447,6 @@ static void test_gets(void)
     answer_head head;
     options.letters_most = 20;
     make_pair();
-    go_on(20, 10);
     HOLDS(markring_node_alloc(host_node(pair[0].host), 1, 1, &answer) == MARKRING_OK);
     HOLDS(markring_node_give(host_node(pair[0].host), 1, 1, 1, &answer) == MARKRING_OK);
     host_changed(pair[0].host);
@@ -2582,10 +2463,10 @@ static void test_gets(void)
     HOLDS(markring_node_image_size(host_node(pair[0].host), &size) == MARKRING_OK && size < 30000);
     HOLDS(host_ended(pair[0].host) == HOST_RUNS && host_ended(pair[1].host) == HOST_RUNS);
     for (int i = 0; i < 20; i++) {
-        accept(1, state_of(1).letters);
+        accept(1, state_of(&pair[1]).letters);
         go_on(30, 10);
     }
-    HOLDS(state_of(1).letters == 0 && ask_gets(number) == MARKRING_OK);
+    HOLDS(state_of(&pair[1]).letters == 0 && ask_gets(number) == MARKRING_OK);
     options.letters_most = 0;
     drop_pair();
 }
@@ -2596,7 +2477,6 @@ static void test_waiting(void)
     for (uint8_t program = 0; program < 2; program++) {
         answer_head head;
         make_pair();
-        go_on(20, 10);
         HOLDS(ask(&pair[1], (request_head){REQUEST_OPEN, program, 100, 1, 0}, -1, &head) == 1);
         HOLDS(ask(&pair[1], (request_head){REQUEST_WAIT, program, 100, 7, 0}, -1, &head) == 0);
         HOLDS(ask(&pair[1], (request_head){REQUEST_OPEN, program, 200, 2, 0}, -1, &head) == 1);
@@ -2667,6 +2547,5 @@ int main(void)
     test_waiting();
     test_swept_bytes();
     test_work_that_is_left();
-    printf("%lu passed, %lu failed\n", passed, failed);
-    return failed != 0 || passed == 0;
+    return report();
 }

@@ -18,14 +18,9 @@ enum {
 // The program 3 of each has the registers from 1 on, and an object with these bytes in register 1.
 static void make_wide_pair(uint32_t object_bytes)
 {
-    registers = LETTER_REGISTERS;
-    wide_places = 255;
-    wide_bytes = MARKRING_LETTER_BYTES;
+    next = (host_shape){
+        .registers = LETTER_REGISTERS, .places = 255, .bytes = MARKRING_LETTER_BYTES};
     make_pair();
-    registers = 8;
-    wide_places = 0;
-    wide_bytes = 0;
-    go_on(20, 10);
     for (int own = 0; own < 2; own++) {
         HOLDS(open_apart(&pair[own], 3, 103, 1, LETTER_REGISTERS - 1) == VERDICT_DONE);
         markring_event alloc = {.kind = MARKRING_EVENT_ALLOC, .reg = 1, .place = 1};
@@ -211,20 +206,20 @@ static void test_letter_bytes(void)
         HOLDS(post(0, 1, 0, i, 1000) == MARKRING_OK);
     }
     go_on(300, 10);
-    uint64_t letters = state_of(1).letters;
+    uint64_t letters = state_of(&pair[1]).letters;
     HOLDS(letters >= 9 && letters <= 10 + WINDOW && host_counted(pair[1].host)->full > 0);
     HOLDS(number_of(&pair[1], "letter_bytes") >= 10000);
     HOLDS(fetch(1, 2, 0, 10) == MARKRING_CONGESTED);
     uint32_t accepted = 0;
-    for (; state_of(1).letters > 5; accepted++) {
+    for (; state_of(&pair[1]).letters > 5; accepted++) {
         HOLDS(accept_into(1, 3, 1000) == MARKRING_OK && brought(1, accepted, 1000));
     }
     // It has room again, before the last one is accepted.
     go_on(300, 10);
-    HOLDS(state_of(1).letters > 5);
+    HOLDS(state_of(&pair[1]).letters > 5);
     for (; accepted < 100; accepted++) {
         HOLDS(accept_into(1, 3, 1000) == MARKRING_OK && brought(1, accepted, 1000));
-        go_on(state_of(1).letters == 0 ? 300 : 1, 10);
+        go_on(state_of(&pair[1]).letters == 0 ? 300 : 1, 10);
     }
     HOLDS(number_of(&pair[1], "letter_bytes") == 0 && fetch(1, 2, 0, 10) == MARKRING_OK);
     drop_pair();
@@ -289,7 +284,7 @@ static void test_fetch_pause(void)
     pair[1].other = &pair[0];
     host_connected(pair[1].host, pair[1].now);
     go_on(2000, 10);
-    HOLDS(state_of(0).letters == 10 && number_of(&pair[1], "queued_bytes") == 0);
+    HOLDS(state_of(&pair[0]).letters == 10 && number_of(&pair[1], "queued_bytes") == 0);
     drop_pair();
 }
 
@@ -476,6 +471,5 @@ int main(void)
     test_apart_letters();
     test_last_letters();
     test_several();
-    printf("%lu passed, %lu failed\n", passed, failed);
-    return failed != 0 || passed == 0;
+    return report();
 }

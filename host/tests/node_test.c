@@ -9,6 +9,7 @@
 #include NODE
 #undef main
 
+#include "check.h"
 #include "nats_model.h"
 
 #include <fcntl.h>
@@ -16,19 +17,6 @@
 #include <unistd.h>
 
 enum { PATH = 64, CYCLE = 10, HEARD = 64 };
-
-static unsigned long passed, failed;
-
-static void check(bool holds, const char *text, int line)
-{
-    if (holds) {
-        passed++;
-    } else if (failed++ < 20) {
-        printf("FAILED: node_test.c:%d: %s\n", line, text);
-    }
-}
-
-#define HOLDS(condition) check((condition), #condition, __LINE__)
 
 static char place[PATH] = "/tmp/node-XXXXXX";
 static running at;
@@ -797,6 +785,5 @@ int main(void)
     char command[PATH + 8];
     snprintf(command, sizeof command, "rm -r %s", place);
     HOLDS(system(command) == 0);
-    printf("%lu passed, %lu failed\n", passed, failed);
-    return failed != 0 || passed == 0;
+    return report();
 }

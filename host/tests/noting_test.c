@@ -41,7 +41,7 @@ static int notes_of(int own, host_note_kind kind, host_note *last)
 // Two nodes that have heard each other.
 static void make_heard_pair(void)
 {
-    make_pair();
+    open_pair();
     forget_notes();
     host_listen(pair[0].host, on_note, &pair[0]);
     host_listen(pair[1].host, on_note, &pair[1]);
@@ -196,21 +196,20 @@ static void test_waiting_cycle(void)
 static void test_stuck_cycle(void)
 {
     host_note last;
-    slots = 20000;
+    next.slots = 20000;
     make_heard_pair();
-    slots = 64;
     make_objects(1, 15000);
     begin();
-    for (int i = 0; i < 1000 && state_of(1).ended == 0; i++) {
+    for (int i = 0; i < 1000 && state_of(&pair[1]).ended == 0; i++) {
         go_on(1, 10);
     }
     go_on(1, 10);
-    HOLDS(state_of(1).ended == 1 && state_of(1).swept == 0 && state_of(0).swept == 1);
+    HOLDS(state_of(&pair[1]).ended == 1 && state_of(&pair[1]).swept == 0 && state_of(&pair[0]).swept == 1);
     begin();
     for (int i = 0; i < 5000; i++) {
         turn(&pair[0], 100, STORE_OK);
     }
-    HOLDS(acknowledged(0) > 0 && state_of(0).cycle == 1);
+    HOLDS(acknowledged(0) > 0 && state_of(&pair[0]).cycle == 1);
     HOLDS(notes_of(0, NOTE_CYCLE_STUCK, &last) == 1 && last.cycle == 1 && last.time >= MINUTE);
     HOLDS(notes_of(0, NOTE_CYCLE_WAITS, &last) == 0 && notes_of(0, NOTE_PEER_LOST, &last) == 0);
     drop_pair();
@@ -262,8 +261,7 @@ static void test_folder_limit(void)
         folder_limit = 7;
         options.has_limit = way > 0;
         options.limit = way == 1 ? 0 : 9;
-        make(&at);
-        settle(&at, STORE_OK);
+        make(&at, false);
         host_look(at.host, at.now, &view);
         HOLDS(view.limit == (way == 0 ? 7 : way == 1 ? 0 : 9));
         HOLDS(host_is(at.host)->limit == 7);
@@ -272,8 +270,7 @@ static void test_folder_limit(void)
         drop(&at);
         open_host(&at);
         HOLDS(limit_of(at.host) == 7);
-        drop(&at);
-        free(at.stored);
+        end(&at);
     }
     folder_limit = 0;
 }
@@ -392,8 +389,7 @@ static void test_request_times(void)
     station at;
     answer_head head;
     host_view view;
-    make(&at);
-    settle(&at, STORE_OK);
+    make(&at, false);
     HOLDS(ask(&at, (request_head){REQUEST_OPEN, 3, 100, 1, 0}, -1, &head) == 1);
     HOLDS(ask(&at, (request_head){REQUEST_PERFORM, 3, 100, 1, 2}, -1, &head) == 1);
     host_look(at.host, at.now, &view);
@@ -415,8 +411,7 @@ static void test_request_times(void)
     HOLDS(ask(&at, request, -1, &head) == 1 && head.count == 1);
     host_look(at.host, at.now, &view);
     HOLDS(view.requests.sum == 530 && view.counts.repeated_requests == 2);
-    drop(&at);
-    free(at.stored);
+    end(&at);
 }
 
 // The status has each number, once.
@@ -424,8 +419,7 @@ static void test_status(void)
 {
     station at;
     host_view view;
-    make(&at);
-    settle(&at, STORE_OK);
+    make(&at, false);
     host_look(at.host, at.now, &view);
     host_control(at.host, at.now, "status", 6, "r");
     at.text[at.told] = 0;
@@ -441,8 +435,7 @@ static void test_status(void)
     }
     HOLDS(strcmp(text + at.told - 13, ", \"late\": []}") == 0);
     HOLDS(view.save == 11 && view.run == 11 && view.counts.saves == 1 && view.image > 0);
-    drop(&at);
-    free(at.stored);
+    end(&at);
 }
 
 // ## Another id
@@ -453,8 +446,7 @@ static void test_rename(void)
     answer_head head;
     for (int way = 0; way < 2; way++) {
         station at;
-        make_node(&at, 0, 3, way == 1);
-        settle(&at, STORE_OK);
+        make(&at, way == 1);
         deliver(&at, (process){9, 5, 7}, NONCE, 11);
         HOLDS(ask(&at, (request_head){REQUEST_OPEN, 3, 100, 1, 0}, -1, &head) == 1);
         HOLDS(ask(&at, (request_head){REQUEST_PERFORM, 3, 100, 1, 2}, -1, &head) == 1);
@@ -462,8 +454,7 @@ static void test_rename(void)
         open_host(&at);
         store_value value = {NULL, 0, 0, false, 0, 0};
         HOLDS(host_rename(at.host, other, &value) == MARKRING_OK && !value.is_entry);
-        drop(&at);
-        free(at.stored);
+        end(&at);
         at.stored = value.buffer;
         at.length = value.length;
         at.end = value.end;
@@ -474,8 +465,7 @@ static void test_rename(void)
         settle(&at, STORE_OK);
         HOLDS(ask(&at, (request_head){REQUEST_PERFORM, 3, 100, 1, 2}, -1, &head) == 1);
         HOLDS(head.verdict == VERDICT_DONE && head.last == 1 && live(&at) == 2);
-        drop(&at);
-        free(at.stored);
+        end(&at);
     }
 }
 
@@ -495,6 +485,5 @@ int main(void)
     test_request_times();
     test_status();
     test_rename();
-    printf("%lu passed, %lu failed\n", passed, failed);
-    return failed != 0 || passed == 0;
+    return report();
 }

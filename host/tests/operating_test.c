@@ -5,6 +5,7 @@
 #include "../metrics.h"
 #include "../reports.h"
 #include "../service.h"
+#include "check.h"
 
 #include <arpa/inet.h>
 #include <errno.h>
@@ -19,19 +20,6 @@
 #include <unistd.h>
 
 enum { PATH = 64, ROOM = 1 << 20, MINUTE = 60000, MOST = 64 };
-
-static unsigned long passed, failed;
-
-static void check(bool holds, const char *text, int line)
-{
-    if (holds) {
-        passed++;
-    } else if (failed++ < 20) {
-        printf("FAILED: operating_test.c:%d: %s\n", line, text);
-    }
-}
-
-#define HOLDS(condition) check((condition), #condition, __LINE__)
 
 static char place[PATH] = "/tmp/operating-XXXXXX";
 static char said[ROOM];
@@ -656,6 +644,5 @@ int main(void)
     char command[PATH + 8];
     snprintf(command, sizeof command, "rm -r %s", place);
     HOLDS(system(command) == 0);
-    printf("%lu passed, %lu failed\n", passed, failed);
-    return failed != 0 || passed == 0;
+    return report();
 }

@@ -15,16 +15,8 @@ static station one;
 // A node of a wide space, in which programs SHARER and READER are open. It reclaims when it is told.
 static void make_one(bool has_entries)
 {
-    registers = 16;
-    slots = 1u << 20;
-    wide_places = 4;
-    wide_bytes = 100;
-    make_node(&one, 0, 3, has_entries);
-    registers = 8;
-    slots = 64;
-    wide_places = 0;
-    wide_bytes = 0;
-    settle(&one, STORE_OK);
+    next = (host_shape){.registers = 16, .slots = 1u << 20, .places = 4, .bytes = 100};
+    make(&one, has_entries);
     for (uint8_t number = SHARER; number <= READER; number++) {
         answer_head head;
         HOLDS(ask(&one, (request_head){REQUEST_OPEN, number, 100u + number, 1, 0}, -1, &head) == 1);
@@ -33,8 +25,7 @@ static void make_one(bool has_entries)
 
 static void drop_one(void)
 {
-    drop(&one);
-    free(one.stored);
+    end(&one);
 }
 
 // Its process ends, and another one begins.
@@ -817,6 +808,5 @@ int main(void)
     test_walks_wait();
     test_cut_questions();
     test_without_memory();
-    printf("%lu passed, %lu failed\n", passed, failed);
-    return failed != 0 || passed == 0;
+    return report();
 }
