@@ -544,5 +544,5 @@ int main(void)
     rows_free(&server);
     rows_kill(&client);
     rows_kill(&apart);
-    return report();
+    return report_checks();
 }

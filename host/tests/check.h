@@ -22,7 +22,7 @@ static inline void check(bool holds, const char *text, const char *file, int lin
 #define HOLDS(condition) check((condition), #condition, __FILE__, __LINE__)
 
 // Prints the line that counts, and returns the program's status.
-static inline int report(void)
+static inline int report_checks(void)
 {
     printf("%lu passed, %lu failed\n", passed, failed);
     fflush(stdout);

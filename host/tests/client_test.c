@@ -1855,5 +1855,5 @@ int main(void)
     markring_remote_close(program);
     markring_remote_disconnect(space);
     HOLDS(model.alive == 0);
-    return report();
+    return report_checks();
 }

@@ -689,5 +689,5 @@ int main(void)
     test_damage(false);
     test_damage(true);
     test_pauses();
-    return report();
+    return report_checks();
 }

@@ -588,5 +588,5 @@ int main(void)
     test_locks();
     remove_all(place);
     HOLDS(rmdir(place) == 0);
-    return report();
+    return report_checks();
 }

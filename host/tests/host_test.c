@@ -2547,5 +2547,5 @@ int main(void)
     test_waiting();
     test_swept_bytes();
     test_work_that_is_left();
-    return report();
+    return report_checks();
 }

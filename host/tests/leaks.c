@@ -61,5 +61,5 @@ int main(int count, char **words)
     }
     markring_remote_options wrong = {"nats://127.0.0.1:1", "no file", NULL, NULL, NULL};
     HOLDS(markring_remote_connect(&space, &wrong, "test") == MARKRING_REMOTE_CARRIER);
-    return report();
+    return report_checks();
 }

@@ -471,5 +471,5 @@ int main(void)
     test_apart_letters();
     test_last_letters();
     test_several();
-    return report();
+    return report_checks();
 }

@@ -785,5 +785,5 @@ int main(void)
     char command[PATH + 8];
     snprintf(command, sizeof command, "rm -r %s", place);
     HOLDS(system(command) == 0);
-    return report();
+    return report_checks();
 }

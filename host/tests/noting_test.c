@@ -485,5 +485,5 @@ int main(void)
     test_request_times();
     test_status();
     test_rename();
-    return report();
+    return report_checks();
 }

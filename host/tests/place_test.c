@@ -200,5 +200,5 @@ int main(int count_of, char **words)
     keeps(node, whole);
     refuses();
     takes_over(node);
-    return report();
+    return report_checks();
 }

@@ -808,5 +808,5 @@ int main(void)
     test_walks_wait();
     test_cut_questions();
     test_without_memory();
-    return report();
+    return report_checks();
 }
