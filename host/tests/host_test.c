@@ -196,6 +196,13 @@ static void turn(station *at, uint64_t time, store_status status)
     }
 }
 
+static void turns(station *at, int count, uint64_t time)
+{
+    for (int i = 0; i < count; i++) {
+        turn(at, time, STORE_OK);
+    }
+}
+
 // Turns, until there is nothing to save; all saves end like this.
 static void settle(station *at, store_status status)
 {
@@ -613,14 +620,10 @@ static void test_telling(void)
 {
     station at;
     make_node(&at, 0, 3, false);
-    for (int i = 0; i < 300; i++) {
-        turn(&at, 10, STORE_OK);
-    }
+    turns(&at, 300, 10);
     int packets = at.packets;
     HOLDS(host_wait(at.host, at.now) > 1000000);
-    for (int i = 0; i < 300; i++) {
-        turn(&at, 10, STORE_OK);
-    }
+    turns(&at, 300, 10);
     HOLDS(at.packets == packets);
     host_changed(at.host);
     turn(&at, 10, STORE_OK);
@@ -648,22 +651,28 @@ static void test_telling(void)
 
 // ## Requests
 
-// Asks, and settles. Returns how many answers came; `*head` is that of the last one.
-static int ask(station *at, request_head request, int length, answer_head *head)
+// Says a request, which makes objects or reads register 1; its first `length` bytes, or -1 for all.
+static void say_request(station *at, request_head request, int length)
 {
     uint8_t bytes[REQUEST_BYTES + EVENT_BYTES] = {0};
     writer to = writer_of(bytes, sizeof bytes);
     write_request_head(&to, &request);
-    for (int i = 0; i < request.count && request.kind == REQUEST_PERFORM; i++) {
-        markring_event event = {.kind = MARKRING_EVENT_ALLOC, .reg = 1, .place = 1};
-        write_event(&to, &event);
-    }
-    if (request.kind == REQUEST_READ) {
-        write_number(&to, 1, 2);
+    for (int i = 0; i < request.count; i++) {
+        if (request.kind == REQUEST_PERFORM) {
+            write_event(&to, &(markring_event){.kind = MARKRING_EVENT_ALLOC, .reg = 1, .place = 1});
+        } else if (request.kind == REQUEST_READ) {
+            write_number(&to, 1, 2);
+        }
     }
     HOLDS(to.ok);
-    at->answers = 0;
     host_request(at->host, at->now, bytes, length >= 0 ? (size_t)length : to.length, "r");
+}
+
+// Asks, and settles. Returns how many answers came; `*head` is that of the last one.
+static int ask(station *at, request_head request, int length, answer_head *head)
+{
+    at->answers = 0;
+    say_request(at, request, length);
     settle(at, STORE_OK);
     reader from = reader_of(at->text, at->told);
     if (at->answers > 0) {
@@ -672,6 +681,12 @@ static int ask(station *at, request_head request, int length, answer_head *head)
         HOLDS(head->session == request.session && head->number == request.number);
     }
     return at->answers;
+}
+
+// The verdict of the only answer; -1 if none comes, or several.
+static int judge(station *at, request_head request, answer_head *head)
+{
+    return ask(at, request, -1, head) == 1 ? head->verdict : -1;
 }
 
 static uint32_t live(station *at)
@@ -686,9 +701,8 @@ static void test_requests(void)
     answer_head head;
     make(&at, false);
     request_head request = {REQUEST_PERFORM, 3, 100, 1, 2};
-    HOLDS(ask(&at, request, -1, &head) == 1 && head.verdict == VERDICT_SUPERSEDED);
-    HOLDS(ask(&at, (request_head){REQUEST_OPEN, 3, 0, 1, 0}, -1, &head) == 1);
-    HOLDS(head.verdict == VERDICT_MALFORMED);
+    HOLDS(judge(&at, request, &head) == VERDICT_SUPERSEDED);
+    HOLDS(judge(&at, (request_head){REQUEST_OPEN, 3, 0, 1, 0}, &head) == VERDICT_MALFORMED);
     HOLDS(ask(&at, (request_head){REQUEST_OPEN, 3, 100, 2, 0}, -1, &head) == 1);
     HOLDS(head.verdict == VERDICT_STALE && head.round == 0);
     HOLDS(ask(&at, (request_head){REQUEST_OPEN, 3, 100, 1, 0}, -1, &head) == 1);
@@ -709,26 +723,22 @@ static void test_requests(void)
         HOLDS(head.last == number && head.count == (number == 0 ? 0 : 2));
         HOLDS(ask(&at, request, -1, &head) == 1 && head.count == (number == 0 ? 0 : 2));
         request.number = number + 2;
-        HOLDS(ask(&at, request, -1, &head) == 1 && head.verdict == VERDICT_AHEAD);
+        HOLDS(judge(&at, request, &head) == VERDICT_AHEAD);
         HOLDS(live(&at) == 2 * number);
     }
     request.number = 3;
-    HOLDS(ask(&at, request, -1, &head) == 1 && head.verdict == VERDICT_STALE && live(&at) == 8);
+    HOLDS(judge(&at, request, &head) == VERDICT_STALE && live(&at) == 8);
     request_head reading = {REQUEST_READ, 3, 100, 1, 1};
-    HOLDS(ask(&at, reading, -1, &head) == 1 && head.verdict == VERDICT_DONE && head.count == 1);
+    HOLDS(judge(&at, reading, &head) == VERDICT_DONE && head.count == 1);
     HOLDS(ask(&at, reading, REQUEST_HEAD + 1, &head) == 1 && head.verdict == VERDICT_MALFORMED);
     HOLDS(ask(&at, reading, REQUEST_HEAD, &head) == 1 && head.verdict == VERDICT_MALFORMED);
-    HOLDS(ask(&at, (request_head){5, 3, 100, 1, 0}, -1, &head) == 1);
-    HOLDS(head.verdict == VERDICT_MALFORMED);
+    HOLDS(judge(&at, (request_head){5, 3, 100, 1, 0}, &head) == VERDICT_MALFORMED);
     // One beyond each limit, and at it.
     HOLDS(ask(&at, (request_head){REQUEST_PERFORM, 3, 100, 5, 256}, -1, &head) == 1);
     HOLDS(head.verdict == VERDICT_DONE && head.count == 256 && live(&at) == 64);
-    HOLDS(ask(&at, (request_head){REQUEST_OPEN, 63, 100, 1, 0}, -1, &head) == 1);
-    HOLDS(head.verdict == VERDICT_DONE);
-    HOLDS(ask(&at, (request_head){REQUEST_READ, 64, 100, 1, 1}, -1, &head) == 1);
-    HOLDS(head.verdict == VERDICT_MALFORMED);
-    HOLDS(ask(&at, (request_head){REQUEST_OPEN, 64, 100, 1, 0}, -1, &head) == 1);
-    HOLDS(head.verdict == VERDICT_MALFORMED);
+    HOLDS(judge(&at, (request_head){REQUEST_OPEN, 63, 100, 1, 0}, &head) == VERDICT_DONE);
+    HOLDS(judge(&at, (request_head){REQUEST_READ, 64, 100, 1, 1}, &head) == VERDICT_MALFORMED);
+    HOLDS(judge(&at, (request_head){REQUEST_OPEN, 64, 100, 1, 0}, &head) == VERDICT_MALFORMED);
     HOLDS(ask(&at, (request_head){REQUEST_PERFORM, 3, 100, 6, 257}, -1, &head) == 1);
     HOLDS(head.verdict == VERDICT_MALFORMED && head.count == 0);
     HOLDS(head.last == 5);
@@ -744,16 +754,9 @@ static void test_order(void)
     station at;
     make(&at, false);
     for (size_t i = 0; i < sizeof requests / sizeof *requests; i++) {
-        uint8_t bytes[REQUEST_BYTES] = {0};
-        writer to = writer_of(bytes, sizeof bytes);
-        request_head request = requests[i];
-        write_request_head(&to, &request);
-        for (int k = 0; k < request.count; k++) {
-            write_event(&to, &(markring_event){.kind = MARKRING_EVENT_ALLOC, .reg = 1, .place = 1});
-        }
         at.answers = 0;
         host_changed(at.host);
-        host_request(at.host, at.now, bytes, to.length, "r");
+        say_request(&at, requests[i], -1);
         host_turn(at.host, at.now += 10);
         int saves = at.saves;
         HOLDS(at.job != NULL && at.answers == 0);
@@ -772,15 +775,6 @@ static void test_order(void)
     end(&at);
 }
 
-// Says a request that has nothing behind its head.
-static void say_head(station *at, request_head request)
-{
-    uint8_t bytes[REQUEST_HEAD];
-    writer to = writer_of(bytes, sizeof bytes);
-    write_request_head(&to, &request);
-    host_request(at->host, at->now, bytes, to.length, "r");
-}
-
 // The last request was performed, and is stored. A process that has just opened the program asks
 // for it again, and for what is freed. It is answered once its opening is stored: else a crash
 // would take back that it speaks for the program, and that there was another round.
@@ -793,9 +787,9 @@ static void test_taken_over_program(void)
         HOLDS(ask(&at, (request_head){REQUEST_OPEN, 3, 100, 1, 0}, -1, &head) == 1);
         HOLDS(ask(&at, (request_head){REQUEST_PERFORM, 3, 100, 1, 0}, -1, &head) == 1);
         at.answers = 0;
-        say_head(&at, (request_head){REQUEST_OPEN, 3, 200, 2, 0});
-        say_head(&at, (request_head){REQUEST_PERFORM, 3, 200, 1, 0});
-        say_head(&at, (request_head){REQUEST_TRACK_FREED, 3, 200, 5, 1});
+        say_request(&at, (request_head){REQUEST_OPEN, 3, 200, 2, 0}, -1);
+        say_request(&at, (request_head){REQUEST_PERFORM, 3, 200, 1, 0}, -1);
+        say_request(&at, (request_head){REQUEST_TRACK_FREED, 3, 200, 5, 1}, -1);
         host_turn(at.host, at.now += 10);
         HOLDS(at.answers == 0 && at.job != NULL);
         if (way == 0) {
@@ -819,15 +813,12 @@ static void test_greatest_numbers(void)
     station at;
     answer_head head;
     make(&at, false);
-    HOLDS(ask(&at, (request_head){REQUEST_OPEN, 3, 100, 1, 0}, -1, &head) == 1);
-    HOLDS(head.verdict == VERDICT_DONE);
+    HOLDS(judge(&at, (request_head){REQUEST_OPEN, 3, 100, 1, 0}, &head) == VERDICT_DONE);
     at.host->programs[3].now.number = UINT64_MAX;
-    HOLDS(ask(&at, (request_head){REQUEST_PERFORM, 3, 100, 1, 0}, -1, &head) == 1);
-    HOLDS(head.verdict == VERDICT_STALE);
+    HOLDS(judge(&at, (request_head){REQUEST_PERFORM, 3, 100, 1, 0}, &head) == VERDICT_STALE);
     HOLDS(ask(&at, (request_head){REQUEST_PERFORM, 3, 100, UINT64_MAX, 0}, -1, &head) == 1);
     HOLDS(head.verdict == VERDICT_DONE && head.last == UINT64_MAX);
-    HOLDS(ask(&at, (request_head){REQUEST_PERFORM, 3, 100, 0, 0}, -1, &head) == 1);
-    HOLDS(head.verdict == VERDICT_MALFORMED);
+    HOLDS(judge(&at, (request_head){REQUEST_PERFORM, 3, 100, 0, 0}, &head) == VERDICT_MALFORMED);
     at.host->programs[3].now.round = UINT64_MAX;
     for (uint64_t number = 0; number < 2; number++) {
         HOLDS(ask(&at, (request_head){REQUEST_OPEN, 3, 200, number, 0}, -1, &head) == 1);
@@ -847,7 +838,7 @@ static void test_restarts(void)
         HOLDS(ask(&at, (request_head){REQUEST_OPEN, 3, 100, 1, 0}, -1, &head) == 1);
         for (uint64_t number = 1; number <= 3; number++) {
             request_head request = {REQUEST_PERFORM, 3, 100, number, 2};
-            HOLDS(ask(&at, request, -1, &head) == 1 && head.verdict == VERDICT_DONE);
+            HOLDS(judge(&at, request, &head) == VERDICT_DONE);
             if (number % 2 == 1) {
                 open_again(&at);
             }
@@ -877,11 +868,7 @@ static void test_held(void)
     host_turn(at.host, at.now += 10);
     HOLDS(at.job != NULL);
     for (uint64_t number = 1; number <= HELD_ANSWERS + 100; number++) {
-        uint8_t bytes[REQUEST_HEAD];
-        writer to = writer_of(bytes, sizeof bytes);
-        request_head request = {REQUEST_READ, 3, 100, number, 0};
-        write_request_head(&to, &request);
-        host_request(at.host, at.now, bytes, to.length, "r");
+        say_request(&at, (request_head){REQUEST_READ, 3, 100, number, 0}, -1);
     }
     HOLDS(at.answers == 0 && host_counted(at.host)->dropped == 100);
     finish_save(&at, STORE_OK);
@@ -997,7 +984,7 @@ static void test_apart(void)
         HOLDS(open_apart(&at, 3, 103, 2, 0) == VERDICT_MALFORMED);
         HOLDS(open_apart(&at, 3, 103, 2, 2) == VERDICT_DONE);
         request_head cut = {REQUEST_OPEN_APART, 5, 105, 1, 0};
-        HOLDS(ask(&at, cut, -1, &head) == 1 && head.verdict == VERDICT_MALFORMED);
+        HOLDS(judge(&at, cut, &head) == VERDICT_MALFORMED);
         HOLDS(ask(&at, cut, REQUEST_HEAD + 5, &head) == 1 && head.verdict == VERDICT_MALFORMED);
         // Those that overlap, and those that don't.
         for (uint8_t first = 1; first < 7; first++) {
@@ -1006,8 +993,7 @@ static void test_apart(void)
             HOLDS(said == (is_free ? VERDICT_DONE : VERDICT_REGISTERS));
         }
         HOLDS(open_apart(&at, 20, 7, 0, 2) == VERDICT_DONE);
-        HOLDS(ask(&at, (request_head){REQUEST_OPEN, 4, 104, 1, 0}, -1, &head) == 1);
-        HOLDS(head.verdict == VERDICT_DONE);
+        HOLDS(judge(&at, (request_head){REQUEST_OPEN, 4, 104, 1, 0}, &head) == VERDICT_DONE);
         HOLDS(open_apart(&at, 4, 204, 6, 1) == VERDICT_REGISTERS && read_one(&at, 4, 6) != 0);
         end(&at);
     }
@@ -1026,8 +1012,7 @@ static void test_forgetting(void)
         // Its next process may say so again, or nothing.
         HOLDS(open_apart(&at, 3, 203, 2, 1) == VERDICT_REGISTERS);
         HOLDS(open_apart(&at, 3, 203, 2, 2) == VERDICT_DONE);
-        HOLDS(ask(&at, (request_head){REQUEST_OPEN, 3, 103, 3, 0}, -1, &head) == 1);
-        HOLDS(head.verdict == VERDICT_DONE);
+        HOLDS(judge(&at, (request_head){REQUEST_OPEN, 3, 103, 3, 0}, &head) == VERDICT_DONE);
         open_again(&at);
         expect_apart(&at);
         HOLDS(perform_one(&at, 3, 103, alloc) == MARKRING_OK);
@@ -1043,7 +1028,7 @@ static void test_forgetting(void)
         at.answers = 0;
         // (whoever waits for its last answer isn't answered for nobody)
         uint64_t last = at.host->programs[3].now.number;
-        say_head(&at, (request_head){REQUEST_PERFORM, 3, 103, last, 0});
+        say_request(&at, (request_head){REQUEST_PERFORM, 3, 103, last, 0}, -1);
         host_control(at.host, at.now, "forget 3", 8, "r");
         HOLDS(at.answers == 0);
         settle(&at, STORE_OK);
@@ -2034,9 +2019,7 @@ static void test_large_tight(void)
     at.host->options.image_tight = true_size(&at) + 1000;
     host_wrote(at.host, 2000);
     HOLDS(is_tight(at.host) == (looks == 0));
-    for (int i = 0; i < 150; i++) {
-        turn(&at, 10, STORE_OK);
-    }
+    turns(&at, 150, 10);
     HOLDS(!is_tight(at.host) && looks > 0 && looks <= 2);
     end(&at);
 }
@@ -2216,6 +2199,13 @@ static void give(int from, uint32_t label)
     host_changed(pair[from].host);
 }
 
+static void give_many(int from, uint32_t count)
+{
+    for (uint32_t label = 0; label < count; label++) {
+        give(from, label);
+    }
+}
+
 // The last message to the other node that it has acknowledged.
 static uint64_t acknowledged(int from)
 {
@@ -2250,15 +2240,11 @@ static void test_absence(void)
     pair[0].other = NULL;
     give(0, 1);
     uint64_t before = host_counted(pair[0].host)->resends;
-    for (int i = 0; i < 1000; i++) {
-        turn(&pair[0], 10, STORE_OK);
-    }
+    turns(&pair[0], 1000, 10);
     uint64_t first = host_counted(pair[0].host)->resends - before;
     HOLDS(first >= 8 && first <= 12);
     int packets = pair[0].packets;
-    for (int i = 0; i < 36000; i++) {
-        turn(&pair[0], 100, STORE_OK);
-    }
+    turns(&pair[0], 36000, 100);
     uint64_t all = host_counted(pair[0].host)->resends - before - first;
     uint64_t sent = (uint64_t)(pair[0].packets - packets);
     HOLDS(all >= 2100 && all <= 2251);
@@ -2316,9 +2302,7 @@ static void test_letters(void)
 {
     options.letters_most = 5;
     make_pair();
-    for (uint32_t label = 0; label < LETTERS; label++) {
-        give(0, label);
-    }
+    give_many(0, LETTERS);
     go_on(200, 10);
     uint64_t letters = state_of(&pair[1]).letters;
     HOLDS(letters >= 5 && letters < 5 + 64);
@@ -2342,9 +2326,7 @@ static void test_tight(void)
 {
     options.image_tight = 4000;
     make_pair();
-    for (uint32_t label = 0; label < LETTERS; label++) {
-        give(0, label);
-    }
+    give_many(0, LETTERS);
     go_on(300, 10);
     uint64_t letters = state_of(&pair[1]).letters;
     HOLDS(letters > 20 && letters < 4000 / JOINING && acknowledged(0) == letters);
@@ -2364,9 +2346,7 @@ static void test_tight(void)
     drop_pair();
     options.image_tight = 0;
     make_pair();
-    for (uint32_t label = 0; label < LETTERS; label++) {
-        give(1, label);
-    }
+    give_many(1, LETTERS);
     go_on(300, 10);
     HOLDS(state_of(&pair[0]).letters == LETTERS);
     pair[0].host->options.image_tight = 8000;
@@ -2387,9 +2367,7 @@ static void test_tight(void)
 static void test_acknowledged_size(void)
 {
     make_pair();
-    for (uint32_t label = 0; label < LETTERS; label++) {
-        give(0, label);
-    }
+    give_many(0, LETTERS);
     // (nobody looks at a large image)
     size_t reckoned = pair[0].host->size;
     pair[0].host->measured = (1 << 20) + 1;
@@ -2405,9 +2383,7 @@ static void test_room(void)
 {
     options.image_tight = 4000;
     make_pair();
-    for (uint32_t label = 0; label < LETTERS; label++) {
-        give(0, label);
-    }
+    give_many(0, LETTERS);
     for (uint64_t accepted = 0; accepted < LETTERS;) {
         go_on(200, 10);
         uint64_t letters = state_of(&pair[1]).letters;
