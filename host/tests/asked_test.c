@@ -190,7 +190,7 @@ static void check_all(void)
 // ## Tests
 
 // The loop asks for what is small; the first save after an opening also deletes what is older.
-static void test_who_saves(void)
+TEST(test_who_saves)
 {
     request("_INBOX.first");
     HOLDS(hears("_INBOX.first") && asked_by_saver > 0);
@@ -206,7 +206,7 @@ static void test_who_saves(void)
 }
 
 // Nobody is answered before the server has, and the loop does all else meanwhile.
-static void test_waits(void)
+TEST(test_waits)
 {
     begin_held("_INBOX.a");
     uint64_t began = now_ms();
@@ -243,7 +243,7 @@ static void *disturb(void *context)
 }
 
 // An answer, or a message, wakes the loop at once. Once is enough: a machine may be busy.
-static void test_wakes(void)
+TEST(test_wakes)
 {
     for (int i = 0; i < 2; i++) {
         bool was_soon = false;
@@ -273,7 +273,7 @@ static uint64_t used_ms(void)
 }
 
 // Once it was woken, the loop sleeps again.
-static void test_sleeps(void)
+TEST(test_sleeps)
 {
     pthread_t other;
     is_answer = false;
@@ -292,7 +292,7 @@ static void test_sleeps(void)
 }
 
 // The answer is looked for also if more messages come all the time.
-static void test_floods(void)
+TEST(test_floods)
 {
     request("_INBOX.a");
     for (int i = 0; i < 2000 && strcmp(heard, "_INBOX.a") != 0; i++) {
@@ -304,7 +304,7 @@ static void test_floods(void)
 }
 
 // After a while the saver waits, and the node is as sure as it was when the loop asked.
-static void test_leaves(void)
+TEST(test_leaves)
 {
     unsigned long asked_before = asked, awaited_before = awaited;
     uint64_t began = now_ms();
@@ -325,7 +325,7 @@ static void test_leaves(void)
 }
 
 // What can't be sent at once is the saver's at once.
-static void test_cut(void)
+TEST(test_cut)
 {
     is_cut = true;
     request("_INBOX.a");
@@ -338,7 +338,7 @@ static void test_cut(void)
 }
 
 // Who uses the connection isn't in the way of the other one.
-static void test_renewals(void)
+TEST(test_renewals)
 {
     // The saver doesn't renew while the loop waits: its time comes meanwhile.
     request("_INBOX.a");
@@ -383,7 +383,7 @@ static uint64_t save_for(uint64_t time)
 }
 
 // Saves take the place of renewals. (A busy machine may stop them for too long.)
-static void test_busy(void)
+TEST(test_busy)
 {
     for (int attempt = 0; attempt < 5; attempt++) {
         unsigned long before = renewed;
@@ -395,7 +395,7 @@ static void test_busy(void)
     check_all();
 }
 
-static void test_faults(void)
+TEST(test_faults)
 {
     static const rows_fault faults[] = {ROWS_BEFORE, ROWS_AFTER, ROWS_LATER, ROWS_REFUSES};
     for (size_t i = 0; i < sizeof faults / sizeof *faults; i++) {
@@ -448,7 +448,7 @@ static void leave_at(rewrite_stage stage)
 }
 
 // A save that was refused is the saver's at once, so it is tried again soon.
-static void test_refusals(void)
+TEST(test_refusals)
 {
     bool was_soon = false;
     for (int attempt = 0; attempt < 5 && !was_soon; attempt++) {
@@ -465,7 +465,7 @@ static void test_refusals(void)
 }
 
 // A save that was asked for begins and ends no rewrite. The next one does, which the saver makes.
-static void test_rewrites(void)
+TEST(test_rewrites)
 {
     write_rewrite();
     uint64_t number = at.again.base.number;
@@ -482,7 +482,7 @@ static void test_rewrites(void)
 }
 
 // A process that was taken over ends, and saves nothing any more.
-static void test_takeover(void)
+TEST(test_takeover)
 {
     GO_ON_UNTIL(at.to_save == NULL && !at.renews);
     uint64_t number = at.number;
@@ -530,10 +530,7 @@ int main(void)
     model.published = on_published;
     HOLDS(start_threads(&at, &saves, &rewrites, &signals));
     start();
-    static void (*const tests[])(void) = {test_who_saves, test_waits, test_wakes, test_sleeps,
-        test_floods, test_leaves, test_cut, test_renewals, test_busy, test_faults, test_refusals,
-        test_rewrites, test_takeover};
-    for (size_t i = 0; i < sizeof tests / sizeof *tests && failed < 2; i++) {
+    for (int i = 0; i < test_count && failed < 2; i++) {
         tests[i]();
     }
     release();

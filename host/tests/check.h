@@ -21,6 +21,25 @@ static inline void check(bool holds, const char *text, const char *file, int lin
 
 #define HOLDS(condition) check((condition), #condition, __FILE__, __LINE__)
 
+// A test of a program, whose `main` runs all of them, from its first line to its last one.
+#define TEST(name) \
+    static void name(void); \
+    __attribute__((constructor(1000 + __LINE__))) static void add_##name(void) \
+    { \
+        tests[test_count++] = name; \
+    } \
+    static void name(void)
+
+static void (*tests[100])(void);
+static int test_count;
+
+static inline void run_tests(void)
+{
+    for (int i = 0; i < test_count; i++) {
+        tests[i]();
+    }
+}
+
 // Prints the line that counts, and returns the program's status.
 static inline int report_checks(void)
 {

@@ -2,263 +2,14 @@
 // a folder isn't as it should be.
 //
 //     host_test
-#include "../inside.h"
-#include "check.h"
+#include "station.h"
 
-#include <stdlib.h>
-
-enum { TURNS = 200, ROOM = LONGEST_ANSWER + 1, LETTERS = 300, ENTRY_HEAD = 16, STARTS = LINE + 60 };
-
-// ## The library
-
-static size_t wrong_size;
-static int looks; // at the size
-
-int __real_markring_node_image_size(markring_node *node, size_t *size);
-int __wrap_markring_node_image_size(markring_node *node, size_t *size);
-
-int __wrap_markring_node_image_size(markring_node *node, size_t *size)
-{
-    int status = __real_markring_node_image_size(node, size);
-    *size += wrong_size;
-    looks++;
-    return status;
-}
-
-// ## Memory
-
-// The largest block that was asked for.
-static size_t largest;
-// The next block with exactly this size is refused; 0 for none.
-static size_t refuse_size;
-
-void *__real_malloc(size_t size);
-void *__wrap_malloc(size_t size);
-
-void *__wrap_malloc(size_t size)
-{
-    largest = size > largest ? size : largest;
-    if (size == refuse_size && size > 0) {
-        refuse_size = 0;
-        return NULL;
-    }
-    return __real_malloc(size);
-}
-
-// ## A node
-
-typedef struct station {
-    host *host;
-    uint64_t nonce; // of the next process
-    uint64_t now, number;
-    store_value *job;
-    int saves;  // that the host began
-    int wholes; // whole values that were saved
-    // The value that was saved last, with the room around it, and entries behind it; up to `end`.
-    uint8_t *stored;
-    size_t length, end;
-    bool has_entries; // saves may be entries
-    int packets, answers;
-    packet_head last; // of the last packet that was sent
-    size_t told;      // bytes of the last answer, and these
-    uint8_t text[ROOM];
-    struct station *other; // the node 1 of node 0, or the other way round, if it takes packets
-} station;
-
-static host_options options;
-// The shape of the next node, or of the next pair, if it isn't a plain one.
-static host_shape next;
-static uint64_t folder_limit, folder_byte_limit;
-static const uint8_t SPACE[SPACE_ID] = {1, 2, 3, 4, 5, 6, 7, 8};
-enum { NONCE = 77 };
-
-static void on_send(void *context, uint8_t to, const uint8_t *bytes, size_t length)
-{
-    station *at = context;
-    reader from = reader_of(bytes, length);
-    HOLDS(read_packet_head(&from, &at->last) && at->last.to == to);
-    at->packets++;
-    if (at->other != NULL && to < 2) {
-        host_packet(at->other->host, at->now, at->last.from, bytes, length);
-    }
-}
-
-static void on_answer(void *context, const char *reply, const uint8_t *bytes, size_t length)
-{
-    station *at = context;
-    HOLDS(reply[0] == 'r' && length < ROOM);
-    at->told = length < ROOM ? length : 0;
-    memcpy(at->text, bytes, at->told);
-    at->answers++;
-}
-
-static void on_save(void *context, store_value *value)
-{
-    station *at = context;
-    HOLDS(at->job == NULL);
-    at->job = value;
-    at->saves++;
-}
-
-// Whether hosts may ask for rewrites, and how often they did.
-static bool rewrites;
-static int asked;
-
-static void on_rewrite(void *context)
-{
-    station *at = context;
-    HOLDS(at->job == NULL);
-    asked++;
-}
-
-// Opens what is stored.
-static void open_host(station *at)
-{
-    store_value value = {
-        at->stored, at->length, at->end, false, at->end, at->has_entries ? 0 : 1000000};
-    host_calls calls = {at, on_send, on_answer, on_save, rewrites ? on_rewrite : NULL};
-    int status = host_open(&at->host, &value, at->number, at->nonce, &options, &calls, at->now);
-    HOLDS(status == MARKRING_OK);
-}
-
-// A space that has places for its objects is a wide one.
-static void make_node(station *at, uint8_t own, uint8_t nodes, bool has_entries)
-{
-    store_value value = {NULL, 0, 0, false, 0, 0};
-    host_shape shape = next;
-    memcpy(shape.name, "test", 5);
-    shape.own = own;
-    shape.nodes = nodes;
-    shape.registers = next.registers > 0 ? next.registers : 8;
-    shape.slots = next.slots > 0 ? next.slots : 64;
-    shape.limit = folder_limit;
-    shape.byte_limit = folder_byte_limit;
-    shape.wide = next.places > 0;
-    memcpy(shape.space, SPACE, SPACE_ID);
-    memset(at, 0, sizeof *at);
-    at->nonce = NONCE;
-    at->now = 1000;
-    at->number = 10;
-    HOLDS(host_create(&shape, &value) == MARKRING_OK);
-    at->stored = value.buffer;
-    at->length = value.length;
-    at->end = STORE_HEAD + value.length + STORE_TAIL;
-    at->has_entries = has_entries;
-    open_host(at);
-}
-
-static void drop(station *at)
-{
-    host_free(at->host);
-    at->host = NULL;
-}
-
-static void end(station *at)
-{
-    drop(at);
-    free(at->stored);
-}
-
-// Stores what is being saved.
-static void finish_save(station *at, store_status status)
-{
-    store_value *job = at->job;
-    at->job = NULL;
-    at->number++;
-    if (status == STORE_OK && job->is_entry) {
-        HOLDS(at->has_entries);
-        size_t length = ENTRY_HEAD + job->length + STORE_TAIL;
-        at->stored = realloc(at->stored, at->end + length);
-        writer to = writer_of(at->stored + at->end, length);
-        write_number(&to, job->length, 8);
-        write_number(&to, at->number, 8);
-        write_bytes(&to, job->buffer + STORE_HEAD, job->length);
-        write_number(&to, 0, STORE_TAIL);
-        HOLDS(to.ok);
-        at->end += length;
-    } else if (status == STORE_OK) {
-        at->wholes++;
-        free(at->stored);
-        at->length = job->length;
-        at->end = STORE_HEAD + job->length + STORE_TAIL;
-        at->stored = calloc(1, at->end);
-        memcpy(at->stored, job->buffer, STORE_HEAD + job->length);
-    }
-    host_saved(at->host, at->now, status, at->number);
-}
-
-static void turn(station *at, uint64_t time, store_status status)
-{
-    at->now += time;
-    host_turn(at->host, at->now);
-    if (at->job != NULL) {
-        finish_save(at, status);
-    }
-}
-
-static void turns(station *at, int count, uint64_t time)
-{
-    for (int i = 0; i < count; i++) {
-        turn(at, time, STORE_OK);
-    }
-}
-
-// Turns, until there is nothing to save; all saves end like this.
-static void settle(station *at, store_status status)
-{
-    for (int i = 0; i < TURNS && host_ended(at->host) == HOST_RUNS; i++) {
-        turn(at, 10, status);
-    }
-}
-
-// A node of three, which has made its first save.
-static void make(station *at, bool has_entries)
-{
-    make_node(at, 0, 3, has_entries);
-    next = (host_shape){0};
-    settle(at, STORE_OK);
-}
-
-static void open_again(station *at)
-{
-    drop(at);
-    open_host(at);
-    settle(at, STORE_OK);
-}
-
-// A packet of a node to node 0.
-static void deliver_head(station *at, packet_head head)
-{
-    uint8_t bytes[PACKET_HEAD];
-    writer to = writer_of(bytes, sizeof bytes);
-    memcpy(head.space, SPACE, SPACE_ID);
-    write_packet_head(&to, &head);
-    HOLDS(to.ok);
-    host_packet(at->host, at->now, head.from, bytes, to.length);
-}
-
-// A packet of a process of node 1, of an earlier version, which knows this of node 0's process.
-static void deliver(station *at, process sender, uint64_t known_nonce, uint64_t known_saves)
-{
-    deliver_head(at, (packet_head){{0}, 1, 0, sender, known_nonce, known_saves, 0, 0, 0});
-}
-
-static markring_state state_of(station *at)
-{
-    markring_state state = {0};
-    HOLDS(markring_node_state(host_node(at->host), &state) == MARKRING_OK);
-    return state;
-}
-
-static bool is_process(const process *it, uint64_t nonce, uint64_t run, uint64_t saves)
-{
-    return it->nonce == nonce && it->run == run && it->saves == saves;
-}
+enum { LETTERS = 300, STARTS = LINE + 60 };
 
 // ## Tests
 
 // An image that hasn't the size that the library said: no attempt to save again.
-static void test_sizes(void)
+TEST(test_sizes)
 {
     for (int i = 0; i < 2; i++) {
         station at;
@@ -276,7 +27,7 @@ static void test_sizes(void)
 }
 
 // A host that leaves saves what it heard last of the others, also if saves fail at first.
-static void test_leaving(void)
+TEST(test_leaving)
 {
     for (int way = 0; way < 4; way++) {
         station at;
@@ -322,7 +73,7 @@ static void test_leaving(void)
 }
 
 // A packet that knows as many saves as there can be, of this process or of the sender's.
-static void test_lies(void)
+TEST(test_lies)
 {
     for (int way = 0; way < 3; way++) {
         station at;
@@ -360,7 +111,7 @@ static void test_lies(void)
 }
 
 // Which saves of a process make it the later one, and which end it: exactly.
-static void test_ages(void)
+TEST(test_ages)
 {
     for (uint64_t known = 10; known <= 12; known++) {
         station at;
@@ -395,7 +146,7 @@ static void test_ages(void)
 }
 
 // A snapshot of a machine with its memory: another node knows saves that this process didn't make.
-static void test_snapshots(void)
+TEST(test_snapshots)
 {
     for (uint64_t known = 11; known <= 13; known++) {
         station at;
@@ -460,7 +211,7 @@ static bool accepts(station *at, uint64_t nonce, uint64_t save)
 
 // What another node may know of a folder that is the newest one is taken; everything else ends the
 // process, as long as the folder knows all of its processes.
-static void test_line(void)
+TEST(test_line)
 {
     for (int way = 0; way < 2; way++) {
         station at;
@@ -485,7 +236,7 @@ static void test_line(void)
 
 // A folder with very many processes: no true word is refused, and those of the first processes and
 // of the last ones are told from wrong ones.
-static void test_long_line(void)
+TEST(test_long_line)
 {
     station at;
     ran_count = 0;
@@ -518,7 +269,7 @@ static void test_long_line(void)
 
 // Another process of node 1 shows itself: nothing of it is taken before it says that it has heard
 // what is known of that node, unless it is of an earlier version.
-static void test_meeting(void)
+TEST(test_meeting)
 {
     static const uint64_t fits[] = {NO_WORD, 9 ^ 6, 10 ^ 7, 9 ^ 7, 0};
     for (size_t i = 0; i < sizeof fits / sizeof *fits; i++) {
@@ -565,7 +316,7 @@ static void write_hex(writer *to, const char *text)
 }
 
 // What a host of the first version saved is opened, and saved again as a whole value.
-static void test_old_folder(void)
+TEST(test_old_folder)
 {
     uint8_t bytes[1024] = {0};
     station at;
@@ -604,7 +355,7 @@ static void test_old_folder(void)
 }
 
 // A save that says that another process runs the node ends the host; nothing is answered.
-static void test_taken_over(void)
+TEST(test_taken_over)
 {
     station at;
     make(&at, false);
@@ -616,7 +367,7 @@ static void test_taken_over(void)
 }
 
 // Each node is told of a save within a second; of many saves, once a second; of none, never.
-static void test_telling(void)
+TEST(test_telling)
 {
     station at;
     make_node(&at, 0, 3, false);
@@ -651,51 +402,8 @@ static void test_telling(void)
 
 // ## Requests
 
-// Says a request, which makes objects or reads register 1; its first `length` bytes, or -1 for all.
-static void say_request(station *at, request_head request, int length)
-{
-    uint8_t bytes[REQUEST_BYTES + EVENT_BYTES] = {0};
-    writer to = writer_of(bytes, sizeof bytes);
-    write_request_head(&to, &request);
-    for (int i = 0; i < request.count; i++) {
-        if (request.kind == REQUEST_PERFORM) {
-            write_event(&to, &(markring_event){.kind = MARKRING_EVENT_ALLOC, .reg = 1, .place = 1});
-        } else if (request.kind == REQUEST_READ) {
-            write_number(&to, 1, 2);
-        }
-    }
-    HOLDS(to.ok);
-    host_request(at->host, at->now, bytes, length >= 0 ? (size_t)length : to.length, "r");
-}
-
-// Asks, and settles. Returns how many answers came; `*head` is that of the last one.
-static int ask(station *at, request_head request, int length, answer_head *head)
-{
-    at->answers = 0;
-    say_request(at, request, length);
-    settle(at, STORE_OK);
-    reader from = reader_of(at->text, at->told);
-    if (at->answers > 0) {
-        HOLDS(read_answer_head(&from, head) && from.left == head->count * (size_t)RESULT_BYTES);
-        HOLDS(head->kind == request.kind && head->program == request.program);
-        HOLDS(head->session == request.session && head->number == request.number);
-    }
-    return at->answers;
-}
-
-// The verdict of the only answer; -1 if none comes, or several.
-static int judge(station *at, request_head request, answer_head *head)
-{
-    return ask(at, request, -1, head) == 1 ? head->verdict : -1;
-}
-
-static uint32_t live(station *at)
-{
-    return state_of(at).live;
-}
-
 // The request that is next is done, once, and no other one; nothing of a request that is cut.
-static void test_requests(void)
+TEST(test_requests)
 {
     station at;
     answer_head head;
@@ -746,7 +454,7 @@ static void test_requests(void)
 }
 
 // No answer comes before what it shows is stored, and one save is made at a time.
-static void test_order(void)
+TEST(test_order)
 {
     static const request_head requests[] = {{REQUEST_OPEN, 3, 100, 1, 0},
         {REQUEST_PERFORM, 3, 100, 1, 2}, {REQUEST_READ, 3, 100, 1, 0},
@@ -778,7 +486,7 @@ static void test_order(void)
 // The last request was performed, and is stored. A process that has just opened the program asks
 // for it again, and for what is freed. It is answered once its opening is stored: else a crash
 // would take back that it speaks for the program, and that there was another round.
-static void test_taken_over_program(void)
+TEST(test_taken_over_program)
 {
     for (int way = 0; way < 2; way++) {
         station at;
@@ -808,7 +516,7 @@ static void test_taken_over_program(void)
 }
 
 // The numbers of a program never begin again: after the greatest, nothing is next.
-static void test_greatest_numbers(void)
+TEST(test_greatest_numbers)
 {
     station at;
     answer_head head;
@@ -829,7 +537,7 @@ static void test_greatest_numbers(void)
 }
 
 // The next process knows what was done, from whole values and from entries: programs, and objects.
-static void test_restarts(void)
+TEST(test_restarts)
 {
     for (int way = 0; way < 2; way++) {
         station at;
@@ -860,7 +568,7 @@ static void test_restarts(void)
 }
 
 // More answers than a host keeps wait for a save: the others are lost, and the first ones come.
-static void test_held(void)
+TEST(test_held)
 {
     station at;
     make(&at, false);
@@ -878,55 +586,6 @@ static void test_held(void)
 }
 
 // ## Programs with registers for themselves
-
-// Says this to the host, and waits for an answer. Returns whether one came; `*head` is its.
-static bool say(station *at, const writer *bytes, answer_head *head)
-{
-    HOLDS(bytes->ok);
-    at->answers = 0;
-    host_request(at->host, at->now, bytes->start, bytes->length, "r");
-    for (int i = 0; i < TURNS && at->answers == 0 && host_ended(at->host) == HOST_RUNS; i++) {
-        turn(at, 10, STORE_OK);
-    }
-    reader from = reader_of(at->text, at->told);
-    return at->answers == 1 && read_answer_head(&from, head);
-}
-
-// Opens a program, with its next round. Returns the verdict.
-static int open_apart(station *at, uint8_t number, uint64_t session, uint16_t first, uint16_t count)
-{
-    uint8_t bytes[REQUEST_HEAD + 4];
-    writer to = writer_of(bytes, sizeof bytes);
-    answer_head head = {0};
-    uint64_t round = at->host->programs[number].now.round + 1;
-    write_request_head(&to, &(request_head){REQUEST_OPEN_APART, number, session, round, 0});
-    write_number(&to, first, 2);
-    write_number(&to, count, 2);
-    HOLDS(say(at, &to, &head) && head.kind == REQUEST_OPEN_APART && head.session == session);
-    return head.verdict;
-}
-
-// What becomes of one event of a program, with its bytes.
-static int perform_bytes(
-    station *at, uint8_t number, uint64_t session, const markring_remote_event *event)
-{
-    static uint8_t bytes[LONGEST_REQUEST + EVENT_BYTES];
-    writer to = writer_of(bytes, sizeof bytes);
-    answer_head head = {0};
-    uint64_t next = at->host->programs[number].now.number + 1;
-    write_request_head(&to, &(request_head){REQUEST_PERFORM, number, session, next, 1});
-    write_remote_event(&to, event);
-    HOLDS(say(at, &to, &head));
-    reader from = reader_of(at->text + ANSWER_HEAD, RESULT_BYTES);
-    markring_result found;
-    read_result(&from, &found);
-    return head.verdict == VERDICT_DONE ? found.status : -1 - head.verdict;
-}
-
-static int perform_one(station *at, uint8_t number, uint64_t session, markring_event event)
-{
-    return perform_bytes(at, number, session, &(markring_remote_event){event, NULL, 0});
-}
 
 // What a program reads in a register.
 static int read_one(station *at, uint8_t number, uint16_t reg)
@@ -973,7 +632,7 @@ static void expect_apart(station *at)
     }
 }
 
-static void test_apart(void)
+TEST(test_apart)
 {
     for (int way = 0; way < 2; way++) {
         station at;
@@ -999,7 +658,7 @@ static void test_apart(void)
     }
 }
 
-static void test_forgetting(void)
+TEST(test_forgetting)
 {
     for (int way = 0; way < 2; way++) {
         station at;
@@ -1043,18 +702,6 @@ static void test_forgetting(void)
     }
 }
 
-// A number of the status.
-static unsigned long long number_of(station *at, const char *name)
-{
-    char word[32];
-    int length = snprintf(word, sizeof word, "\"%s\": ", name);
-    host_control(at->host, at->now, "status", 6, "r");
-    at->text[at->told] = 0;
-    const char *found = strstr((const char *)at->text, word);
-    HOLDS(found != NULL);
-    return found != NULL ? strtoull(found + length, NULL, 10) : 0;
-}
-
 static unsigned long long image_of(station *at)
 {
     return number_of(at, "image");
@@ -1070,7 +717,7 @@ static void make_wide(station *at, uint16_t count, uint32_t bytes, bool has_entr
 
 // Two programs have all registers. One has an object with the most places in its last one, and
 // still after a restart.
-static void test_wide(void)
+TEST(test_wide)
 {
     for (int way = 0; way < 2; way++) {
         station at;
@@ -1151,7 +798,7 @@ static void fill_place(station *at, uint32_t number, uint16_t object, uint8_t pl
 
 // Objects with the most places: as they are made, and as they are scanned, when each place asks
 // another node to mark.
-static void test_wide_growth(void)
+TEST(test_wide_growth)
 {
     enum { OBJECTS = 20 };
     station at;
@@ -1206,31 +853,6 @@ static int read_object(station *at, uint8_t number, uint16_t object, uint32_t of
         HOLDS(found->status == MARKRING_OK || found->answer.number == 0);
     }
     return head.verdict;
-}
-
-// The byte at this place of what a test writes.
-static uint8_t byte_of(uint32_t kind, uint32_t at)
-{
-    return (uint8_t)(kind + 7 * at + at / 256);
-}
-
-// They stay until the call after the next one.
-static const uint8_t *bytes_of(uint32_t kind, uint32_t length)
-{
-    static uint8_t rooms[2][BYTES_MOST + 1];
-    static int last;
-    uint8_t *bytes = rooms[last = 1 - last];
-    for (uint32_t i = 0; i < length; i++) {
-        bytes[i] = byte_of(kind, i);
-    }
-    return bytes;
-}
-
-static int set_bytes(station *at, uint16_t object, uint32_t kind, uint32_t length)
-{
-    markring_remote_event event = {
-        {.kind = MARKRING_REMOTE_SET_BYTES, .object = object}, bytes_of(kind, length), length};
-    return perform_bytes(at, 3, 103, &event);
 }
 
 static int patch(station *at, uint16_t object, uint32_t offset, uint32_t kind, uint32_t length)
@@ -1289,7 +911,7 @@ static void expect_ranges(station *at, uint32_t kind, uint32_t length)
 
 // Bytes are set, patched and read; those that are refused change nothing; all is there after
 // restarts, also from entries.
-static void test_bytes(void)
+TEST(test_bytes)
 {
     enum { MOST = 1000 };
     for (int way = 0; way < 2; way++) {
@@ -1323,7 +945,7 @@ static void test_bytes(void)
 }
 
 // Whose bytes a program reads and writes, and in which kind of space.
-static void test_byte_refusals(void)
+TEST(test_byte_refusals)
 {
     station at;
     markring_answer answer;
@@ -1379,7 +1001,7 @@ static int judge_bytes(station *at, uint8_t *bytes, size_t length)
 }
 
 // Nothing of a request is done if any length in it is wrong, and what is done is done once.
-static void test_byte_requests(void)
+TEST(test_byte_requests)
 {
     enum { SECOND = REQUEST_HEAD + 2 * EVENT_BYTES + 9, WHOLE = SECOND + EVENT_BYTES + 7 };
     static const size_t lengths[2] = {REQUEST_HEAD + EVENT_BYTES, SECOND + EVENT_BYTES};
@@ -1417,7 +1039,7 @@ static void test_byte_requests(void)
 }
 
 // The same of readings.
-static void test_cut_readings(void)
+TEST(test_cut_readings)
 {
     uint8_t bytes[REQUEST_HEAD + READ_BYTES + 1] = {0};
     station at;
@@ -1436,7 +1058,7 @@ static void test_cut_readings(void)
 }
 
 // The most bytes that a request and an answer carry, and one more.
-static void test_most_bytes(void)
+TEST(test_most_bytes)
 {
     static uint8_t bytes[LONGEST_REQUEST + 64];
     station at;
@@ -1469,7 +1091,7 @@ static void test_most_bytes(void)
 }
 
 // No answer shows bytes before they are stored; and a process that ends before takes them along.
-static void test_bytes_wait(void)
+TEST(test_bytes_wait)
 {
     station at;
     uint8_t bytes[REQUEST_HEAD + READ_BYTES];
@@ -1506,7 +1128,7 @@ static void test_bytes_wait(void)
 }
 
 // Answers with bytes that wait for a save have a limit of their own.
-static void test_held_bytes(void)
+TEST(test_held_bytes)
 {
     enum { LENGTH = 500000, ANSWER = ANSWER_HEAD + RESULT_BYTES + LENGTH };
     station at;
@@ -1536,7 +1158,7 @@ static void test_held_bytes(void)
 
 // The host reckons with the bytes of objects: the image is never larger, programs can't fill it
 // beyond its limit, and once they are gone it is small again.
-static void test_bytes_growth(void)
+TEST(test_bytes_growth)
 {
     enum { LENGTH = 3000, MOST = 20000 };
     station at;
@@ -1621,7 +1243,7 @@ static void end_rewrites(station *at)
 }
 
 // The value that a rewrite makes takes the place of what is stored, with what is added meanwhile.
-static void test_rewrite(void)
+TEST(test_rewrite)
 {
     station at;
     begin_rewrites(&at);
@@ -1650,7 +1272,7 @@ static void test_rewrite(void)
 
 // A rewrite that comes to no end, or is given up: entries are added up to twice the limit; then the
 // host makes a whole value, and a later rewrite is another one.
-static void test_rewrites_given_up(void)
+TEST(test_rewrites_given_up)
 {
     for (int fails = 0; fails < 2; fails++) {
         station at;
@@ -1678,7 +1300,7 @@ static void test_rewrites_given_up(void)
 }
 
 // What isn't a saved node isn't made one.
-static void test_rewrite_refused(void)
+TEST(test_rewrite_refused)
 {
     station at;
     begin_rewrites(&at);
@@ -1691,7 +1313,7 @@ static void test_rewrite_refused(void)
 
 // A node whose image is larger than that of a plain space may be: it is saved, takes messages and
 // events, and is opened again.
-static void test_wide_size(void)
+TEST(test_wide_size)
 {
     enum { OBJECT = 26 };
     station at;
@@ -1757,7 +1379,7 @@ static void drop_list(station *at)
 
 // A node reclaims the young when a program finds it full, and when as many objects were made as the
 // option says; 0 for never.
-static void test_reclaims(void)
+TEST(test_reclaims)
 {
     enum { SLOTS = 64, LEAST = 20 };
     station at;
@@ -1783,7 +1405,7 @@ static void test_reclaims(void)
 
 // It reclaims all when that leaves it full, and when it has twice as many objects as the last time
 // that it did.
-static void test_old_reclaims(void)
+TEST(test_old_reclaims)
 {
     enum { SLOTS = 64, LEAST = 10 };
     station at;
@@ -1878,7 +1500,7 @@ static void make_leaves(station *at, int count)
 }
 
 // Marking adds nothing to an image that refers to no other node, and the host reckons so.
-static void test_large_marking(void)
+TEST(test_large_marking)
 {
     enum { LEAVES = 10000 };
     station at;
@@ -1903,7 +1525,7 @@ static void test_large_marking(void)
 }
 
 // Garbage that comes and goes doesn't let the reckoned size grow.
-static void test_large_churn(void)
+TEST(test_large_churn)
 {
     enum { ROUNDS = 3000, EACH = 4 };
     station at;
@@ -1935,7 +1557,7 @@ static void test_large_churn(void)
 
 // Of many objects the old ones are left to a cycle, for which nobody waits; but not while a node that
 // it needs is lost.
-static void test_large_reclaims(void)
+TEST(test_large_reclaims)
 {
     for (int way = 0; way < 2; way++) {
         station at;
@@ -1968,7 +1590,7 @@ static void test_large_reclaims(void)
 
 // No program is refused for an estimate; and one that is refused again and again doesn't make the
 // host look again each time.
-static void test_large_limit(void)
+TEST(test_large_limit)
 {
     enum { HEADROOM = 20000, MORE = 300 };
     station at;
@@ -2012,7 +1634,7 @@ static void test_large_limit(void)
 }
 
 // A node whose messages filled its image takes some again, though the estimate was wrong.
-static void test_large_tight(void)
+TEST(test_large_tight)
 {
     station at;
     make_large(&at, 0);
@@ -2025,7 +1647,7 @@ static void test_large_tight(void)
 }
 
 // Before the image may be too large, a rewrite is asked for, and shows how many bytes it has.
-static void test_size_by_rewrite(void)
+TEST(test_size_by_rewrite)
 {
     enum { HEADROOM = LARGE_IMAGE / 2 };
     station at;
@@ -2056,7 +1678,7 @@ static void test_size_by_rewrite(void)
 }
 
 // The status says how many bytes the image has, and that stays so when events change none of them.
-static void test_image(void)
+TEST(test_image)
 {
     station at;
     markring_answer answer;
@@ -2081,7 +1703,7 @@ static void test_image(void)
 }
 
 // A saved value whose program had more results than a request has events isn't one.
-static void test_results(void)
+TEST(test_results)
 {
     for (int way = 0; way < 4; way++) {
         station at;
@@ -2105,42 +1727,8 @@ static void test_results(void)
 
 // ## Two nodes
 
-static station pair[2];
-
-static void open_pair(void)
-{
-    for (uint8_t own = 0; own < 2; own++) {
-        make_node(&pair[own], own, 2, true);
-        pair[own].other = &pair[1 - own];
-    }
-    next = (host_shape){0};
-}
-
-static void drop_pair(void)
-{
-    for (int own = 0; own < 2; own++) {
-        end(&pair[own]);
-    }
-}
-
-// Turns of both, of this many milliseconds, at the same time.
-static void go_on(int turns, uint64_t time)
-{
-    for (int i = 0; i < turns; i++) {
-        turn(&pair[0], time, STORE_OK);
-        turn(&pair[1], time, STORE_OK);
-    }
-}
-
-// Two nodes that have made their first saves.
-static void make_pair(void)
-{
-    open_pair();
-    go_on(20, 10);
-}
-
 // Once an object with bytes is freed, the status shows how large the image is without it.
-static void test_swept_bytes(void)
+TEST(test_swept_bytes)
 {
     enum { LENGTH = 100000 };
     markring_answer answer;
@@ -2163,7 +1751,7 @@ static void test_swept_bytes(void)
 }
 
 // More objects than one turn scans: the next turn is due at once, until all are scanned and swept.
-static void test_work_that_is_left(void)
+TEST(test_work_that_is_left)
 {
     enum { OBJECTS = 600 };
     markring_answer answer;
@@ -2190,33 +1778,8 @@ static void test_work_that_is_left(void)
     drop_pair();
 }
 
-static void give(int from, uint32_t label)
-{
-    markring_answer answer;
-    markring_node *node = host_node(pair[from].host);
-    int status = markring_node_give(node, (uint8_t)(1 - from), label, 0, &answer);
-    HOLDS(status == MARKRING_OK);
-    host_changed(pair[from].host);
-}
-
-static void give_many(int from, uint32_t count)
-{
-    for (uint32_t label = 0; label < count; label++) {
-        give(from, label);
-    }
-}
-
-// The last message to the other node that it has acknowledged.
-static uint64_t acknowledged(int from)
-{
-    markring_link link = {0};
-    markring_node *node = host_node(pair[from].host);
-    HOLDS(markring_node_link(node, (uint8_t)(1 - from), &link) == MARKRING_OK);
-    return link.acknowledged;
-}
-
 // No packet is lost, so nothing is sent again or comes twice.
-static void test_pace(void)
+TEST(test_pace)
 {
     make_pair();
     for (uint32_t label = 0; label < LETTERS; label++) {
@@ -2234,7 +1797,7 @@ static void test_pace(void)
 }
 
 // A node that is away: pauses grow up to 1.6 s, and no further.
-static void test_absence(void)
+TEST(test_absence)
 {
     make_pair();
     pair[0].other = NULL;
@@ -2259,7 +1822,7 @@ static void test_absence(void)
 }
 
 // Acknowledgements are lost, or frames: what is sent again is acknowledged again.
-static void test_losses(void)
+TEST(test_losses)
 {
     make_pair();
     for (uint32_t label = 1; label <= 6; label++) {
@@ -2277,7 +1840,7 @@ static void test_losses(void)
 }
 
 // A cycle goes round, and frees what nobody holds.
-static void test_cycle(void)
+TEST(test_cycle)
 {
     markring_answer answer;
     make_pair();
@@ -2298,7 +1861,7 @@ static void test_cycle(void)
 }
 
 // While a node has too many letters, it takes no more.
-static void test_letters(void)
+TEST(test_letters)
 {
     options.letters_most = 5;
     make_pair();
@@ -2322,7 +1885,7 @@ static void accept(int own, uint64_t count)
 
 // While a node's image is too large for messages, it takes none; but what it holds is enough for
 // the next cycle.
-static void test_tight(void)
+TEST(test_tight)
 {
     options.image_tight = 4000;
     make_pair();
@@ -2364,7 +1927,7 @@ static void test_tight(void)
 }
 
 // Messages that were acknowledged aren't reckoned for ever.
-static void test_acknowledged_size(void)
+TEST(test_acknowledged_size)
 {
     make_pair();
     give_many(0, LETTERS);
@@ -2379,7 +1942,7 @@ static void test_acknowledged_size(void)
 }
 
 // Letters that nobody accepts are as many as fit, and then come one after another as there is room.
-static void test_room(void)
+TEST(test_room)
 {
     options.image_tight = 4000;
     make_pair();
@@ -2417,7 +1980,7 @@ static int ask_gets(uint64_t number)
 }
 
 // A program asks another node for what places hold, again and again, and nobody accepts answers.
-static void test_gets(void)
+TEST(test_gets)
 {
     markring_answer answer;
     answer_head head;
@@ -2448,7 +2011,7 @@ static void test_gets(void)
 }
 
 // A process waits for a letter, and then another one opens its program: the first one is answered.
-static void test_waiting(void)
+TEST(test_waiting)
 {
     for (uint8_t program = 0; program < 2; program++) {
         answer_head head;
@@ -2468,60 +2031,6 @@ static void test_waiting(void)
 
 int main(void)
 {
-    test_sizes();
-    test_leaving();
-    test_lies();
-    test_ages();
-    test_snapshots();
-    test_line();
-    test_long_line();
-    test_meeting();
-    test_old_folder();
-    test_taken_over();
-    test_telling();
-    test_requests();
-    test_order();
-    test_taken_over_program();
-    test_greatest_numbers();
-    test_restarts();
-    test_held();
-    test_apart();
-    test_forgetting();
-    test_image();
-    test_wide();
-    test_wide_growth();
-    test_wide_size();
-    test_reclaims();
-    test_old_reclaims();
-    test_large_marking();
-    test_large_churn();
-    test_large_reclaims();
-    test_large_limit();
-    test_large_tight();
-    test_size_by_rewrite();
-    test_bytes();
-    test_byte_refusals();
-    test_byte_requests();
-    test_cut_readings();
-    test_most_bytes();
-    test_bytes_wait();
-    test_held_bytes();
-    test_bytes_growth();
-    test_rewrite();
-    test_rewrites_given_up();
-    test_rewrite_refused();
-    test_results();
-    test_pace();
-    test_absence();
-    test_losses();
-    test_cycle();
-    test_letters();
-    test_tight();
-    test_acknowledged_size();
-    test_room();
-    test_gets();
-    test_waiting();
-    test_swept_bytes();
-    test_work_that_is_left();
+    run_tests();
     return report_checks();
 }

@@ -135,7 +135,7 @@ static void ask_status(const char *reply)
     model_deliver("markring.test.node.0.control", reply, "status", 6);
 }
 
-static void test_addresses(void)
+TEST(test_addresses)
 {
     static const char *const wrong[] = {"_INBOX.", "_INBOX.a..b", "_INBOX.a.", "_INBOX..a",
         "_INBOX.*", "_INBOX.a.>", "_INBOX.*.a", "_INBOX", "_INBOXa.b", "_INBOX.a b", "_INBOX.a\tb",
@@ -165,7 +165,7 @@ static void test_addresses(void)
     HOLDS(host_counted(at.host)->foreign == 1);
 }
 
-static void test_denials(void)
+TEST(test_denials)
 {
     model.text = "Permissions Violation for Publish to \"_INBOX.a\"";
     model_error(model.last, NATS_NOT_PERMITTED);
@@ -186,7 +186,7 @@ static void test_denials(void)
 }
 
 // What an earlier connection says late changes nothing.
-static void test_late_calls(void)
+TEST(test_late_calls)
 {
     natsConnection *old = model.last;
     model_hold(old);
@@ -216,7 +216,7 @@ static void refuse(natsStatus status, int count)
 }
 
 // A server that refuses a connection for a while, for whatever reason.
-static void test_refusals(void)
+TEST(test_refusals)
 {
     static const natsStatus passing[] = {NATS_ERR, NATS_PROTOCOL_ERROR, NATS_IO_ERROR,
         NATS_CONNECTION_CLOSED, NATS_STALE_CONNECTION, NATS_SYS_ERROR, NATS_CONNECTION_AUTH_FAILED};
@@ -252,7 +252,7 @@ static void test_refusals(void)
 }
 
 // A server that doesn't take the longest answers: the node says so, once.
-static void test_payload(void)
+TEST(test_payload)
 {
     for (int less = 1; less < 3; less++) {
         begin_hearing();
@@ -275,7 +275,7 @@ static void test_payload(void)
 }
 
 // More messages than the loop takes: what finds no room is lost, and nothing else.
-static void test_floods(void)
+TEST(test_floods)
 {
     published = 0;
     for (int i = 1; i < INBOX_MOST + 100; i++) {
@@ -315,7 +315,7 @@ static bool takes_in_turns(int messages)
     return took < (uint64_t)messages * CYCLE / 2;
 }
 
-static void test_turns(void)
+TEST(test_turns)
 {
     bool is_quick = false;
     is_slow = true;
@@ -327,7 +327,7 @@ static void test_turns(void)
 }
 
 // Messages of the greatest size that a server takes: as many bytes as the node keeps, to the last.
-static void test_long_messages(void)
+TEST(test_long_messages)
 {
     static uint8_t bytes[1 << 20];
     int most = INBOX_BYTES / (int)sizeof bytes;
@@ -352,7 +352,7 @@ static void test_long_messages(void)
 
 // The statuses of folders that can't be used, and of failures that pass: a supervisor starts the
 // node again after these alone.
-static void test_openings(void)
+TEST(test_openings)
 {
     static const int passing[] = {EMFILE, ENFILE, EIO, ENOMEM, ENOSPC, EDQUOT, ENOLCK, EINTR};
     static const int staying[] = {EACCES, EPERM, EROFS, EISDIR, ELOOP, ENAMETOOLONG, EINVAL};
@@ -373,7 +373,7 @@ static void test_openings(void)
 }
 
 // Those of databases; tests/database has the others, which need a server.
-static void test_openings_of_databases(void)
+TEST(test_openings_of_databases)
 {
     static const keeper at = {.is_database = true};
     begin_hearing();
@@ -393,7 +393,7 @@ static void test_openings_of_databases(void)
 }
 
 // Each word of `create` at its limit, and one past it.
-static void test_words(void)
+TEST(test_words)
 {
     static const struct {
         int at;
@@ -440,7 +440,7 @@ static int show_as(const char *folder)
 }
 
 // The same for wide spaces.
-static void test_wide_words(void)
+TEST(test_wide_words)
 {
     static const struct {
         char *option;
@@ -477,7 +477,7 @@ static void test_wide_words(void)
 }
 
 // Each option of `create` comes at most once, with its number, in any order.
-static void test_create_options(void)
+TEST(test_create_options)
 {
     static char *const odd[][4] = {{"--places", "9", "--places", "9"},
         {"--limit", "1", "--limit", "1"}, {"--places", "9", "--limit", ""},
@@ -523,7 +523,7 @@ static void look_soon(void)
 
 // The node says once when the connection is lost and when it is there again, and when it is there
 // again without having been seen as lost.
-static void test_connection_lines(void)
+TEST(test_connection_lines)
 {
     for (int i = 0; i < 2; i++) {
         begin_hearing();
@@ -554,7 +554,7 @@ static void test_connection_lines(void)
 }
 
 // However little there is to do, the node turns and shows how it is.
-static void test_looks(void)
+TEST(test_looks)
 {
     HOLDS(at.service.is_ready && longest_wait(&at) <= LONGEST_WAIT);
     at.service.every = 1;
@@ -586,7 +586,7 @@ static bool parses(run_options *to, const char *first, const char *second)
     return parsed;
 }
 
-static void test_options(void)
+TEST(test_options)
 {
     run_options to;
     char *none[] = {"folder", "url"};
@@ -633,7 +633,7 @@ static int files_with(const char *folder, const char *id)
     return found;
 }
 
-static void test_restore(void)
+TEST(test_restore)
 {
     char folder[PATH + 8];
     char *words[] = {folder, "test", "0123456789abcdef", "1", "2", "8", "64", "--limit", "5"};
@@ -690,7 +690,7 @@ static void ask_to_open(uint64_t session, uint64_t number, const char *reply)
 }
 
 // While saves fail, nobody is answered. A failed sync ends the node.
-static void test_saves(void)
+TEST(test_saves)
 {
     real = at.keeper.folder.calls;
     at.keeper.folder.calls.write_at = write_or_fail;
@@ -722,7 +722,7 @@ static void test_saves(void)
 }
 
 // A signal saves all and ends the node, also in the next process.
-static void test_signal(void)
+TEST(test_signal)
 {
     run_options options;
     memset(&options, 0, sizeof options);
@@ -767,11 +767,7 @@ int main(void)
     HOLDS(mkdtemp(place) != NULL);
     HOLDS(start_threads(&at, &saves, &rewrites, &signals));
     start();
-    static void (*const tests[])(void) = {test_addresses, test_denials, test_late_calls,
-        test_refusals, test_payload, test_floods, test_turns, test_long_messages, test_openings,
-        test_openings_of_databases, test_words,
-        test_wide_words, test_create_options, test_connection_lines, test_looks, test_options, test_restore, test_saves, test_signal};
-    for (size_t i = 0; i < sizeof tests / sizeof *tests; i++) {
+    for (int i = 0; i < test_count; i++) {
         tests[i]();
         // The connection, and the subscription.
         HOLDS(model.alive == 2);

@@ -2,9 +2,7 @@
 // host_test.c, whose packets, saves and time are the test's.
 //
 //     noting_test
-#define main host_test_main
-#include "host_test.c"
-#undef main
+#include "station.h"
 
 enum { NOTED = 512, SECOND = 1000, MINUTE = 60000 };
 
@@ -68,7 +66,7 @@ static void begin(void)
 
 // ## Other nodes
 
-static void test_peers(void)
+TEST(test_peers)
 {
     host_note last;
     make_heard_pair();
@@ -100,7 +98,7 @@ static void test_peers(void)
 }
 
 // A node that is heard, but acknowledges nothing, isn't lost. It is late.
-static void test_late(void)
+TEST(test_late)
 {
     host_note last;
     host_view view;
@@ -138,7 +136,7 @@ static void make_objects(int own, int count)
     }
 }
 
-static void test_cycles(void)
+TEST(test_cycles)
 {
     host_note last;
     make_heard_pair();
@@ -172,7 +170,7 @@ static void test_cycles(void)
 }
 
 // A cycle waits for a node that is away: this is said once, after a minute.
-static void test_waiting_cycle(void)
+TEST(test_waiting_cycle)
 {
     host_note last;
     make_heard_pair();
@@ -193,7 +191,7 @@ static void test_waiting_cycle(void)
 }
 
 // A cycle waits for a node that has acknowledged all: it has more to sweep than a turn does.
-static void test_stuck_cycle(void)
+TEST(test_stuck_cycle)
 {
     host_note last;
     next.slots = 20000;
@@ -216,7 +214,7 @@ static void test_stuck_cycle(void)
 
 // ## Limits
 
-static void test_message_limit(void)
+TEST(test_message_limit)
 {
     host_note last;
     markring_answer answer;
@@ -248,7 +246,7 @@ static void test_message_limit(void)
 }
 
 // What the folder says counts, unless the process has a limit of its own.
-static void test_folder_limit(void)
+TEST(test_folder_limit)
 {
     station at;
     host_view view;
@@ -270,7 +268,7 @@ static void test_folder_limit(void)
     folder_limit = 0;
 }
 
-static void test_letter_limit(void)
+TEST(test_letter_limit)
 {
     host_note last;
     markring_answer answer;
@@ -293,7 +291,7 @@ static void test_letter_limit(void)
     drop_pair();
 }
 
-static void test_image_limit(void)
+TEST(test_image_limit)
 {
     host_note last;
     size_t size = 0;
@@ -330,7 +328,7 @@ static void save_slowly(uint64_t time)
     finish_save(&pair[0], STORE_OK);
 }
 
-static void test_slow_saves(void)
+TEST(test_slow_saves)
 {
     host_note last;
     make_heard_pair();
@@ -356,7 +354,7 @@ static void test_slow_saves(void)
 
 // ## Numbers
 
-static void test_times(void)
+TEST(test_times)
 {
     static const uint64_t given[] = {0, 1, 2, 3, 299999, 300000, 300001, 1u << 30};
     static const int at[] = {0, 0, 1, 2, 15, 15, 16, 16};
@@ -373,7 +371,7 @@ static void test_times(void)
 }
 
 // A request counts once, from when it came until its answer leaves.
-static void test_request_times(void)
+TEST(test_request_times)
 {
     station at;
     answer_head head;
@@ -401,7 +399,7 @@ static void test_request_times(void)
 }
 
 // The status has each number, once.
-static void test_status(void)
+TEST(test_status)
 {
     station at;
     host_view view;
@@ -426,7 +424,7 @@ static void test_status(void)
 
 // ## Another id
 
-static void test_rename(void)
+TEST(test_rename)
 {
     static const uint8_t other[SPACE_ID] = {9, 9, 9, 9, 9, 9, 9, 1};
     answer_head head;
@@ -457,19 +455,6 @@ static void test_rename(void)
 
 int main(void)
 {
-    test_peers();
-    test_late();
-    test_cycles();
-    test_waiting_cycle();
-    test_stuck_cycle();
-    test_message_limit();
-    test_folder_limit();
-    test_letter_limit();
-    test_image_limit();
-    test_slow_saves();
-    test_times();
-    test_request_times();
-    test_status();
-    test_rename();
+    run_tests();
     return report_checks();
 }

@@ -81,7 +81,7 @@ static const char *say_as(log_form form, const char *folder, const char *text)
     return said;
 }
 
-static void test_forms(void)
+TEST(test_forms)
 {
     HOLDS(strcmp(say_as(LOG_BARE, "a/b", "some text"), "markring-node: a/b: some text\n") == 0);
     HOLDS(strcmp(say_as(LOG_JOURNAL, "a/b", "some text"), "<4>a/b: some text\n") == 0);
@@ -102,7 +102,7 @@ static void test_forms(void)
 }
 
 // A text from elsewhere, such as a server's, is one line and in UTF-8, whatever it has.
-static void test_odd_texts(void)
+TEST(test_odd_texts)
 {
     HOLDS(ends_with(say_as(LOG_JOURNAL, "f", "a\n<3>b\r\x7f"), "f: a?<3>b??\n"));
     HOLDS(ends_with(say_as(LOG_JSON, "f\"", "\"\\\n\t"), "\"text\": \"\\\"\\\\??\"}\n"));
@@ -118,7 +118,7 @@ static void test_odd_texts(void)
     HOLDS(strlen(say_as(LOG_TIMED, text, text)) < 4096 && ends_with(said, "\"\"\n"));
 }
 
-static void test_form_names(void)
+TEST(test_form_names)
 {
     log_form form;
     struct stat found;
@@ -147,7 +147,7 @@ static void say(uint64_t now, log_event event)
 
 // Whatever comes and goes how often, the log has a bounded number of lines, and no begin without
 // its end.
-static void test_bounds(void)
+TEST(test_bounds)
 {
     log_begin(LOG_JOURNAL, "f");
     listen_to_stderr();
@@ -194,7 +194,7 @@ static void test_bounds(void)
 }
 
 // Each note is one line, which names what it is about.
-static void test_reports(void)
+TEST(test_reports)
 {
     static const struct {
         host_note note;
@@ -324,7 +324,7 @@ static void test_standby(void)
     close(manager);
 }
 
-static void test_service(void)
+TEST(test_service)
 {
     char name[PATH + 16];
     for (int way = 0; way < 2; way++) {
@@ -452,7 +452,7 @@ static host_view some_view(void)
     return view;
 }
 
-static void test_text(void)
+TEST(test_text)
 {
     host_view view = some_view();
     char *text = NULL;
@@ -483,7 +483,7 @@ static void test_text(void)
     free(text);
 }
 
-static void open_server(void)
+TEST(test_opening_server)
 {
     struct sockaddr_in at = {.sin_family = AF_INET};
     socklen_t length = sizeof at;
@@ -502,7 +502,7 @@ static void open_server(void)
     HOLDS(metrics_open(&served, address) == METRICS_OK);
 }
 
-static void test_metric_addresses(void)
+TEST(test_metric_addresses)
 {
     static const char *const wrong[] = {"", ":", "9464", ":9464", "127.0.0.1", "127.0.0.1:",
         "127.0.0.1:0", "127.0.0.1:65536", "127.0.0.1:99999999999", "127.0.0.1:94x", "127.0.0.1:-1",
@@ -516,7 +516,7 @@ static void test_metric_addresses(void)
     HOLDS(metrics_open(&none, "203.0.113.1:9464") == METRICS_FAILED && errno == EADDRNOTAVAIL);
 }
 
-static void test_health(void)
+TEST(test_health)
 {
     host_view view = some_view();
     HOLDS(is_status(get("/healthz"), 503) && is_status(get("/readyz"), 503));
@@ -537,7 +537,7 @@ static void test_health(void)
     HOLDS(strstr(get("/healthz"), "it doesn't turn\n") != NULL);
 }
 
-static void test_http(void)
+TEST(test_http)
 {
     host_view view = some_view();
     metrics_show(served, &view, true, now_ms());
@@ -625,17 +625,7 @@ int main(void)
     // Nothing here may wait for ever.
     alarm(100);
     HOLDS(mkdtemp(place) != NULL);
-    test_forms();
-    test_odd_texts();
-    test_form_names();
-    test_bounds();
-    test_reports();
-    test_service();
-    test_text();
-    test_metric_addresses();
-    open_server();
-    test_health();
-    test_http();
+    run_tests();
     // (it takes seconds, which a wrong host needn't)
     if (failed < 2) {
         test_slow_clients();
