@@ -2,22 +2,12 @@
 // that it waits for nothing meanwhile, and what it leaves to the thread that saves.
 //
 //     asked_test
-#ifndef NODE
-#define NODE "../node.c"
-#endif
-#define main node_main
-#include NODE
-#undef main
-
-#include "check.h"
-#include "nats_model.h"
+#include "running.h"
 #include "rows.h"
 
-enum { HOLDER = 7, PROGRAM = 5, SOON = 800, SHORT = 60 };
+enum { HOLDER = 7, SOON = 800, SHORT = 60 };
 
-static running at;
 static pthread_t loop;
-static carrier_options carrier = {"nats://none", NULL, NULL, NULL, NULL};
 
 // ## The database, which two threads use, one at a time
 
@@ -133,21 +123,6 @@ static void on_published(const char *subject, const char *reply, const void *byt
     }
 }
 
-// Rounds, until this is so. A machine that is busy has 20 seconds for it, a wrong node no more than
-// twice.
-#define GO_ON_UNTIL(condition) \
-    for (uint64_t end = now_ms() + 20000; !(condition) && failed < 2 && now_ms() < end;) { \
-        (void)go_round(&at); \
-    }
-
-static void go_on(uint64_t time)
-{
-    uint64_t end = now_ms() + time;
-    do {
-        (void)go_round(&at);
-    } while (now_ms() < end && host_ended(at.host) == HOST_RUNS);
-}
-
 static bool hears(const char *subject)
 {
     GO_ON_UNTIL(strcmp(heard, subject) == 0 || host_ended(at.host) != HOST_RUNS);
@@ -158,17 +133,9 @@ static bool hears(const char *subject)
 static void request(const char *reply)
 {
     static uint64_t session;
-    uint8_t bytes[REQUEST_HEAD];
-    writer to = writer_of(bytes, sizeof bytes);
-    request_head head = {REQUEST_OPEN, PROGRAM, ++session, session, 0};
-    write_request_head(&to, &head);
     heard[0] = 0;
-    model_deliver("markring.test.node.0.program", reply, bytes, to.length);
-}
-
-static void ask_status(const char *reply)
-{
-    model_deliver("markring.test.node.0.control", reply, "status", 6);
+    session++;
+    ask_to_open(session, session, reply);
 }
 
 // A save that the loop has asked for, and of which no answer comes.
@@ -213,7 +180,7 @@ TEST(test_waits)
     ask_status("_INBOX.status");
     HOLDS(hears("_INBOX.status"));
     if (now_ms() - began < SOON) {
-        go_on(SHORT);
+        (void)go_on(SHORT);
         HOLDS(strcmp(heard, "_INBOX.status") == 0);
     }
     release();
@@ -346,7 +313,7 @@ TEST(test_renewals)
     (void)sleep_ms(RENEW_EACH / 2);
     unsigned long before = renewed;
     begin_held("_INBOX.b");
-    go_on(SOON);
+    (void)go_on(SOON);
     HOLDS(!at.asks || renewed == before);
     release();
     HOLDS(hears("_INBOX.b"));
@@ -524,20 +491,19 @@ static void start(void)
     HOLDS(connect_node(&at, &carrier) == NATS_OK);
 }
 
+// A wrong node isn't tested any further.
+static void after_each(void)
+{
+    if (failed > 1) {
+        test_count = 0;
+        release();
+    }
+}
+
 int main(void)
 {
-    pthread_t saves, rewrites, signals;
     model.published = on_published;
-    HOLDS(start_threads(&at, &saves, &rewrites, &signals));
-    start();
-    for (int i = 0; i < test_count && failed < 2; i++) {
-        tests[i]();
-    }
-    release();
-    end_saver(&at, saves, rewrites);
-    disconnect_node(&at);
-    host_free(at.host);
-    keeper_close(&at.keeper);
+    run_node(start, after_each);
     rows_free(&server);
     rows_kill(&client);
     rows_kill(&apart);

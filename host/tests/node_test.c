@@ -2,25 +2,12 @@
 // what it makes of connections that end and come late, and of saves that fail.
 //
 //     node_test
-#ifndef NODE
-#define NODE "../node.c"
-#endif
-#define main node_main
-#include NODE
-#undef main
+#include "running.h"
+#include "said.h"
 
-#include "check.h"
-#include "nats_model.h"
-
-#include <fcntl.h>
 #include <sys/stat.h>
-#include <unistd.h>
 
-enum { PATH = 64, CYCLE = 10, HEARD = 64 };
-
-static char place[PATH] = "/tmp/node-XXXXXX";
-static running at;
-static carrier_options carrier = {"nats://none", NULL, NULL, NULL, NULL};
+enum { CYCLE = 10, HEARD = 64 };
 
 // What was published since the last call of `listen`, except packets; and all of it.
 static char heard[HEARD][SUBJECT];
@@ -57,24 +44,6 @@ static bool was_heard(const char *subject)
     return false;
 }
 
-// Rounds, until this time is over. Returns the last one's state.
-static carrier_state go_on(uint64_t time)
-{
-    uint64_t end = now_ms() + time;
-    carrier_state state;
-    do {
-        state = go_round(&at);
-    } while (now_ms() < end && host_ended(at.host) == HOST_RUNS);
-    return state;
-}
-
-// Rounds, until this is so. A machine that is busy has 20 seconds for it, a wrong node no more than
-// twice.
-#define GO_ON_UNTIL(condition) \
-    for (uint64_t end = now_ms() + 20000; !(condition) && failed < 2 && now_ms() < end;) { \
-        (void)go_round(&at); \
-    }
-
 // Rounds, until this was published. Returns whether it was.
 static bool hears(const char *subject)
 {
@@ -82,35 +51,7 @@ static bool hears(const char *subject)
     return was_heard(subject);
 }
 
-// ## What the node says on stderr
-
-static int said_before = -1;
-
-static void begin_hearing(void)
-{
-    char path[PATH + 8];
-    snprintf(path, sizeof path, "%s/said", place);
-    said_before = dup(2);
-    int file = open(path, O_RDWR | O_CREAT | O_TRUNC, 0600);
-    HOLDS(file >= 0 && dup2(file, 2) == 2);
-    close(file);
-}
-
-// How often this was said since.
-static int end_hearing(const char *text)
-{
-    static char said[65536];
-    int count = 0;
-    fflush(stderr);
-    ssize_t length = pread(2, said, sizeof said - 1, 0);
-    said[length > 0 ? length : 0] = 0;
-    dup2(said_before, 2);
-    close(said_before);
-    for (const char *it = strstr(said, text); it != NULL; it = strstr(it + 1, text)) {
-        count++;
-    }
-    return count;
-}
+// ## What the node prints
 
 // What is printed goes to what is heard, from here on until the other call.
 static int begin_prints(void)
@@ -129,11 +70,6 @@ static void end_prints(int out)
 }
 
 // ## Tests
-
-static void ask_status(const char *reply)
-{
-    model_deliver("markring.test.node.0.control", reply, "status", 6);
-}
 
 TEST(test_addresses)
 {
@@ -680,15 +616,6 @@ static int sync_or_fail(void *context, int file)
     return sync_error != 0 ? -sync_error : real.sync(context, file);
 }
 
-static void ask_to_open(uint64_t session, uint64_t number, const char *reply)
-{
-    uint8_t bytes[REQUEST_HEAD];
-    writer to = writer_of(bytes, sizeof bytes);
-    request_head head = {REQUEST_OPEN, 5, session, number, 0};
-    write_request_head(&to, &head);
-    model_deliver("markring.test.node.0.program", reply, bytes, to.length);
-}
-
 // While saves fail, nobody is answered. A failed sync ends the node.
 TEST(test_saves)
 {
@@ -760,26 +687,19 @@ static void start(void)
     HOLDS(go_on(5 * CYCLE) == USABLE && published > 0);
 }
 
+// The connection, and the subscription.
+static void check_model(void)
+{
+    HOLDS(model.alive == 2);
+}
+
 int main(void)
 {
-    pthread_t saves, rewrites, signals;
     model.published = on_published;
     HOLDS(mkdtemp(place) != NULL);
-    HOLDS(start_threads(&at, &saves, &rewrites, &signals));
-    start();
-    for (int i = 0; i < test_count; i++) {
-        tests[i]();
-        // The connection, and the subscription.
-        HOLDS(model.alive == 2);
-    }
-    end_saver(&at, saves, rewrites);
-    disconnect_node(&at);
-    host_free(at.host);
-    keeper_close(&at.keeper);
+    run_node(start, check_model);
     HOLDS(model.alive == 0);
     free((void *)(uintptr_t)at.keeper.place);
-    char command[PATH + 8];
-    snprintf(command, sizeof command, "rm -r %s", place);
-    HOLDS(system(command) == 0);
+    remove_place();
     return report_checks();
 }

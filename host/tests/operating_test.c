@@ -5,53 +5,19 @@
 #include "../metrics.h"
 #include "../reports.h"
 #include "../service.h"
-#include "check.h"
+#include "said.h"
 
 #include <arpa/inet.h>
 #include <errno.h>
-#include <fcntl.h>
 #include <stdarg.h>
-#include <stdlib.h>
-#include <string.h>
 #include <sys/socket.h>
 #include <sys/stat.h>
 #include <sys/un.h>
 #include <time.h>
-#include <unistd.h>
 
-enum { PATH = 64, ROOM = 1 << 20, MINUTE = 60000, MOST = 64 };
-
-static char place[PATH] = "/tmp/operating-XXXXXX";
-static char said[ROOM];
+enum { MINUTE = 60000, MOST = 64 };
 
 // ## Lines
-
-static int stderr_before = -1;
-
-static void listen_to_stderr(void)
-{
-    char path[PATH + 8];
-    fflush(stdout);
-    snprintf(path, sizeof path, "%s/said", place);
-    stderr_before = dup(2);
-    int file = open(path, O_RDWR | O_CREAT | O_TRUNC, 0600);
-    HOLDS(file >= 0 && dup2(file, 2) == 2);
-    close(file);
-}
-
-// How many lines were said since; they are in `said`.
-static int lines_said(void)
-{
-    int count = 0;
-    ssize_t length = pread(2, said, sizeof said - 1, 0);
-    said[length > 0 ? length : 0] = 0;
-    dup2(stderr_before, 2);
-    close(stderr_before);
-    for (const char *at = said; *at != 0; at++) {
-        count += *at == '\n';
-    }
-    return count;
-}
 
 static bool ends_with(const char *text, const char *end)
 {
@@ -74,10 +40,10 @@ static bool has_time(const char *text)
 static const char *say_as(log_form form, const char *folder, const char *text)
 {
     log_begin(form, folder);
-    listen_to_stderr();
+    begin_hearing();
     log_say(5, (log_line){LEVEL_WARNING, EVENT_PEER_LOST, {{"peer", 2}, {"seconds", 10.25}}}, "%s",
         text);
-    HOLDS(lines_said() == 1);
+    HOLDS(end_hearing("\n") == 1);
     return said;
 }
 
@@ -95,9 +61,9 @@ TEST(test_forms)
         == 0);
     log_begin(LOG_JSON, "f");
     log_name("ring", 3);
-    listen_to_stderr();
+    begin_hearing();
     log_say(5, (log_line){LEVEL_ERROR, EVENT_FAILED, {{0}}}, "%d", 7);
-    HOLDS(lines_said() == 1 && strstr(said, "\"level\": \"error\", \"event\": \"failed\"") != NULL);
+    HOLDS(end_hearing("\n") == 1 && strstr(said, "\"level\": \"error\", \"event\": \"failed\"") != NULL);
     HOLDS(ends_with(said, "\"f\", \"space\": \"ring\", \"node\": 3, \"text\": \"7\"}\n"));
 }
 
@@ -150,47 +116,47 @@ static void say(uint64_t now, log_event event)
 TEST(test_bounds)
 {
     log_begin(LOG_JOURNAL, "f");
-    listen_to_stderr();
+    begin_hearing();
     for (int i = 0; i < 1000; i++) {
         say(10, EVENT_SAVES_FAIL);
         say(10, EVENT_SAVES_AGAIN);
     }
-    int lines = lines_said();
+    int lines = end_hearing("\n");
     HOLDS(lines >= 2 * MOST && lines <= 3 * MOST);
-    listen_to_stderr();
+    begin_hearing();
     say(10, EVENT_CYCLE_ENDED);
-    HOLDS(lines_said() == 1);
+    HOLDS(end_hearing("\n") == 1);
     // An hour of the same, ten times a second.
-    listen_to_stderr();
+    begin_hearing();
     for (uint64_t time = 0; time < 60 * MINUTE; time += 100) {
         say(10 + time, time % 200 == 0 ? EVENT_SAVES_FAIL : EVENT_SAVES_AGAIN);
     }
-    lines = lines_said();
+    lines = end_hearing("\n");
     HOLDS(lines >= 110 && lines <= 125);
     HOLDS(strstr(said, "f: x (") != NULL);
     HOLDS(strstr(said, " lines like it were left out)\n") != NULL);
     // A begin that is logged has its end, also long after.
     log_begin(LOG_JOURNAL, "f");
-    listen_to_stderr();
+    begin_hearing();
     for (int i = 0; i < 3 * MOST; i++) {
         say(20, EVENT_PEER_SEEN);
     }
-    HOLDS(lines_said() == MOST);
-    listen_to_stderr();
+    HOLDS(end_hearing("\n") == MOST);
+    begin_hearing();
     for (int i = 0; i < 3 * MOST; i++) {
         say(20, EVENT_PEER_LOST);
     }
     for (int i = 0; i < 3 * MOST; i++) {
         say(20, EVENT_PEER_SEEN);
     }
-    HOLDS(lines_said() == 2 * MOST);
+    HOLDS(end_hearing("\n") == 2 * MOST);
     // Commands say everything.
     log_begin(LOG_BARE, "f");
-    listen_to_stderr();
+    begin_hearing();
     for (int i = 0; i < 3 * MOST; i++) {
         say(20, EVENT_FAILED);
     }
-    HOLDS(lines_said() == 3 * MOST);
+    HOLDS(end_hearing("\n") == 3 * MOST);
 }
 
 // Each note is one line, which names what it is about.
@@ -234,15 +200,15 @@ TEST(test_reports)
     };
     log_begin(LOG_JOURNAL, "f");
     for (size_t i = 0; i < sizeof CASES / sizeof *CASES; i++) {
-        listen_to_stderr();
+        begin_hearing();
         report(7, &CASES[i].note);
-        HOLDS(lines_said() == 1 && strcmp(said, CASES[i].line) == 0);
+        HOLDS(end_hearing("\n") == 1 && strcmp(said, CASES[i].line) == 0);
     }
     log_begin(LOG_JSON, "f");
     for (size_t i = 0; i < sizeof CASES / sizeof *CASES; i++) {
-        listen_to_stderr();
+        begin_hearing();
         report(7, &CASES[i].note);
-        HOLDS(lines_said() == 1 && ends_with(said, "\"}\n"));
+        HOLDS(end_hearing("\n") == 1 && ends_with(said, "\"}\n"));
         HOLDS(CASES[i].note.cycle == 0 || strstr(said, "\"cycle\": 5, ") != NULL);
         HOLDS(CASES[i].note.node == 0 || strstr(said, "\"peer\": ") != NULL);
     }
@@ -410,7 +376,7 @@ static int dial(void)
 // What the server says to this, until it closes the connection.
 static const char *ask(const char *request)
 {
-    static char answer[ROOM];
+    static char answer[1 << 20];
     size_t done = 0;
     int it = dial();
     HOLDS(send(it, request, strlen(request), MSG_NOSIGNAL) == (ssize_t)strlen(request));
@@ -631,8 +597,6 @@ int main(void)
         test_slow_clients();
     }
     metrics_close(served);
-    char command[PATH + 8];
-    snprintf(command, sizeof command, "rm -r %s", place);
-    HOLDS(system(command) == 0);
+    remove_place();
     return report_checks();
 }
