@@ -4,6 +4,27 @@ static const uint8_t PACKET[4] = {0x4D, 0x52, 0x50, 0x01};
 static const uint8_t REQUEST[4] = {0x4D, 0x52, 0x51, 0x01};
 static const uint8_t ANSWER[4] = {0x4D, 0x52, 0x41, 0x01};
 
+// The numbers of each record, in order, and how many bytes each has.
+#define PACKET_FIELDS(X) \
+    X(from, 1) X(to, 1) X(sender.nonce, 8) X(sender.run, 8) X(sender.saves, 8) \
+    X(known_nonce, 8) X(known_saves, 8) X(live, 4) X(needs_cycle, 1) X(fits, 8)
+#define REQUEST_FIELDS(X) X(kind, 1) X(program, 1) X(session, 8) X(number, 8) X(count, 2)
+#define EVENT_FIELDS(X) \
+    X(kind, 1) X(node, 1) X(place, 1) X(reg, 2) X(source, 2) X(object, 2) \
+    X(label, 4) X(count, 4) X(word, 8)
+#define ANSWER_FIELDS(X) \
+    X(kind, 1) X(program, 1) X(session, 8) X(number, 8) X(verdict, 1) X(last, 8) X(round, 8) \
+    X(nodes, 1) X(own, 1) X(registers, 2) X(slots, 4) X(count, 2)
+#define REFERENCE_FIELDS(X) X(node, 1) X(slot, 4) X(generation, 8)
+#define RESULT_FIELDS(X) \
+    X(status, 2) X(answer.kind, 1) X(answer.node, 1) X(answer.colour, 1) X(answer.done, 1) \
+    X(answer.label, 4) X(answer.count, 4) X(answer.number, 8) X(answer.sum, 8)
+#define OBJECT_FIELDS(X) \
+    X(word, 8) X(bytes, 4) X(places, 1) X(marked, 1) X(shared, 1) X(age, 1)
+
+#define WRITE(field, length) write_number(to, (uint64_t)it->field, length);
+#define READ(field, length) it->field = (__typeof__(it->field))read_number(from, length);
+
 static bool begins_with(reader *from, const uint8_t *magic)
 {
     const uint8_t *bytes = read_bytes(from, 4);
@@ -14,16 +35,7 @@ void write_packet_head(writer *to, const packet_head *it)
 {
     write_bytes(to, PACKET, sizeof PACKET);
     write_bytes(to, it->space, SPACE_ID);
-    write_number(to, it->from, 1);
-    write_number(to, it->to, 1);
-    write_number(to, it->sender.nonce, 8);
-    write_number(to, it->sender.run, 8);
-    write_number(to, it->sender.saves, 8);
-    write_number(to, it->known_nonce, 8);
-    write_number(to, it->known_saves, 8);
-    write_number(to, it->live, 4);
-    write_number(to, it->needs_cycle, 1);
-    write_number(to, it->fits, 8);
+    PACKET_FIELDS(WRITE)
 }
 
 bool read_packet_head(reader *from, packet_head *it)
@@ -34,16 +46,7 @@ bool read_packet_head(reader *from, packet_head *it)
         return false;
     }
     memcpy(it->space, space, SPACE_ID);
-    it->from = (uint8_t)read_number(from, 1);
-    it->to = (uint8_t)read_number(from, 1);
-    it->sender.nonce = read_number(from, 8);
-    it->sender.run = read_number(from, 8);
-    it->sender.saves = read_number(from, 8);
-    it->known_nonce = read_number(from, 8);
-    it->known_saves = read_number(from, 8);
-    it->live = (uint32_t)read_number(from, 4);
-    it->needs_cycle = (uint8_t)read_number(from, 1);
-    it->fits = read_number(from, 8);
+    PACKET_FIELDS(READ)
     return from->ok && it->sender.nonce != 0 && it->sender.run != 0
         && it->sender.run <= it->sender.saves && it->needs_cycle <= 1;
 }
@@ -72,49 +75,25 @@ const uint8_t *read_frame(reader *from, size_t *length)
 void write_request_head(writer *to, const request_head *it)
 {
     write_bytes(to, REQUEST, sizeof REQUEST);
-    write_number(to, it->kind, 1);
-    write_number(to, it->program, 1);
-    write_number(to, it->session, 8);
-    write_number(to, it->number, 8);
-    write_number(to, it->count, 2);
+    REQUEST_FIELDS(WRITE)
 }
 
 bool read_request_head(reader *from, request_head *it)
 {
     bool is_request = begins_with(from, REQUEST);
-    it->kind = (uint8_t)read_number(from, 1);
-    it->program = (uint8_t)read_number(from, 1);
-    it->session = read_number(from, 8);
-    it->number = read_number(from, 8);
-    it->count = (uint16_t)read_number(from, 2);
+    REQUEST_FIELDS(READ)
     return is_request && from->ok;
 }
 
 void write_event(writer *to, const markring_event *it)
 {
-    write_number(to, it->kind, 1);
-    write_number(to, it->node, 1);
-    write_number(to, it->place, 1);
-    write_number(to, it->reg, 2);
-    write_number(to, it->source, 2);
-    write_number(to, it->object, 2);
-    write_number(to, it->label, 4);
-    write_number(to, it->count, 4);
-    write_number(to, it->word, 8);
+    EVENT_FIELDS(WRITE)
 }
 
 void read_event(reader *from, markring_event *it)
 {
     memset(it, 0, sizeof *it);
-    it->kind = (uint8_t)read_number(from, 1);
-    it->node = (uint8_t)read_number(from, 1);
-    it->place = (uint8_t)read_number(from, 1);
-    it->reg = (uint16_t)read_number(from, 2);
-    it->source = (uint16_t)read_number(from, 2);
-    it->object = (uint16_t)read_number(from, 2);
-    it->label = (uint32_t)read_number(from, 4);
-    it->count = (uint32_t)read_number(from, 4);
-    it->word = read_number(from, 8);
+    EVENT_FIELDS(READ)
 }
 
 bool has_bytes(uint8_t kind)
@@ -148,78 +127,36 @@ void read_remote_event(reader *from, markring_remote_event *it)
 void write_answer_head(writer *to, const answer_head *it)
 {
     write_bytes(to, ANSWER, sizeof ANSWER);
-    write_number(to, it->kind, 1);
-    write_number(to, it->program, 1);
-    write_number(to, it->session, 8);
-    write_number(to, it->number, 8);
-    write_number(to, it->verdict, 1);
-    write_number(to, it->last, 8);
-    write_number(to, it->round, 8);
-    write_number(to, it->nodes, 1);
-    write_number(to, it->own, 1);
-    write_number(to, it->registers, 2);
-    write_number(to, it->slots, 4);
-    write_number(to, it->count, 2);
+    ANSWER_FIELDS(WRITE)
 }
 
 bool read_answer_head(reader *from, answer_head *it)
 {
     bool is_answer = begins_with(from, ANSWER);
-    it->kind = (uint8_t)read_number(from, 1);
-    it->program = (uint8_t)read_number(from, 1);
-    it->session = read_number(from, 8);
-    it->number = read_number(from, 8);
-    it->verdict = (uint8_t)read_number(from, 1);
-    it->last = read_number(from, 8);
-    it->round = read_number(from, 8);
-    it->nodes = (uint8_t)read_number(from, 1);
-    it->own = (uint8_t)read_number(from, 1);
-    it->registers = (uint16_t)read_number(from, 2);
-    it->slots = (uint32_t)read_number(from, 4);
-    it->count = (uint16_t)read_number(from, 2);
+    ANSWER_FIELDS(READ)
     return is_answer && from->ok;
 }
 
 void write_reference(writer *to, const markring_ref *it)
 {
-    write_number(to, it->node, 1);
-    write_number(to, it->slot, 4);
-    write_number(to, it->generation, 8);
+    REFERENCE_FIELDS(WRITE)
 }
 
 void read_reference(reader *from, markring_ref *it)
 {
-    it->node = (uint8_t)read_number(from, 1);
-    it->slot = (uint32_t)read_number(from, 4);
-    it->generation = read_number(from, 8);
+    REFERENCE_FIELDS(READ)
 }
 
 void write_result(writer *to, const markring_result *it)
 {
-    write_number(to, (uint64_t)it->status, 2);
-    write_number(to, it->answer.kind, 1);
-    write_number(to, it->answer.node, 1);
-    write_number(to, it->answer.colour, 1);
-    write_number(to, it->answer.done, 1);
-    write_number(to, it->answer.label, 4);
-    write_number(to, it->answer.count, 4);
-    write_number(to, it->answer.number, 8);
-    write_number(to, (uint64_t)it->answer.sum, 8);
+    RESULT_FIELDS(WRITE)
     write_reference(to, &it->answer.reference);
 }
 
 void read_result(reader *from, markring_result *it)
 {
     memset(it, 0, sizeof *it);
-    it->status = (int)read_number(from, 2);
-    it->answer.kind = (uint8_t)read_number(from, 1);
-    it->answer.node = (uint8_t)read_number(from, 1);
-    it->answer.colour = (uint8_t)read_number(from, 1);
-    it->answer.done = (uint8_t)read_number(from, 1);
-    it->answer.label = (uint32_t)read_number(from, 4);
-    it->answer.count = (uint32_t)read_number(from, 4);
-    it->answer.number = read_number(from, 8);
-    it->answer.sum = (int64_t)read_number(from, 8);
+    RESULT_FIELDS(READ)
     read_reference(from, &it->answer.reference);
 }
 
@@ -238,24 +175,14 @@ void read_freed_record(reader *from, markring_freed *it)
 void write_object_record(writer *to, const markring_object *it)
 {
     write_reference(to, &it->reference);
-    write_number(to, it->word, 8);
-    write_number(to, it->bytes, 4);
-    write_number(to, it->places, 1);
-    write_number(to, it->marked, 1);
-    write_number(to, it->shared, 1);
-    write_number(to, it->age, 1);
+    OBJECT_FIELDS(WRITE)
 }
 
 void read_object_record(reader *from, markring_object *it)
 {
     memset(it, 0, sizeof *it);
     read_reference(from, &it->reference);
-    it->word = read_number(from, 8);
-    it->bytes = (uint32_t)read_number(from, 4);
-    it->places = (uint8_t)read_number(from, 1);
-    it->marked = (uint8_t)read_number(from, 1);
-    it->shared = (uint8_t)read_number(from, 1);
-    it->age = (uint8_t)read_number(from, 1);
+    OBJECT_FIELDS(READ)
 }
 
 size_t record_of(uint8_t kind)
