@@ -16,7 +16,7 @@ static void note_written(writer *to, size_t length)
     to->length += to->ok ? length : 0;
 }
 
-// What is to be read, and how many bytes; where the next bytes go, and how many there may be.
+// What is to be read, and how many bytes; the place of the next bytes, and room for how many.
 #define REST(from) (from)->at, (from)->ok ? (from)->left : 0
 #define NEXT(to) (to)->start + (to)->length, (to)->ok ? (to)->room - (to)->length : 0
 

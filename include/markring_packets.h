@@ -1,8 +1,9 @@
-// What travels between the processes of a space, and between a process and its programs, as bytes,
-// for whoever writes a host of their own around the nodes of markring.h: what a host reads of
-// packets and requests, and what it writes of packets and answers. docs/FORMATS.md ("Packets") has
-// the tables. Each value has one spelling, and none is a prefix of another one; what is read is
-// exactly what the bytes spell (crate `packets`). libmarkring-host reads and writes by these calls.
+// What travels between the processes of a space, and between a process and its programs, as bytes.
+// This is for whoever writes a host of their own around the nodes of markring.h: it reads packets
+// and requests, and writes packets and answers. docs/FORMATS.md ("Packets") has the tables.
+//
+// Each value has one spelling, and none is a prefix of another one. What is read is exactly what
+// the bytes spell (crate `packets`). libmarkring-host reads and writes by these calls.
 //
 // These calls take any bytes, also those of a hostile sender, and take no memory. Each pointer is
 // valid and isn't null, and bytes that are read and places that are written don't overlap.

@@ -14,14 +14,14 @@ static uint64_t any(void)
     return draw(&seed);
 }
 
-// The bytes that are wanted.
-static uint8_t want[ROOM];
-static size_t wanted;
+// The bytes that are expected.
+static uint8_t expected[ROOM];
+static size_t length_expected;
 
 static void put(uint64_t number, size_t width)
 {
     for (size_t i = width; i > 0; i--) {
-        want[wanted++] = (uint8_t)(number >> 8 * (i - 1));
+        expected[length_expected++] = (uint8_t)(number >> 8 * (i - 1));
     }
 }
 
@@ -37,18 +37,18 @@ static markring_ref any_reference(void)
     return (markring_ref){.node = (uint8_t)any(), .slot = (uint32_t)any(), .generation = any()};
 }
 
-// What was written is what is wanted; and with less room, nothing is written.
+// What was written is what is expected; and with less room, nothing is written.
 #define WRITES(call, value) \
     do { \
         uint8_t to[ROOM]; \
         memset(to, 0xA5, sizeof to); \
-        EQUAL(wanted, call(to, sizeof to, value)); \
-        HOLDS(memcmp(to, want, wanted) == 0 && to[wanted] == 0xA5); \
+        EQUAL(length_expected, call(to, sizeof to, value)); \
+        HOLDS(memcmp(to, expected, length_expected) == 0 && to[length_expected] == 0xA5); \
         memset(to, 0xA5, sizeof to); \
-        EQUAL(wanted, call(to, wanted, value)); \
-        HOLDS(memcmp(to, want, wanted) == 0); \
+        EQUAL(length_expected, call(to, length_expected, value)); \
+        HOLDS(memcmp(to, expected, length_expected) == 0); \
         memset(to, 0xA5, sizeof to); \
-        for (size_t room = 0; room < wanted; room++) { \
+        for (size_t room = 0; room < length_expected; room++) { \
             EQUAL(0, call(to, room, value)); \
         } \
         for (size_t i = 0; i < sizeof to; i++) { \
@@ -80,7 +80,7 @@ static markring_packet_head any_head(void)
 
 static void spell_head(const markring_packet_head *it)
 {
-    wanted = 0;
+    length_expected = 0;
     put(0x4D525001, 4);
     put(it->space, 8);
     put(it->from, 1);
@@ -108,24 +108,24 @@ static void heads(void)
 {
     markring_packet_head it = any_head(), read;
     spell_head(&it);
-    EQUAL(MARKRING_PACKETS_HEAD, wanted);
+    EQUAL(MARKRING_PACKETS_HEAD, length_expected);
     WRITES(put_head, &it);
     memset(&read, 0, sizeof read);
-    EQUAL(1, markring_packets_read_head(want, wanted, &read));
-    EQUAL(wanted, put_head(again, sizeof again, &read));
-    HOLDS(memcmp(again, want, wanted) == 0);
-    EQUAL(1, markring_packets_read_head(want, wanted + 7, &read));
-    for (size_t length = 0; length < wanted; length++) {
-        EQUAL(0, markring_packets_read_head(want, length, &read));
+    EQUAL(1, markring_packets_read_head(expected, length_expected, &read));
+    EQUAL(length_expected, put_head(again, sizeof again, &read));
+    HOLDS(memcmp(again, expected, length_expected) == 0);
+    EQUAL(1, markring_packets_read_head(expected, length_expected + 7, &read));
+    for (size_t length = 0; length < length_expected; length++) {
+        EQUAL(0, markring_packets_read_head(expected, length, &read));
     }
-    size_t at = any() % wanted;
-    want[at] ^= (uint8_t)(1 + any() % 255);
+    size_t at = any() % length_expected;
+    expected[at] ^= (uint8_t)(1 + any() % 255);
     memset(&read, 0x5A, sizeof read);
     markring_packet_head before = read;
-    EQUAL(is_head(want), markring_packets_read_head(want, wanted, &read));
-    if (is_head(want)) {
-        EQUAL(wanted, put_head(again, sizeof again, &read));
-        HOLDS(memcmp(again, want, wanted) == 0);
+    EQUAL(is_head(expected), markring_packets_read_head(expected, length_expected, &read));
+    if (is_head(expected)) {
+        EQUAL(length_expected, put_head(again, sizeof again, &read));
+        HOLDS(memcmp(again, expected, length_expected) == 0);
     } else {
         HOLDS(memcmp(&before, &read, sizeof read) == 0);
     }
@@ -137,43 +137,43 @@ static void wrong_heads(void)
     markring_packet_head read, it = any_head();
     it.sender.nonce = 0;
     spell_head(&it);
-    EQUAL(0, markring_packets_read_head(want, wanted, &read));
+    EQUAL(0, markring_packets_read_head(expected, length_expected, &read));
     it = any_head();
     it.sender.run = 0;
     spell_head(&it);
-    EQUAL(0, markring_packets_read_head(want, wanted, &read));
+    EQUAL(0, markring_packets_read_head(expected, length_expected, &read));
     it = any_head();
     it.sender.saves = it.sender.run - 1;
     spell_head(&it);
-    EQUAL(0, markring_packets_read_head(want, wanted, &read));
+    EQUAL(0, markring_packets_read_head(expected, length_expected, &read));
     it.sender.saves = it.sender.run;
     spell_head(&it);
-    EQUAL(1, markring_packets_read_head(want, wanted, &read));
+    EQUAL(1, markring_packets_read_head(expected, length_expected, &read));
     it.needs_cycle = 2;
     spell_head(&it);
-    EQUAL(0, markring_packets_read_head(want, wanted, &read));
+    EQUAL(0, markring_packets_read_head(expected, length_expected, &read));
 }
 
 static void requests(void)
 {
     markring_request_head it = {(uint8_t)any(), (uint8_t)any(), any(), any(), (uint16_t)any()};
     markring_request_head read = {0};
-    wanted = 0;
+    length_expected = 0;
     put(0x4D525101, 4);
     put(it.kind, 1);
     put(it.program, 1);
     put(it.session, 8);
     put(it.number, 8);
     put(it.count, 2);
-    EQUAL(MARKRING_PACKETS_REQUEST, wanted);
-    for (size_t length = 0; length < wanted; length++) {
-        EQUAL(0, markring_packets_read_request(want, length, &read));
+    EQUAL(MARKRING_PACKETS_REQUEST, length_expected);
+    for (size_t length = 0; length < length_expected; length++) {
+        EQUAL(0, markring_packets_read_request(expected, length, &read));
     }
-    EQUAL(1, markring_packets_read_request(want, wanted + 1, &read));
+    EQUAL(1, markring_packets_read_request(expected, length_expected + 1, &read));
     HOLDS(read.kind == it.kind && read.program == it.program && read.session == it.session);
     HOLDS(read.number == it.number && read.count == it.count);
-    want[any() % 4] ^= (uint8_t)(1 + any() % 255);
-    EQUAL(0, markring_packets_read_request(want, wanted, &read));
+    expected[any() % 4] ^= (uint8_t)(1 + any() % 255);
+    EQUAL(0, markring_packets_read_request(expected, length_expected, &read));
 }
 
 static void events(void)
@@ -182,7 +182,7 @@ static void events(void)
         .reg = (uint16_t)any(), .source = (uint16_t)any(), .object = (uint16_t)any(),
         .label = (uint32_t)any(), .count = (uint32_t)any(), .word = any()};
     markring_event read = {0};
-    wanted = 0;
+    length_expected = 0;
     put(it.kind, 1);
     put(it.node, 1);
     put(it.place, 1);
@@ -192,11 +192,11 @@ static void events(void)
     put(it.label, 4);
     put(it.count, 4);
     put(it.word, 8);
-    EQUAL(MARKRING_PACKETS_EVENT, wanted);
-    for (size_t length = 0; length < wanted; length++) {
-        EQUAL(0, markring_packets_read_event(want, length, &read));
+    EQUAL(MARKRING_PACKETS_EVENT, length_expected);
+    for (size_t length = 0; length < length_expected; length++) {
+        EQUAL(0, markring_packets_read_event(expected, length, &read));
     }
-    EQUAL(1, markring_packets_read_event(want, wanted, &read));
+    EQUAL(1, markring_packets_read_event(expected, length_expected, &read));
     HOLDS(read.kind == it.kind && read.node == it.node && read.place == it.place);
     HOLDS(read.reg == it.reg && read.source == it.source && read.object == it.object);
     HOLDS(read.label == it.label && read.count == it.count && read.word == it.word);
@@ -207,7 +207,7 @@ static void answers(void)
     markring_answer_head it = {(uint8_t)any(), (uint8_t)any(), any(), any(), (uint8_t)any(),
         any(), any(), (uint8_t)any(), (uint8_t)any(), (uint16_t)any(), (uint32_t)any(),
         (uint16_t)any()};
-    wanted = 0;
+    length_expected = 0;
     put(0x4D524101, 4);
     put(it.kind, 1);
     put(it.program, 1);
@@ -221,7 +221,7 @@ static void answers(void)
     put(it.registers, 2);
     put(it.slots, 4);
     put(it.count, 2);
-    EQUAL(MARKRING_PACKETS_ANSWER, wanted);
+    EQUAL(MARKRING_PACKETS_ANSWER, length_expected);
     WRITES(markring_packets_put_answer, &it);
 }
 
@@ -239,7 +239,7 @@ static void results(void)
         .count = (uint32_t)any(), .number = any(), .sum = (int64_t)any(),
         .reference = any_reference()};
     status = (uint16_t)any();
-    wanted = 0;
+    length_expected = 0;
     put(status, 2);
     put(it.kind, 1);
     put(it.node, 1);
@@ -250,24 +250,24 @@ static void results(void)
     put(it.number, 8);
     put((uint64_t)it.sum, 8);
     put_reference(&it.reference);
-    EQUAL(MARKRING_PACKETS_RESULT, wanted);
+    EQUAL(MARKRING_PACKETS_RESULT, length_expected);
     WRITES(put_result, &it);
 }
 
 static void records(void)
 {
     markring_ref reference = any_reference(), read = {0};
-    wanted = 0;
+    length_expected = 0;
     put_reference(&reference);
-    EQUAL(MARKRING_PACKETS_REFERENCE, wanted);
+    EQUAL(MARKRING_PACKETS_REFERENCE, length_expected);
     WRITES(markring_packets_put_reference, &reference);
-    EQUAL(0, markring_packets_read_reference(want, wanted - 1, &read));
-    EQUAL(1, markring_packets_read_reference(want, wanted, &read));
+    EQUAL(0, markring_packets_read_reference(expected, length_expected - 1, &read));
+    EQUAL(1, markring_packets_read_reference(expected, length_expected, &read));
     HOLDS(read.node == reference.node && read.slot == reference.slot);
     EQUAL(reference.generation, read.generation);
     markring_freed freed = {reference, any()};
     put(freed.word, 8);
-    EQUAL(MARKRING_PACKETS_FREED, wanted);
+    EQUAL(MARKRING_PACKETS_FREED, length_expected);
     WRITES(markring_packets_put_freed, &freed);
     markring_object object = {.reference = reference, .word = freed.word, .bytes = (uint32_t)any(),
         .places = (uint8_t)any(), .marked = (uint8_t)any(), .shared = (uint8_t)any(),
@@ -277,7 +277,7 @@ static void records(void)
     put(object.marked, 1);
     put(object.shared, 1);
     put(object.age, 1);
-    EQUAL(MARKRING_PACKETS_OBJECT, wanted);
+    EQUAL(MARKRING_PACKETS_OBJECT, length_expected);
     WRITES(markring_packets_put_object, &object);
 }
 
@@ -295,7 +295,7 @@ static void lengths(void)
     static uint8_t frames[(1 << 20) + 16];
     for (size_t i = 0; i < sizeof SIZES / sizeof *SIZES; i++) {
         long_size = SIZES[i];
-        wanted = 0;
+        length_expected = 0;
         if (long_size < 65535) {
             put(long_size, 2);
         } else {
@@ -305,16 +305,16 @@ static void lengths(void)
         WRITES(put_length, NULL);
         if (long_size <= 1 << 20) {
             size_t start = 99;
-            memcpy(frames, want, wanted);
-            EQUAL(0, markring_packets_frame(frames, wanted - 1, &start));
+            memcpy(frames, expected, length_expected);
+            EQUAL(0, markring_packets_frame(frames, length_expected - 1, &start));
             EQUAL(99, start);
             if (long_size > 0) {
-                EQUAL(0, markring_packets_frame(frames, wanted + long_size - 1, &start));
+                EQUAL(0, markring_packets_frame(frames, length_expected + long_size - 1, &start));
             }
             EQUAL(99, start);
-            EQUAL(wanted + long_size, markring_packets_frame(frames, wanted + long_size, &start));
-            EQUAL(wanted, start);
-            EQUAL(wanted + long_size, markring_packets_frame(frames, sizeof frames, &start));
+            EQUAL(length_expected + long_size, markring_packets_frame(frames, length_expected + long_size, &start));
+            EQUAL(length_expected, start);
+            EQUAL(length_expected + long_size, markring_packets_frame(frames, sizeof frames, &start));
         }
     }
     // A length that two bytes can say isn't in four.

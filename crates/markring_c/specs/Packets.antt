@@ -4,7 +4,7 @@ use Rattle.std.specs.Option.{option_map}
 use Rattle.codec.specs.Formats.{Format}
 use Rattle.packets.specs.Laying.{HasNoFrame, IsFramed}
 
--- The value was written, and the number is 1; or there is none, and it is 0.
+-- The value was written, and the number is 1. Without a value it is 0.
 abbrev pub Gave : {A : Type 0} → Option A → A → A → ℤ → Type 0
 Gave None old new number = (new ≡ old) × (number ≡ pos 0)
 Gave (Some value) old new number = (new ≡ value) × (number ≡ pos 1)

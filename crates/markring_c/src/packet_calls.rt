@@ -39,7 +39,7 @@ pub extern "C" fn markring_packets_put_head(to: &mut [u8], head: &PacketHead) ->
     packets::put_packet_head(to, head)
 }
 
-/// Where the frame is that the bytes begin with.
+/// The place of the frame that the bytes begin with.
 #[unsafe(no_mangle)]
 pub extern "C" fn markring_packets_frame(bytes: &[u8], start: &mut usize) -> usize
     ensures { FrameInto bytes.now start.old start.new result }
@@ -95,11 +95,7 @@ pub extern "C" fn markring_packets_put_answer(to: &mut [u8], head: &AnswerHead) 
 
 /// Puts the result of an event at the front of bytes.
 #[unsafe(no_mangle)]
-pub extern "C" fn markring_packets_put_result(
-    to: &mut [u8],
-    status: u16,
-    answer: &CAnswer,
-) -> usize
+pub extern "C" fn markring_packets_put_result(to: &mut [u8], status: u16, answer: &CAnswer) -> usize
     ensures { Laid (result_format.spell (status, answer.now)) to.old to.new result }
 {
     packets::put_result(to, status, answer)

@@ -1,12 +1,12 @@
 -- The length of a frame in a packet.
-use Rattle.std.proofs.Common.{◌≡◌, ◌≢◌, ℕ, ◌+◌, ◌-◌, ◌≤◌, ◌<◌, ◌^◌, Bool, true, false, cond, eqb}
-use Rattle.std.proofs.Common.{List, ◌++◌, length, Option, Some, None, refl, sym, ap, ◌∙◌, subst, arith}
+use Rattle.std.proofs.Common.{◌≡◌, ◌≢◌, ℕ, ◌+◌, ◌≤◌, ◌<◌, ◌^◌, Bool, true, false, cond, eqb}
+use Rattle.std.proofs.Common.{List, length, Option, Some, None, refl, sym, ap, ◌∙◌, subst, arith, inl, inr}
 use Rattle.std.specs.Prelude.{nat_le, min, ◌==◌}
 use Rattle.std.proofs.Math.Nat.{min-eq_left, min-eq_right}
-use Rattle.std.proofs.lemmas.Bool.{eqb-true, eqb-false, leb-true, ne_eqb, false≢true}
+use Rattle.std.proofs.lemmas.Bool.{cases_lt, eqb-true, eqb-false, leb-true, ne_eqb, false≢true}
 use Rattle.std.proofs.lemmas.List.{length-append}
 use Rattle.std.proofs.lemmas.Option.{same_Some}
-use Rattle.codec.specs.Formats.{Fits, number2, number4, joined, kept}
+use Rattle.codec.specs.Formats.{Fits, number2, number4, kept}
 use Rattle.codec.specs.Reading.{IsBytes, IsSound, Took}
 use Rattle.codec.proofs.Laws.{joined_sound, kept_sound, mapped_sound}
 use Rattle.codec.proofs.Numbers.{number2_sound, number4_sound}
@@ -76,6 +76,13 @@ long_size n le =
     let great : min n LONG ≡ LONG = min-eq_right le in
     rw great refl
 
+some_size : (n : ℕ) → 2 ≤ length (length_format.spell n)
+some_size n =
+    elim (cases_lt n LONG) [
+      | inl lt ↦ omega (arith, short_size n lt)
+      | inr le ↦ omega (arith, long_size n le)
+    ]
+
 -- ---- what was found
 
 -- the same length, and the same behind it
@@ -110,6 +117,7 @@ module _ (bytes : List ℕ) (size : ℕ) (are : IsBytes bytes) where
     rest = r;
     told = e ∙ ap (λ (n : ℕ). Some (n, r)) (omega arith);
     behind = behind_length bytes size r are e;
+    first = some_size size;
     ordered = omega arith;
     within = enough;
   }

@@ -2,7 +2,7 @@
 use Rattle.std.proofs.Common.{ℕ, Bool, refl, sym, ap}
 use Rattle.std.specs.Prelude.{◌==◌, ◌&&◌}
 use Rattle.std.proofs.lemmas.Bool.{eqb-true, and_parts}
-use Rattle.codec.specs.Formats.{Format, number4, ◌&◌}
+use Rattle.codec.specs.Formats.{Format}
 use Rattle.codec.specs.Reading.{IsSound}
 use Rattle.codec.proofs.Laws.{mapped_sound, kept_sound, ◌⊗◌}
 use Rattle.codec.proofs.Numbers.{byte_sound, number2_sound, number4_sound, number8_sound, signed8_sound}

@@ -1,6 +1,6 @@
 -- How what travels between processes is spelled: heads of packets, of requests and of answers, and
 -- the records behind them. docs/FORMATS.md ("Packets") has the tables. Numbers are big-endian.
-use Rattle.std.specs.Prelude.{ℕ, ℤ, ◌≡◌, ◌==◌, ◌&&◌, nat_le, not, Bool, true, cond, min, ⊤, [], Some}
+use Rattle.std.specs.Prelude.{ℕ, ◌≡◌, ◌==◌, ◌&&◌, nat_le, not, Bool, true, cond, min, ⊤, [], Some}
 use Rattle.codec.specs.Formats.{Format, byte, number2, number4, number8, signed8, mapped, kept, joined, ◌&◌}
 use Rattle.c_values.specs.declared.fields.CRef.{CRef}
 use Rattle.c_values.specs.declared.fields.CAnswer.{CAnswer}

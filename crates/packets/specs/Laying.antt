@@ -21,6 +21,7 @@ pub record IsFramed (bytes : List ℕ) (start end : ℕ) : Type 0 where
   pub rest : List ℕ
   pub told : length_format.read bytes ≡ Some (end - start, rest)
   pub behind : start + length rest ≡ length bytes
+  pub first : 2 ≤ start
   pub ordered : start ≤ end
   pub within : end ≤ length bytes
 

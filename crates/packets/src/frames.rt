@@ -13,7 +13,7 @@ use codec::{Piece, Reader};
 /// What two bytes say before a length that has four.
 pub const LONG: u16 = 0xFFFF;
 
-/// Where a frame is in the bytes that it was found at the front of: from `start` up to `end`.
+/// The place of a frame in the bytes that begin with its length: from `start` up to `end`.
 #[derive(Clone, Copy)]
 pub struct Framed {
     pub start: usize,
