@@ -256,7 +256,7 @@ TEST(test_long_line)
     // Once all know the process that runs, nothing before it has to be known.
     HOLDS(at.host->line_count == LINE);
     for (uint8_t node = 1; node < 3; node++) {
-        packet_head head = {{0}, node, 0, {node, 1, 1}, at.nonce, at.number, 0, 0, NO_WORD};
+        packet_head head = {0, node, 0, {node, 1, 1}, at.nonce, at.number, 0, 0, NO_WORD};
         deliver_head(&at, head);
         HOLDS(at.host->line_count == (node == 1 ? LINE : 2));
     }
@@ -280,14 +280,14 @@ TEST(test_meeting)
         deliver(&at, (process){9, 5, 7}, NONCE, 11);
         settle(&at, STORE_OK);
         int packets = at.packets;
-        deliver_head(&at, (packet_head){{0}, 1, 0, {20, 8, 9}, NONCE + 1, 10, 0, 0, fits[i]});
+        deliver_head(&at, (packet_head){0, 1, 0, {20, 8, 9}, NONCE + 1, 10, 0, 0, fits[i]});
         HOLDS(is_process(&at.host->peers[1].known, 20, 8, 9) == is_taken);
         settle(&at, STORE_OK);
         HOLDS(at.packets == packets + 1 && at.last.to == 1);
         HOLDS(at.last.known_nonce == (is_taken ? 20 : 9));
         HOLDS(at.last.fits == ((NONCE + 1) ^ 10));
         // It says so, having heard that.
-        deliver_head(&at, (packet_head){{0}, 1, 0, {20, 8, 9}, NONCE, 11, 0, 0, 9 ^ 7});
+        deliver_head(&at, (packet_head){0, 1, 0, {20, 8, 9}, NONCE, 11, 0, 0, 9 ^ 7});
         HOLDS(is_process(&at.host->peers[1].known, 20, 8, 9));
         HOLDS(host_counted(at.host)->outdated == 0 && host_ended(at.host) == HOST_RUNS);
         end(&at);

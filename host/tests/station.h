@@ -233,7 +233,7 @@ static void deliver_head(station *at, packet_head head)
 {
     uint8_t bytes[PACKET_HEAD];
     writer to = writer_of(bytes, sizeof bytes);
-    memcpy(head.space, SPACE, SPACE_ID);
+    head.space = space_number(SPACE);
     write_packet_head(&to, &head);
     HOLDS(to.ok);
     host_packet(at->host, at->now, head.from, bytes, to.length);
@@ -242,7 +242,7 @@ static void deliver_head(station *at, packet_head head)
 // A packet of a process of node 1, of an earlier version, which knows this of node 0's process.
 static void deliver(station *at, process sender, uint64_t known_nonce, uint64_t known_saves)
 {
-    deliver_head(at, (packet_head){{0}, 1, 0, sender, known_nonce, known_saves, 0, 0, 0});
+    deliver_head(at, (packet_head){0, 1, 0, sender, known_nonce, known_saves, 0, 0, 0});
 }
 
 static markring_state state_of(station *at)

@@ -698,7 +698,7 @@ TEST(test_places)
     HOLDS(answer_of(&asked, &found, &behind) == VERDICT_DONE && found.status == MARKRING_OK);
     HOLDS(found.answer.count == 3 && behind.left == (size_t)3 * REFERENCE_RECORD);
     for (int i = 0; i < 3; i++) {
-        read_reference(&behind, &read);
+        read_reference_record(&behind, &read);
         HOLDS(is_same(read, i == 1 ? inner : (markring_ref){0, 0, 0}));
     }
     asked = ask_places(inner);
