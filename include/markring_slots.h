@@ -1,9 +1,9 @@
-// Where a folder keeps what is saved, for whoever writes a store of their own: two files, its slots.
-// Each holds a whole value and entries behind it, which say what has changed since. One slot counts;
-// the other one holds something older, or what is being written. These calls say where each save is
-// written, what counts once it is synced, and what counts at an opening. They are proved (crate
-// `slots`). libmarkring-host asks them (markring_host.h, "Stores"), and docs/FORMATS.md ("Folders of
-// processes") has its bytes.
+// How a folder keeps what is saved, for whoever writes a store of their own: in two files, its
+// slots. Each holds a whole value and entries behind it, which say what has changed since. One slot
+// counts; the other one holds something older, or what is being written. These calls say to which
+// place each save is written, what counts once it is synced, and what counts at an opening. They
+// are proved (crate `slots`). libmarkring-host asks them (markring_host.h, "Stores"), and
+// docs/FORMATS.md ("Folders of processes") has its bytes.
 //
 // # What a store owes
 //
@@ -14,11 +14,11 @@
 // - Each value and each entry begins with its length and its number, and ends with its seal: a
 //   checksum of all of it, which for an entry begins with the seal before. No torn write may have a
 //   right seal.
-// - Marks and zeros are written where these calls say. They need no sync.
+// - Marks and zeros are written to the places that these calls say. They need no sync.
 // - An opening syncs both files and reads them as the disk has them. It puts what it finds whole into
 //   a markring_slot_found each, in order, and asks markring_slots_choose.
-// - A rewrite writes and syncs a value without its head, and copies of entries with new seals, behind
-//   one another, where these calls say. The save that ends it syncs what is left to be copied and its
+// - A rewrite writes and syncs a value without its head, and copies of entries with new seals behind
+//   one another, as these calls say. The save that ends it syncs what is left to be copied and its
 //   entry, then calls markring_slots_stored; then it writes and syncs the head, and calls that again.
 //   A save of a whole value ends each rewrite: whoever writes for it stops before.
 //
@@ -37,8 +37,8 @@
 extern "C" {
 #endif
 
-// The slots of an open folder: the number of the last save, also of one that failed; and of the slot
-// that counts, where its last entry ends, the seal of that, and the seal and the length of its value.
+// The slots of an open folder: the number of the last save, also of one that failed. Of the slot that
+// counts: the end of its last entry, the seal of that, and the seal and the length of its value.
 typedef struct markring_slots {
     uint64_t number;
     uint64_t end;
@@ -53,7 +53,8 @@ typedef struct markring_slots {
     uint8_t phase;
 } markring_slots;
 
-// Where something is written, the number of its save, and the seal with which its own begins.
+// The place of something that is written, the number of its save, and the seal with which its own
+// begins.
 typedef struct markring_slot_target {
     uint64_t offset;
     uint64_t number;
@@ -74,9 +75,9 @@ typedef struct markring_slot_mark {
 // The slots of a new folder, whose first save has the number after this one. It is a whole value.
 void markring_slots_create(markring_slots *slots, uint64_t number);
 
-// An entry of this length is to be saved. Returns 1 and where, or 0 and changes nothing: a save is
-// under way, or one has failed and no whole value was stored since, or the value is of version 1, or
-// a sync has failed, or a number would be too high.
+// An entry of this length is to be saved. Returns 1 and its place, or 0 and changes nothing. It is 0
+// if a save is under way; if one has failed and no whole value was stored since; if the value is of
+// version 1; if a sync has failed; or if a number would be too high.
 int markring_slots_entry(markring_slots *slots, uint64_t length, markring_slot_target *place);
 
 // The same for a whole value, which may follow a save that failed.
@@ -93,7 +94,8 @@ int markring_slots_failed(markring_slots *slots);
 // A sync has failed: nobody knows what counts, and nothing is saved any more.
 void markring_slots_doubt(markring_slots *slots);
 
-// Where zeros may be written behind the entry under way, in the slot that counts: 1; or 0 without one.
+// The offset from which on zeros may be written in the slot that counts, behind the entry under
+// way: 1; or 0 without one.
 int markring_slots_zeros(const markring_slots *slots, uint64_t *offset);
 
 // The mark of the last save: 1; or 0 if it isn't known that this is stored.
@@ -101,9 +103,9 @@ int markring_slots_mark(const markring_slots *slots, markring_slot_mark *mark);
 
 // # Rewrites
 
-// A rewrite: the number of the save that its value holds; up to where it has copied the slot that
-// counts, with the seal before that; and in the other slot the seals of the value and of the last
-// copy, the length of the value, and where the next copy goes (0 before the value is written).
+// A rewrite: the number of the save that its value holds. In the slot that counts: the offset up to
+// which it has copied, and the seal before that. In the other slot: the seals of the value and of the
+// last copy, the length of the value, and the offset of the next copy (0 before the value is written).
 typedef struct markring_slot_rewrite {
     uint64_t turn;
     uint64_t number;
@@ -116,7 +118,7 @@ typedef struct markring_slot_rewrite {
     uint8_t from;
 } markring_slot_rewrite;
 
-// Bytes of entries: how many, from which offset of the slot that counts, and where to in the other one.
+// Bytes of entries: how many, from which offset of the slot that counts, to which of the other one.
 typedef struct markring_slot_copying {
     uint64_t length;
     uint64_t from;
@@ -128,7 +130,7 @@ typedef struct markring_slot_copying {
 // Begins a rewrite of what is stored, and ends any other one: 1; or 0, as markring_slots_entry.
 int markring_slots_rewrite(markring_slots *slots, markring_slot_rewrite *rewrite);
 
-// Where its value goes, without its head, which the caller keeps: 1; or 0 if it is written already.
+// The place of its value, which is written without its head: 1; or 0 if it is written already.
 int markring_slots_rewrite_value(
     const markring_slot_rewrite *rewrite, uint64_t length, markring_slot_target *place);
 
@@ -136,8 +138,8 @@ int markring_slots_rewrite_value(
 void markring_slots_rewrite_written(
     markring_slot_rewrite *rewrite, uint64_t length, uint64_t seal);
 
-// What is to be copied of the entries up to this offset, where a stored one ends: 1; or 0 if no value
-// is written, or more is copied.
+// What is to be copied of the entries up to this offset, the end of a stored one: 1; or 0 if no
+// value is written, or more is copied.
 int markring_slots_rewrite_copy(
     const markring_slot_rewrite *rewrite, uint64_t end, markring_slot_copying *copying);
 
@@ -145,12 +147,12 @@ int markring_slots_rewrite_copy(
 void markring_slots_rewrite_copied(
     markring_slot_rewrite *rewrite, uint64_t end, uint64_t from_seal, uint64_t seal);
 
-// The entry that ends a rewrite, behind its copies: 1 and where; or 0, as markring_slots_entry, or if
-// the rewrite is over, or hasn't copied all entries.
+// The entry that ends a rewrite, behind its copies: 1 and its place; or 0, as markring_slots_entry,
+// or if the rewrite is over, or hasn't copied all entries.
 int markring_slots_last(markring_slots *slots, const markring_slot_rewrite *rewrite,
     uint64_t length, markring_slot_target *place);
 
-// Where the head goes, once the entry that ends a rewrite was stored: 1; or 0 if none is due.
+// The place of the head, once the entry that ends a rewrite was stored: 1; or 0 if none is due.
 int markring_slots_head(const markring_slots *slots, markring_slot_target *place);
 
 // # Openings
@@ -190,7 +192,7 @@ int markring_slots_choose(const markring_slot_found *first, const markring_slot_
 // How many saves have to be whole values, since a slot is of version 1, if the first of these counts.
 int markring_slots_wholes_due(const markring_slot_found *counts, const markring_slot_found *other);
 
-// The slots of a folder in which this one counts: where what was found in it ends, its last seal, and
+// The slots of a folder in which this one counts: the end of what was found in it, its last seal, and
 // the seal and the length of its value.
 void markring_slots_open(markring_slots *slots, uint8_t slot, const markring_slot_found *found,
     uint64_t end, uint64_t seal, uint64_t base, uint64_t length);

@@ -1,5 +1,5 @@
-// The calls of markring_slots.h, over random histories of folders on a model of a disk: entries, whole
-// values and rewrites are saved, writes and syncs fail, the process or the machine ends at any moment,
+// The calls of markring_slots.h, over random histories of folders on a model of a disk. Entries, whole
+// values and rewrites are saved; writes and syncs fail. The process or the machine ends at any moment,
 // and the folder is opened again. Each byte is known by what it is a byte of, and one that was written
 // since the last sync of its file may be lost or torn. What is found must be what was saved last, or
 // was being saved. Then come the choices between any two slots, against the rules of docs/FORMATS.md.
@@ -14,8 +14,8 @@ enum { VALUE_AROUND = 28, ENTRY_AROUND = 24, NONE = -1 };
 
 typedef enum kind { VALUE, ENTRY, MARKED } kind;
 
-// What is written with a seal, which is its place in `items`: its bytes, number and the seal before;
-// of an entry and a mark, the value that it is of; which save it holds, and of an entry, since which.
+// What is written with a seal, which is its place in `items`: its bytes, its number, and the seal
+// before. Of an entry and a mark: the value that it is of. Which save it holds; an entry, since which.
 typedef struct item {
     kind is;
     size_t size;

@@ -1,4 +1,4 @@
-//! The calls of `include/markring_slots.h`: where a folder keeps what is saved. What they decide is
+//! The calls of `include/markring_slots.h`: how a folder keeps what is saved. What they decide is
 //! in the crate `slots`.
 ghost use Rattle.std.specs.Prelude.{◌≡◌, pos};
 ghost use Rattle.slots.specs.Decisions.{after_copies, after_entry, after_failure, after_last};
@@ -36,7 +36,7 @@ pub extern "C" fn markring_slots_open(
     *slots = Slots::open(slot, found, end, seal, base, length);
 }
 
-/// Where an entry is to be written: 1, or 0 if none may be added.
+/// The place of an entry that is to be saved: 1, or 0 if none may be added.
 #[unsafe(no_mangle)]
 pub extern "C" fn markring_slots_entry(slots: &mut Slots, length: u64, place: &mut Target) -> i32
     ensures place { Gives (entry_place slots.old length) place.old place.new result }
@@ -50,7 +50,7 @@ pub extern "C" fn markring_slots_entry(slots: &mut Slots, length: u64, place: &m
     0
 }
 
-/// Where a whole value is to be written: 1, or 0 if none may be.
+/// The place of a whole value that is to be saved: 1, or 0 if none may be.
 #[unsafe(no_mangle)]
 pub extern "C" fn markring_slots_whole(slots: &mut Slots, length: u64, place: &mut Target) -> i32
     ensures place { Gives (whole_place slots.old length) place.old place.new result }
@@ -64,7 +64,7 @@ pub extern "C" fn markring_slots_whole(slots: &mut Slots, length: u64, place: &m
     0
 }
 
-/// Where the entry that ends a rewrite is to be written: 1, or 0 if it can't be ended.
+/// The place of the entry that ends a rewrite: 1, or 0 if it can't be ended.
 #[unsafe(no_mangle)]
 pub extern "C" fn markring_slots_last(
     slots: &mut Slots,
@@ -83,7 +83,7 @@ pub extern "C" fn markring_slots_last(
     0
 }
 
-/// Where the head of a rewrite is to be written: 1, or 0 if none is under way.
+/// The place of the head of a rewrite: 1, or 0 if none is under way.
 #[unsafe(no_mangle)]
 pub extern "C" fn markring_slots_head(slots: &Slots, place: &mut Target) -> i32
     ensures { Gives (head_place slots.now) place.old place.new result }
@@ -121,7 +121,7 @@ pub extern "C" fn markring_slots_doubt(slots: &mut Slots)
     slots.doubt();
 }
 
-/// Where zeros may be written: 1, or 0 if no entry is under way.
+/// The offset from which on zeros may be written: 1, or 0 if no entry is under way.
 #[unsafe(no_mangle)]
 pub extern "C" fn markring_slots_zeros(slots: &Slots, offset: &mut u64) -> i32
     ensures { Gives (zeros_at slots.now) offset.old offset.new result }
@@ -161,7 +161,7 @@ pub extern "C" fn markring_slots_rewrite(slots: &mut Slots, rewrite: &mut Rewrit
     0
 }
 
-/// Where the value of a rewrite is to be written: 1, or 0 if it is already, or too long.
+/// The place of the value of a rewrite: 1, or 0 if it is written already, or too long.
 #[unsafe(no_mangle)]
 pub extern "C" fn markring_slots_rewrite_value(
     rewrite: &Rewrite,

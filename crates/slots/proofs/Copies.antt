@@ -6,7 +6,7 @@ use Rattle.slots.specs.Disk.{with_item, Content, Entry, Item, Of, Other, Reading
 use Rattle.slots.proofs.Disk.{IsWhole}
 use Rattle.slots.proofs.Reading.{next-true, tail, together-with, Chain, Fits, GoesTogether, IsKnown}
 
--- ---- items that go together, wherever they are
+-- ---- items that go together, in any file
 
 pub record IsNext (r : Reading) (y : Item) : Type 0 where
   pub fits : Fits r y

@@ -209,7 +209,7 @@ outside-below w k below = go (leb w.from k) refl
 pub same-below : (w : Write) (c d : Content) → Makes w c d → (k : ℕ) → k < w.from → d k ≡ c k
 same-below w c d makes k below = (makes k).outside (outside-below w k below)
 
--- an item is whole where it was put
+-- an item that was put is whole there
 pub put-whole : (x : Item) (at : ℕ) (c : Content) → 0 < x.size
     → IsWhole (put (written x at) c) at x
 put-whole x at c some = record {

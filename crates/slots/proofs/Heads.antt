@@ -50,7 +50,7 @@ head-twice v c d makes k =
     w : Write
     w = head_of v
 
--- where the value is whole, its head is there
+-- if the value is whole, its head is there
 head-there : (v : Item) (c d : Content) → Makes (head_of v) c d → HEAD ≤ v.size
     → IsWhole d 0 v
     → AreEqual (put (head_of v) c) d

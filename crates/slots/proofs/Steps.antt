@@ -56,7 +56,7 @@ file-beside P files i slot f two is p =
 
 -- ---- an entry begins
 
--- An item of which there is no byte is whole only where it was written.
+-- An item of which there is no byte is whole at no other place than the one it is written to.
 place-of : (x : Item) (from at number fresh : ℕ) (c d : Content) → AreGood number fresh c
     → x.seal ≡ fresh
     → Makes (written x from) c d

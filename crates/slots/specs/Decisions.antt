@@ -1,5 +1,5 @@
--- Where saves are written, and what is so of the slots after each call. All numbers are below
--- 2 ^ 64.
+-- The places to which saves are written, and what is so of the slots after each call. All numbers
+-- are below 2 ^ 64.
 use Rattle.std.specs.Prelude.{ℕ, ◌+◌, ◌-◌, Bool, ◌&&◌, ◌||◌, not, cond, nat_lt, nat_le, ◌==◌, Option, Some, None}
 use Rattle.slots.specs.declared.saving.TheConstants.{DUE, ENTRY, ENTRY_HEAD, HEAD, IDLE, LAST, MOST, NUMBERS, TAIL, TOP, UNSURE, WHOLE}
 use Rattle.slots.specs.declared.saving.Slots.{Slots}
@@ -9,7 +9,7 @@ use Rattle.slots.specs.declared.rewrite.Rewrite.{Rewrite}
 use Rattle.slots.specs.declared.rewrite.Copying.{Copying}
 use Rattle.slots.specs.declared.opening.Found.{Found}
 
--- how many bytes a value and an entry of this length have, with what stands around them
+-- how many bytes a value and an entry of this length have, with what is around them
 abbrev pub value_size : ℕ → ℕ
 value_size length = HEAD + length + TAIL
 

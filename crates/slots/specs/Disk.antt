@@ -17,7 +17,7 @@ pub data Kind : Type 0 where
 -- Something that is written with a seal. All seals are different.
 pub record Item : Type 0 where
   pub kind : Kind
-  -- its bytes, with what stands around it
+  -- its bytes, with what is around it
   pub size : ℕ
   pub number : ℕ
   pub seal : ℕ
@@ -121,7 +121,7 @@ whole_if c from Other = None
 abbrev pub whole_at : Content → ℕ → Option Item
 whole_at c from = whole_if c from (c from)
 
--- What was read of a file: what the crate knows of it; the last item, where it ends, and what was
+-- What was read of a file: what the crate knows of it; the last item, the offset behind it, and what was
 -- saved with it. That is 0 if what was read doesn't go together.
 pub record Reading : Type 0 where
   pub found : Found
@@ -150,7 +150,7 @@ behind_if r (Some y) = cond (fits_behind r y) (Some y) None
 abbrev pub next_of : Content → Reading → Option Item
 next_of c r = behind_if r (whole_at c r.end)
 
--- reads entries, at most so many
+-- reads entries, at most this many
 abbrev pub read_on : ℕ → Content → Reading → Reading
 read_on zero c r = r
 read_on (suc n) c r = elim (next_of c r) as (λ o. Reading) [ None ↦ r | Some y ↦ read_on n c (with_item r y) ]

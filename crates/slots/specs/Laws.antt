@@ -29,7 +29,7 @@ NeverDamaged h = (s : Sight) → choice_of h s ≢ choice.Damaged
 abbrev pub reading_of : ℕ → Content → List Look → Reading
 reading_of most c looks = looked_all c (read most c) looks
 
--- The reader looks where a mark is, which is whole, and of the value that was read.
+-- The reader looks at the place of a mark, which is whole, and of the value that was read.
 pub record SeesMark (most : ℕ) (c : Content) (looks : List Look) (m : Item) : Type 0 where
   pub at : ℕ
   pub look : Contains looks (ForMark at)

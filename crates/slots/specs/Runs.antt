@@ -343,7 +343,8 @@ if_rests h change = by_rewrite h h.beside (λ b. cond (rests b.doing) (change b)
 
 -- ---- openings
 
--- what an opening may find: what a crash has left of each byte, and where the reader looks
+-- what an opening may find: what a crash has left of each byte, and to what
+-- places the reader looks
 pub record Sight : Type 0 where
   pub first : Fates
   pub second : Fates
@@ -404,7 +405,7 @@ pub data Step : Type 0 where
   Fail : Step
   Doubt : Step
   -- A rewrite begins, and any other one is over. Its value of this length is written; then copies of
-  -- so many of the entries that were stored meanwhile. What it writes is synced before it goes on.
+  -- this many of the entries that were stored meanwhile. What it writes is synced before it goes on.
   -- Or it is given up.
   StartRewrite : Step
   WriteValue : ℕ → Step

@@ -1,8 +1,8 @@
-//! Where a folder keeps what is saved: two files, its slots. Each holds a whole value and entries
+//! How a folder keeps what is saved: in two files, its slots. Each holds a whole value and entries
 //! behind it, which say what has changed since. One slot counts; the other one holds something
 //! older, or what is being written.
 //!
-//! This crate calls no system and computes no checksum. It says where each save is written and
+//! This crate calls no system and computes no checksum. It says to which place each save goes and
 //! which slot counts ([`Slots`]), also while a rewrite makes a whole value beside ([`Rewrite`]),
 //! and what an opening finds ([`Found`], [`choose`]). A host, in Rattle or by
 //! `include/markring_slots.h`, writes and syncs what it is told to, in that order. It seals each

@@ -4,8 +4,8 @@ ghost use Rattle.slots.specs.Decisions.{after_copies, after_value, copying, valu
 
 use crate::saving::{HEAD, MOST, TAIL, Target, other};
 
-/// A rewrite. It may be used by another thread than [`Slots`](crate::Slots), which says where it
-/// begins and ends it.
+/// A rewrite. It may be used by another thread than [`Slots`](crate::Slots), which begins and ends
+/// it.
 #[repr(C)]
 #[derive(Clone, Copy)]
 pub struct Rewrite {
@@ -13,11 +13,11 @@ pub struct Rewrite {
     pub turn: u64,
     /// The number of the last save that its value holds.
     pub number: u64,
-    /// In the slot that counts: up to where it has copied, and the seal before that.
+    /// In the slot that counts: the offset up to which it has copied, and the seal before that.
     pub from_end: u64,
     pub from_seal: u64,
     /// In the other slot: the seal of its value, that of the last copy, the length of the value,
-    /// and where the next copy goes. All are 0 before the value is written.
+    /// and the offset of the next copy. All are 0 before the value is written.
     pub base: u64,
     pub seal: u64,
     pub length: u64,
@@ -26,7 +26,7 @@ pub struct Rewrite {
     pub from: u8,
 }
 
-/// Bytes of entries that are copied: how many, from which offset of which slot, and where to.
+/// Bytes of entries that are copied: how many, and from which offset of which slot to which.
 #[repr(C)]
 #[derive(Clone, Copy)]
 pub struct Copying {
@@ -38,8 +38,8 @@ pub struct Copying {
 }
 
 impl Rewrite {
-    /// Its value, of this length, is to be written. Says where; but the head isn't written now:
-    /// zeros are, in its place. `None` if the value is written already, or too long.
+    /// Its value, of this length, is to be written. Says at what place; but the head isn't written
+    /// now: zeros are, in its place. `None` if the value is written already, or too long.
     pub fn value(&self, length: u64) -> Option<Target>
         ensures { result ≡ value_place self.now length }
     {
@@ -68,7 +68,7 @@ impl Rewrite {
     }
 
     /// What is to be copied of the entries up to this offset of the slot that counts, which is
-    /// where an entry ended that is stored. `None` if no value is written, or the copies would end
+    /// the end of an entry that is stored. `None` if no value is written, or the copies would end
     /// beyond what a file may have, or more is copied already.
     pub fn copy(&self, end: u64) -> Option<Copying>
         ensures { result ≡ copying self.now end }

@@ -9,11 +9,11 @@ ghost use Rattle.slots.specs.Decisions.{unsure, whole_place, zeros_at};
 use crate::opening::Found;
 use crate::rewrite::Rewrite;
 
-/// What stands around a value: its head, and its seal.
+/// What is around a value: its head, and its seal.
 pub const HEAD: u64 = 20;
 
 pub const TAIL: u64 = 8;
-/// What stands before an entry.
+/// What is before an entry.
 pub const ENTRY_HEAD: u64 = 16;
 /// No save has this number or a later one.
 pub const NUMBERS: u64 = 1 << 48;
@@ -41,7 +41,7 @@ pub const UNSURE: u8 = 6;
 pub struct Slots {
     /// The number of the last save, also of one that failed.
     pub number: u64,
-    /// In the slot that counts: where the next entry begins, the seal before it, the seal of the
+    /// In the slot that counts: the offset of the next entry, the seal before it, the seal of the
     /// value, and how long the value is.
     pub end: u64,
     pub seal: u64,
@@ -60,8 +60,8 @@ pub struct Slots {
     pub phase: u8,
 }
 
-/// Where something is written: its slot (0 or 1), its offset, and for a save its number, and the
-/// seal before it with which its own begins (0 if it is a value).
+/// The place of something that is written: its slot (0 or 1), its offset, and for a save its
+/// number, and the seal before it with which its own begins (0 if it is a value).
 #[repr(C)]
 #[derive(Clone, Copy)]
 pub struct Target {
@@ -71,7 +71,7 @@ pub struct Target {
     pub slot: u8,
 }
 
-/// A mark, which shows that a save was synced: where it is written, the number of the save, the
+/// A mark, which shows that a save was synced: its slot and offset, the number of the save, the
 /// length of the value, and the seal of the value, with which the mark's own begins.
 #[repr(C)]
 #[derive(Clone, Copy)]
@@ -133,15 +133,16 @@ impl Slots {
         }
     }
 
-    // Whether a save of this length has a number, and ends where a file may.
+    // Whether a save of this length has a number, and ends within what a file may have.
     fn fits(&self, end: u64, length: u64) -> bool
         ensures { result ≡ fits self.now end length }
     {
         self.number < NUMBERS && self.turns < NUMBERS && end <= MOST && length <= MOST
     }
 
-    /// An entry of this length is to be saved. Says where; `None` if that can't be: a save is under
-    /// way, or the next one has to be a whole value, or a limit is reached. Then nothing changes.
+    /// An entry of this length is to be saved. Says at what place; `None` if that can't be: a save
+    /// is under way, or the next one has to be a whole value, or a limit is reached. Then nothing
+    /// changes.
     pub fn entry(&mut self, length: u64) -> Option<Target>
         ensures place { result ≡ entry_place self.old length }
         ensures after { self.new ≡ after_entry self.old length }
@@ -160,9 +161,9 @@ impl Slots {
         })
     }
 
-    /// A whole value of this length is to be saved. Says where; `None` if that can't be: a save is
-    /// under way, or a sync has failed, or a limit is reached. Then nothing changes. Otherwise
-    /// every rewrite is over.
+    /// A whole value of this length is to be saved. Says at what place; `None` if that can't be: a
+    /// save is under way, or a sync has failed, or a limit is reached. Then nothing changes.
+    /// Otherwise every rewrite is over.
     pub fn whole(&mut self, length: u64) -> Option<Target>
         ensures place { result ≡ whole_place self.old length }
         ensures after { self.new ≡ after_whole self.old length }
@@ -184,9 +185,9 @@ impl Slots {
     }
 
     /// The copies of a rewrite that are left, and behind them an entry of this length, are to be
-    /// saved. Says where the entry is written; `None` if that can't be: as for [`Slots::entry`], or
-    /// the rewrite is over or has no value yet, or there are more entries than it has copied. Then
-    /// nothing changes.
+    /// saved. Says at what place the entry is written; `None` if that can't be: as for
+    /// [`Slots::entry`], or the rewrite is over or has no value yet, or there are more entries than
+    /// it has copied. Then nothing changes.
     pub fn last(&mut self, with: &Rewrite, length: u64) -> Option<Target>
         ensures place { result ≡ last_place self.old with.now length }
         ensures after { self.new ≡ after_last self.old with.now length }
@@ -239,7 +240,7 @@ impl Slots {
         }
     }
 
-    /// Where the head of a rewrite is to be written, once the entry that ends it is stored. `None`
+    /// The place of the head of a rewrite, once the entry that ends it is stored. `None`
     /// if none is under way.
     pub fn head(&self) -> Option<Target>
         ensures { result ≡ head_place self.now }
@@ -277,8 +278,8 @@ impl Slots {
         self.phase = UNSURE;
     }
 
-    /// Where zeros may be written that make the file longer than the entry under way does: from
-    /// this offset on, in the slot that counts. `None` if no entry is under way.
+    /// Zeros may be written that make the file longer than the entry under way does: from this
+    /// offset on, in the slot that counts. `None` if no entry is under way.
     pub fn zeros(&self) -> Option<u64>
         ensures { result ≡ zeros_at self.now }
     {
