@@ -10,7 +10,7 @@ ghost use Rattle.slots.specs.Openings.{chosen, due_wholes, is_next, with_behind,
 ghost use Rattle.slots.specs.Openings.{with_mark, with_value};
 ghost use Rattle.markring_c.specs.Slots.{choice_number, flag_number, Gives};
 
-use slots::{Choice, Copying, Found, Mark, Target, Rewrite, Slots, choose, wholes_due};
+use slots::{Choice, Copying, Found, Mark, Rewrite, Slots, Target, choose, wholes_due};
 
 /// The slots of a new folder.
 #[unsafe(no_mangle)]

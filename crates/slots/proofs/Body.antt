@@ -8,7 +8,8 @@ use Rattle.slots.proofs.Copies.{chain-both, chain-written, tail-both, written-kn
 use Rattle.slots.proofs.Disk.{outside-below, put-makes, Makes}
 use Rattle.slots.proofs.Reading.{all_read, begins-same, begins-together, tail, tail-end, AreSame, Begins, IsKnown, Only, Nothing}
 
--- A slot that begins so once the head is written. No entry belongs there but those up to this last one.
+-- A slot that begins so once the head is written. No entry belongs there but those up to this
+-- last one.
 pub record IsBody (c : Content) (v : Item) (ys : List Item) : Type 0 where
   pub begins : Begins (put (head_of v) c) v ys
   pub headless : (n : ℕ) (x : Item) → c 0 ≡ Of x n → x.base ≢ v.seal
@@ -108,14 +109,19 @@ pub body-first : (v : Item) (c : Content) → v.kind ≡ Value → v.base ≡ v.
     → IsBody (put (without_head v) c) v []
 body-first v c kind own large old = record {
   begins = record {
-    value = record { head = byte 0 (omega (arith, large)); all = λ n below. ap (put (head_of v) d) (plus n) ∙ byte n below };
+    value = record {
+      head = byte 0 (omega (arith, large));
+      all = λ n below. ap (put (head_of v) d)
+          (plus n) ∙ byte n below;
+    };
     kind = kind;
     own = own;
     some = omega (arith, large);
     chain = tt;
   };
   headless = λ n x e.
-      absurd (none-of n x (sym (put-there (without_head v) c 0 (omega arith) (omega (arith, large))) ∙ e));
+      absurd (none-of n x (sym
+      (put-there (without_head v) c 0 (omega arith) (omega (arith, large))) ∙ e));
   known = λ k n y e is base.
       absurd
       (⊎_elim {C = ⊥} (λ (same : d k ≡ c k). old k n y (sym same ∙ e) is base)

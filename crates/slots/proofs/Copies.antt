@@ -121,7 +121,8 @@ next-seal r (x ∷ xs) all =
 
 pub next-number : (r : Reading) (xs : List Item) → r.found.number ≡ r.last.number
     → AreNext r xs
-    → (r.last.number ≤ (tail r xs).last.number) × ((tail r xs).found.number ≡ (tail r xs).last.number)
+    → (r.last.number ≤ (tail r xs).last.number) ×
+    ((tail r xs).found.number ≡ (tail r xs).last.number)
 next-number r [] same all = (omega arith, same)
 next-number r (x ∷ xs) same all =
     let is : (with_item r x).found.number ≡ x.number = taken r x all.0.fits in
@@ -299,7 +300,8 @@ copied r fresh (x ∷ xs) g below all =
     } in
     let next : IsNext r y =
     record { fits = fits; since = all.0.since ∙ sym g.holds; newer = below; some = all.0.some } in
-    let rest = copied (with_item r y) (fresh + 1) xs (together-next r y g next) (omega arith) all.1 in
+    let rest = copied (with_item r y) (fresh + 1) xs (together-next r y g next) (omega arith)
+    all.1 in
     let under = rest.below in
     record {
       next = (next, rest.next);

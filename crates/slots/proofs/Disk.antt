@@ -28,7 +28,8 @@ both-same x y a b c d e f g h =
     ap (λ (z : Kind). record x { kind = z }) a
     ∙ ap (λ (z : ℕ). record x { kind = y.kind; size = z }) b
     ∙ ap (λ (z : ℕ). record x { kind = y.kind; size = y.size; number = z }) c
-    ∙ ap (λ (z : ℕ). record y { seal = z; before = x.before; base = x.base; save = x.save; since = x.since }) d
+    ∙ ap (λ (z : ℕ). record y
+    { seal = z; before = x.before; base = x.base; save = x.save; since = x.since }) d
     ∙ ap (λ (z : ℕ). record y { before = z; base = x.base; save = x.save; since = x.since }) e
     ∙ ap (λ (z : ℕ). record y { base = z; save = x.save; since = x.since }) f
     ∙ ap (λ (z : ℕ). record y { save = z; since = x.since }) g

@@ -20,7 +20,8 @@ use Rattle.slots.proofs.Sound.{last_read, under_of, view_of, All, AtCopies, AtRe
 use Rattle.slots.proofs.Steps.{file-beside}
 use Rattle.slots.proofs.Rewrites.{resting, ahead-of, items-bring, Ahead}
 
-last-tail : (R : Reading) (cs : List Item) (x : Item) → tail R (cs ++ x ∷ []) ≡ with_item (tail R cs) x
+last-tail : (R : Reading) (cs : List Item) (x : Item) → tail R (cs ++ x ∷ []) ≡ with_item
+    (tail R cs) x
 last-tail R cs x = tail-both R cs (x ∷ [])
 
 -- what is known of the rewrite that this save ends
@@ -162,7 +163,8 @@ ends-all h s b bytes e = record {
 
     number : T.last.number ≡ h.slots.number
     number =
-        C.number ∙ ap (λ (n : ℕ). last_number n b.rest) (sym e.ready.number) ∙ e.leads.last ∙ sym idle
+        C.number ∙ ap (λ (n : ℕ). last_number n b.rest) (sym e.ready.number) ∙ e.leads.last ∙ sym
+        idle
 
     save : T.last.save ≡ h.stored
     save = C.save ∙ ap (λ (n : ℕ). last_save n b.rest) (sym e.ready.save) ∙ e.leads.save

@@ -122,7 +122,8 @@ counts-last a b e =
       ltb-false a.number b.synced (not-true (ltb a.number b.synced) parts.1),
     )
 
-first-last : (a b : Found) → chosen a b ≡ choice.First → (a.synced ≤ a.number) × (b.synced ≤ a.number)
+first-last : (a b : Found) → chosen a b ≡ choice.First → (a.synced ≤ a.number) ×
+    (b.synced ≤ a.number)
 first-last a b e = go (counts a b) (counts b a) refl e
   where
     go : (x y : Bool) → counts a b ≡ x

@@ -367,7 +367,8 @@ has-read z s f =
           };
           only =
               subst (λ (r : Reading). Only Nothing c r) (sym more)
-              (only-more (IsBegun s.bounds.middle z.begun) c (last_read s) y only all.number behind);
+              (only-more (IsBegun s.bounds.middle z.begun) c (last_read s) y only all.number
+              behind);
           low =
               subst (λ (r : Reading). (last_read s).last.number ≤ r.last.number) (sym more)
               (omega (arith, next, same));

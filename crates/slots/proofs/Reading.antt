@@ -197,7 +197,8 @@ read-next : (n : ℕ) (c : Content) (r : Reading) (y : Item) → next_of c r ≡
     → read_on (suc n) c r ≡ read_on n c (with_item r y)
 read-next n c r y is =
     ap
-    (λ (o : Option Item). elim o as (λ o. Reading) [ None ↦ r | Some z ↦ read_on n c (with_item r z) ])
+    (λ (o : Option Item). elim o as (λ o. Reading)
+    [ None ↦ r | Some z ↦ read_on n c (with_item r z) ])
     is
 
 pub read-chain : (n m : ℕ) (c : Content) (r : Reading) (ys : List Item) → Chain c r ys

@@ -278,7 +278,8 @@ value-cell : (v : Item) (number fresh k n : ℕ) (c d : Content) (x : Item)
     → d k ≡ Of x n
     → (Good number fresh x) ⊎ (v ≡ x)
 value-cell v number fresh k n c d x makes old is =
-    ⊎_elim {C = Good number fresh x ⊎ (v ≡ x)} (λ (same : d k ≡ c k). inl (old k n x (sym same ∙ is)))
+    ⊎_elim {C = Good number fresh x ⊎ (v ≡ x)}
+    (λ (same : d k ≡ c k). inl (old k n x (sym same ∙ is)))
     (λ (new : (d k ≡ (without_head v).bytes k) ⊎ (d k ≡ Other)).
     ⊎_elim {C = Good number fresh x ⊎ (v ≡ x)}
     (λ (this : d k ≡ (without_head v).bytes k). inr (value-of-bytes v k n x (sym this ∙ is)))
@@ -291,7 +292,12 @@ value-news : (h : Folder) (s : IsSound h) (b : Beside) (bytes : ℕ) (place : Ta
     → IsStarted (record b { rest = [] }) r
     → LeadsTo h.stored (last_read s.all.holds.sound).last.number h.slots.end r b.rest
     → (b.state.from ≡ h.slots.counts) × (leb bytes MOST ≡ true)
-    × (place ≡ record { offset = 0; number = b.state.number; before = 0; slot = other b.state.from })
+    × (place ≡ record {
+      offset = 0;
+      number = b.state.number;
+      before = 0;
+      slot = other b.state.from;
+    })
     → News h s
     (record b {
       value = value_of h b bytes place;
@@ -442,7 +448,8 @@ value-sound h s b bytes is rest = go (may_write b.state bytes) refl
         let n = value-news h s b bytes place is w.reached started w.leads (w.from, fits, refl) in
         let there = ap other w.from in
         subst (λ (f : File). IsSound (with_news h place.slot f new (h.fresh + 1)))
-        (ap (λ (i : ℕ). with_write (h.files i) (without_head (value_of h b bytes place))) (sym there))
+        (ap (λ (i : ℕ). with_write (h.files i) (without_head (value_of h b bytes place)))
+        (sym there))
         (news-sound h s b new is n place.slot there)
     by-part first fits (AtRest ready) =
         let none = eqb-true b.state.end 0 first in
@@ -492,7 +499,8 @@ ahead-of h s b es r ready below on = record {
   base = base;
   together = together;
   value =
-      let grows = tail-seal (put (head_of b.value) c) (first_read b.value) b.copies body.begins.chain in
+      let grows = tail-seal (put (head_of b.value) c) (first_read b.value) b.copies
+      body.begins.chain in
       omega (arith, grows);
   above = tail-end (first_read b.value) b.copies;
 }
@@ -701,7 +709,8 @@ copies-news h s b count is r ready leads with_it = record {
 
     number_low : T.last.number ≤ (last_read k0).last.number + 1
     number_low =
-        let grows = go-grows (last_save r.save es) (last_number r.number es) (drop count b.rest) p.rest_on in
+        let grows = go-grows (last_save r.save es) (last_number r.number es) (drop count b.rest)
+        p.rest_on in
         let last = leads.last in
         let same = p.number_is in
         omega (arith, grows, last, same, number)
@@ -758,7 +767,8 @@ copies-sound h s b count is rest = go (may_copy b.state end) refl
         let n = copies-news h s b count is w.reached ready w.leads (w.from, w.below, fits) in
         let there = ap other w.from in
         subst
-        (λ (f : File). IsSound (with_news h place.to_slot f new (h.fresh + length (take count b.rest))))
+        (λ (f : File). IsSound
+        (with_news h place.to_slot f new (h.fresh + length (take count b.rest))))
         (ap
         (λ (i : ℕ).
         with_write (h.files i) (all_written (new_copies h b (take count b.rest)) b.state.end))

@@ -586,7 +586,8 @@ passed-here z s number above f y whole =
     subst (IsPassed number c) (whole-alone c 0 s.value y b.value whole)
     (record {
       value =
-          let grows = tail-number c (first_read s.value) s.entries (together-first s.value) b.chain in
+          let grows = tail-number c (first_read s.value) s.entries (together-first s.value)
+          b.chain in
           let low = s.low in
           omega (arith, grows, low, above);
       entries = λ at x kind base inside.

@@ -163,8 +163,8 @@ under_of h = record {
   beside = h.beside;
 }
 
--- Up to what a rewrite has copied: a save, its number, the offset behind it; and the last seal of the
--- copies.
+-- Up to what a rewrite has copied: a save, its number, the offset behind it; and the last seal of
+-- the copies.
 pub record Reached : Type 0 where
   pub save : ℕ
   pub number : ℕ

@@ -174,7 +174,8 @@ adds-holds h bytes all idle = record {
 
     s1 : Sound (record z { number = number; fresh = z.fresh + 1; begun = z.fresh ∷ z.begun })
     s1 =
-        sound-begin z s b number z.fresh (z.fresh + 1) (omega arith) grown (omega arith) (omega arith)
+        sound-begin z s b number z.fresh (z.fresh + 1) (omega arith) grown (omega arith)
+        (omega arith)
         (λ c y ahead.
         let above = ahead.middle in
         let below = ahead.top in
@@ -365,7 +366,8 @@ replaces-holds h bytes all may = record {
 
     s1 : Sound (record z { number = number; fresh = z.fresh + 1; begun = z.fresh ∷ z.begun })
     s1 =
-        sound-begin z s b number z.fresh (z.fresh + 1) (omega arith) (omega arith) (omega (arith, middle)) (omega arith)
+        sound-begin z s b number z.fresh (z.fresh + 1) (omega arith) (omega arith)
+        (omega (arith, middle)) (omega arith)
         (λ c y a. record {
           entries = a.entries;
           begins = a.begins;
@@ -521,7 +523,8 @@ replace-sound h bytes s = go (may_replace h.slots bytes) refl
         elim (cond b (Some (place_beside h)) None) as (λ o. Folder) [
           | None ↦ h
           | Some place ↦
-              record (begins h (cond b (replacing h.slots bytes) h.slots) place (new_whole h bytes place)) {
+              record (begins h (cond b (replacing h.slots bytes) h.slots) place
+              (new_whole h bytes place)) {
                 beside = None;
               }
         ]

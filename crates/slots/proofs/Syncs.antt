@@ -291,7 +291,11 @@ settle-sound h s b fates is = by-part w.part
         IsSound
         (record (with_file h b.to (synced_after b.write fates (h.files b.to))) {
           beside = Some
-              (record b { state = cond t state b.state; copies = b.copies ++ b.next; doing = Rests });
+              (record b {
+                state = cond t state b.state;
+                copies = b.copies ++ b.next;
+                doing = Rests;
+              });
         }))
         (sym c.fits)
         (subst

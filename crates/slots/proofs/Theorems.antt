@@ -401,8 +401,10 @@ stored-alone h fates s k saving =
     only-one h.item.save (step (step h (Store fates)) (Open s)).stored
     (subst
     (λ (b : Folder). Contains (b.stored ∷ b.begun) (step (step h (Store fates)) (Open s)).stored)
-    (ap (λ (b : Bool). cond b (ends h fates) (cond (eqb h.slots.phase LAST) (tops h fates) h)) saving)
+    (ap (λ (b : Bool). cond b (ends h fates) (cond (eqb h.slots.phase LAST) (tops h fates) h))
+    saving)
     (open-any (step h (Store fates)) s (store-sound h fates k)).finds)
 
 pub finds-stored : OfEveryRun FindsStored
-finds-stored = of-every-run FindsStored (λ h s saving fates sight. stored-alone h fates sight s saving)
+finds-stored = of-every-run FindsStored
+    (λ h s saving fates sight. stored-alone h fates sight s saving)

@@ -23,7 +23,8 @@ without_head x =
 abbrev pub head_of : Item → Write
 head_of x = record { from = 0; count = HEAD; bytes = Of x }
 
--- Copies of entries, for another value, behind this seal. Their own seals are the ones from here on.
+-- Copies of entries, for another value, behind this seal. Their own seals are the ones from here
+-- on.
 abbrev pub copies_of : (base before fresh : ℕ) → List Item → List Item
 copies_of base before fresh [] = []
 copies_of base before fresh (x ∷ xs) =

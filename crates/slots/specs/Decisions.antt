@@ -191,7 +191,12 @@ ending s r length =
 abbrev pub last_place : Slots → Rewrite → ℕ → Option Target
 last_place s r length =
     cond (may_end s r length)
-    (Some (record { offset = r.end; number = s.number + 1; before = r.seal; slot = other s.counts }))
+    (Some (record {
+      offset = r.end;
+      number = s.number + 1;
+      before = r.seal;
+      slot = other s.counts;
+    }))
     None
 
 abbrev pub after_last : Slots → Rewrite → ℕ → Slots

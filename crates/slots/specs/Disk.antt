@@ -121,8 +121,8 @@ whole_if c from Other = None
 abbrev pub whole_at : Content → ℕ → Option Item
 whole_at c from = whole_if c from (c from)
 
--- What was read of a file: what the crate knows of it; the last item, the offset behind it, and what was
--- saved with it. That is 0 if what was read doesn't go together.
+-- What was read of a file: what the crate knows of it; the last item, the offset behind it, and
+-- what was saved with it. That is 0 if what was read doesn't go together.
 pub record Reading : Type 0 where
   pub found : Found
   pub last : Item
@@ -153,7 +153,8 @@ next_of c r = behind_if r (whole_at c r.end)
 -- reads entries, at most this many
 abbrev pub read_on : ℕ → Content → Reading → Reading
 read_on zero c r = r
-read_on (suc n) c r = elim (next_of c r) as (λ o. Reading) [ None ↦ r | Some y ↦ read_on n c (with_item r y) ]
+read_on (suc n) c r = elim (next_of c r) as (λ o. Reading)
+    [ None ↦ r | Some y ↦ read_on n c (with_item r y) ]
 
 abbrev pub no_item : Item
 no_item = record {

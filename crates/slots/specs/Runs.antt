@@ -404,9 +404,9 @@ pub data Step : Type 0 where
   -- its write has failed; or a sync has
   Fail : Step
   Doubt : Step
-  -- A rewrite begins, and any other one is over. Its value of this length is written; then copies of
-  -- this many of the entries that were stored meanwhile. What it writes is synced before it goes on.
-  -- Or it is given up.
+  -- A rewrite begins, and any other one is over. Its value of this length is written; then copies
+  -- of this many of the entries that were stored meanwhile. What it writes is synced before it
+  -- goes on. Or it is given up.
   StartRewrite : Step
   WriteValue : ℕ → Step
   WriteCopies : ℕ → Step

@@ -3,10 +3,11 @@
 ghost use Rattle.slots.specs.Laws.{FindsLast, FindsStored, MarksHold, NeverDamaged};
 ghost use Rattle.slots.specs.Runs.{OfEveryRun};
 
-/// The theorems. They hold after any list of steps of a new folder. These are saves of entries and
-/// of whole values, and rewrites while entries are saved; writes and syncs of these that fail; marks;
-/// the end of the process or of the machine at any moment; and openings. A crash leaves of each byte
-/// that was written since the last sync of its file what was there, what was written, or any other.
+/// The theorems. They hold after any list of steps of a new folder. These are saves of entries
+/// and of whole values, and rewrites while entries are saved; writes and syncs of these that
+/// fail; marks; the end of the process or of the machine at any moment; and openings. A crash
+/// leaves of each byte that was written since the last sync of its file what was there, what was
+/// written, or any other.
 ///
 /// The premise is that no torn write has a right seal, and that a seal fits only what it was made
 /// over. A new folder is one whose first save is stored; its values have the second version.
