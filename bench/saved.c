@@ -62,7 +62,7 @@ static void save(void *context, store_value *value)
 {
     (void)context;
     store_status status = store_save(&at, value);
-    host_saved(it, now, status, at.number);
+    host_saved(it, now, status, at.state.number);
 }
 
 static double seconds(void)
