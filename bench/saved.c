@@ -123,7 +123,7 @@ int main(int count, char **given)
     counted.sync = sync_counted;
     MUST(host_create(&shape, &value));
     MUST(store_create(&at, &counted, given[1], &value));
-    MUST(host_open(&it, &value, at.number, 1000, &options, &calls, now));
+    MUST(host_open(&it, &value, at.state.number, 1000, &options, &calls, now));
     free(value.buffer);
     for (uint32_t i = 0; i < objects; i++) {
         MUST(markring_node_alloc(host_node(it), 0, 1, &answer));
