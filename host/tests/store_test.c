@@ -828,6 +828,11 @@ static void test_failed_write(void)
     store_value value = value_of(3);
     write_fails = true;
     HOLDS(store_save(&at, &entry) == STORE_FAILED && !write_fails);
+    // Until then no entry is added, and no rewrite begins.
+    store_rewrite again;
+    unsigned long long number = at.state.number;
+    HOLDS(store_save(&at, &entry) == STORE_FAILED && at.state.number == number);
+    HOLDS(store_rewrite_begin(&at, &again) == STORE_FAILED);
     HOLDS(store_save(&at, &value) == STORE_OK);
     store_close(&at);
     HOLDS(found(&it) == 3);
@@ -836,6 +841,44 @@ static void test_failed_write(void)
     free(old.buffer);
     free(entry.buffer);
     free(value.buffer);
+    disk_free(&it);
+}
+
+static int64_t write_no_head(
+    void *context, int file, const uint8_t *bytes, size_t length, uint64_t offset)
+{
+    int64_t moved = written_at(context, file, bytes, length, offset);
+    return length == STORE_HEAD ? -EIO : moved;
+}
+
+// The head of a rewrite is written, but the call fails. Nobody knows whether it counts, so nothing more
+// is saved.
+static void test_failed_head(void)
+{
+    disk it = fresh();
+    store at;
+    store_rewrite again;
+    store_calls calls = disk_calls(&it);
+    store_value old = {NULL, 0, 0, false, 0, 0};
+    written_at = calls.write_at;
+    calls.write_at = write_no_head;
+    HOLDS(create(&it, 1) == STORE_OK);
+    HOLDS(store_open(&at, &calls, "folder", &old) == STORE_OK);
+    HOLDS(store_rewrite_begin(&at, &again) == STORE_OK);
+    way = WHOLE;
+    store_value whole = value_of(1), next = value_of(3);
+    HOLDS(store_rewrite_write(&again, &whole) == STORE_OK);
+    way = ENTRIES;
+    store_value entry = value_of(2);
+    HOLDS(store_rewrite_end(&at, &again, &entry) == STORE_UNKNOWN);
+    HOLDS(store_save(&at, &next) == STORE_FAILED && store_save(&at, &entry) == STORE_FAILED);
+    store_close(&at);
+    disk_rest(&it);
+    HOLDS(found(&it) == 2);
+    free(old.buffer);
+    free(whole.buffer);
+    free(next.buffer);
+    free(entry.buffer);
     disk_free(&it);
 }
 
@@ -922,6 +965,7 @@ int main(int count, char **given)
     test_parts();
     test_failed_sync(times);
     test_failed_write();
+    test_failed_head();
     test_versions();
     test_system();
     printf("%lu passed, %lu failed\n", passed, failed);
