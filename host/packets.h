@@ -14,7 +14,6 @@ enum {
     // enough for the longest one; and a window, this many.
     WINDOW_BYTES = 1920,
     WIDE_WINDOW_BYTES = 1 << 17,
-    FLIGHT_BYTES = 1 << 20,
     PACKET_HEAD = 67,
     // A frame follows its length, of 2 bytes; or if it is longer than that can say, LONG_FRAME and
     // its length, of 4 bytes.

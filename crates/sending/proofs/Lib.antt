@@ -1,2 +1,4 @@
-pub mod Window
+pub mod Steps
 pub mod Timer
+pub mod Times
+pub mod Window

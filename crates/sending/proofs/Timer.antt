@@ -1,11 +1,10 @@
 -- The timer runs since the window was sent from its begin, for a whole pause.
-use Rattle.std.proofs.Common.{◌≡◌, ◌≢◌, ◌⊎◌, ℕ, ◌+◌, ◌*◌, ◌<◌, ◌≤◌, ◌==◌, ◌&&◌, not, Bool, true, false, cond, nat_le, nat_lt, List, [], ◌∷◌, min, max, ⊎_elim, inl, inr, ap, sym, subst, refl, ◌∙◌, arith, le_refl}
-use Rattle.std.specs.Prelude.{⊤}
+use Rattle.std.proofs.Common.{◌≡◌, ℕ, ◌<◌, ◌≤◌, ◌==◌, ◌&&◌, not, Bool, true, false, cond, nat_le, nat_lt, List, [], ◌∷◌, min, max, ⊎_elim, ap, sym, subst, refl, ◌∙◌, arith, le_refl}
 use Rattle.std.proofs.lemmas.Bool.{cases_lt, cond-true, cond-false, cond_both, eq-eqb, leb-true, leb-false, le-leb, le-ltb, lt-leb, lt-ltb, ne_eqb}
 use Rattle.sending.specs.declared.TheConstants.{FIRST_PAUSE, LONGEST_PAUSE}
 use Rattle.sending.specs.declared.Sending.{Sending}
 use Rattle.sending.specs.declared.Turn.{Turn}
-use Rattle.sending.specs.Rules.{acknowledged_by, arrived, doubled, gone, goes_back, is_over, kept, last_time, later, noticed, runs_out, started, stopped, timed, told_by, turned}
+use Rattle.sending.specs.Rules.{arrived, doubled, gone, is_over, kept, later, runs_out, started, stopped, timed, told_by, turned}
 use Rattle.sending.specs.Runs.{Way, begins_after, first_or, moves, waits}
 use Rattle.sending.specs.Laws.{AreApart, pause_after}
 use Rattle.sending.proofs.Window.{told-any}
@@ -42,10 +41,6 @@ pub stopped-timer : (s : Sending) → IsTimer (stopped s) []
 stopped-timer s = record { at = refl; lasts = refl; apart = tt }
 
 -- ---- tests
-
-not-true : (b : Bool) → not b ≡ true → b ≡ false
-not-true true is = sym is
-not-true false is = refl
 
 lt-not-le : (a b : ℕ) → nat_lt a b ≡ not (nat_le b a)
 lt-not-le a b =

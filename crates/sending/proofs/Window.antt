@@ -1,11 +1,11 @@
 -- The messages that are on their way are the first ones that aren't acknowledged.
-use Rattle.std.proofs.Common.{◌≡◌, ◌≢◌, ◌⊎◌, ℕ, zero, suc, ◌+◌, ◌-◌, ◌<◌, ◌≤◌, ◌==◌, ◌&&◌, ◌||◌, not, Bool, true, false, cond, nat_le, nat_lt, List, [], ◌∷◌, ◌++◌, length, map, take, drop, set, replicate, min, max, ⊎_elim, inl, inr, ap, sym, subst, refl, ◌∙◌, arith, le_refl, length-append, append_assoc}
-use Rattle.std.specs.Prelude.{⊤, filter, sum, sum_by}
+use Rattle.std.proofs.Common.{◌≡◌, ◌≢◌, ◌⊎◌, ℕ, zero, suc, ◌+◌, ◌-◌, ◌<◌, ◌≤◌, ◌==◌, ◌&&◌, ◌||◌, not, Bool, true, false, cond, nat_le, nat_lt, List, [], ◌∷◌, ◌++◌, length, map, take, drop, set, replicate, min, ⊎_elim, inl, inr, ap, sym, subst, refl, ◌∙◌, arith, length-append, append_assoc}
+use Rattle.std.specs.Prelude.{filter, sum, sum_by}
 use Rattle.std.proofs.Math.Seq.{drop-nil, set-append_seam}
 use Rattle.std.proofs.Math.ListN.{drop_of_length-le}
-use Rattle.std.proofs.lemmas.Bool.{and_parts, cases_lt, cond-true, cond-false, cond_both, eqb-false, eqb-true, lt-ltb, le-ltb, leb-true, leb-false, ltb-false, ltb-true, or_cases, or_parts}
+use Rattle.std.proofs.lemmas.Bool.{and_from, and_parts, cases_lt, cond-true, cond-false, cond_both, eq-eqb, eqb-false, eqb-true, le-leb, lt-ltb, le-ltb, leb-true, leb-false, ltb-true, or_cases, or_left, or_parts, or_right}
 use Rattle.std.proofs.lemmas.List.{drop-append-le, drop-map, length-drop, length-map, length-take-le, map-append, take-append-le, take-map}
-use Rattle.std.proofs.lemmas.List.Sums.{sum-map, sum_by-append, sum_by-take-drop, sum_by_push}
+use Rattle.std.proofs.lemmas.List.Sums.{sum-map, sum_by-take-drop, sum_by_push}
 use Rattle.sending.specs.declared.TheConstants.{FLIGHT_BYTES, TELL, WINDOW}
 use Rattle.sending.specs.declared.Sending.{Sending}
 use Rattle.sending.specs.declared.Turn.{Turn}
@@ -336,3 +336,51 @@ offered-window s ms m is =
           let some = eqb-false (kept s s.sent) 0 tests.0 in
           omega (arith, place, some);
     }
+
+-- ---- what goes
+
+-- the next message, with a place, which is alone or short enough
+pub record Fitting (acknowledged : ℕ) (ms : List Message) (m : Message) : Type 0 where
+  pub next : m.number ≡ acknowledged + length ms + 1
+  pub few : length ms < WINDOW
+  pub fits : (length ms ≡ 0) ⊎ (bytes_of ms + m.length ≤ FLIGHT_BYTES)
+
+module _ (s : Sending) (ms : List Message) (m : Message) (is : IsWindow s ms) where
+  place-is : kept s s.sent ≡ length ms
+  place-is = let last = is.last in let wide = is.wide in omega (arith, last, wide)
+
+  pub goes-if : Fitting s.acknowledged ms m → goes s m.number m.length ≡ true
+  goes-if fit =
+      let few = fit.few in
+      let next = fit.next in
+      let last = is.last in
+      let bytes = is.bytes in
+      and_from _ _
+      (and_from _ _
+      (lt-ltb (kept s s.sent) WINDOW (omega (arith, few, place-is)))
+      (eq-eqb m.number (s.sent + 1) (omega (arith, next, last))))
+      (⊎_elim {C = (kept s s.sent == 0 || nat_le (s.flight + m.length) FLIGHT_BYTES) ≡ true}
+      (λ none. or_left _ _ (eq-eqb (kept s s.sent) 0 (place-is ∙ none)))
+      (λ short. or_right _ _
+      (le-leb (s.flight + m.length) FLIGHT_BYTES (omega (arith, short, bytes))))
+      fit.fits)
+
+  pub goes-only : goes s m.number m.length ≡ true → Fitting s.acknowledged ms m
+  goes-only does =
+      let both = and_parts (is_next s m.number) (fits s m.length) does in
+      let tests = and_parts (nat_lt (kept s s.sent) WINDOW) (m.number == s.sent + 1) both.0 in
+      let few = ltb-true (kept s s.sent) WINDOW tests.0 in
+      let next = eqb-true m.number (s.sent + 1) tests.1 in
+      let last = is.last in
+      let bytes = is.bytes in
+      record {
+        next = omega (arith, next, last);
+        few = omega (arith, few, place-is);
+        fits =
+            ⊎_elim {C = (length ms ≡ 0) ⊎ (bytes_of ms + m.length ≤ FLIGHT_BYTES)}
+            (λ alone. inl (sym place-is ∙ eqb-true (kept s s.sent) 0 alone))
+            (λ short.
+            let within = leb-true (s.flight + m.length) FLIGHT_BYTES short in
+            inr (omega (arith, within, bytes)))
+            (or_cases (kept s s.sent == 0) (nat_le (s.flight + m.length) FLIGHT_BYTES) both.1);
+      }

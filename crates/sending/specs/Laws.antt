@@ -1,10 +1,10 @@
 -- What holds of each run.
-use Rattle.std.specs.Prelude.{◌≡◌, ◌≢◌, ◌⊎◌, ℕ, ◌+◌, ◌<◌, ◌≤◌, ⊤, true, false, List, [], ◌∷◌, ◌++◌, length, sum_by}
+use Rattle.std.specs.Prelude.{◌≡◌, ◌≢◌, ◌↔◌, ◌⊎◌, ℕ, ◌+◌, ◌<◌, ◌≤◌, ⊤, true, false, List, [], ◌∷◌, ◌++◌, length, sum_by}
 use Rattle.sending.specs.declared.TheConstants.{FIRST_PAUSE, FLIGHT_BYTES, LONGEST_PAUSE, TELL, WINDOW}
 use Rattle.sending.specs.declared.Sending.{Sending}
 use Rattle.sending.specs.declared.Turn.{Turn}
-use Rattle.sending.specs.Rules.{doubled, goes_back, later, turned, until}
-use Rattle.sending.specs.Runs.{AreInTime, BeginsAgain, IsSilent, Look, Message, Step, StillWaits, Way, looked, new_way, run, step, waits}
+use Rattle.sending.specs.Rules.{doubled, goes, goes_back, later, turned, until}
+use Rattle.sending.specs.Runs.{AreInTime, BeginsAgain, IsSilent, Look, Message, Step, StillWaits, Way, looked, new_way, run, waits}
 
 -- ---- what is on its way
 
@@ -29,6 +29,21 @@ abbrev pub InOrder : Type 0
 InOrder =
     (acknowledged received : ℕ) (steps : List Step)
     → IsInOrder (run (new_way acknowledged received) steps)
+
+-- What goes with a packet: the next message, if there is a place for it, and if it is alone or has
+-- few enough bytes. So a message of any length goes if nothing is on its way.
+pub record MayGo (w : Way) (m : Message) : Type 0 where
+  pub next : m.number ≡ w.sending.acknowledged + length w.on_way + 1
+  pub few : length w.on_way < WINDOW
+  pub fits :
+      (length w.on_way ≡ 0)
+      ⊎ (sum_by (λ (x : Message). x.length) w.on_way + m.length ≤ FLIGHT_BYTES)
+
+abbrev pub NextGoes : Type 0
+NextGoes =
+    (acknowledged received : ℕ) (steps : List Step) (m : Message) (w : Way)
+    → run (new_way acknowledged received) steps ≡ w
+    → (goes w.sending m.number m.length ≡ true) ↔ MayGo w m
 
 -- ---- how often the window is sent again
 

@@ -1,5 +1,5 @@
 -- What each call does with what is known of another node.
-use Rattle.std.specs.Prelude.{ℕ, ◌+◌, ◌-◌, ◌*◌, ◌^◌, Bool, ◌&&◌, ◌||◌, not, cond, nat_le, nat_lt, ◌==◌, List, ◌++◌, min, max, take, drop, replicate, set, sum}
+use Rattle.std.specs.Prelude.{ℕ, ◌+◌, ◌-◌, ◌*◌, ◌^◌, Bool, ◌&&◌, ◌||◌, not, cond, nat_le, nat_lt, ◌==◌, ◌++◌, min, max, take, drop, replicate, set, sum}
 use Rattle.sending.specs.declared.TheConstants.{FIRST_PAUSE, FLIGHT_BYTES, LONGEST_PAUSE, TELL, WINDOW}
 use Rattle.sending.specs.declared.Sending.{Sending}
 use Rattle.sending.specs.declared.Turn.{Turn}

@@ -11,12 +11,14 @@
 //! `specs/Laws` has the theorems on each such run. [`laws`] states them.
 #![tactic(auto)]
 
+mod headline;
 
 ghost use Rattle.std.specs.Prelude.{◌≡◌, ◌≢◌, ◌↔◌, IsTrue, sum, take};
 ghost use Rattle.sending.specs.Rules.{acknowledged_by, again, begun, goes, goes_back, gone};
 ghost use Rattle.sending.specs.Rules.{is_over, kept, left, offered, owing, receiving};
 ghost use Rattle.sending.specs.Rules.{set_time, telling, timed, told_by, turned, until};
 
+pub use headline::laws;
 
 /// How many messages are on their way at most.
 pub const WINDOW: usize = 32;
