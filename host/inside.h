@@ -95,7 +95,7 @@ typedef struct load {
 
 typedef struct peer {
     process known, saved_known; // now, and in the last save
-    markring_sending sending; // as of the last turn
+    markring_sending sending;   // what is on its way to it, and what is due
     queue queue;
     load early[WINDOW]; // what came early, by its number modulo WINDOW
     uint64_t fetch_at;  // before this time, no Fetch is taken while too many bytes wait

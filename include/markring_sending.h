@@ -1,7 +1,7 @@
 // What goes to another node, and when, for whoever writes a host of their own around the nodes of
-// markring.h: which messages of the window are sent next, when they are sent again, whether a packet
-// is due without any, and until when nothing has to be done. These decisions are proved (crate
-// `sending`). libmarkring-host makes them by these calls.
+// markring.h. These decisions are proved (crate `sending`): which messages are sent next, when they
+// are sent again, whether a packet is due without any, and until when nothing has to be done.
+// libmarkring-host makes them by these calls.
 //
 // A message that a saved image holds is released (markring_link), and may be sent. Packets may be
 // lost, repeated and late, so what isn't acknowledged is sent again: a while after the window was
@@ -113,7 +113,7 @@ void markring_sending_tell(markring_sending *it, uint64_t stored);
 void markring_sending_left(markring_sending *it, uint64_t stored);
 
 // The time of the next turn that has something to do, if nothing else happens before; UINT64_MAX if
-// there is none.
+// no time is set.
 uint64_t markring_sending_until(const markring_sending *it);
 
 #ifdef __cplusplus

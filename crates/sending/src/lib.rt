@@ -50,7 +50,7 @@ pub struct Sending {
     pub received: u64,
     /// The last save of which a packet spoke.
     pub told: u64,
-    /// When a packet has to speak of a later one; 0 if there is none.
+    /// When a packet has to speak of a later one; 0 if there isn't one.
     pub tell_at: u64,
     /// The bytes of each message that is on its way. (What follows these means nothing.)
     pub lengths: [u32; WINDOW],
@@ -269,8 +269,8 @@ impl Sending {
         self.tell_at = 0;
     }
 
-    /// The time of the next turn that has something to do, if nothing happens before; the last
-    /// time there is if there is none.
+    /// The time of the next turn that has something to do, if nothing happens before; `u64::MAX`
+    /// if no time is set.
     pub fn until(&self) -> u64
         ensures { result ≡ until self.now }
     {
@@ -278,7 +278,7 @@ impl Sending {
     }
 }
 
-// A time that is set; 0 is none, and so never comes.
+// A time, or the last one there is if it isn't set.
 fn set_time(at: u64) -> u64
     ensures { result ≡ set_time at }
 {
