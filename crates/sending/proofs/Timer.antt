@@ -6,17 +6,13 @@ use Rattle.sending.specs.declared.Sending.{Sending}
 use Rattle.sending.specs.declared.Turn.{Turn}
 use Rattle.sending.specs.Rules.{arrived, doubled, gone, is_over, kept, later, runs_out, started, stopped, timed, told_by, turned}
 use Rattle.sending.specs.Runs.{Way, begins_after, first_or, moves, waits}
-use Rattle.sending.specs.Laws.{AreApart, pause_after}
+use Rattle.sending.specs.Laws.{AreApart, over_at, pause_after}
 use Rattle.sending.proofs.Window.{told-any}
 
--- the pause that runs, and when it is over
+-- the pause that runs
 abbrev pub pause_of : List ℕ → ℕ
 pause_of [] = FIRST_PAUSE
 pause_of (b ∷ begins) = pause_after begins
-
-abbrev pub over_at : List ℕ → ℕ
-over_at [] = 0
-over_at (b ∷ begins) = later b (pause_after begins)
 
 pub record Timer (again_at pause : ℕ) (begins : List ℕ) : Type 0 where
   pub at : again_at ≡ over_at begins

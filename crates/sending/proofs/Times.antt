@@ -1,12 +1,12 @@
 -- What happens in time, if clocks don't go back.
 use Rattle.std.proofs.Common.{◌≡◌, ◌≢◌, ◌⊎◌, ℕ, ◌<◌, ◌≤◌, ◌==◌, ◌&&◌, not, Bool, true, false, cond, nat_le, List, [], ◌∷◌, ◌++◌, min, max, ⊎_elim, inl, inr, ap, sym, subst, refl, ◌∙◌, arith, le_refl}
 use Rattle.std.proofs.lemmas.Bool.{and_from, and_left, and_parts, and_right, cases_Bool, cases_eq, cond-true, cond-false, cond_both, eq-eqb, leb-true, leb-false, le-leb, le-ltb, lt-leb, lt-ltb, ne_eqb}
-use Rattle.sending.specs.declared.TheConstants.{LONGEST_PAUSE, TELL}
+use Rattle.sending.specs.declared.TheConstants.{TELL}
 use Rattle.sending.specs.declared.Sending.{Sending}
 use Rattle.sending.specs.declared.Turn.{Turn}
 use Rattle.sending.specs.Rules.{acknowledged_by, arrived, falls_due, goes_back, is_over, kept, last_time, later, noticed, offered, owing, receiving, runs_out, set_time, telling, told_by, turned}
 use Rattle.sending.specs.Runs.{Again, AreInTime, BeginsAgain, IsSilent, Leave, Look, Message, Offer, Owe, Receive, Step, StillWaits, Tell, Way, begins_after, first_or, looked, moves, new_way, run, step, waits}
-use Rattle.sending.specs.Laws.{NoneTooEarly, SentAgain, ToldInTime, TurnsInTime}
+use Rattle.sending.specs.Laws.{NoneTooEarly, SentAgain, ToldInTime, TurnsInTime, over_at}
 use Rattle.sending.proofs.Window.{told-any}
 use Rattle.sending.proofs.Timer.{IsTimer, over-some, pause-most, turned-timer}
 use Rattle.sending.proofs.Steps.{new-sound, offered-any, receiving-any, run-sound, telling-any, timed-any}
@@ -71,7 +71,8 @@ module _ (P : (tell_at due : ℕ) → Type 0) (s : Sending) (t : Turn)
       cond_both (nat_le t.acknowledged s.acknowledged) s
       (arrived (kept s (min t.acknowledged s.sent)) t.acknowledged s)
       (λ (a : Sending). P (told_by a t.now t.stored).tell_at (told_by a t.now t.stored).due)
-      (λ _. by s after) (λ _. by (arrived (kept s (min t.acknowledged s.sent)) t.acknowledged s) after)
+      (λ _. by s after)
+      (λ _. by (arrived (kept s (min t.acknowledged s.sent)) t.acknowledged s) after)
     where
       by : (a : Sending)
           → P (tell_then a t.now t.stored) (due_then (tell_then a t.now t.stored) a.due t.now)
@@ -160,7 +161,8 @@ ready w now (Offer m ∷ steps) t is times =
       tell = let few = is.tell in let same = offered-tell w.sending m in omega (arith, few, same);
     }) times
 ready w now (Leave stored ∷ steps) t is times =
-    ready (step w (Leave stored)) now steps t (record { begun = is.begun; tell = omega arith }) times
+    ready (step w (Leave stored)) now steps t
+    (record { begun = is.begun; tell = omega arith }) times
 ready w now (Again ∷ steps) t is times =
     ready (step w Again) now steps t (record { begun = omega arith; tell = is.tell }) times
 ready w now (Owe ∷ steps) t is times =
@@ -180,22 +182,20 @@ ready w now (Tell stored ∷ steps) t is times =
 
 -- ---- the window is sent again
 
--- The timer runs since `first`, for messages after `last`.
-pub record IsRunning (w : Way) (first last : ℕ) : Type 0 where
+-- The window was sent from its begin at these times, and then messages wait after `last`.
+pub record IsRunning (w : Way) (first : ℕ) (rest : List ℕ) (last : ℕ) : Type 0 where
   pub timer : IsTimer w.sending w.begins
-  pub rest : List ℕ
   pub begins : w.begins ≡ first ∷ rest
   pub acknowledged : w.sending.acknowledged ≡ last
 
-timer-at : {w : Way} {first last : ℕ} (is : IsRunning w first last)
-    → (0 < w.sending.again_at) × (w.sending.again_at ≤ later first LONGEST_PAUSE)
-timer-at {w} {first} {last} is =
-    let there : IsTimer w.sending (first ∷ is.rest) =
+timer-at : {w : Way} {first : ℕ} {rest : List ℕ} {last : ℕ} → IsRunning w first rest last
+    → (0 < w.sending.again_at) × (w.sending.again_at ≡ over_at (first ∷ rest))
+timer-at {w} {first} {rest} {last} is =
+    let there : IsTimer w.sending (first ∷ rest) =
     subst (IsTimer w.sending) is.begins is.timer in
     let at = there.at in
-    let some = over-some first is.rest in
-    let most = pause-most is.rest in
-    (omega (arith, at, some), omega (arith, at, most))
+    let some = over-some first rest in
+    (omega (arith, at, some), at)
 
 -- a turn that finds nothing acknowledged
 module _ (w : Way) (t : Turn) (few : t.acknowledged ≤ w.sending.acknowledged)
@@ -215,7 +215,8 @@ module _ (w : Way) (t : Turn) (few : t.acknowledged ≤ w.sending.acknowledged)
       (λ x d. and_from _ _
       (ap not (lt-leb t.released w.sending.acknowledged more))
       (and_from _ _
-      (ap not (ne_eqb w.sending.again_at 0 (λ (none : w.sending.again_at ≡ 0). absurd (omega (arith, none, some)))))
+      (ap not (ne_eqb w.sending.again_at 0
+      (λ (none : w.sending.again_at ≡ 0). absurd (omega (arith, none, some)))))
       (le-leb w.sending.again_at t.now over))))
 
   same-begins : (first : ℕ) (rest : List ℕ) → w.begins ≡ first ∷ rest
@@ -230,46 +231,47 @@ module _ (w : Way) (t : Turn) (few : t.acknowledged ≤ w.sending.acknowledged)
       ∙ cond-false (goes_back w.sending t) (t.now ∷ w.begins) (first_or t.now w.begins) still
       ∙ ap (first_or t.now) is
 
-still-runs : {w : Way} {first last : ℕ} (s : Sending) → IsRunning w first last
-    → IsTimer s w.begins → s.acknowledged ≡ w.sending.acknowledged
-    → IsRunning (record w { sending = s }) first last
+still-runs : {w : Way} {first : ℕ} {rest : List ℕ} {last : ℕ} (s : Sending)
+    → IsRunning w first rest last → IsTimer s w.begins
+    → s.acknowledged ≡ w.sending.acknowledged
+    → IsRunning (record w { sending = s }) first rest last
 still-runs s is timer same = record {
   timer = timer;
-  rest = is.rest;
   begins = is.begins;
   acknowledged = same ∙ is.acknowledged;
 }
 
 -- the same for the messages that are on their way
-runs-sending : {w : Way} {first last : ℕ} (ms : List Message)
-    → IsRunning w first last → IsRunning (record w { on_way = ms }) first last
+runs-sending : {w : Way} {first : ℕ} {rest : List ℕ} {last : ℕ} (ms : List Message)
+    → IsRunning w first rest last → IsRunning (record w { on_way = ms }) first rest last
 runs-sending ms is = record {
   timer = is.timer;
-  rest = is.rest;
   begins = is.begins;
   acknowledged = is.acknowledged;
 }
 
-looked-runs : (w : Way) (first last : ℕ) (t : Turn) → IsRunning w first last
+looked-runs : (w : Way) (first : ℕ) (rest : List ℕ) (last : ℕ) (t : Turn)
+    → IsRunning w first rest last
     → t.acknowledged ≤ last → last < t.released → goes_back w.sending t ≡ false
-    → IsRunning (looked w t) first last
-looked-runs w first last t is few more still =
+    → IsRunning (looked w t) first rest last
+looked-runs w first rest last t is few more still =
     let own = is.acknowledged in
     let after = turned-acknowledged w.sending t in
     record {
       timer = turned-timer w t is.timer;
-      rest = is.rest;
-      begins = same-begins w t (omega (arith, few, own)) (omega (arith, more, own)) first is.rest is.begins still;
+      begins =
+          same-begins w t (omega (arith, few, own)) (omega (arith, more, own)) first rest is.begins
+          still;
       acknowledged = omega (arith, after, few, own);
     }
 
 abbrev Ends : Way → List Step → Turn → Type 0
 Ends w more u = BeginsAgain w (more ++ Look u ∷ [])
 
-again-in-time : (w : Way) (first last : ℕ) (u : Turn) (more : List Step)
-    → IsRunning w first last → later first LONGEST_PAUSE ≤ u.now
+again-in-time : (w : Way) (first : ℕ) (rest : List ℕ) (last : ℕ) (u : Turn) (more : List Step)
+    → IsRunning w first rest last → over_at (first ∷ rest) ≤ u.now
     → StillWaits last (more ++ Look u ∷ []) → Ends w more u
-again-in-time w first last u [] is end still =
+again-in-time w first rest last u [] is end still =
     let own = is.acknowledged in
     let few = still.0 in
     let waits = still.1 in
@@ -277,36 +279,37 @@ again-in-time w first last u [] is end still =
     let by = at.1 in
     inl (back-then w u (omega (arith, few, own)) (omega (arith, waits, own)) at.0
     (omega (arith, by, end)))
-again-in-time w first last u (Look t ∷ more) is end still =
+again-in-time w first rest last u (Look t ∷ more) is end still =
     ⊎_elim {C = (goes_back w.sending t ≡ true) ⊎ Ends (looked w t) more u}
     (λ back. inl back)
-    (λ stays. inr (again-in-time (looked w t) first last u more
-    (looked-runs w first last t is still.0 still.1 stays) end still.2))
+    (λ stays. inr (again-in-time (looked w t) first rest last u more
+    (looked-runs w first rest last t is still.0 still.1 stays) end still.2))
     (cases_Bool (goes_back w.sending t))
-again-in-time w first last u (Offer m ∷ more) is end still =
-    inr (again-in-time (step w (Offer m)) first last u more
+again-in-time w first rest last u (Offer m ∷ more) is end still =
+    inr (again-in-time (step w (Offer m)) first rest last u more
     (runs-sending (step w (Offer m)).on_way
     (still-runs (offered w.sending m.number m.length) is
     (offered-any (λ (s : Sending). IsTimer s w.begins) w.sending m.number m.length
     (λ sent flight lengths blocked. is.timer))
-    (offered-any (λ (s : Sending). s.acknowledged ≡ w.sending.acknowledged) w.sending m.number m.length
+    (offered-any (λ (s : Sending). s.acknowledged ≡ w.sending.acknowledged) w.sending m.number
+    m.length
     (λ sent flight lengths blocked. refl)))) end still)
-again-in-time w first last u (Leave stored ∷ more) is end still =
-    inr (again-in-time (step w (Leave stored)) first last u more
+again-in-time w first rest last u (Leave stored ∷ more) is end still =
+    inr (again-in-time (step w (Leave stored)) first rest last u more
     (still-runs (step w (Leave stored)).sending is is.timer refl) end still)
-again-in-time w first last u (Again ∷ more) is end still = inl refl
-again-in-time w first last u (Owe ∷ more) is end still =
-    inr (again-in-time (step w Owe) first last u more
+again-in-time w first rest last u (Again ∷ more) is end still = inl refl
+again-in-time w first rest last u (Owe ∷ more) is end still =
+    inr (again-in-time (step w Owe) first rest last u more
     (still-runs (step w Owe).sending is is.timer refl) end still)
-again-in-time w first last u (Receive number ∷ more) is end still =
-    inr (again-in-time (step w (Receive number)) first last u more
+again-in-time w first rest last u (Receive number ∷ more) is end still =
+    inr (again-in-time (step w (Receive number)) first rest last u more
     (still-runs (receiving w.sending number) is
     (receiving-any (λ (s : Sending). IsTimer s w.begins) w.sending number
     (λ received due. is.timer))
     (receiving-any (λ (s : Sending). s.acknowledged ≡ w.sending.acknowledged) w.sending number
     (λ received due. refl))) end still)
-again-in-time w first last u (Tell stored ∷ more) is end still =
-    inr (again-in-time (step w (Tell stored)) first last u more
+again-in-time w first rest last u (Tell stored ∷ more) is end still =
+    inr (again-in-time (step w (Tell stored)) first rest last u more
     (still-runs (telling w.sending stored) is
     (telling-any (λ (s : Sending). IsTimer s w.begins) w.sending stored (λ due. is.timer))
     (telling-any (λ (s : Sending). s.acknowledged ≡ w.sending.acknowledged) w.sending stored
@@ -335,52 +338,35 @@ some-begins w t some =
     (λ _. some-first t.now w.begins)))
 
 waiting-runs : (w : Way) (t : Turn) → IsTimer w.sending w.begins → waits w t ≡ true
-    → (some : IsSome (begins_after w t)) → IsRunning (looked w t) some.first (looked w t).sending.acknowledged
+    → (some : IsSome (begins_after w t))
+    → IsRunning (looked w t) some.first some.rest (looked w t).sending.acknowledged
 waiting-runs w t timer waiting some = record {
   timer = turned-timer w t timer;
-  rest = some.rest;
   begins = some.is;
   acknowledged = refl;
 }
 
--- what holds of each run that is in time, when a turn comes
-module _ (acknowledged received : ℕ) (before : List Step) (t : Turn)
-    (times : AreInTime 0 (before ++ Look t ∷ [])) where
-  abbrev reached : Way
-  reached = run (new_way acknowledged received) before
-
-  reached-timer : IsTimer reached.sending reached.begins
-  reached-timer =
-      let is = run-sound (new_way acknowledged received) before (new-sound acknowledged received) in
-      is.timer
-
-  reached-before : IsBefore t.now reached
-  reached-before =
-      ready (new_way acknowledged received) 0 before t (new-before acknowledged received) times
-
-  after-before : IsBefore t.now (looked reached t)
-  after-before = looked-before t (le_refl _) reached-before
-
-  first-before : (some : IsSome (begins_after reached t)) → some.first ≤ t.now
-  first-before some =
-      let few = after-before.begun in
-      let same = ap latest some.is in
-      omega (arith, few, same)
+run-timer : (acknowledged received : ℕ) (before : List Step) (w : Way)
+    → run (new_way acknowledged received) before ≡ w → IsTimer w.sending w.begins
+run-timer acknowledged received before w same =
+    let is = run-sound (new_way acknowledged received) before (new-sound acknowledged received) in
+    subst (λ (v : Way). IsTimer v.sending v.begins) same is.timer
 
 pub sent-again : SentAgain
-sent-again acknowledged received before more t u w is times waiting still end =
-    let P : Way → Type 0 = λ (v : Way). waits v t ≡ true
-    → StillWaits (looked v t).sending.acknowledged (more ++ Look u ∷ [])
-    → BeginsAgain (looked v t) (more ++ Look u ∷ []) in
-    subst P is
-    (λ waiting still.
-    let v : Way = run (new_way acknowledged received) before in
-    let some = some-begins v t waiting in
-    let few = first-before acknowledged received before t times some in
-    again-in-time (looked v t) some.first (looked v t).sending.acknowledged u more
-    (waiting-runs v t (reached-timer acknowledged received before t times) waiting some)
-    (omega (arith, few, end)) still)
-    waiting still
+sent-again acknowledged received before more t u w is waiting still end =
+    let some = some-begins w t waiting in
+    let over = ap over_at some.is in
+    again-in-time (looked w t) some.first some.rest (looked w t).sending.acknowledged u more
+    (waiting-runs w t (run-timer acknowledged received before w is) waiting some)
+    (omega (arith, over, end)) still
+
+-- what holds of each run that is in time, when a turn comes
+after-before : (acknowledged received : ℕ) (before : List Step) (t : Turn)
+    → AreInTime 0 (before ++ Look t ∷ [])
+    → IsBefore t.now (looked (run (new_way acknowledged received) before) t)
+after-before acknowledged received before t times =
+    looked-before t (le_refl _)
+    (ready (new_way acknowledged received) 0 before t (new-before acknowledged received) times)
 
 -- ---- saves
 
@@ -468,23 +454,30 @@ set-some at some =
     (ne_eqb at 0 (λ (none : at ≡ 0). absurd (omega (arith, none, some))))
 
 pub turns-in-time : TurnsInTime
-turns-in-time acknowledged received before t times = record {
-  messages = λ waiting.
-      let v : Way = run (new_way acknowledged received) before in
-      let some = some-begins v t waiting in
-      let few = first-before acknowledged received before t times some in
-      let at = timer-at
-      (waiting-runs v t (reached-timer acknowledged received before t times) waiting some) in
-      let by = at.1 in
-      let set_at : set_time (looked v t).sending.again_at ≡ (looked v t).sending.again_at =
-      set-some (looked v t).sending.again_at at.0 in
-      omega (arith, few, by, set_at);
-  save = λ new.
-      let v : Way = run (new_way acknowledged received) before in
-      let by = (after-before acknowledged received before t times).tell in
-      let set_at = set-some (looked v t).sending.tell_at (tell-some v t new) in
-      omega (arith, by, set_at);
-}
+turns-in-time acknowledged received before t times =
+    let v : Way = run (new_way acknowledged received) before in
+    let past = after-before acknowledged received before t times in
+    record {
+      messages = λ waiting.
+          let some = some-begins v t waiting in
+          let over = ap over_at some.is in
+          let at = timer-at
+          (waiting-runs v t (run-timer acknowledged received before v refl) waiting some) in
+          let same = at.1 in
+          let set_at = set-some (looked v t).sending.again_at at.0 in
+          omega (arith, over, same, set_at);
+      soon = λ waiting.
+          let some = some-begins v t waiting in
+          let over = ap over_at some.is in
+          let first = ap latest some.is in
+          let few = past.begun in
+          let most = pause-most some.rest in
+          omega (arith, over, first, few, most);
+      save = λ new.
+          let by = past.tell in
+          let set_at = set-some (looked v t).sending.tell_at (tell-some v t new) in
+          omega (arith, by, set_at);
+    }
 
 -- before it is set, a time isn't over
 early : (at now : ℕ) → now < set_time at → (not (at == 0) && nat_le at now) ≡ false
@@ -504,7 +497,8 @@ none-too-early s t before = (
       (λ _. not-over s (early s.again_at t.now (omega (arith, before))))
       (λ _. not-over (arrived (kept s (min t.acknowledged s.sent)) t.acknowledged s) refl),
   turned-tell (λ (at due : ℕ). due ≡ s.due) s t
-      (cond-false (not (tell_then s t.now t.stored == 0) && nat_le (tell_then s t.now t.stored) t.now)
+      (cond-false
+      (not (tell_then s t.now t.stored == 0) && nat_le (tell_then s t.now t.stored) t.now)
       1 s.due
       (early (tell_then s t.now t.stored) t.now
       (cond_both (not (s.told == t.stored) && s.tell_at == 0) (later t.now TELL) s.tell_at

@@ -287,7 +287,8 @@ went-window s ms m is few number fit =
           ∙ ap (λ (k : ℕ). set (lengths_of ms ++ is.rest) k m.length) place
           ∙ slot.1
           ∙ sym (append_assoc (lengths_of ms) (m.length ∷ []) slot.0)
-          ∙ ap (λ (l : List ℕ). l ++ slot.0) (sym (map-append (λ (x : Message). x.length) ms (m ∷ [])));
+          ∙ ap (λ (l : List ℕ). l ++ slot.0)
+          (sym (map-append (λ (x : Message). x.length) ms (m ∷ [])));
       wide = omega (arith, more, wide, slots);
       bytes = omega (arith, flight, sums, bytes);
       bounded =

@@ -1,9 +1,9 @@
 -- What holds of each run.
-use Rattle.std.specs.Prelude.{◌≡◌, ◌≢◌, ◌↔◌, ◌⊎◌, ℕ, ◌+◌, ◌<◌, ◌≤◌, ⊤, true, false, List, [], ◌∷◌, ◌++◌, length, sum_by}
+use Rattle.std.specs.Prelude.{◌≡◌, ◌≢◌, ◌↔◌, ◌⊎◌, ℕ, ◌+◌, ◌<◌, ◌*◌, ◌≤◌, ⊤, true, false, List, [], ◌∷◌, ◌++◌, length, min, sum_by}
 use Rattle.sending.specs.declared.TheConstants.{FIRST_PAUSE, FLIGHT_BYTES, LONGEST_PAUSE, TELL, WINDOW}
 use Rattle.sending.specs.declared.Sending.{Sending}
 use Rattle.sending.specs.declared.Turn.{Turn}
-use Rattle.sending.specs.Rules.{doubled, goes, goes_back, later, turned, until}
+use Rattle.sending.specs.Rules.{goes, goes_back, later, turned, until}
 use Rattle.sending.specs.Runs.{AreInTime, BeginsAgain, IsSilent, Look, Message, Step, StillWaits, Way, looked, new_way, run, waits}
 
 -- ---- what is on its way
@@ -47,17 +47,21 @@ NextGoes =
 
 -- ---- how often the window is sent again
 
--- how long the pause is, after the window was sent and then again at each of these times
+-- how long the pause is, after the window was sent again at each of these times
 abbrev pub pause_after : List ℕ → ℕ
 pause_after [] = FIRST_PAUSE
-pause_after (t ∷ times) = doubled (pause_after times)
+pause_after (t ∷ times) = min (2 * pause_after times) LONGEST_PAUSE
 
--- between two times a whole pause is over (the last one is first)
+-- when it is over, after the window was sent at these times (the last one is first)
+abbrev pub over_at : List ℕ → ℕ
+over_at [] = 0
+over_at (t ∷ times) = later t (pause_after times)
+
+-- between two times a whole pause is over
 abbrev pub AreApart : List ℕ → Type 0
 AreApart [] = ⊤
 AreApart (first ∷ []) = ⊤
-AreApart (t ∷ before ∷ times) =
-    (later before (pause_after times) ≤ t) × AreApart (before ∷ times)
+AreApart (t ∷ before ∷ times) = (over_at (before ∷ times) ≤ t) × AreApart (before ∷ times)
 
 -- The window isn't sent again too soon: each pause is twice as long as the one before, up to the
 -- longest one, until messages are acknowledged.
@@ -66,16 +70,15 @@ PausesGrow =
     (acknowledged received : ℕ) (steps : List Step)
     → AreApart (run (new_way acknowledged received) steps).begins
 
--- What a turn finds that isn't acknowledged is sent again: by the first turn after the longest
--- pause at the latest, unless something is acknowledged before.
+-- Nor too late: what a turn finds that isn't acknowledged is sent again by the first turn that
+-- comes when the pause is over, unless something is acknowledged before.
 abbrev pub SentAgain : Type 0
 SentAgain =
     (acknowledged received : ℕ) (before more : List Step) (t u : Turn) (w : Way)
     → run (new_way acknowledged received) before ≡ w
-    → AreInTime 0 (before ++ Look t ∷ [])
     → waits w t ≡ true
     → StillWaits (looked w t).sending.acknowledged (more ++ Look u ∷ [])
-    → later t.now LONGEST_PAUSE ≤ u.now
+    → over_at (looked w t).begins ≤ u.now
     → BeginsAgain (looked w t) (more ++ Look u ∷ [])
 
 -- ---- what a packet says
@@ -96,7 +99,8 @@ ToldInTime =
 
 -- If messages wait, or a save of which no packet has spoken, then the next turn is needed in time.
 pub record IsNeeded (w : Way) (t : Turn) : Type 0 where
-  pub messages : waits w t ≡ true → until (looked w t).sending ≤ later t.now LONGEST_PAUSE
+  pub messages : waits w t ≡ true → until (looked w t).sending ≤ over_at (looked w t).begins
+  pub soon : waits w t ≡ true → over_at (looked w t).begins ≤ later t.now LONGEST_PAUSE
   pub save : w.sending.told ≢ t.stored → until (looked w t).sending ≤ later t.now TELL
 
 abbrev pub TurnsInTime : Type 0

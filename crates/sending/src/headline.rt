@@ -1,5 +1,5 @@
-//! The theorems on what goes to another node, as the contract of one function that does nothing. The
-//! statements are in `specs/Laws`, over the definitions of `specs/Runs`.
+//! The theorems on what goes to another node, as the contract of one function that does nothing.
+//! The statements are in `specs/Laws`, over the definitions of `specs/Runs`.
 ghost use Rattle.sending.specs.Laws.{InOrder, NextGoes, NoneTooEarly, PausesGrow};
 ghost use Rattle.sending.specs.Laws.{SentAgain, ToldInTime, TurnsInTime};
 
@@ -17,12 +17,11 @@ pub fn laws()
     // The window is sent again only after a pause, which is twice as long each time, up to the
     // longest one.
     ensures pauses_grow { PausesGrow }
-    // What isn't acknowledged is sent again after the longest pause at the latest.
+    // What isn't acknowledged is sent again by the first turn after the pause.
     ensures sent_again { SentAgain }
     // A packet speaks of each save in time.
     ensures told_in_time { ToldInTime }
-    // A host that has a turn when it is needed has these turns in time; and no earlier one is
-    // needed.
+    // A host that has a turn when one is needed has these turns in time, and needs no earlier one.
     ensures turns_in_time { TurnsInTime }
     ensures none_too_early { NoneTooEarly }
 {}

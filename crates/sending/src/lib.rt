@@ -74,7 +74,9 @@ pub struct Turn {
 }
 
 impl Sending {
-    /// What a new process sends, which hasn't sent anything. It has to show itself.
+    /// A new process, which has sent nothing. Messages up to `acknowledged` were acknowledged, and
+    /// those of the other node up to `received` are received and saved. A packet is due, to show
+    /// this process.
     pub fn begin(acknowledged: u64, received: u64) -> Sending
         ensures { result ≡ begun acknowledged received }
     {
@@ -150,8 +152,9 @@ impl Sending {
         bytes
     }
 
-    /// A host has a turn. Returns whether the window is sent from its begin again, because it
-    /// wasn't acknowledged in time.
+    /// A host has a turn. What was acknowledged isn't on its way any more. Returns whether the
+    /// window is sent from its begin again, because it wasn't acknowledged in time. If a save has
+    /// been known for long enough, a packet is due.
     pub fn turn(&mut self, turn: Turn) -> bool
         ensures after { self.new ≡ turned self.old turn }
         ensures back { result ≡ goes_back self.old turn }
@@ -201,8 +204,9 @@ impl Sending {
         self.blocked == 0
     }
 
-    /// Offers the next message, with this number and this many bytes. Returns whether it goes with
-    /// this packet: not if too many would be on their way then.
+    /// Offers a message with this number and this many bytes. Returns whether it goes with the next
+    /// packet, and so is on its way. If not, it isn't the one after `sent`, or the window is full,
+    /// and nothing changes; or too many bytes would be on their way, and it has to wait.
     pub fn offer(&mut self, number: u64, length: u32) -> bool
         ensures after { self.new ≡ offered self.old number length }
         ensures goes { result ≡ goes self.old number length }
@@ -211,15 +215,13 @@ impl Sending {
         if place >= WINDOW || number <= self.sent || number - self.sent > 1 {
             return false;
         }
-        let bytes = self.flight.saturating_add(u64::from(length));
-        if place > 0 && bytes > FLIGHT_BYTES {
+        let before = if place == 0 { 0 } else { self.flight };
+        let flight = before.saturating_add(u64::from(length));
+        if place > 0 && flight > FLIGHT_BYTES {
             self.blocked = 1;
             return false;
         }
-        if place == 0 {
-            self.flight = 0;
-        }
-        self.flight += u64::from(length);
+        self.flight = flight;
         self.lengths[place] = length;
         self.sent = number;
         self.blocked = 0;
