@@ -106,8 +106,7 @@ static void note_acknowledged(host *it, peer *at, uint64_t before)
 static void look_at_link(host *it, peer *at, const markring_link *link, uint64_t now)
 {
     uint64_t before = at->sending.acknowledged;
-    if (markring_sending_turn(
-            &at->sending, now, link->released, link->acknowledged, it->stored)) {
+    if (markring_sending_turn(&at->sending, now, link->released, link->acknowledged, it->stored)) {
         it->counts.resends++;
     }
     note_acknowledged(it, at, before);

@@ -15,10 +15,10 @@
 //   markring_node_link says. It has one by the time that markring_sending_until says. Its clock
 //   doesn't go back. Milliseconds are meant.
 // - In a turn, as long as markring_sending_is_open says 1, it offers the frames that
-//   markring_node_frames gives after `sent`, in their order, until one doesn't go. Those that go, it
-//   sends.
-// - If messages go, or if a packet is due, it sends a packet, with the acknowledgement and the number
-//   of the last save that is stored, and calls markring_sending_left.
+//   markring_node_frames gives after `sent`, in their order, until one doesn't go. It sends those
+//   that go.
+// - If messages go, or if a packet is due, it sends a packet, with the acknowledgement and the
+//   number of the last save that is stored, and calls markring_sending_left.
 // - It calls markring_sending_again when it is connected again, and when another process runs the
 //   other node.
 //
@@ -39,7 +39,7 @@ extern "C" {
 #endif
 
 enum markring_sending_limit {
-    // How many messages are on their way at most, and how many bytes they have, unless one is alone.
+    // How many messages are on their way at most, and how many bytes, unless one is alone.
     MARKRING_SENDING_WINDOW = 32,
     MARKRING_SENDING_BYTES = 1048576,
     // Milliseconds after the window was sent, until it is sent from its begin again: at first, and
@@ -84,8 +84,8 @@ void markring_sending_again(markring_sending *it);
 // A turn at this time: messages up to `released` are released, those up to `acknowledged` are
 // acknowledged, and the save `stored` is the last one that is stored. Returns 1 if the window is
 // sent from its begin again because it wasn't acknowledged in time; otherwise 0.
-int markring_sending_turn(markring_sending *it, uint64_t now, uint64_t released,
-    uint64_t acknowledged, uint64_t stored);
+int markring_sending_turn(
+    markring_sending *it, uint64_t now, uint64_t released, uint64_t acknowledged, uint64_t stored);
 
 // Whether messages may be offered: 1, or 0 if the next one would be too much.
 int markring_sending_is_open(const markring_sending *it);

@@ -95,10 +95,20 @@ static bool look(uint64_t released, uint64_t acknowledged)
     return false;
 }
 
-static void turn(void)
+// A turn comes at any time, just when it is needed, or just before.
+static void go_on(void)
 {
     static const uint32_t LATER[] = {1, 30, 100, 5000};
-    now += below(&drawn, LATER[below(&drawn, 4)]);
+    if (until() != UINT64_MAX && until() > now && below(&drawn, 3) == 0) {
+        now = until() - below(&drawn, 2);
+    } else {
+        now += below(&drawn, LATER[below(&drawn, 4)]);
+    }
+}
+
+static void turn(void)
+{
+    go_on();
     stored += below(&drawn, 8) == 0;
     uint64_t acknowledged = wanted.acknowledged;
     if (below(&drawn, 3) == 0) {
@@ -111,8 +121,11 @@ static void turn(void)
     EQUAL(again, markring_sending_turn(&it, now, released, acknowledged, stored));
 }
 
-static uint32_t some_length(void)
+static uint32_t some_length(bool is_short)
 {
+    if (is_short) {
+        return FRAME;
+    }
     uint64_t left = BYTES > bytes_on_way() ? BYTES - bytes_on_way() : 0;
     switch (below(&drawn, 9)) {
     case 0: return 0;
@@ -126,10 +139,10 @@ static uint32_t some_length(void)
     }
 }
 
-static void offer(void)
+static void offer(bool is_short)
 {
     uint64_t next = wanted.acknowledged + wanted.count + 1, number = next;
-    uint32_t length = some_length();
+    uint32_t length = some_length(is_short);
     if (below(&drawn, 10) == 0) {
         number = next + below(&drawn, 4) - 2;
     }
@@ -178,21 +191,22 @@ static void owe(void)
     }
 }
 
-static void one_history(uint64_t acknowledged)
+// With short messages alone and few turns, windows are full.
+static void one_history(uint64_t acknowledged, bool is_short)
 {
     now = below(&drawn, 2) == 0 ? 0 : below(&drawn, 100000);
     stored = below(&drawn, 3);
-    wanted = (model){
-        .acknowledged = acknowledged, .received = 7, .known_at = UINT64_MAX, .owes = true};
+    wanted =
+        (model){.acknowledged = acknowledged, .received = 7, .known_at = UINT64_MAX, .owes = true};
     memset(&it, 0xA5, sizeof it);
     markring_sending_begin(&it, acknowledged, 7);
     for (int i = 0; i < STEPS; i++) {
         compare();
         uint64_t what = below(&drawn, 100);
-        if (what < 30) {
+        if (what < (is_short ? 3 : 30)) {
             turn();
         } else if (what < 85) {
-            offer();
+            offer(is_short);
         } else if (what < 93) {
             leave();
         } else if (what < 99) {
@@ -270,7 +284,7 @@ int main(void)
     EQUAL(WINDOW, MARKRING_WINDOW);
     EQUAL(BYTES, MARKRING_SENDING_BYTES);
     for (int i = 0; i < ROUNDS; i++) {
-        one_history(i % 3 == 0 ? 0 : (uint64_t)1 << (16 * (i % 3) + 16));
+        one_history(i % 3 == 0 ? 0 : (uint64_t)1 << (16 * (i % 3) + 16), i % 4 == 0);
     }
     no_answer();
     greatest();
