@@ -1,11 +1,13 @@
 // What travels between hosts, and between a host and its programs, as bytes. docs/FORMATS.md
 // ("Packets") has the tables. Each kind begins with four bytes that name it and its version.
+//
+// Nodes read and write by the library (packets.c), clients without it (spelling.c).
 #ifndef HOST_PACKETS_H
 #define HOST_PACKETS_H
 
 #include "bytes.h"
 
-#include <markring_lineage.h>
+#include <markring_packets.h>
 #include <markring_remote.h>
 
 enum {
@@ -14,27 +16,24 @@ enum {
     // enough for the longest one; and a window, this many.
     WINDOW_BYTES = 1920,
     WIDE_WINDOW_BYTES = 1 << 17,
-    PACKET_HEAD = 67,
-    // A frame follows its length, of 2 bytes; or if it is longer than that can say, LONG_FRAME and
-    // its length, of 4 bytes.
-    LONG_FRAME = UINT16_MAX,
+    PACKET_HEAD = MARKRING_PACKETS_HEAD,
     PACKET_ACK = 2 + 11,
     PACKET_BYTES = PACKET_HEAD + PACKET_ACK + WINDOW_BYTES,
     WIDE_PACKET_BYTES = PACKET_HEAD + PACKET_ACK + WIDE_WINDOW_BYTES,
     // Events in a request, and programs of a node.
     REQUEST_EVENTS = MARKRING_REMOTE_EVENTS,
     PROGRAMS = 64,
-    REQUEST_HEAD = 24,
-    EVENT_BYTES = 25,
-    ANSWER_HEAD = 49,
-    RESULT_BYTES = 43,
+    REQUEST_HEAD = MARKRING_PACKETS_REQUEST,
+    EVENT_BYTES = MARKRING_PACKETS_EVENT,
+    ANSWER_HEAD = MARKRING_PACKETS_ANSWER,
+    RESULT_BYTES = MARKRING_PACKETS_RESULT,
     // The number of a result and the length of its letter's bytes, before these.
     LETTER_HEAD = 2 + 4,
     // What follows the result of an answer: objects that were freed, each with its word; objects;
     // and contents of places.
-    REFERENCE_RECORD = 1 + 4 + 8,
-    FREED_RECORD = REFERENCE_RECORD + 8,
-    OBJECT_RECORD = REFERENCE_RECORD + 8 + 4 + 4,
+    REFERENCE_RECORD = MARKRING_PACKETS_REFERENCE,
+    FREED_RECORD = MARKRING_PACKETS_FREED,
+    OBJECT_RECORD = MARKRING_PACKETS_OBJECT,
     // The longest request and answer without bytes of objects and letters; and with them, which is
     // less than the 1,048,576 bytes that servers take, unless they are told otherwise.
     REQUEST_BYTES = REQUEST_HEAD + REQUEST_EVENTS * EVENT_BYTES,
@@ -58,22 +57,18 @@ _Static_assert(FREED_IN_ANSWER * FREED_RECORD <= BYTES_MOST
 // A process that runs a node.
 typedef markring_process process;
 
-// The head of a packet from one node to another. Frames follow, each after its length.
-typedef struct packet_head {
-    uint8_t space[SPACE_ID];
-    uint8_t from, to;
-    process sender;
-    // What the sender knows of the process that runs the receiver.
-    uint64_t known_nonce, known_saves;
-    uint32_t live;       // objects of the sender
-    uint8_t needs_cycle; // 1 if a program of the sender found its node full, else 0
-    // What the receiver knew, when it spoke last, of an earlier process of the sender, if that fits
-    // the sender's folder: the nonce and the save, as one number. NO_WORD if nothing was heard; 0
-    // from a host of an earlier version.
-    uint64_t fits;
-} packet_head;
+// The head of a packet from one node to another. Frames follow, each after its length. `fits` is
+// NO_WORD if nothing was heard of an earlier process; 0 from a host of an earlier version.
+typedef markring_packet_head packet_head;
 
 enum { NO_WORD = 1 };
+
+// The id of a space as packets have it.
+static inline uint64_t space_number(const uint8_t *id)
+{
+    reader from = reader_of(id, SPACE_ID);
+    return read_number(&from, SPACE_ID);
+}
 
 void write_packet_head(writer *to, const packet_head *it);
 bool read_packet_head(reader *from, packet_head *it);
@@ -123,25 +118,35 @@ static inline bool is_performing(uint8_t kind)
 }
 
 // The bytes of each of what follows the result of an answer of this kind; 0 for other kinds.
-size_t record_of(uint8_t kind);
+static inline size_t record_of(uint8_t kind)
+{
+    return kind == REQUEST_FREED     ? FREED_RECORD
+        : kind == REQUEST_OBJECTS    ? OBJECT_RECORD
+        : kind == REQUEST_PLACES     ? REFERENCE_RECORD
+                                     : 0;
+}
 
-typedef struct request_head {
-    uint8_t kind, program;
-    uint64_t session, number;
-    uint16_t count;
-} request_head;
+typedef markring_request_head request_head;
 
 void write_request_head(writer *to, const request_head *it);
 bool read_request_head(reader *from, request_head *it);
 
 void write_event(writer *to, const markring_event *it);
-void read_event(reader *from, markring_event *it);
 
 // An event, with its bytes if it is one that has some: they follow it, after their length (4). What
 // is read points into the request.
-bool has_bytes(uint8_t kind);
+static inline bool has_bytes(uint8_t kind)
+{
+    return kind == MARKRING_REMOTE_SET_BYTES || kind == MARKRING_REMOTE_PATCH
+        || kind == MARKRING_REMOTE_POST;
+}
+
 // How many bytes of a letter the event may bring, at most.
-size_t room_of(const markring_event *it);
+static inline size_t room_of(const markring_event *it)
+{
+    return it->kind == MARKRING_REMOTE_ACCEPT_INTO ? it->count : 0;
+}
+
 void write_remote_event(writer *to, const markring_remote_event *it);
 void read_remote_event(reader *from, markring_remote_event *it);
 
@@ -165,17 +170,7 @@ typedef enum verdict {
     VERDICT_LOST = 8
 } verdict;
 
-typedef struct answer_head {
-    uint8_t kind, program;
-    uint64_t session, number; // as in the request
-    uint8_t verdict;
-    uint64_t last;  // the number of the program's last request that was performed
-    uint64_t round; // how many processes have opened the program
-    uint8_t nodes, own;
-    uint16_t registers;
-    uint32_t slots;
-    uint16_t count; // of results that follow
-} answer_head;
+typedef markring_answer_head answer_head;
 
 void write_answer_head(writer *to, const answer_head *it);
 bool read_answer_head(reader *from, answer_head *it);
@@ -185,6 +180,7 @@ void read_result(reader *from, markring_result *it);
 
 void write_reference(writer *to, const markring_ref *it);
 void read_reference(reader *from, markring_ref *it);
+void read_reference_record(reader *from, markring_ref *it);
 void write_freed_record(writer *to, const markring_freed *it);
 void read_freed_record(reader *from, markring_freed *it);
 void write_object_record(writer *to, const markring_object *it);

@@ -16,10 +16,9 @@ void host_connected(host *it, uint64_t now)
 static void write_head(host *it, uint8_t to, writer *packet)
 {
     markring_state state = {0};
-    packet_head head = {{0}, it->shape.own, to, {it->nonce, it->run, it->stored},
+    packet_head head = {space_number(it->shape.space), it->shape.own, to, {it->nonce, it->run, it->stored},
         it->peers[to].known.nonce, it->peers[to].known.saves, 0, it->needs_cycle,
         it->peers[to].heard != 0 ? it->peers[to].heard : NO_WORD};
-    memcpy(head.space, it->shape.space, SPACE_ID);
     if (markring_node_state(&it->node, &state) == MARKRING_OK) {
         head.live = state.live;
         it->told_live = to == 0 ? state.live : it->told_live;

@@ -117,7 +117,7 @@ static bool is_latest(host *it, const packet_head *head)
 
 static bool is_for_us(const host *it, uint8_t from, const packet_head *head)
 {
-    return memcmp(head->space, it->shape.space, SPACE_ID) == 0 && head->from == from
+    return head->space == space_number(it->shape.space) && head->from == from
         && head->to == it->shape.own && from < it->shape.nodes && from != it->shape.own;
 }
 

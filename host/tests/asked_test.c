@@ -2,36 +2,12 @@
 // that it waits for nothing meanwhile, and what it leaves to the thread that saves.
 //
 //     asked_test
-#ifndef NODE
-#define NODE "../node.c"
-#endif
-#define main node_main
-#include NODE
-#undef main
-
-#include "nats_model.h"
+#include "running.h"
 #include "rows.h"
 
-#include <stdatomic.h>
+enum { HOLDER = 7, SOON = 800, SHORT = 60 };
 
-enum { HOLDER = 7, PROGRAM = 5, SOON = 800, SHORT = 60 };
-
-static unsigned long passed, failed;
-
-static void check(bool holds, const char *text, int line)
-{
-    if (holds) {
-        passed++;
-    } else if (failed++ < 20) {
-        printf("FAILED: asked_test.c:%d: %s\n", line, text);
-    }
-}
-
-#define HOLDS(condition) check((condition), #condition, __LINE__)
-
-static running at;
 static pthread_t loop;
-static carrier_options carrier = {"nats://none", NULL, NULL, NULL, NULL};
 
 // ## The database, which two threads use, one at a time
 
@@ -147,21 +123,6 @@ static void on_published(const char *subject, const char *reply, const void *byt
     }
 }
 
-// Rounds, until this is so. A machine that is busy has 20 seconds for it, a wrong node no more than
-// twice.
-#define GO_ON_UNTIL(condition) \
-    for (uint64_t end = now_ms() + 20000; !(condition) && failed < 2 && now_ms() < end;) { \
-        (void)go_round(&at); \
-    }
-
-static void go_on(uint64_t time)
-{
-    uint64_t end = now_ms() + time;
-    do {
-        (void)go_round(&at);
-    } while (now_ms() < end && host_ended(at.host) == HOST_RUNS);
-}
-
 static bool hears(const char *subject)
 {
     GO_ON_UNTIL(strcmp(heard, subject) == 0 || host_ended(at.host) != HOST_RUNS);
@@ -172,17 +133,9 @@ static bool hears(const char *subject)
 static void request(const char *reply)
 {
     static uint64_t session;
-    uint8_t bytes[REQUEST_HEAD];
-    writer to = writer_of(bytes, sizeof bytes);
-    request_head head = {REQUEST_OPEN, PROGRAM, ++session, session, 0};
-    write_request_head(&to, &head);
     heard[0] = 0;
-    model_deliver("markring.test.node.0.program", reply, bytes, to.length);
-}
-
-static void ask_status(const char *reply)
-{
-    model_deliver("markring.test.node.0.control", reply, "status", 6);
+    session++;
+    ask_to_open(session, session, reply);
 }
 
 // A save that the loop has asked for, and of which no answer comes.
@@ -204,7 +157,7 @@ static void check_all(void)
 // ## Tests
 
 // The loop asks for what is small; the first save after an opening also deletes what is older.
-static void test_who_saves(void)
+TEST(test_who_saves)
 {
     request("_INBOX.first");
     HOLDS(hears("_INBOX.first") && asked_by_saver > 0);
@@ -220,14 +173,14 @@ static void test_who_saves(void)
 }
 
 // Nobody is answered before the server has, and the loop does all else meanwhile.
-static void test_waits(void)
+TEST(test_waits)
 {
     begin_held("_INBOX.a");
     uint64_t began = now_ms();
     ask_status("_INBOX.status");
     HOLDS(hears("_INBOX.status"));
     if (now_ms() - began < SOON) {
-        go_on(SHORT);
+        (void)go_on(SHORT);
         HOLDS(strcmp(heard, "_INBOX.status") == 0);
     }
     release();
@@ -257,7 +210,7 @@ static void *disturb(void *context)
 }
 
 // An answer, or a message, wakes the loop at once. Once is enough: a machine may be busy.
-static void test_wakes(void)
+TEST(test_wakes)
 {
     for (int i = 0; i < 2; i++) {
         bool was_soon = false;
@@ -287,7 +240,7 @@ static uint64_t used_ms(void)
 }
 
 // Once it was woken, the loop sleeps again.
-static void test_sleeps(void)
+TEST(test_sleeps)
 {
     pthread_t other;
     is_answer = false;
@@ -306,7 +259,7 @@ static void test_sleeps(void)
 }
 
 // The answer is looked for also if more messages come all the time.
-static void test_floods(void)
+TEST(test_floods)
 {
     request("_INBOX.a");
     for (int i = 0; i < 2000 && strcmp(heard, "_INBOX.a") != 0; i++) {
@@ -318,7 +271,7 @@ static void test_floods(void)
 }
 
 // After a while the saver waits, and the node is as sure as it was when the loop asked.
-static void test_leaves(void)
+TEST(test_leaves)
 {
     unsigned long asked_before = asked, awaited_before = awaited;
     uint64_t began = now_ms();
@@ -339,7 +292,7 @@ static void test_leaves(void)
 }
 
 // What can't be sent at once is the saver's at once.
-static void test_cut(void)
+TEST(test_cut)
 {
     is_cut = true;
     request("_INBOX.a");
@@ -352,7 +305,7 @@ static void test_cut(void)
 }
 
 // Who uses the connection isn't in the way of the other one.
-static void test_renewals(void)
+TEST(test_renewals)
 {
     // The saver doesn't renew while the loop waits: its time comes meanwhile.
     request("_INBOX.a");
@@ -360,7 +313,7 @@ static void test_renewals(void)
     (void)sleep_ms(RENEW_EACH / 2);
     unsigned long before = renewed;
     begin_held("_INBOX.b");
-    go_on(SOON);
+    (void)go_on(SOON);
     HOLDS(!at.asks || renewed == before);
     release();
     HOLDS(hears("_INBOX.b"));
@@ -397,7 +350,7 @@ static uint64_t save_for(uint64_t time)
 }
 
 // Saves take the place of renewals. (A busy machine may stop them for too long.)
-static void test_busy(void)
+TEST(test_busy)
 {
     for (int attempt = 0; attempt < 5; attempt++) {
         unsigned long before = renewed;
@@ -409,7 +362,7 @@ static void test_busy(void)
     check_all();
 }
 
-static void test_faults(void)
+TEST(test_faults)
 {
     static const rows_fault faults[] = {ROWS_BEFORE, ROWS_AFTER, ROWS_LATER, ROWS_REFUSES};
     for (size_t i = 0; i < sizeof faults / sizeof *faults; i++) {
@@ -462,7 +415,7 @@ static void leave_at(rewrite_stage stage)
 }
 
 // A save that was refused is the saver's at once, so it is tried again soon.
-static void test_refusals(void)
+TEST(test_refusals)
 {
     bool was_soon = false;
     for (int attempt = 0; attempt < 5 && !was_soon; attempt++) {
@@ -479,7 +432,7 @@ static void test_refusals(void)
 }
 
 // A save that was asked for begins and ends no rewrite. The next one does, which the saver makes.
-static void test_rewrites(void)
+TEST(test_rewrites)
 {
     write_rewrite();
     uint64_t number = at.again.base.number;
@@ -496,7 +449,7 @@ static void test_rewrites(void)
 }
 
 // A process that was taken over ends, and saves nothing any more.
-static void test_takeover(void)
+TEST(test_takeover)
 {
     GO_ON_UNTIL(at.to_save == NULL && !at.renews);
     uint64_t number = at.number;
@@ -538,26 +491,21 @@ static void start(void)
     HOLDS(connect_node(&at, &carrier) == NATS_OK);
 }
 
+// A wrong node isn't tested any further.
+static void after_each(void)
+{
+    if (failed > 1) {
+        test_count = 0;
+        release();
+    }
+}
+
 int main(void)
 {
-    pthread_t saves, rewrites, signals;
     model.published = on_published;
-    HOLDS(start_threads(&at, &saves, &rewrites, &signals));
-    start();
-    static void (*const tests[])(void) = {test_who_saves, test_waits, test_wakes, test_sleeps,
-        test_floods, test_leaves, test_cut, test_renewals, test_busy, test_faults, test_refusals,
-        test_rewrites, test_takeover};
-    for (size_t i = 0; i < sizeof tests / sizeof *tests && failed < 2; i++) {
-        tests[i]();
-    }
-    release();
-    end_saver(&at, saves, rewrites);
-    disconnect_node(&at);
-    host_free(at.host);
-    keeper_close(&at.keeper);
+    run_node(start, after_each);
     rows_free(&server);
     rows_kill(&client);
     rows_kill(&apart);
-    printf("%lu passed, %lu failed\n", passed, failed);
-    return failed != 0 || passed == 0;
+    return report_checks();
 }

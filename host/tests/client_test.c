@@ -7,12 +7,12 @@
 //
 //     client_test
 #include "../packets.h"
+#include "check.h"
 #include "nats_model.h"
 
 #include <errno.h>
 #include <poll.h>
 #include <pthread.h>
-#include <stdio.h>
 #include <stdlib.h>
 #include <time.h>
 
@@ -21,19 +21,6 @@ enum { EVENTS = 5, SHORT = 4, LONG = 2000, ROOM = 400 };
 enum { SET = 3, PATCHED = 2, FETCHED = 6 };
 // How many records follow the result of an answer about objects.
 enum { RECORDS = 2, RECORDS_ROOM = 5 };
-
-static atomic_ulong passed, failed;
-
-static void check(bool holds, const char *text, int line)
-{
-    if (holds) {
-        passed++;
-    } else if (failed++ < 20) {
-        printf("FAILED: client_test.c:%d: %s\n", line, text);
-    }
-}
-
-#define HOLDS(condition) check((condition), #condition, __LINE__)
 
 // ## Memory
 
@@ -523,7 +510,7 @@ static int ask(call which, int64_t timeout)
     return status;
 }
 
-static void test_right(void)
+TEST(test_right)
 {
     behave();
     HOLDS(open_program(LONG) == MARKRING_REMOTE_OK);
@@ -541,7 +528,7 @@ static void test_right(void)
 }
 
 // How requests with bytes are spelled.
-static void test_spelling(void)
+TEST(test_spelling)
 {
     static const uint8_t reading[] = {1, 2, 1, 2, 3, 4, 0, 0, 0, FETCHED};
     behave();
@@ -563,7 +550,7 @@ static void test_spelling(void)
 }
 
 // How questions about objects are spelled.
-static void test_spelling_of_questions(void)
+TEST(test_spelling_of_questions)
 {
     static const struct {
         call which;
@@ -602,7 +589,7 @@ static void test_spelling_of_questions(void)
 }
 
 // Results that don't go with what follows, or with the request.
-static void test_wrong_records(void)
+TEST(test_wrong_records)
 {
     for (call which = FREED; which <= PLACES; which++) {
         int record = behind_of(which) / RECORDS;
@@ -623,7 +610,7 @@ static void test_wrong_records(void)
 }
 
 // A node of an earlier version refuses both; the program goes on with the same number.
-static void test_earlier(void)
+TEST(test_earlier)
 {
     behave();
     HOLDS(open_program(LONG) == MARKRING_REMOTE_OK);
@@ -637,7 +624,7 @@ static void test_earlier(void)
 }
 
 // The same at its opening, which is asked for again as earlier versions know it.
-static void test_earlier_openings(void)
+TEST(test_earlier_openings)
 {
     markring_remote *it = NULL;
     behave();
@@ -694,7 +681,7 @@ static void bring(const char *letters, size_t length)
 #define BRING(text) bring(text, sizeof(text) - 1)
 
 // The letters of a request come with its answer, and stay until the next one.
-static void test_letters(void)
+TEST(test_letters)
 {
     markring_result results[4];
     behave();
@@ -736,7 +723,7 @@ static void test_letters(void)
 }
 
 // Letters of no result, or twice of one, or cut off, aren't taken; nor are others.
-static void test_wrong_letters(void)
+TEST(test_wrong_letters)
 {
     static const struct {
         const char *text;
@@ -760,7 +747,7 @@ static void test_wrong_letters(void)
 }
 
 // Without memory for them, the request isn't over. The most bytes that they may have; one more.
-static void test_most_letters(void)
+TEST(test_most_letters)
 {
     static uint8_t letters[6 + BYTES_MOST + 1];
     markring_result results[4];
@@ -811,7 +798,7 @@ static void test_most_letters(void)
 }
 
 // The most bytes in a request and an answer; and one more, which aren't sent.
-static void test_most(void)
+TEST(test_most)
 {
     static uint8_t bytes[BYTES_MOST + 1];
     markring_result found[2];
@@ -835,7 +822,7 @@ static void test_most(void)
 }
 
 // Without memory nothing is sent, and the next request is a new one.
-static void test_memory(void)
+TEST(test_memory)
 {
     for (int which = 1; which < 4; which++) {
         behave();
@@ -859,7 +846,7 @@ static void test_memory(void)
     refuse_in = 0;
 }
 
-static void test_last(void)
+TEST(test_last)
 {
     markring_result *results = calloc(2, sizeof *results);
     size_t count = 0;
@@ -872,7 +859,7 @@ static void test_last(void)
 }
 
 // Each verdict, with each number of results that there could be.
-static void test_verdicts(void)
+TEST(test_verdicts)
 {
     static const int counts[] = {-1, 0, 1, 2, EVENTS - 1, EVENTS, EVENTS + 1, 256, 257, ROOM};
     for (call which = OPEN; which < CALLS; which++) {
@@ -919,7 +906,7 @@ static void test_verdicts(void)
 }
 
 // An answer that is cut off at any byte, or is to another request, isn't taken.
-static void test_others(void)
+TEST(test_others)
 {
     for (call which = OPEN; which < CALLS; which++) {
         int length =
@@ -963,7 +950,7 @@ static void test_others(void)
 }
 
 // A program that is opened for the eighth time, as the first answer says; another node answers.
-static void test_rounds(void)
+TEST(test_rounds)
 {
     behave();
     node.verdict = VERDICT_STALE;
@@ -975,7 +962,7 @@ static void test_rounds(void)
 }
 
 // A program that has registers for itself, which the request names.
-static void test_apart(void)
+TEST(test_apart)
 {
     for (unsigned said = 0; said < 7; said++) {
         markring_remote *it = NULL;
@@ -1006,7 +993,7 @@ static void test_apart(void)
     HOLDS(status == MARKRING_REMOTE_BAD_ARGUMENT && asks == before && none == NULL);
 }
 
-static void test_words(void)
+TEST(test_words)
 {
     char text[16];
     behave();
@@ -1019,7 +1006,7 @@ static void test_words(void)
 }
 
 // A server that takes no message as long as the answer, or as the request.
-static void test_payload(void)
+TEST(test_payload)
 {
     behave();
     HOLDS(open_program(LONG) == MARKRING_REMOTE_OK);
@@ -1153,7 +1140,7 @@ static void expect_seen(uint64_t first, size_t count)
 }
 
 // As many as may be under way; and one more, which isn't sent.
-static void test_queue(void)
+TEST(test_queue)
 {
     enum { MOST = MARKRING_REMOTE_UNDER_WAY };
     markring_result results[EVENTS];
@@ -1186,7 +1173,7 @@ static void test_queue(void)
 
 // The node is away now and then, or forgets what it was asked before its save: each request is asked
 // for until it is answered, with one number, and the next one not before that.
-static void test_restarts(void)
+TEST(test_restarts)
 {
     begin_queue();
     for (int i = 0; i < 30; i++) {
@@ -1205,7 +1192,7 @@ static void test_restarts(void)
 }
 
 // The time of the oldest one ends: it stays, and those behind it wait.
-static void test_time_of_queue(void)
+TEST(test_time_of_queue)
 {
     markring_remote_answer it;
     begin_queue();
@@ -1271,7 +1258,7 @@ static void test_time_of_queue(void)
 }
 
 // What a verdict means for a request under way, and for the next one.
-static void test_verdicts_of_queue(void)
+TEST(test_verdicts_of_queue)
 {
     markring_remote_event event = {{.kind = MARKRING_REMOTE_SET_BYTES}, NULL, 0};
     begin_queue();
@@ -1308,7 +1295,7 @@ static void test_verdicts_of_queue(void)
 
 // Another process opens the program: what was answered before can be taken, and nothing is sent any
 // more.
-static void test_superseded_queue(void)
+TEST(test_superseded_queue)
 {
     markring_result result;
     begin_queue();
@@ -1354,7 +1341,7 @@ static int send_without_memory(int which)
 }
 
 // Arguments that are out of range, and memory that is refused: nothing is sent.
-static void test_refused_sends(void)
+TEST(test_refused_sends)
 {
     static const markring_remote_event none[REQUEST_EVENTS + 1];
     static const uint16_t registers[REQUEST_EVENTS + 1];
@@ -1386,7 +1373,7 @@ static void test_refused_sends(void)
 }
 
 // Readings have their place between events. One that gets no answer is over.
-static void test_readings_of_queue(void)
+TEST(test_readings_of_queue)
 {
     static const uint16_t registers[2] = {258, 3};
     markring_remote_answer it;
@@ -1442,7 +1429,7 @@ static void test_readings_of_queue(void)
 }
 
 // Questions about objects have their place between events, too.
-static void test_questions_of_queue(void)
+TEST(test_questions_of_queue)
 {
     static const uint8_t kinds[] = {REQUEST_TRACK_FREED, REQUEST_PERFORM, REQUEST_FREED,
         REQUEST_OBJECTS, REQUEST_PERFORM_RESOLVING, REQUEST_PLACES};
@@ -1511,7 +1498,7 @@ static void test_questions_of_queue(void)
 }
 
 // A wait for a letter beside the others, and its outcomes.
-static void test_wait_of_queue(void)
+TEST(test_wait_of_queue)
 {
     uint64_t letters = 77;
     begin_queue();
@@ -1552,7 +1539,7 @@ static void test_wait_of_queue(void)
 }
 
 // Two programs: one isn't held up by the other, and the descriptor speaks for both.
-static void test_two_programs(void)
+TEST(test_two_programs)
 {
     markring_remote *mine = NULL;
     markring_remote_answer it;
@@ -1622,7 +1609,7 @@ static void *use_program(void *context)
 }
 
 // Each thread has a program of the same space.
-static void test_threads(void)
+TEST(test_threads)
 {
     pthread_t threads[THREADS];
     int numbers[THREADS];
@@ -1638,7 +1625,7 @@ static void test_threads(void)
 }
 
 // Closed in the middle: requests under way, one that was answered, and a wait.
-static void test_closing(void)
+TEST(test_closing)
 {
     for (int i = 0; i < 4; i++) {
         begin_queue();
@@ -1690,7 +1677,7 @@ static void hold_lock(void)
 
 // A connection's lock is held, since libnats connects it again; or the client makes a new one. The
 // call ends in time, and the next one has its answer as soon as the lock is free.
-static void test_waiting(void)
+TEST(test_waiting)
 {
     for (int i = 0; i < 2 * CALLS && failed < 2; i++) {
         call which = i % CALLS;
@@ -1715,7 +1702,7 @@ static void test_waiting(void)
 
 // Requests under way, meanwhile: they can be sent, their time ends, and they are closed while one of
 // them is held up.
-static void test_waiting_queue(void)
+TEST(test_waiting_queue)
 {
     markring_remote_answer it;
     begin_queue();
@@ -1767,7 +1754,7 @@ static void test_late(bool is_of_bytes)
     HOLDS(read_registers(LONG) == MARKRING_REMOTE_OK);
 }
 
-static void test_arguments(void)
+TEST(test_arguments)
 {
     static markring_event events[REQUEST_EVENTS + 1];
     static uint16_t registers[REQUEST_EVENTS + 1];
@@ -1830,44 +1817,11 @@ int main(void)
     model.published = on_request;
     test_inboxes();
     HOLDS(markring_remote_connect(&space, &options, "test") == MARKRING_REMOTE_OK);
-    test_right();
-    test_spelling();
-    test_spelling_of_questions();
-    test_wrong_records();
-    test_earlier();
-    test_earlier_openings();
-    test_letters();
-    test_wrong_letters();
-    test_most_letters();
-    test_most();
-    test_memory();
-    test_last();
-    test_verdicts();
-    test_others();
-    test_rounds();
-    test_apart();
-    test_words();
-    test_payload();
-    test_arguments();
-    test_queue();
-    test_restarts();
-    test_time_of_queue();
-    test_verdicts_of_queue();
-    test_superseded_queue();
-    test_refused_sends();
-    test_readings_of_queue();
-    test_questions_of_queue();
-    test_wait_of_queue();
-    test_two_programs();
-    test_threads();
-    test_closing();
-    test_waiting();
-    test_waiting_queue();
+    run_tests();
     test_late(false);
     test_late(true);
     markring_remote_close(program);
     markring_remote_disconnect(space);
     HOLDS(model.alive == 0);
-    printf("%lu passed, %lu failed\n", passed, failed);
-    return failed != 0 || passed == 0;
+    return report_checks();
 }

@@ -4,27 +4,15 @@
 // that are asked for without waiting, and with a rewrite, whose value another connection puts there.
 //
 //     database_test
+#include "check.h"
 #include "rows.h"
 
-#include <stdio.h>
 #include <stdlib.h>
 #include <string.h>
 
 enum { SAVES = 7, LARGE = PIECE_MOST + 1000, MOST_CALLS = 80, HOLDER = 7, OTHER = 9, WHOLE = 99 };
 
-static unsigned long passed, failed;
 static uint64_t seed = 88172645463325252u;
-
-static void check(bool holds, const char *text, int line)
-{
-    if (holds) {
-        passed++;
-    } else if (failed++ < 20) {
-        printf("FAILED: database_test.c:%d: %s\n", line, text);
-    }
-}
-
-#define HOLDS(condition) check((condition), #condition, __LINE__)
 
 // The saves of a run: each a value or an entry, whose bytes are all its index.
 typedef struct plan {
@@ -251,7 +239,7 @@ static void test_deaths(void)
 }
 
 // A process that was taken over changes nothing any more, whatever it does.
-static void test_taken(void)
+TEST(test_taken)
 {
     for (int way = 0; way < 4; way++) {
         rows server = {.seed = &seed};
@@ -413,7 +401,7 @@ static void test_each_rewrite(rows_fault fault, bool in_other, bool dies)
 
 // The pieces of a rewrite that was broken off, of a process that was taken over, don't come any
 // more; nor do those count that a server lost.
-static void test_lost_pieces(void)
+TEST(test_lost_pieces)
 {
     for (int way = 0; way < 3; way++) {
         rows server = {.seed = &seed};
@@ -580,7 +568,7 @@ static void test_damage(bool is_rewritten)
 }
 
 // While the server is away, a save waits. It gives up if the process ends.
-static void test_pauses(void)
+TEST(test_pauses)
 {
     rows server = {.seed = &seed};
     rows_client client = {.server = &server, .pauses_most = 9};
@@ -623,7 +611,7 @@ static void open_made(database *at, rows_client *client)
 }
 
 // What has to wait isn't asked for: a whole value, what is large, and all without a connection.
-static void test_what_is_asked(void)
+TEST(test_what_is_asked)
 {
     rows server = {.seed = &seed};
     rows_client client = {.server = &server};
@@ -648,7 +636,7 @@ static void test_what_is_asked(void)
 }
 
 // The save that was asked for counts once, whoever comes to the end of it.
-static void test_ends_of_asked(void)
+TEST(test_ends_of_asked)
 {
     for (int way = 0; way < 3; way++) {
         rows server = {.seed = &seed};
@@ -694,13 +682,8 @@ int main(void)
     for (how = SAVES_AT_ONCE; how < SAVINGS; how++) {
         test_faults();
     }
-    test_taken();
-    test_what_is_asked();
-    test_ends_of_asked();
-    test_lost_pieces();
+    run_tests();
     test_damage(false);
     test_damage(true);
-    test_pauses();
-    printf("%lu passed, %lu failed\n", passed, failed);
-    return failed != 0 || passed == 0;
+    return report_checks();
 }

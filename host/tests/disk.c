@@ -1,31 +1,10 @@
 #include "disk.h"
+#include "models.h"
 
 #include <errno.h>
-#include <stdio.h>
-#include <stdlib.h>
 #include <string.h>
 
 enum { FOLDER = 100 };
-
-static uint32_t below_number(uint64_t *seed, uint32_t limit)
-{
-    *seed ^= *seed >> 12;
-    *seed ^= *seed << 25;
-    *seed ^= *seed >> 27;
-    return (uint32_t)((*seed * UINT64_C(2685821657736338717) >> 32) * limit >> 32);
-}
-
-// Memory of the disk's own. A test that refuses memory to a host wraps malloc and realloc, but not
-// this call.
-static void *resized(void *block, size_t size)
-{
-    void *fresh = reallocarray(block, 1, size);
-    if (fresh == NULL) {
-        fputs("the test itself ran out of memory\n", stderr);
-        exit(2);
-    }
-    return fresh;
-}
 
 static void extend(uint8_t **bytes, size_t *length, size_t to)
 {

@@ -4,11 +4,11 @@
 //
 //     files_test
 #include "../store.h"
+#include "check.h"
 
 #include <errno.h>
 #include <fcntl.h>
 #include <stdarg.h>
-#include <stdio.h>
 #include <stdlib.h>
 #include <string.h>
 #include <sys/file.h>
@@ -16,19 +16,6 @@
 #include <unistd.h>
 
 enum { LENGTH = 1000, CALLS = 512, PATH = 300, DEPTH = 3, OTHER = -1 };
-
-static unsigned long passed, failed;
-
-static void check(bool holds, const char *text, int line)
-{
-    if (holds) {
-        passed++;
-    } else if (failed++ < 20) {
-        printf("FAILED: files_test.c:%d: %s\n", line, text);
-    }
-}
-
-#define HOLDS(condition) check((condition), #condition, __LINE__)
 
 // ## Calls
 
@@ -363,7 +350,7 @@ static bool names_are_synced(int after)
 
 // ## Tests
 
-static void test_creation(void)
+TEST(test_creation)
 {
     store it;
     char path[PATH + 8];
@@ -380,7 +367,7 @@ static void test_creation(void)
     store_close(&it);
 }
 
-static void test_saves(void)
+TEST(test_saves)
 {
     store it;
     make(&it);
@@ -399,7 +386,7 @@ static void test_saves(void)
     HOLDS(found() == 11);
 }
 
-static void test_failed_saves(void)
+TEST(test_failed_saves)
 {
     static const int errors[] = {ENOSPC, EIO, EDQUOT};
     for (int is_entry = 0; is_entry < 2; is_entry++) {
@@ -439,7 +426,7 @@ static void test_failed_saves(void)
     }
 }
 
-static void test_openings(void)
+TEST(test_openings)
 {
     static const char *const names[] = {"/a", "/b"};
     store it;
@@ -495,7 +482,7 @@ static void test_openings(void)
 }
 
 // An opening makes no file.
-static void test_missing(void)
+TEST(test_missing)
 {
     store it;
     char path[PATH + 8], other[PATH + 8];
@@ -510,7 +497,7 @@ static void test_missing(void)
 }
 
 // Folders above the node's may have nothing to sync; its own has.
-static void test_above(void)
+TEST(test_above)
 {
     static const int nothing[] = {EINVAL, EROFS, ENOTSUP};
     store it;
@@ -562,7 +549,7 @@ static int lock_as_other(const char *path, int flags)
 }
 
 // One process at a time, also one of an earlier version, and if the file system can't lock folders.
-static void test_locks(void)
+TEST(test_locks)
 {
     store it, other;
     int number;
@@ -592,15 +579,8 @@ static void test_locks(void)
 int main(void)
 {
     HOLDS(mkdtemp(place) != NULL);
-    test_creation();
-    test_saves();
-    test_failed_saves();
-    test_openings();
-    test_missing();
-    test_above();
-    test_locks();
+    run_tests();
     remove_all(place);
     HOLDS(rmdir(place) == 0);
-    printf("%lu passed, %lu failed\n", passed, failed);
-    return failed != 0 || passed == 0;
+    return report_checks();
 }

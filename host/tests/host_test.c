@@ -2,246 +2,18 @@
 // a folder isn't as it should be.
 //
 //     host_test
-#include "../inside.h"
+#include "station.h"
 
-#include <stdio.h>
-#include <stdlib.h>
-
-enum { TURNS = 200, ROOM = LONGEST_ANSWER + 1, LETTERS = 300, ENTRY_HEAD = 16, STARTS = LINE + 60 };
-
-static unsigned long passed, failed;
-
-static void check(bool holds, const char *text, int line)
-{
-    if (holds) {
-        passed++;
-    } else if (failed++ < 20) {
-        printf("FAILED: host_test.c:%d: %s\n", line, text);
-    }
-}
-
-#define HOLDS(condition) check((condition), #condition, __LINE__)
-
-// ## The library
-
-static size_t wrong_size;
-static int looks; // at the size
-
-int __real_markring_node_image_size(markring_node *node, size_t *size);
-int __wrap_markring_node_image_size(markring_node *node, size_t *size);
-
-int __wrap_markring_node_image_size(markring_node *node, size_t *size)
-{
-    int status = __real_markring_node_image_size(node, size);
-    *size += wrong_size;
-    looks++;
-    return status;
-}
-
-// ## Memory
-
-// The largest block that was asked for.
-static size_t largest;
-// The next block with exactly this size is refused; 0 for none.
-static size_t refuse_size;
-
-void *__real_malloc(size_t size);
-void *__wrap_malloc(size_t size);
-
-void *__wrap_malloc(size_t size)
-{
-    largest = size > largest ? size : largest;
-    if (size == refuse_size && size > 0) {
-        refuse_size = 0;
-        return NULL;
-    }
-    return __real_malloc(size);
-}
-
-// ## A node
-
-typedef struct station {
-    host *host;
-    uint64_t nonce; // of the next process
-    uint64_t now, number;
-    store_value *job;
-    int saves;  // that the host began
-    int wholes; // whole values that were saved
-    // The value that was saved last, with the room around it, and entries behind it; up to `end`.
-    uint8_t *stored;
-    size_t length, end;
-    bool has_entries; // saves may be entries
-    int packets, answers;
-    packet_head last; // of the last packet that was sent
-    size_t told;      // bytes of the last answer, and these
-    uint8_t text[ROOM];
-    struct station *other; // the node 1 of node 0, or the other way round, if it takes packets
-} station;
-
-static host_options options;
-static uint32_t slots = 64;
-static uint16_t registers = 8;
-static uint8_t wide_places; // of a wide space; 0 for a plain one
-static uint32_t wide_bytes;
-static uint64_t folder_limit, folder_byte_limit;
-static const uint8_t SPACE[SPACE_ID] = {1, 2, 3, 4, 5, 6, 7, 8};
-enum { NONCE = 77 };
-
-static void on_send(void *context, uint8_t to, const uint8_t *bytes, size_t length)
-{
-    station *at = context;
-    reader from = reader_of(bytes, length);
-    HOLDS(read_packet_head(&from, &at->last) && at->last.to == to);
-    at->packets++;
-    if (at->other != NULL && to < 2) {
-        host_packet(at->other->host, at->now, at->last.from, bytes, length);
-    }
-}
-
-static void on_answer(void *context, const char *reply, const uint8_t *bytes, size_t length)
-{
-    station *at = context;
-    HOLDS(reply[0] == 'r' && length < ROOM);
-    at->told = length < ROOM ? length : 0;
-    memcpy(at->text, bytes, at->told);
-    at->answers++;
-}
-
-static void on_save(void *context, store_value *value)
-{
-    station *at = context;
-    HOLDS(at->job == NULL);
-    at->job = value;
-    at->saves++;
-}
-
-// Whether hosts may ask for rewrites, and how often they did.
-static bool rewrites;
-static int asked;
-
-static void on_rewrite(void *context)
-{
-    station *at = context;
-    HOLDS(at->job == NULL);
-    asked++;
-}
-
-// Opens what is stored.
-static void open_host(station *at)
-{
-    store_value value = {
-        at->stored, at->length, at->end, false, at->end, at->has_entries ? 0 : 1000000};
-    host_calls calls = {at, on_send, on_answer, on_save, rewrites ? on_rewrite : NULL};
-    int status = host_open(&at->host, &value, at->number, at->nonce, &options, &calls, at->now);
-    HOLDS(status == MARKRING_OK);
-}
-
-static void make_node(station *at, uint8_t own, uint8_t nodes, bool has_entries)
-{
-    store_value value = {NULL, 0, 0, false, 0, 0};
-    host_shape shape = {
-        "test", {0}, own, nodes, registers, slots, folder_limit, folder_byte_limit, wide_places > 0,
-        wide_places, wide_bytes};
-    memset(at, 0, sizeof *at);
-    memcpy(shape.space, SPACE, SPACE_ID);
-    at->nonce = NONCE;
-    at->now = 1000;
-    at->number = 10;
-    HOLDS(host_create(&shape, &value) == MARKRING_OK);
-    at->stored = value.buffer;
-    at->length = value.length;
-    at->end = STORE_HEAD + value.length + STORE_TAIL;
-    at->has_entries = has_entries;
-    open_host(at);
-}
-
-static void make(station *at)
-{
-    make_node(at, 0, 3, false);
-}
-
-static void drop(station *at)
-{
-    host_free(at->host);
-    at->host = NULL;
-}
-
-// Stores what is being saved.
-static void finish_save(station *at, store_status status)
-{
-    store_value *job = at->job;
-    at->job = NULL;
-    at->number++;
-    if (status == STORE_OK && job->is_entry) {
-        HOLDS(at->has_entries);
-        size_t length = ENTRY_HEAD + job->length + STORE_TAIL;
-        at->stored = realloc(at->stored, at->end + length);
-        writer to = writer_of(at->stored + at->end, length);
-        write_number(&to, job->length, 8);
-        write_number(&to, at->number, 8);
-        write_bytes(&to, job->buffer + STORE_HEAD, job->length);
-        write_number(&to, 0, STORE_TAIL);
-        HOLDS(to.ok);
-        at->end += length;
-    } else if (status == STORE_OK) {
-        at->wholes++;
-        free(at->stored);
-        at->length = job->length;
-        at->end = STORE_HEAD + job->length + STORE_TAIL;
-        at->stored = calloc(1, at->end);
-        memcpy(at->stored, job->buffer, STORE_HEAD + job->length);
-    }
-    host_saved(at->host, at->now, status, at->number);
-}
-
-static void turn(station *at, uint64_t time, store_status status)
-{
-    at->now += time;
-    host_turn(at->host, at->now);
-    if (at->job != NULL) {
-        finish_save(at, status);
-    }
-}
-
-// Turns, until there is nothing to save; all saves end like this.
-static void settle(station *at, store_status status)
-{
-    for (int i = 0; i < TURNS && host_ended(at->host) == HOST_RUNS; i++) {
-        turn(at, 10, status);
-    }
-}
-
-// A packet of a node to node 0.
-static void deliver_head(station *at, packet_head head)
-{
-    uint8_t bytes[PACKET_HEAD];
-    writer to = writer_of(bytes, sizeof bytes);
-    memcpy(head.space, SPACE, SPACE_ID);
-    write_packet_head(&to, &head);
-    HOLDS(to.ok);
-    host_packet(at->host, at->now, head.from, bytes, to.length);
-}
-
-// A packet of a process of node 1, of an earlier version, which knows this of node 0's process.
-static void deliver(station *at, process sender, uint64_t known_nonce, uint64_t known_saves)
-{
-    deliver_head(at, (packet_head){{0}, 1, 0, sender, known_nonce, known_saves, 0, 0, 0});
-}
-
-static bool is_process(const process *it, uint64_t nonce, uint64_t run, uint64_t saves)
-{
-    return it->nonce == nonce && it->run == run && it->saves == saves;
-}
+enum { LETTERS = 300, STARTS = LINE + 60 };
 
 // ## Tests
 
 // An image that hasn't the size that the library said: no attempt to save again.
-static void test_sizes(void)
+TEST(test_sizes)
 {
     for (int i = 0; i < 2; i++) {
         station at;
-        make(&at);
-        settle(&at, STORE_OK);
+        make(&at, false);
         HOLDS(host_ended(at.host) == HOST_RUNS && host_counted(at.host)->saves == 1);
         wrong_size = i == 0 ? 1 : SIZE_MAX;
         host_changed(at.host);
@@ -250,18 +22,16 @@ static void test_sizes(void)
         HOLDS(host_ended(at.host) == HOST_BROKEN);
         HOLDS(strstr(host_reason(at.host), "no image or batch") != NULL);
         HOLDS(host_counted(at.host)->failed_saves == 0);
-        drop(&at);
-        free(at.stored);
+        end(&at);
     }
 }
 
 // A host that leaves saves what it heard last of the others, also if saves fail at first.
-static void test_leaving(void)
+TEST(test_leaving)
 {
     for (int way = 0; way < 4; way++) {
         station at;
-        make(&at);
-        settle(&at, STORE_OK);
+        make(&at, false);
         deliver(&at, (process){9, 5, 7}, NONCE, 11);
         settle(&at, STORE_OK);
         HOLDS(host_counted(at.host)->saves == 1);
@@ -291,28 +61,24 @@ static void test_leaving(void)
         drop(&at);
         open_host(&at);
         HOLDS(is_process(&at.host->peers[1].known, 9, 5, way == 1 ? 8 : 7));
-        drop(&at);
-        free(at.stored);
+        end(&at);
     }
     // Nothing new: no save.
     station at;
-    make(&at);
-    settle(&at, STORE_OK);
+    make(&at, false);
     host_leave(at.host);
     settle(&at, STORE_OK);
     HOLDS(host_ended(at.host) == HOST_LEFT && host_counted(at.host)->saves == 1);
-    drop(&at);
-    free(at.stored);
+    end(&at);
 }
 
 // A packet that knows as many saves as there can be, of this process or of the sender's.
-static void test_lies(void)
+TEST(test_lies)
 {
     for (int way = 0; way < 3; way++) {
         station at;
         options.trusts_folder = way > 0;
-        make(&at);
-        settle(&at, STORE_OK);
+        make(&at, false);
         deliver(&at, (process){9, 5, UINT64_MAX}, NONCE, 11);
         HOLDS(host_ended(at.host) == HOST_RUNS);
         settle(&at, STORE_OK);
@@ -339,31 +105,27 @@ static void test_lies(void)
             HOLDS(is_process(&at.host->peers[1].known, 10, 8, 8) == (way == 2));
             HOLDS(host_counted(at.host)->outdated == (way != 2));
         }
-        drop(&at);
-        free(at.stored);
+        end(&at);
     }
     options.trusts_folder = false;
 }
 
 // Which saves of a process make it the later one, and which end it: exactly.
-static void test_ages(void)
+TEST(test_ages)
 {
     for (uint64_t known = 10; known <= 12; known++) {
         station at;
-        make(&at);
-        settle(&at, STORE_OK);
+        make(&at, false);
         // It began with save 11.
         HOLDS(at.number == 11);
         deliver(&at, (process){9, 5, 7}, 0, known);
         HOLDS(host_ended(at.host) == HOST_RUNS);
         deliver(&at, (process){9, 5, 7}, NONCE + 1, known);
         HOLDS(host_ended(at.host) == (known >= 11 ? HOST_OLDER : HOST_RUNS));
-        drop(&at);
-        free(at.stored);
+        end(&at);
     }
     station at;
-    make(&at);
-    settle(&at, STORE_OK);
+    make(&at, false);
     deliver(&at, (process){9, 5, 7}, NONCE, 11);
     settle(&at, STORE_OK);
     int packets = at.packets;
@@ -380,31 +142,27 @@ static void test_ages(void)
     HOLDS(is_process(&at.host->peers[1].known, 9, 5, 7));
     deliver(&at, (process){10, 8, 8}, NONCE, 11);
     HOLDS(is_process(&at.host->peers[1].known, 10, 8, 8) && host_counted(at.host)->outdated == 2);
-    drop(&at);
-    free(at.stored);
+    end(&at);
 }
 
 // A snapshot of a machine with its memory: another node knows saves that this process didn't make.
-static void test_snapshots(void)
+TEST(test_snapshots)
 {
     for (uint64_t known = 11; known <= 13; known++) {
         station at;
-        make(&at);
-        settle(&at, STORE_OK);
+        make(&at, false);
         host_changed(at.host);
         settle(&at, STORE_OK);
         HOLDS(at.number == 12);
         deliver(&at, (process){9, 5, 7}, NONCE, known);
         HOLDS(host_ended(at.host) == (known > 12 ? HOST_OLDER : HOST_RUNS));
         HOLDS(known <= 12 || strstr(host_reason(at.host), "this process hasn't made") != NULL);
-        drop(&at);
-        free(at.stored);
+        end(&at);
     }
     // Of two packets of one process, the one with fewer saves is late, or of a snapshot, which is
     // told.
     station at;
-    make(&at);
-    settle(&at, STORE_OK);
+    make(&at, false);
     deliver(&at, (process){9, 5, 7}, NONCE, 11);
     settle(&at, STORE_OK);
     int packets = at.packets;
@@ -414,8 +172,7 @@ static void test_snapshots(void)
     deliver(&at, (process){9, 5, 6}, NONCE, 11);
     settle(&at, STORE_OK);
     HOLDS(at.packets == packets + 1 && at.last.to == 1 && at.last.known_saves == 7);
-    drop(&at);
-    free(at.stored);
+    end(&at);
 }
 
 // The nonces and the saves of the processes on one folder.
@@ -454,7 +211,7 @@ static bool accepts(station *at, uint64_t nonce, uint64_t save)
 
 // What another node may know of a folder that is the newest one is taken; everything else ends the
 // process, as long as the folder knows all of its processes.
-static void test_line(void)
+TEST(test_line)
 {
     for (int way = 0; way < 2; way++) {
         station at;
@@ -473,14 +230,13 @@ static void test_line(void)
             // The first process, and no process.
             HOLDS(accepts(&at, NONCE, ran[0].run - 1) && accepts(&at, 0, 0));
         }
-        drop(&at);
-        free(at.stored);
+        end(&at);
     }
 }
 
 // A folder with very many processes: no true word is refused, and those of the first processes and
 // of the last ones are told from wrong ones.
-static void test_long_line(void)
+TEST(test_long_line)
 {
     station at;
     ran_count = 0;
@@ -500,7 +256,7 @@ static void test_long_line(void)
     // Once all know the process that runs, nothing before it has to be known.
     HOLDS(at.host->line_count == LINE);
     for (uint8_t node = 1; node < 3; node++) {
-        packet_head head = {{0}, node, 0, {node, 1, 1}, at.nonce, at.number, 0, 0, NO_WORD};
+        packet_head head = {0, node, 0, {node, 1, 1}, at.nonce, at.number, 0, 0, NO_WORD};
         deliver_head(&at, head);
         HOLDS(at.host->line_count == (node == 1 ? LINE : 2));
     }
@@ -508,36 +264,33 @@ static void test_long_line(void)
     settle(&at, STORE_OK);
     start_again(&at, 1);
     HOLDS(at.host->line_count == 3 && accepts(&at, 5, ran[0].run));
-    drop(&at);
-    free(at.stored);
+    end(&at);
 }
 
 // Another process of node 1 shows itself: nothing of it is taken before it says that it has heard
 // what is known of that node, unless it is of an earlier version.
-static void test_meeting(void)
+TEST(test_meeting)
 {
     static const uint64_t fits[] = {NO_WORD, 9 ^ 6, 10 ^ 7, 9 ^ 7, 0};
     for (size_t i = 0; i < sizeof fits / sizeof *fits; i++) {
         station at;
         bool is_taken = i >= 3;
-        make(&at);
-        settle(&at, STORE_OK);
+        make(&at, false);
         HOLDS(at.last.fits == NO_WORD);
         deliver(&at, (process){9, 5, 7}, NONCE, 11);
         settle(&at, STORE_OK);
         int packets = at.packets;
-        deliver_head(&at, (packet_head){{0}, 1, 0, {20, 8, 9}, NONCE + 1, 10, 0, 0, fits[i]});
+        deliver_head(&at, (packet_head){0, 1, 0, {20, 8, 9}, NONCE + 1, 10, 0, 0, fits[i]});
         HOLDS(is_process(&at.host->peers[1].known, 20, 8, 9) == is_taken);
         settle(&at, STORE_OK);
         HOLDS(at.packets == packets + 1 && at.last.to == 1);
         HOLDS(at.last.known_nonce == (is_taken ? 20 : 9));
         HOLDS(at.last.fits == ((NONCE + 1) ^ 10));
         // It says so, having heard that.
-        deliver_head(&at, (packet_head){{0}, 1, 0, {20, 8, 9}, NONCE, 11, 0, 0, 9 ^ 7});
+        deliver_head(&at, (packet_head){0, 1, 0, {20, 8, 9}, NONCE, 11, 0, 0, 9 ^ 7});
         HOLDS(is_process(&at.host->peers[1].known, 20, 8, 9));
         HOLDS(host_counted(at.host)->outdated == 0 && host_ended(at.host) == HOST_RUNS);
-        drop(&at);
-        free(at.stored);
+        end(&at);
     }
 }
 
@@ -563,7 +316,7 @@ static void write_hex(writer *to, const char *text)
 }
 
 // What a host of the first version saved is opened, and saved again as a whole value.
-static void test_old_folder(void)
+TEST(test_old_folder)
 {
     uint8_t bytes[1024] = {0};
     station at;
@@ -591,8 +344,7 @@ static void test_old_folder(void)
         HOLDS(is_process(&at.host->peers[1].known, 9, 5, 7));
         HOLDS(at.host->programs[3].now.number == 1 && at.host->programs[3].now.session == 100);
         HOLDS(at.host->programs[3].count == 1 && at.host->line_count == 2u + (unsigned)i);
-        markring_state state = {0};
-        HOLDS(markring_node_state(host_node(at.host), &state) == MARKRING_OK && state.live == 1);
+        HOLDS(state_of(&at).live == 1);
         settle(&at, STORE_OK);
         HOLDS(at.end > STORE_HEAD + at.length + STORE_TAIL || i == 0);
         HOLDS(at.stored[STORE_HEAD] == 0x83);
@@ -603,32 +355,26 @@ static void test_old_folder(void)
 }
 
 // A save that says that another process runs the node ends the host; nothing is answered.
-static void test_taken_over(void)
+TEST(test_taken_over)
 {
     station at;
-    make(&at);
-    settle(&at, STORE_OK);
+    make(&at, false);
     deliver(&at, (process){9, 5, 7}, NONCE, 11);
     host_control(at.host, at.now, "stop", 4, "r");
     settle(&at, STORE_TAKEN);
     HOLDS(host_ended(at.host) == HOST_OLDER && at.answers == 0);
-    drop(&at);
-    free(at.stored);
+    end(&at);
 }
 
 // Each node is told of a save within a second; of many saves, once a second; of none, never.
-static void test_telling(void)
+TEST(test_telling)
 {
     station at;
-    make(&at);
-    for (int i = 0; i < 300; i++) {
-        turn(&at, 10, STORE_OK);
-    }
+    make_node(&at, 0, 3, false);
+    turns(&at, 300, 10);
     int packets = at.packets;
     HOLDS(host_wait(at.host, at.now) > 1000000);
-    for (int i = 0; i < 300; i++) {
-        turn(&at, 10, STORE_OK);
-    }
+    turns(&at, 300, 10);
     HOLDS(at.packets == packets);
     host_changed(at.host);
     turn(&at, 10, STORE_OK);
@@ -651,56 +397,20 @@ static void test_telling(void)
     settle(&at, STORE_OK);
     HOLDS(host_ended(at.host) == HOST_LEFT && at.packets == packets + 2);
     HOLDS(at.last.sender.saves == at.number);
-    drop(&at);
-    free(at.stored);
+    end(&at);
 }
 
 // ## Requests
 
-// Asks, and settles. Returns how many answers came; `*head` is that of the last one.
-static int ask(station *at, request_head request, int length, answer_head *head)
-{
-    uint8_t bytes[REQUEST_BYTES + EVENT_BYTES] = {0};
-    writer to = writer_of(bytes, sizeof bytes);
-    write_request_head(&to, &request);
-    for (int i = 0; i < request.count && request.kind == REQUEST_PERFORM; i++) {
-        markring_event event = {.kind = MARKRING_EVENT_ALLOC, .reg = 1, .place = 1};
-        write_event(&to, &event);
-    }
-    if (request.kind == REQUEST_READ) {
-        write_number(&to, 1, 2);
-    }
-    HOLDS(to.ok);
-    at->answers = 0;
-    host_request(at->host, at->now, bytes, length >= 0 ? (size_t)length : to.length, "r");
-    settle(at, STORE_OK);
-    reader from = reader_of(at->text, at->told);
-    if (at->answers > 0) {
-        HOLDS(read_answer_head(&from, head) && from.left == head->count * (size_t)RESULT_BYTES);
-        HOLDS(head->kind == request.kind && head->program == request.program);
-        HOLDS(head->session == request.session && head->number == request.number);
-    }
-    return at->answers;
-}
-
-static uint32_t live(station *at)
-{
-    markring_state state = {0};
-    HOLDS(markring_node_state(host_node(at->host), &state) == MARKRING_OK);
-    return state.live;
-}
-
 // The request that is next is done, once, and no other one; nothing of a request that is cut.
-static void test_requests(void)
+TEST(test_requests)
 {
     station at;
     answer_head head;
-    make(&at);
-    settle(&at, STORE_OK);
+    make(&at, false);
     request_head request = {REQUEST_PERFORM, 3, 100, 1, 2};
-    HOLDS(ask(&at, request, -1, &head) == 1 && head.verdict == VERDICT_SUPERSEDED);
-    HOLDS(ask(&at, (request_head){REQUEST_OPEN, 3, 0, 1, 0}, -1, &head) == 1);
-    HOLDS(head.verdict == VERDICT_MALFORMED);
+    HOLDS(judge(&at, request, &head) == VERDICT_SUPERSEDED);
+    HOLDS(judge(&at, (request_head){REQUEST_OPEN, 3, 0, 1, 0}, &head) == VERDICT_MALFORMED);
     HOLDS(ask(&at, (request_head){REQUEST_OPEN, 3, 100, 2, 0}, -1, &head) == 1);
     HOLDS(head.verdict == VERDICT_STALE && head.round == 0);
     HOLDS(ask(&at, (request_head){REQUEST_OPEN, 3, 100, 1, 0}, -1, &head) == 1);
@@ -721,53 +431,40 @@ static void test_requests(void)
         HOLDS(head.last == number && head.count == (number == 0 ? 0 : 2));
         HOLDS(ask(&at, request, -1, &head) == 1 && head.count == (number == 0 ? 0 : 2));
         request.number = number + 2;
-        HOLDS(ask(&at, request, -1, &head) == 1 && head.verdict == VERDICT_AHEAD);
+        HOLDS(judge(&at, request, &head) == VERDICT_AHEAD);
         HOLDS(live(&at) == 2 * number);
     }
     request.number = 3;
-    HOLDS(ask(&at, request, -1, &head) == 1 && head.verdict == VERDICT_STALE && live(&at) == 8);
+    HOLDS(judge(&at, request, &head) == VERDICT_STALE && live(&at) == 8);
     request_head reading = {REQUEST_READ, 3, 100, 1, 1};
-    HOLDS(ask(&at, reading, -1, &head) == 1 && head.verdict == VERDICT_DONE && head.count == 1);
+    HOLDS(judge(&at, reading, &head) == VERDICT_DONE && head.count == 1);
     HOLDS(ask(&at, reading, REQUEST_HEAD + 1, &head) == 1 && head.verdict == VERDICT_MALFORMED);
     HOLDS(ask(&at, reading, REQUEST_HEAD, &head) == 1 && head.verdict == VERDICT_MALFORMED);
-    HOLDS(ask(&at, (request_head){5, 3, 100, 1, 0}, -1, &head) == 1);
-    HOLDS(head.verdict == VERDICT_MALFORMED);
+    HOLDS(judge(&at, (request_head){5, 3, 100, 1, 0}, &head) == VERDICT_MALFORMED);
     // One beyond each limit, and at it.
     HOLDS(ask(&at, (request_head){REQUEST_PERFORM, 3, 100, 5, 256}, -1, &head) == 1);
     HOLDS(head.verdict == VERDICT_DONE && head.count == 256 && live(&at) == 64);
-    HOLDS(ask(&at, (request_head){REQUEST_OPEN, 63, 100, 1, 0}, -1, &head) == 1);
-    HOLDS(head.verdict == VERDICT_DONE);
-    HOLDS(ask(&at, (request_head){REQUEST_READ, 64, 100, 1, 1}, -1, &head) == 1);
-    HOLDS(head.verdict == VERDICT_MALFORMED);
-    HOLDS(ask(&at, (request_head){REQUEST_OPEN, 64, 100, 1, 0}, -1, &head) == 1);
-    HOLDS(head.verdict == VERDICT_MALFORMED);
+    HOLDS(judge(&at, (request_head){REQUEST_OPEN, 63, 100, 1, 0}, &head) == VERDICT_DONE);
+    HOLDS(judge(&at, (request_head){REQUEST_READ, 64, 100, 1, 1}, &head) == VERDICT_MALFORMED);
+    HOLDS(judge(&at, (request_head){REQUEST_OPEN, 64, 100, 1, 0}, &head) == VERDICT_MALFORMED);
     HOLDS(ask(&at, (request_head){REQUEST_PERFORM, 3, 100, 6, 257}, -1, &head) == 1);
     HOLDS(head.verdict == VERDICT_MALFORMED && head.count == 0);
     HOLDS(head.last == 5);
-    drop(&at);
-    free(at.stored);
+    end(&at);
 }
 
 // No answer comes before what it shows is stored, and one save is made at a time.
-static void test_order(void)
+TEST(test_order)
 {
     static const request_head requests[] = {{REQUEST_OPEN, 3, 100, 1, 0},
         {REQUEST_PERFORM, 3, 100, 1, 2}, {REQUEST_READ, 3, 100, 1, 0},
         {REQUEST_OPEN, 3, 200, 2, 0}, {REQUEST_PERFORM, 3, 200, 2, 1}};
     station at;
-    make(&at);
-    settle(&at, STORE_OK);
+    make(&at, false);
     for (size_t i = 0; i < sizeof requests / sizeof *requests; i++) {
-        uint8_t bytes[REQUEST_BYTES] = {0};
-        writer to = writer_of(bytes, sizeof bytes);
-        request_head request = requests[i];
-        write_request_head(&to, &request);
-        for (int k = 0; k < request.count; k++) {
-            write_event(&to, &(markring_event){.kind = MARKRING_EVENT_ALLOC, .reg = 1, .place = 1});
-        }
         at.answers = 0;
         host_changed(at.host);
-        host_request(at.host, at.now, bytes, to.length, "r");
+        say_request(&at, requests[i], -1);
         host_turn(at.host, at.now += 10);
         int saves = at.saves;
         HOLDS(at.job != NULL && at.answers == 0);
@@ -783,35 +480,24 @@ static void test_order(void)
         settle(&at, STORE_OK);
         HOLDS(at.answers == 1);
     }
-    drop(&at);
-    free(at.stored);
-}
-
-// Says a request that has nothing behind its head.
-static void say_head(station *at, request_head request)
-{
-    uint8_t bytes[REQUEST_HEAD];
-    writer to = writer_of(bytes, sizeof bytes);
-    write_request_head(&to, &request);
-    host_request(at->host, at->now, bytes, to.length, "r");
+    end(&at);
 }
 
 // The last request was performed, and is stored. A process that has just opened the program asks
 // for it again, and for what is freed. It is answered once its opening is stored: else a crash
 // would take back that it speaks for the program, and that there was another round.
-static void test_taken_over_program(void)
+TEST(test_taken_over_program)
 {
     for (int way = 0; way < 2; way++) {
         station at;
         answer_head head;
-        make(&at);
-        settle(&at, STORE_OK);
+        make(&at, false);
         HOLDS(ask(&at, (request_head){REQUEST_OPEN, 3, 100, 1, 0}, -1, &head) == 1);
         HOLDS(ask(&at, (request_head){REQUEST_PERFORM, 3, 100, 1, 0}, -1, &head) == 1);
         at.answers = 0;
-        say_head(&at, (request_head){REQUEST_OPEN, 3, 200, 2, 0});
-        say_head(&at, (request_head){REQUEST_PERFORM, 3, 200, 1, 0});
-        say_head(&at, (request_head){REQUEST_TRACK_FREED, 3, 200, 5, 1});
+        say_request(&at, (request_head){REQUEST_OPEN, 3, 200, 2, 0}, -1);
+        say_request(&at, (request_head){REQUEST_PERFORM, 3, 200, 1, 0}, -1);
+        say_request(&at, (request_head){REQUEST_TRACK_FREED, 3, 200, 5, 1}, -1);
         host_turn(at.host, at.now += 10);
         HOLDS(at.answers == 0 && at.job != NULL);
         if (way == 0) {
@@ -825,53 +511,44 @@ static void test_taken_over_program(void)
         open_host(&at);
         HOLDS(at.host->programs[3].now.round == (way == 0 ? 2 : 1));
         HOLDS(at.host->programs[3].now.session == (way == 0 ? 200 : 100));
-        drop(&at);
-        free(at.stored);
+        end(&at);
     }
 }
 
 // The numbers of a program never begin again: after the greatest, nothing is next.
-static void test_greatest_numbers(void)
+TEST(test_greatest_numbers)
 {
     station at;
     answer_head head;
-    make(&at);
-    settle(&at, STORE_OK);
-    HOLDS(ask(&at, (request_head){REQUEST_OPEN, 3, 100, 1, 0}, -1, &head) == 1);
-    HOLDS(head.verdict == VERDICT_DONE);
+    make(&at, false);
+    HOLDS(judge(&at, (request_head){REQUEST_OPEN, 3, 100, 1, 0}, &head) == VERDICT_DONE);
     at.host->programs[3].now.number = UINT64_MAX;
-    HOLDS(ask(&at, (request_head){REQUEST_PERFORM, 3, 100, 1, 0}, -1, &head) == 1);
-    HOLDS(head.verdict == VERDICT_STALE);
+    HOLDS(judge(&at, (request_head){REQUEST_PERFORM, 3, 100, 1, 0}, &head) == VERDICT_STALE);
     HOLDS(ask(&at, (request_head){REQUEST_PERFORM, 3, 100, UINT64_MAX, 0}, -1, &head) == 1);
     HOLDS(head.verdict == VERDICT_DONE && head.last == UINT64_MAX);
-    HOLDS(ask(&at, (request_head){REQUEST_PERFORM, 3, 100, 0, 0}, -1, &head) == 1);
-    HOLDS(head.verdict == VERDICT_MALFORMED);
+    HOLDS(judge(&at, (request_head){REQUEST_PERFORM, 3, 100, 0, 0}, &head) == VERDICT_MALFORMED);
     at.host->programs[3].now.round = UINT64_MAX;
     for (uint64_t number = 0; number < 2; number++) {
         HOLDS(ask(&at, (request_head){REQUEST_OPEN, 3, 200, number, 0}, -1, &head) == 1);
         HOLDS(head.verdict == VERDICT_STALE && head.round == UINT64_MAX);
     }
     HOLDS(at.host->programs[3].now.session == 100);
-    drop(&at);
-    free(at.stored);
+    end(&at);
 }
 
 // The next process knows what was done, from whole values and from entries: programs, and objects.
-static void test_restarts(void)
+TEST(test_restarts)
 {
     for (int way = 0; way < 2; way++) {
         station at;
         answer_head head;
-        make_node(&at, 0, 3, way == 1);
-        settle(&at, STORE_OK);
+        make(&at, way == 1);
         HOLDS(ask(&at, (request_head){REQUEST_OPEN, 3, 100, 1, 0}, -1, &head) == 1);
         for (uint64_t number = 1; number <= 3; number++) {
             request_head request = {REQUEST_PERFORM, 3, 100, number, 2};
-            HOLDS(ask(&at, request, -1, &head) == 1 && head.verdict == VERDICT_DONE);
+            HOLDS(judge(&at, request, &head) == VERDICT_DONE);
             if (number % 2 == 1) {
-                drop(&at);
-                open_host(&at);
-                settle(&at, STORE_OK);
+                open_again(&at);
             }
             HOLDS(live(&at) == 2 * number);
             HOLDS(ask(&at, request, -1, &head) == 1 && head.count == 2 && head.last == number);
@@ -881,92 +558,34 @@ static void test_restarts(void)
         HOLDS(ask(&at, (request_head){REQUEST_OPEN, 3, 200, 2, 0}, -1, &head) == 1);
         HOLDS(head.verdict == VERDICT_DONE && head.last == 3 && head.round == 2);
         // The opening lasts, too.
-        drop(&at);
-        open_host(&at);
-        settle(&at, STORE_OK);
+        open_again(&at);
         HOLDS(ask(&at, (request_head){REQUEST_PERFORM, 3, 100, 4, 2}, -1, &head) == 1);
         HOLDS(head.verdict == VERDICT_SUPERSEDED && head.round == 2);
         HOLDS(ask(&at, (request_head){REQUEST_PERFORM, 3, 200, 4, 2}, -1, &head) == 1);
         HOLDS(head.verdict == VERDICT_DONE && live(&at) == 8);
-        drop(&at);
-        free(at.stored);
+        end(&at);
     }
 }
 
 // More answers than a host keeps wait for a save: the others are lost, and the first ones come.
-static void test_held(void)
+TEST(test_held)
 {
     station at;
-    make(&at);
-    settle(&at, STORE_OK);
+    make(&at, false);
     host_changed(at.host);
     host_turn(at.host, at.now += 10);
     HOLDS(at.job != NULL);
     for (uint64_t number = 1; number <= HELD_ANSWERS + 100; number++) {
-        uint8_t bytes[REQUEST_HEAD];
-        writer to = writer_of(bytes, sizeof bytes);
-        request_head request = {REQUEST_READ, 3, 100, number, 0};
-        write_request_head(&to, &request);
-        host_request(at.host, at.now, bytes, to.length, "r");
+        say_request(&at, (request_head){REQUEST_READ, 3, 100, number, 0}, -1);
     }
     HOLDS(at.answers == 0 && host_counted(at.host)->dropped == 100);
     finish_save(&at, STORE_OK);
     settle(&at, STORE_OK);
     HOLDS(at.answers == HELD_ANSWERS);
-    drop(&at);
-    free(at.stored);
+    end(&at);
 }
 
 // ## Programs with registers for themselves
-
-// Says this to the host, and waits for an answer. Returns whether one came; `*head` is its.
-static bool say(station *at, const writer *bytes, answer_head *head)
-{
-    HOLDS(bytes->ok);
-    at->answers = 0;
-    host_request(at->host, at->now, bytes->start, bytes->length, "r");
-    for (int i = 0; i < TURNS && at->answers == 0 && host_ended(at->host) == HOST_RUNS; i++) {
-        turn(at, 10, STORE_OK);
-    }
-    reader from = reader_of(at->text, at->told);
-    return at->answers == 1 && read_answer_head(&from, head);
-}
-
-// Opens a program, with its next round. Returns the verdict.
-static int open_apart(station *at, uint8_t number, uint64_t session, uint16_t first, uint16_t count)
-{
-    uint8_t bytes[REQUEST_HEAD + 4];
-    writer to = writer_of(bytes, sizeof bytes);
-    answer_head head = {0};
-    uint64_t round = at->host->programs[number].now.round + 1;
-    write_request_head(&to, &(request_head){REQUEST_OPEN_APART, number, session, round, 0});
-    write_number(&to, first, 2);
-    write_number(&to, count, 2);
-    HOLDS(say(at, &to, &head) && head.kind == REQUEST_OPEN_APART && head.session == session);
-    return head.verdict;
-}
-
-// What becomes of one event of a program, with its bytes.
-static int perform_bytes(
-    station *at, uint8_t number, uint64_t session, const markring_remote_event *event)
-{
-    static uint8_t bytes[LONGEST_REQUEST + EVENT_BYTES];
-    writer to = writer_of(bytes, sizeof bytes);
-    answer_head head = {0};
-    uint64_t next = at->host->programs[number].now.number + 1;
-    write_request_head(&to, &(request_head){REQUEST_PERFORM, number, session, next, 1});
-    write_remote_event(&to, event);
-    HOLDS(say(at, &to, &head));
-    reader from = reader_of(at->text + ANSWER_HEAD, RESULT_BYTES);
-    markring_result found;
-    read_result(&from, &found);
-    return head.verdict == VERDICT_DONE ? found.status : -1 - head.verdict;
-}
-
-static int perform_one(station *at, uint8_t number, uint64_t session, markring_event event)
-{
-    return perform_bytes(at, number, session, &(markring_remote_event){event, NULL, 0});
-}
 
 // What a program reads in a register.
 static int read_one(station *at, uint8_t number, uint16_t reg)
@@ -1013,19 +632,18 @@ static void expect_apart(station *at)
     }
 }
 
-static void test_apart(void)
+TEST(test_apart)
 {
     for (int way = 0; way < 2; way++) {
         station at;
         answer_head head;
-        make_node(&at, 0, 3, way == 1);
-        settle(&at, STORE_OK);
+        make(&at, way == 1);
         HOLDS(open_apart(&at, 3, 103, 7, 2) == VERDICT_REGISTERS);
         HOLDS(open_apart(&at, 3, 103, 65535, 65535) == VERDICT_REGISTERS);
         HOLDS(open_apart(&at, 3, 103, 2, 0) == VERDICT_MALFORMED);
         HOLDS(open_apart(&at, 3, 103, 2, 2) == VERDICT_DONE);
         request_head cut = {REQUEST_OPEN_APART, 5, 105, 1, 0};
-        HOLDS(ask(&at, cut, -1, &head) == 1 && head.verdict == VERDICT_MALFORMED);
+        HOLDS(judge(&at, cut, &head) == VERDICT_MALFORMED);
         HOLDS(ask(&at, cut, REQUEST_HEAD + 5, &head) == 1 && head.verdict == VERDICT_MALFORMED);
         // Those that overlap, and those that don't.
         for (uint8_t first = 1; first < 7; first++) {
@@ -1034,33 +652,27 @@ static void test_apart(void)
             HOLDS(said == (is_free ? VERDICT_DONE : VERDICT_REGISTERS));
         }
         HOLDS(open_apart(&at, 20, 7, 0, 2) == VERDICT_DONE);
-        HOLDS(ask(&at, (request_head){REQUEST_OPEN, 4, 104, 1, 0}, -1, &head) == 1);
-        HOLDS(head.verdict == VERDICT_DONE);
+        HOLDS(judge(&at, (request_head){REQUEST_OPEN, 4, 104, 1, 0}, &head) == VERDICT_DONE);
         HOLDS(open_apart(&at, 4, 204, 6, 1) == VERDICT_REGISTERS && read_one(&at, 4, 6) != 0);
-        drop(&at);
-        free(at.stored);
+        end(&at);
     }
 }
 
-static void test_forgetting(void)
+TEST(test_forgetting)
 {
     for (int way = 0; way < 2; way++) {
         station at;
         answer_head head;
         markring_event alloc = {.kind = MARKRING_EVENT_ALLOC, .reg = 2, .place = 1};
-        make_node(&at, 0, 3, way == 1);
-        settle(&at, STORE_OK);
+        make(&at, way == 1);
         HOLDS(open_apart(&at, 3, 103, 2, 2) == VERDICT_DONE);
         HOLDS(ask(&at, (request_head){REQUEST_OPEN, 4, 104, 1, 0}, -1, &head) == 1);
         expect_apart(&at);
         // Its next process may say so again, or nothing.
         HOLDS(open_apart(&at, 3, 203, 2, 1) == VERDICT_REGISTERS);
         HOLDS(open_apart(&at, 3, 203, 2, 2) == VERDICT_DONE);
-        HOLDS(ask(&at, (request_head){REQUEST_OPEN, 3, 103, 3, 0}, -1, &head) == 1);
-        HOLDS(head.verdict == VERDICT_DONE);
-        drop(&at);
-        open_host(&at);
-        settle(&at, STORE_OK);
+        HOLDS(judge(&at, (request_head){REQUEST_OPEN, 3, 103, 3, 0}, &head) == VERDICT_DONE);
+        open_again(&at);
         expect_apart(&at);
         HOLDS(perform_one(&at, 3, 103, alloc) == MARKRING_OK);
         HOLDS(perform_one(&at, 4, 104, (markring_event){.kind = 1, .reg = 7}) == MARKRING_OK);
@@ -1075,34 +687,19 @@ static void test_forgetting(void)
         at.answers = 0;
         // (whoever waits for its last answer isn't answered for nobody)
         uint64_t last = at.host->programs[3].now.number;
-        say_head(&at, (request_head){REQUEST_PERFORM, 3, 103, last, 0});
+        say_request(&at, (request_head){REQUEST_PERFORM, 3, 103, last, 0}, -1);
         host_control(at.host, at.now, "forget 3", 8, "r");
         HOLDS(at.answers == 0);
         settle(&at, STORE_OK);
         HOLDS(at.answers == 1 && memcmp(at.text, "{\"forgotten\": 3", 15) == 0);
         HOLDS(read_one(&at, 3, 2) == MARKRING_NOTHING && read_one(&at, 4, 7) == MARKRING_OK);
-        drop(&at);
-        open_host(&at);
-        settle(&at, STORE_OK);
+        open_again(&at);
         HOLDS(read_one(&at, 3, 2) == MARKRING_NOTHING);
         HOLDS(perform_one(&at, 3, 103, alloc) == -1 - VERDICT_SUPERSEDED);
         HOLDS(open_apart(&at, 3, 303, 2, 2) == VERDICT_DONE);
         HOLDS(perform_one(&at, 3, 303, alloc) == MARKRING_OK);
-        drop(&at);
-        free(at.stored);
+        end(&at);
     }
-}
-
-// A number of the status.
-static unsigned long long number_of(station *at, const char *name)
-{
-    char word[32];
-    int length = snprintf(word, sizeof word, "\"%s\": ", name);
-    host_control(at->host, at->now, "status", 6, "r");
-    at->text[at->told] = 0;
-    const char *found = strstr((const char *)at->text, word);
-    HOLDS(found != NULL);
-    return found != NULL ? strtoull(found + length, NULL, 10) : 0;
 }
 
 static unsigned long long image_of(station *at)
@@ -1112,21 +709,15 @@ static unsigned long long image_of(station *at)
 
 // ## Wide spaces
 
-static void make_wide(station *at, uint16_t count, bool has_entries)
+static void make_wide(station *at, uint16_t count, uint32_t bytes, bool has_entries)
 {
-    slots = 16777216;
-    registers = count;
-    wide_places = 255;
-    make_node(at, 0, 3, has_entries);
-    slots = 64;
-    registers = 8;
-    wide_places = 0;
-    settle(at, STORE_OK);
+    next = (host_shape){.slots = 16777216, .registers = count, .places = 255, .bytes = bytes};
+    make(at, has_entries);
 }
 
 // Two programs have all registers. One has an object with the most places in its last one, and
 // still after a restart.
-static void test_wide(void)
+TEST(test_wide)
 {
     for (int way = 0; way < 2; way++) {
         station at;
@@ -1139,7 +730,7 @@ static void test_wide(void)
         beyond.place = 255;
         other.reg = 65532;
         last.reg = 65535;
-        make_wide(&at, 65535, way == 1);
+        make_wide(&at, 65535, 0, way == 1);
         HOLDS(open_apart(&at, 3, 103, 65534, 2) == VERDICT_REGISTERS);
         HOLDS(open_apart(&at, 3, 103, 65535, 1) == VERDICT_REGISTERS);
         HOLDS(open_apart(&at, 3, 103, 65533, 2) == VERDICT_DONE);
@@ -1160,24 +751,19 @@ static void test_wide(void)
             HOLDS(read_one(&at, 4, 65533) == MARKRING_NO_REGISTER);
             HOLDS(number_of(&at, "registers") == 65535 && number_of(&at, "slots") == 16777216);
             HOLDS(number_of(&at, "places") == 255 && number_of(&at, "wide") == 1);
-            drop(&at);
-            open_host(&at);
-            settle(&at, STORE_OK);
+            open_again(&at);
         }
         host_control(at.host, at.now, "forget 4", 8, "r");
         settle(&at, STORE_OK);
         at.text[at.told] = 0;
         HOLDS(strstr((const char *)at.text, "\"registers\": 65533}") != NULL);
         HOLDS(read_one(&at, 4, 65532) == MARKRING_NOTHING && read_one(&at, 3, 65534) == MARKRING_OK);
-        drop(&at);
-        free(at.stored);
+        end(&at);
     }
     station plain;
-    make_node(&plain, 0, 3, true);
-    settle(&plain, STORE_OK);
+    make(&plain, true);
     HOLDS(number_of(&plain, "places") == 8 && number_of(&plain, "wide") == 0);
-    drop(&plain);
-    free(plain.stored);
+    end(&plain);
 }
 
 // The image hasn't more bytes than the host reckons.
@@ -1212,12 +798,12 @@ static void fill_place(station *at, uint32_t number, uint16_t object, uint8_t pl
 
 // Objects with the most places: as they are made, and as they are scanned, when each place asks
 // another node to mark.
-static void test_wide_growth(void)
+TEST(test_wide_growth)
 {
     enum { OBJECTS = 20 };
     station at;
     uint32_t number = 0;
-    make_wide(&at, OBJECTS + 1, true);
+    make_wide(&at, OBJECTS + 1, 0, true);
     HOLDS(open_apart(&at, 3, 103, 1, OBJECTS) == VERDICT_DONE);
     for (uint16_t i = 0; i < OBJECTS; i++) {
         markring_event alloc = {
@@ -1233,9 +819,7 @@ static void test_wide_growth(void)
         expect_bound(&at);
     }
     // From here on the host knows the size.
-    drop(&at);
-    open_host(&at);
-    settle(&at, STORE_OK);
+    open_again(&at);
     host_control(at.host, at.now, "begin", 5, "r");
     for (int i = 0; i < 10; i++) {
         turn(&at, 10, STORE_OK);
@@ -1244,8 +828,7 @@ static void test_wide_growth(void)
     markring_link link = {0};
     HOLDS(markring_node_link(host_node(at.host), 1, &link) == MARKRING_OK);
     HOLDS(link.appended > OBJECTS * 255);
-    drop(&at);
-    free(at.stored);
+    end(&at);
 }
 
 // ## Bytes of objects
@@ -1270,31 +853,6 @@ static int read_object(station *at, uint8_t number, uint16_t object, uint32_t of
         HOLDS(found->status == MARKRING_OK || found->answer.number == 0);
     }
     return head.verdict;
-}
-
-// The byte at this place of what a test writes.
-static uint8_t byte_of(uint32_t kind, uint32_t at)
-{
-    return (uint8_t)(kind + 7 * at + at / 256);
-}
-
-// They stay until the call after the next one.
-static const uint8_t *bytes_of(uint32_t kind, uint32_t length)
-{
-    static uint8_t rooms[2][BYTES_MOST + 1];
-    static int last;
-    uint8_t *bytes = rooms[last = 1 - last];
-    for (uint32_t i = 0; i < length; i++) {
-        bytes[i] = byte_of(kind, i);
-    }
-    return bytes;
-}
-
-static int set_bytes(station *at, uint16_t object, uint32_t kind, uint32_t length)
-{
-    markring_remote_event event = {
-        {.kind = MARKRING_REMOTE_SET_BYTES, .object = object}, bytes_of(kind, length), length};
-    return perform_bytes(at, 3, 103, &event);
 }
 
 static int patch(station *at, uint16_t object, uint32_t offset, uint32_t kind, uint32_t length)
@@ -1332,19 +890,10 @@ static bool has(station *at, uint16_t object, uint32_t kind, uint32_t length, ui
 // object in register 1.
 static void make_with_bytes(station *at, uint32_t most, bool has_entries)
 {
-    wide_bytes = most;
-    make_wide(at, 6, has_entries);
-    wide_bytes = 0;
+    make_wide(at, 6, most, has_entries);
     HOLDS(open_apart(at, 3, 103, 1, 4) == VERDICT_DONE);
     markring_event alloc = {.kind = MARKRING_EVENT_ALLOC, .reg = 1, .place = 1};
     HOLDS(perform_one(at, 3, 103, alloc) == MARKRING_OK);
-}
-
-static void open_again(station *at)
-{
-    drop(at);
-    open_host(at);
-    settle(at, STORE_OK);
 }
 
 // Parts of the bytes of the object in register 1.
@@ -1362,7 +911,7 @@ static void expect_ranges(station *at, uint32_t kind, uint32_t length)
 
 // Bytes are set, patched and read; those that are refused change nothing; all is there after
 // restarts, also from entries.
-static void test_bytes(void)
+TEST(test_bytes)
 {
     enum { MOST = 1000 };
     for (int way = 0; way < 2; way++) {
@@ -1391,13 +940,12 @@ static void test_bytes(void)
         open_again(&at);
         HOLDS(has(&at, 1, 1005, MOST, 900, 77, 100));
         HOLDS((at.end > STORE_HEAD + at.length + STORE_TAIL) == (way == 1));
-        drop(&at);
-        free(at.stored);
+        end(&at);
     }
 }
 
 // Whose bytes a program reads and writes, and in which kind of space.
-static void test_byte_refusals(void)
+TEST(test_byte_refusals)
 {
     station at;
     markring_answer answer;
@@ -1416,17 +964,14 @@ static void test_byte_refusals(void)
         HOLDS(patch(&at, cases[i].object, 2, 1, 8) == cases[i].status);
         HOLDS(status_of_reading(&at, cases[i].object, 0, 0) == cases[i].status);
     }
-    drop(&at);
-    free(at.stored);
-    make_node(&at, 0, 3, false);
-    settle(&at, STORE_OK);
+    end(&at);
+    make(&at, false);
     HOLDS(open_apart(&at, 3, 103, 1, 4) == VERDICT_DONE);
     HOLDS(perform_one(&at, 3, 103, (markring_event){.kind = MARKRING_EVENT_ALLOC, .reg = 1})
         == MARKRING_OK);
     HOLDS(set_bytes(&at, 1, 1, 1) == MARKRING_TOO_MANY_BYTES && number_of(&at, "bytes") == 0);
     HOLDS(patch(&at, 1, 0, 1, 1) == MARKRING_NO_BYTES && has(&at, 1, 0, 0, 0, 0, 0));
-    drop(&at);
-    free(at.stored);
+    end(&at);
 }
 
 // Writes a request with three events, of which two have 5 and 3 bytes.
@@ -1456,7 +1001,7 @@ static int judge_bytes(station *at, uint8_t *bytes, size_t length)
 }
 
 // Nothing of a request is done if any length in it is wrong, and what is done is done once.
-static void test_byte_requests(void)
+TEST(test_byte_requests)
 {
     enum { SECOND = REQUEST_HEAD + 2 * EVENT_BYTES + 9, WHOLE = SECOND + EVENT_BYTES + 7 };
     static const size_t lengths[2] = {REQUEST_HEAD + EVENT_BYTES, SECOND + EVENT_BYTES};
@@ -1490,12 +1035,11 @@ static void test_byte_requests(void)
     // And the next one.
     HOLDS(write_three(bytes, WHOLE, 3, 30) == WHOLE);
     HOLDS(judge_bytes(&at, bytes, WHOLE) == VERDICT_DONE && has(&at, 1, 30, 5, 1, 80, 3));
-    drop(&at);
-    free(at.stored);
+    end(&at);
 }
 
 // The same of readings.
-static void test_cut_readings(void)
+TEST(test_cut_readings)
 {
     uint8_t bytes[REQUEST_HEAD + READ_BYTES + 1] = {0};
     station at;
@@ -1510,12 +1054,11 @@ static void test_cut_readings(void)
             HOLDS(said == (is_right ? VERDICT_DONE : VERDICT_MALFORMED));
         }
     }
-    drop(&at);
-    free(at.stored);
+    end(&at);
 }
 
 // The most bytes that a request and an answer carry, and one more.
-static void test_most_bytes(void)
+TEST(test_most_bytes)
 {
     static uint8_t bytes[LONGEST_REQUEST + 64];
     station at;
@@ -1544,12 +1087,11 @@ static void test_most_bytes(void)
     settle(&at, STORE_OK);
     largest = 0;
     HOLDS(status_of_reading(&at, 1, 0, BYTES_MOST) == MARKRING_NO_BYTES && largest < 1000);
-    drop(&at);
-    free(at.stored);
+    end(&at);
 }
 
 // No answer shows bytes before they are stored; and a process that ends before takes them along.
-static void test_bytes_wait(void)
+TEST(test_bytes_wait)
 {
     station at;
     uint8_t bytes[REQUEST_HEAD + READ_BYTES];
@@ -1582,12 +1124,11 @@ static void test_bytes_wait(void)
             HOLDS(has(&at, 1, 2, 10, 0, 0, 0));
         }
     }
-    drop(&at);
-    free(at.stored);
+    end(&at);
 }
 
 // Answers with bytes that wait for a save have a limit of their own.
-static void test_held_bytes(void)
+TEST(test_held_bytes)
 {
     enum { LENGTH = 500000, ANSWER = ANSWER_HEAD + RESULT_BYTES + LENGTH };
     station at;
@@ -1612,13 +1153,12 @@ static void test_held_bytes(void)
         HOLDS(at.answers == HELD_BYTES / ANSWER);
         HOLDS(host_counted(at.host)->dropped == dropped + 100 - HELD_BYTES / ANSWER);
     }
-    drop(&at);
-    free(at.stored);
+    end(&at);
 }
 
 // The host reckons with the bytes of objects: the image is never larger, programs can't fill it
 // beyond its limit, and once they are gone it is small again.
-static void test_bytes_growth(void)
+TEST(test_bytes_growth)
 {
     enum { LENGTH = 3000, MOST = 20000 };
     station at;
@@ -1642,9 +1182,7 @@ static void test_bytes_growth(void)
     // What needs no room is done.
     HOLDS(patch(&at, 1, 0, 2, LENGTH) == MARKRING_OK && has(&at, 1, 1, LENGTH, 0, 2, LENGTH));
     options.image_most = 100 * MOST;
-    drop(&at);
-    open_host(&at);
-    settle(&at, STORE_OK);
+    open_again(&at);
     for (int i = 0; i < 200; i++) {
         HOLDS(set_bytes(&at, 1, 1, (uint32_t)(i % 2) * LENGTH) == MARKRING_OK);
         expect_bound(&at);
@@ -1661,8 +1199,7 @@ static void test_bytes_growth(void)
         HOLDS(set_bytes(&at, 1, 1, (uint32_t)(i % 2) * LENGTH) == MARKRING_OK);
     }
     HOLDS(looks == 0 && at.wholes == 0);
-    drop(&at);
-    free(at.stored);
+    end(&at);
     // Bytes that are replaced by none.
     make_with_bytes(&at, 10 * MOST, true);
     HOLDS(set_bytes(&at, 1, 1, 10 * MOST) == MARKRING_OK);
@@ -1670,8 +1207,7 @@ static void test_bytes_growth(void)
     HOLDS(image_of(&at) > 10 * MOST && set_bytes(&at, 1, 1, 0) == MARKRING_OK);
     settle(&at, STORE_OK);
     HOLDS(image_of(&at) < MOST);
-    drop(&at);
-    free(at.stored);
+    end(&at);
 }
 
 // ## Rewrites
@@ -1701,14 +1237,13 @@ static void begin_rewrites(station *at)
 
 static void end_rewrites(station *at)
 {
-    drop(at);
-    free(at->stored);
+    end(at);
     rewrites = false;
     options.entries_least = 0;
 }
 
 // The value that a rewrite makes takes the place of what is stored, with what is added meanwhile.
-static void test_rewrite(void)
+TEST(test_rewrite)
 {
     station at;
     begin_rewrites(&at);
@@ -1730,16 +1265,14 @@ static void test_rewrite(void)
     HOLDS(at.host->entries == added && asked == 1);
     HOLDS(add_entries(&at, 2) < 2 * REWRITE_LEAST && asked == 2 && at.wholes == 0);
     size_t image = image_of(&at);
-    drop(&at);
-    open_host(&at);
-    settle(&at, STORE_OK);
+    open_again(&at);
     HOLDS(image_of(&at) == image && has(&at, 1, 1, REWRITE_LENGTH, 0, 0, 0));
     end_rewrites(&at);
 }
 
 // A rewrite that comes to no end, or is given up: entries are added up to twice the limit; then the
 // host makes a whole value, and a later rewrite is another one.
-static void test_rewrites_given_up(void)
+TEST(test_rewrites_given_up)
 {
     for (int fails = 0; fails < 2; fails++) {
         station at;
@@ -1767,7 +1300,7 @@ static void test_rewrites_given_up(void)
 }
 
 // What isn't a saved node isn't made one.
-static void test_rewrite_refused(void)
+TEST(test_rewrite_refused)
 {
     station at;
     begin_rewrites(&at);
@@ -1780,14 +1313,14 @@ static void test_rewrite_refused(void)
 
 // A node whose image is larger than that of a plain space may be: it is saved, takes messages and
 // events, and is opened again.
-static void test_wide_size(void)
+TEST(test_wide_size)
 {
     enum { OBJECT = 26 };
     station at;
     markring_answer answer;
     markring_event alloc = {.kind = MARKRING_EVENT_ALLOC, .reg = 1};
     bool all = true;
-    make_wide(&at, 2, true);
+    make_wide(&at, 2, 0, true);
     HOLDS(open_apart(&at, 3, 103, 1, 1) == VERDICT_DONE);
     for (uint32_t i = 0; i <= IMAGE_LIMIT / OBJECT; i++) {
         all = all && markring_node_alloc(host_node(at.host), 0, 0, &answer) == MARKRING_OK;
@@ -1799,12 +1332,9 @@ static void test_wide_size(void)
         HOLDS(perform_one(&at, 3, 103, alloc) == MARKRING_OK);
         HOLDS(number_of(&at, "image") > IMAGE_LIMIT);
         HOLDS(takes_messages(at.host) && host_ended(at.host) == HOST_RUNS);
-        drop(&at);
-        open_host(&at);
-        settle(&at, STORE_OK);
+        open_again(&at);
     }
-    drop(&at);
-    free(at.stored);
+    end(&at);
 }
 
 // A node of a wide space whose programs have made this many objects, each in place of the last one.
@@ -1812,11 +1342,9 @@ static void fill_wide(station *at, uint32_t least, int objects)
 {
     markring_event alloc = {.kind = MARKRING_EVENT_ALLOC, .reg = 1};
     options.reclaim_objects = least;
-    wide_places = 8;
-    make_node(at, 0, 3, true);
-    wide_places = 0;
+    next.places = 8;
+    make(at, true);
     options.reclaim_objects = 0;
-    settle(at, STORE_OK);
     HOLDS(open_apart(at, 3, 103, 1, 2) == VERDICT_DONE);
     for (int i = 0; i < objects; i++) {
         HOLDS(perform_one(at, 3, 103, alloc) == MARKRING_OK);
@@ -1851,7 +1379,7 @@ static void drop_list(station *at)
 
 // A node reclaims the young when a program finds it full, and when as many objects were made as the
 // option says; 0 for never.
-static void test_reclaims(void)
+TEST(test_reclaims)
 {
     enum { SLOTS = 64, LEAST = 20 };
     station at;
@@ -1859,30 +1387,25 @@ static void test_reclaims(void)
     fill_wide(&at, 0, SLOTS);
     HOLDS(perform_one(&at, 3, 103, alloc) == MARKRING_ARENA_FULL);
     HOLDS(number_of(&at, "reclaimed") == 0 && number_of(&at, "live") == SLOTS);
-    drop(&at);
-    free(at.stored);
+    end(&at);
     fill_wide(&at, 1000, SLOTS);
     HOLDS(number_of(&at, "reclaimed") == 0 && number_of(&at, "live") == SLOTS);
     HOLDS(perform_one(&at, 3, 103, alloc) == MARKRING_OK);
     HOLDS(number_of(&at, "reclaimed") == SLOTS - 1 && number_of(&at, "live") == 2);
-    drop(&at);
-    open_host(&at);
-    settle(&at, STORE_OK);
+    open_again(&at);
     HOLDS(number_of(&at, "live") == 2 && read_one(&at, 3, 1) == MARKRING_OK);
-    drop(&at);
-    free(at.stored);
+    end(&at);
     fill_wide(&at, LEAST, LEAST - 1);
     HOLDS(number_of(&at, "reclaimed") == 0);
     HOLDS(perform_one(&at, 3, 103, alloc) == MARKRING_OK);
     settle(&at, STORE_OK);
     HOLDS(number_of(&at, "reclaimed") == LEAST - 1 && number_of(&at, "live") == 1);
-    drop(&at);
-    free(at.stored);
+    end(&at);
 }
 
 // It reclaims all when that leaves it full, and when it has twice as many objects as the last time
 // that it did.
-static void test_old_reclaims(void)
+TEST(test_old_reclaims)
 {
     enum { SLOTS = 64, LEAST = 10 };
     station at;
@@ -1897,8 +1420,7 @@ static void test_old_reclaims(void)
     HOLDS(perform_one(&at, 3, 103, drop_first) == MARKRING_OK);
     make_list(&at, SLOTS);
     HOLDS(number_of(&at, "reclaimed") == SLOTS + 1 && number_of(&at, "live") == SLOTS);
-    drop(&at);
-    free(at.stored);
+    end(&at);
     fill_wide(&at, LEAST, 0);
     make_list(&at, 2 * LEAST);
     for (int i = 0; i < LEAST; i++) {
@@ -1911,8 +1433,7 @@ static void test_old_reclaims(void)
     make_list(&at, 2 * LEAST);
     settle(&at, STORE_OK);
     HOLDS(number_of(&at, "live") == 2 * LEAST);
-    drop(&at);
-    free(at.stored);
+    end(&at);
 }
 
 // ## Large images
@@ -1927,12 +1448,8 @@ enum { LARGE = 50000, LARGE_IMAGE = 40 * LARGE };
 static void make_large(station *at, uint8_t places)
 {
     markring_answer answer;
-    slots = 1048576;
-    wide_places = places;
-    make_node(at, 0, 3, true);
-    slots = 64;
-    wide_places = 0;
-    settle(at, STORE_OK);
+    next = (host_shape){.slots = 1048576, .places = places};
+    make(at, true);
     markring_node *node = host_node(at->host);
     bool all = markring_node_alloc(node, 0, 1, &answer) == MARKRING_OK;
     for (int i = 1; i < LARGE; i++) {
@@ -1960,12 +1477,6 @@ static size_t true_size(station *at)
     return size;
 }
 
-static void end_large(station *at)
-{
-    drop(at);
-    free(at->stored);
-}
-
 // Makes a list in register 2, whose objects refer to another one first: while it is marked, most of
 // these are grey at one time.
 static void make_leaves(station *at, int count)
@@ -1989,7 +1500,7 @@ static void make_leaves(station *at, int count)
 }
 
 // Marking adds nothing to an image that refers to no other node, and the host reckons so.
-static void test_large_marking(void)
+TEST(test_large_marking)
 {
     enum { LEAVES = 10000 };
     station at;
@@ -2001,7 +1512,7 @@ static void test_large_marking(void)
     host_control(at.host, at.now, "begin", 5, "r");
     for (int i = 0; i < LARGE && state.grey > 0; i++) {
         turn(&at, 10, STORE_OK);
-        HOLDS(markring_node_state(host_node(at.host), &state) == MARKRING_OK);
+        state = state_of(&at);
         most = state.grey > most ? state.grey : most;
         if (i % 20 == 0) {
             expect_bound(&at);
@@ -2010,11 +1521,11 @@ static void test_large_marking(void)
     HOLDS(state.cycle == 1 && state.grey == 0 && most > LEAVES / 2 && looks == 0);
     expect_bound(&at);
     HOLDS(at.host->size < true_size(&at) + 4 * GROWTH);
-    end_large(&at);
+    end(&at);
 }
 
 // Garbage that comes and goes doesn't let the reckoned size grow.
-static void test_large_churn(void)
+TEST(test_large_churn)
 {
     enum { ROUNDS = 3000, EACH = 4 };
     station at;
@@ -2041,12 +1552,12 @@ static void test_large_churn(void)
         HOLDS(i % 50 > 0 || at.host->size >= true_size(&at));
     }
     options.reclaim_objects = 0;
-    end_large(&at);
+    end(&at);
 }
 
 // Of many objects the old ones are left to a cycle, for which nobody waits; but not while a node that
 // it needs is lost.
-static void test_large_reclaims(void)
+TEST(test_large_reclaims)
 {
     for (int way = 0; way < 2; way++) {
         station at;
@@ -2073,13 +1584,13 @@ static void test_large_reclaims(void)
         settle(&at, STORE_OK);
         HOLDS(!at.host->asked);
         options.reclaim_objects = 0;
-        end_large(&at);
+        end(&at);
     }
 }
 
 // No program is refused for an estimate; and one that is refused again and again doesn't make the
 // host look again each time.
-static void test_large_limit(void)
+TEST(test_large_limit)
 {
     enum { HEADROOM = 20000, MORE = 300 };
     station at;
@@ -2119,26 +1630,24 @@ static void test_large_limit(void)
     turn(&at, 10, STORE_OK);
     HOLDS(perform_one(&at, 3, 103, alloc) == MARKRING_IMAGE_TOO_LARGE && looks == 1);
     at.host->options.image_most = 0;
-    end_large(&at);
+    end(&at);
 }
 
 // A node whose messages filled its image takes some again, though the estimate was wrong.
-static void test_large_tight(void)
+TEST(test_large_tight)
 {
     station at;
     make_large(&at, 0);
     at.host->options.image_tight = true_size(&at) + 1000;
     host_wrote(at.host, 2000);
     HOLDS(is_tight(at.host) == (looks == 0));
-    for (int i = 0; i < 150; i++) {
-        turn(&at, 10, STORE_OK);
-    }
+    turns(&at, 150, 10);
     HOLDS(!is_tight(at.host) && looks > 0 && looks <= 2);
-    end_large(&at);
+    end(&at);
 }
 
 // Before the image may be too large, a rewrite is asked for, and shows how many bytes it has.
-static void test_size_by_rewrite(void)
+TEST(test_size_by_rewrite)
 {
     enum { HEADROOM = LARGE_IMAGE / 2 };
     station at;
@@ -2164,18 +1673,17 @@ static void test_size_by_rewrite(void)
         turn(&at, 10, STORE_OK);
     }
     HOLDS(asked == 1 && at.wholes == 0);
-    end_large(&at);
+    end(&at);
     rewrites = false;
 }
 
 // The status says how many bytes the image has, and that stays so when events change none of them.
-static void test_image(void)
+TEST(test_image)
 {
     station at;
     markring_answer answer;
     size_t size = 0;
-    make_node(&at, 0, 3, true);
-    settle(&at, STORE_OK);
+    make(&at, true);
     markring_node *node = host_node(at.host);
     HOLDS(markring_node_alloc(node, 0, 8, &answer) == MARKRING_OK);
     for (uint64_t word = 0; word < 5000; word++) {
@@ -2191,19 +1699,17 @@ static void test_image(void)
     }
     HOLDS(markring_node_image_size(node, &size) == MARKRING_OK && size > 20000);
     HOLDS(image_of(&at) <= size && image_of(&at) > size / 2);
-    drop(&at);
-    free(at.stored);
+    end(&at);
 }
 
 // A saved value whose program had more results than a request has events isn't one.
-static void test_results(void)
+TEST(test_results)
 {
     for (int way = 0; way < 4; way++) {
         station at;
         answer_head head;
         uint16_t count = (uint16_t)(REQUEST_EVENTS + way % 2);
-        make_node(&at, 0, 3, way >= 2);
-        settle(&at, STORE_OK);
+        make(&at, way >= 2);
         HOLDS(ask(&at, (request_head){REQUEST_OPEN, 3, 100, 1, 0}, -1, &head) == 1);
         at.host->programs[3].results = calloc(count, RESULT_BYTES);
         at.host->programs[3].count = count;
@@ -2215,51 +1721,20 @@ static void test_results(void)
         host_calls calls = {&at, on_send, on_answer, on_save, NULL};
         int status = host_open(&at.host, &value, at.number, NONCE, &options, &calls, at.now);
         HOLDS(status == (count > REQUEST_EVENTS ? MARKRING_BAD_IMAGE : MARKRING_OK));
-        drop(&at);
-        free(at.stored);
+        end(&at);
     }
 }
 
 // ## Two nodes
 
-static station pair[2];
-
-static void make_pair(void)
-{
-    for (uint8_t own = 0; own < 2; own++) {
-        make_node(&pair[own], own, 2, true);
-        pair[own].other = &pair[1 - own];
-    }
-}
-
-static void drop_pair(void)
-{
-    for (int own = 0; own < 2; own++) {
-        drop(&pair[own]);
-        free(pair[own].stored);
-    }
-}
-
-// Turns of both, of this many milliseconds, at the same time.
-static void go_on(int turns, uint64_t time)
-{
-    for (int i = 0; i < turns; i++) {
-        turn(&pair[0], time, STORE_OK);
-        turn(&pair[1], time, STORE_OK);
-    }
-}
-
 // Once an object with bytes is freed, the status shows how large the image is without it.
-static void test_swept_bytes(void)
+TEST(test_swept_bytes)
 {
     enum { LENGTH = 100000 };
     markring_answer answer;
-    wide_places = 8;
-    wide_bytes = LENGTH;
+    next.places = 8;
+    next.bytes = LENGTH;
     make_pair();
-    wide_places = 0;
-    wide_bytes = 0;
-    go_on(20, 10);
     markring_node *node = host_node(pair[0].host);
     HOLDS(markring_node_alloc(node, 1, 0, &answer) == MARKRING_OK);
     HOLDS(markring_node_set_bytes(node, 1, bytes_of(1, LENGTH), LENGTH, &answer) == MARKRING_OK);
@@ -2276,16 +1751,13 @@ static void test_swept_bytes(void)
 }
 
 // More objects than one turn scans: the next turn is due at once, until all are scanned and swept.
-static void test_work_that_is_left(void)
+TEST(test_work_that_is_left)
 {
     enum { OBJECTS = 600 };
     markring_answer answer;
-    uint32_t few = slots;
     int turns = 0;
-    slots = OBJECTS;
+    next.slots = OBJECTS;
     make_pair();
-    slots = few;
-    go_on(20, 10);
     markring_node *node = host_node(pair[0].host);
     for (int i = 0; i < OBJECTS; i++) {
         HOLDS(markring_node_alloc(node, 1, 1, &answer) == MARKRING_OK);
@@ -2306,29 +1778,10 @@ static void test_work_that_is_left(void)
     drop_pair();
 }
 
-static void give(int from, uint32_t label)
-{
-    markring_answer answer;
-    markring_node *node = host_node(pair[from].host);
-    int status = markring_node_give(node, (uint8_t)(1 - from), label, 0, &answer);
-    HOLDS(status == MARKRING_OK);
-    host_changed(pair[from].host);
-}
-
-// The last message to the other node that it has acknowledged.
-static uint64_t acknowledged(int from)
-{
-    markring_link link = {0};
-    markring_node *node = host_node(pair[from].host);
-    HOLDS(markring_node_link(node, (uint8_t)(1 - from), &link) == MARKRING_OK);
-    return link.acknowledged;
-}
-
 // No packet is lost, so nothing is sent again or comes twice.
-static void test_pace(void)
+TEST(test_pace)
 {
     make_pair();
-    go_on(20, 10);
     for (uint32_t label = 0; label < LETTERS; label++) {
         give((int)(label & 1), label);
         go_on(label % 7 == 0 ? 10 : 1, 5);
@@ -2344,22 +1797,17 @@ static void test_pace(void)
 }
 
 // A node that is away: pauses grow up to 1.6 s, and no further.
-static void test_absence(void)
+TEST(test_absence)
 {
     make_pair();
-    go_on(20, 10);
     pair[0].other = NULL;
     give(0, 1);
     uint64_t before = host_counted(pair[0].host)->resends;
-    for (int i = 0; i < 1000; i++) {
-        turn(&pair[0], 10, STORE_OK);
-    }
+    turns(&pair[0], 1000, 10);
     uint64_t first = host_counted(pair[0].host)->resends - before;
     HOLDS(first >= 8 && first <= 12);
     int packets = pair[0].packets;
-    for (int i = 0; i < 36000; i++) {
-        turn(&pair[0], 100, STORE_OK);
-    }
+    turns(&pair[0], 36000, 100);
     uint64_t all = host_counted(pair[0].host)->resends - before - first;
     uint64_t sent = (uint64_t)(pair[0].packets - packets);
     HOLDS(all >= 2100 && all <= 2251);
@@ -2374,10 +1822,9 @@ static void test_absence(void)
 }
 
 // Acknowledgements are lost, or frames: what is sent again is acknowledged again.
-static void test_losses(void)
+TEST(test_losses)
 {
     make_pair();
-    go_on(20, 10);
     for (uint32_t label = 1; label <= 6; label++) {
         int deaf = label % 2 == 0;
         pair[deaf].other = NULL;
@@ -2393,11 +1840,10 @@ static void test_losses(void)
 }
 
 // A cycle goes round, and frees what nobody holds.
-static void test_cycle(void)
+TEST(test_cycle)
 {
     markring_answer answer;
     make_pair();
-    go_on(20, 10);
     for (int own = 0; own < 2; own++) {
         markring_node *node = host_node(pair[own].host);
         HOLDS(markring_node_alloc(node, 0, 1, &answer) == MARKRING_OK);
@@ -2409,36 +1855,23 @@ static void test_cycle(void)
         go_on(200, 10);
     }
     for (int own = 0; own < 2; own++) {
-        markring_state state = {0};
-        HOLDS(markring_node_state(host_node(pair[own].host), &state) == MARKRING_OK);
-        HOLDS(state.swept == 2 && state.live == 1);
+        HOLDS(state_of(&pair[own]).swept == 2 && live(&pair[own]) == 1);
     }
     drop_pair();
 }
 
 // While a node has too many letters, it takes no more.
-static void test_letters(void)
+TEST(test_letters)
 {
     options.letters_most = 5;
     make_pair();
-    go_on(20, 10);
-    for (uint32_t label = 0; label < LETTERS; label++) {
-        give(0, label);
-    }
+    give_many(0, LETTERS);
     go_on(200, 10);
-    markring_state state = {0};
-    HOLDS(markring_node_state(host_node(pair[1].host), &state) == MARKRING_OK);
-    HOLDS(state.letters >= 5 && state.letters < 5 + 64);
-    HOLDS(host_counted(pair[1].host)->full > 0 && acknowledged(0) == state.letters);
+    uint64_t letters = state_of(&pair[1]).letters;
+    HOLDS(letters >= 5 && letters < 5 + 64);
+    HOLDS(host_counted(pair[1].host)->full > 0 && acknowledged(0) == letters);
     drop_pair();
     options.letters_most = 0;
-}
-
-static markring_state state_of(int own)
-{
-    markring_state state = {0};
-    HOLDS(markring_node_state(host_node(pair[own].host), &state) == MARKRING_OK);
-    return state;
 }
 
 static void accept(int own, uint64_t count)
@@ -2452,47 +1885,41 @@ static void accept(int own, uint64_t count)
 
 // While a node's image is too large for messages, it takes none; but what it holds is enough for
 // the next cycle.
-static void test_tight(void)
+TEST(test_tight)
 {
     options.image_tight = 4000;
     make_pair();
-    go_on(20, 10);
-    for (uint32_t label = 0; label < LETTERS; label++) {
-        give(0, label);
-    }
+    give_many(0, LETTERS);
     go_on(300, 10);
-    uint64_t letters = state_of(1).letters;
+    uint64_t letters = state_of(&pair[1]).letters;
     HOLDS(letters > 20 && letters < 4000 / JOINING && acknowledged(0) == letters);
     HOLDS(host_counted(pair[1].host)->full > 0);
     // There is room for others. (A window of messages may come beyond the limit.)
     accept(1, 40);
     go_on(300, 10);
-    HOLDS(acknowledged(0) > letters && state_of(1).letters <= letters);
-    letters = state_of(1).letters;
+    HOLDS(acknowledged(0) > letters && state_of(&pair[1]).letters <= letters);
+    letters = state_of(&pair[1]).letters;
     // The same after a restart.
     drop(&pair[1]);
     pair[1].nonce++;
     open_host(&pair[1]);
     go_on(300, 10);
-    HOLDS(state_of(1).letters >= letters && state_of(1).letters < 4000 / JOINING);
+    HOLDS(state_of(&pair[1]).letters >= letters && state_of(&pair[1]).letters < 4000 / JOINING);
     // No cycle begins at a node that has no room for it.
     drop_pair();
     options.image_tight = 0;
     make_pair();
-    go_on(20, 10);
-    for (uint32_t label = 0; label < LETTERS; label++) {
-        give(1, label);
-    }
+    give_many(1, LETTERS);
     go_on(300, 10);
-    HOLDS(state_of(0).letters == LETTERS);
+    HOLDS(state_of(&pair[0]).letters == LETTERS);
     pair[0].host->options.image_tight = 8000;
     host_control(pair[0].host, pair[0].now, "begin", 5, "r");
     go_on(100, 10);
-    HOLDS(state_of(0).cycle == 0 && host_wait(pair[0].host, pair[0].now) <= RETRY);
-    HOLDS(state_of(1).cycle == 0);
+    HOLDS(state_of(&pair[0]).cycle == 0 && host_wait(pair[0].host, pair[0].now) <= RETRY);
+    HOLDS(state_of(&pair[1]).cycle == 0);
     accept(0, LETTERS);
     go_on(100, 10);
-    HOLDS(state_of(0).cycle == 1 && state_of(0).swept == 1);
+    HOLDS(state_of(&pair[0]).cycle == 1 && state_of(&pair[0]).swept == 1);
     for (int own = 0; own < 2; own++) {
         HOLDS(host_ended(pair[own].host) == HOST_RUNS);
     }
@@ -2500,13 +1927,10 @@ static void test_tight(void)
 }
 
 // Messages that were acknowledged aren't reckoned for ever.
-static void test_acknowledged_size(void)
+TEST(test_acknowledged_size)
 {
     make_pair();
-    go_on(20, 10);
-    for (uint32_t label = 0; label < LETTERS; label++) {
-        give(0, label);
-    }
+    give_many(0, LETTERS);
     // (nobody looks at a large image)
     size_t reckoned = pair[0].host->size;
     pair[0].host->measured = (1 << 20) + 1;
@@ -2518,23 +1942,20 @@ static void test_acknowledged_size(void)
 }
 
 // Letters that nobody accepts are as many as fit, and then come one after another as there is room.
-static void test_room(void)
+TEST(test_room)
 {
     options.image_tight = 4000;
     make_pair();
-    go_on(20, 10);
-    for (uint32_t label = 0; label < LETTERS; label++) {
-        give(0, label);
-    }
+    give_many(0, LETTERS);
     for (uint64_t accepted = 0; accepted < LETTERS;) {
         go_on(200, 10);
-        uint64_t letters = state_of(1).letters;
+        uint64_t letters = state_of(&pair[1]).letters;
         HOLDS(letters > 0);
         accept(1, letters);
         accepted = letters > 0 ? accepted + letters : LETTERS;
     }
     go_on(100, 10);
-    HOLDS(acknowledged(0) == LETTERS && state_of(1).letters == 0);
+    HOLDS(acknowledged(0) == LETTERS && state_of(&pair[1]).letters == 0);
     options.image_tight = 0;
     drop_pair();
 }
@@ -2559,13 +1980,12 @@ static int ask_gets(uint64_t number)
 }
 
 // A program asks another node for what places hold, again and again, and nobody accepts answers.
-static void test_gets(void)
+TEST(test_gets)
 {
     markring_answer answer;
     answer_head head;
     options.letters_most = 20;
     make_pair();
-    go_on(20, 10);
     HOLDS(markring_node_alloc(host_node(pair[0].host), 1, 1, &answer) == MARKRING_OK);
     HOLDS(markring_node_give(host_node(pair[0].host), 1, 1, 1, &answer) == MARKRING_OK);
     host_changed(pair[0].host);
@@ -2582,21 +2002,20 @@ static void test_gets(void)
     HOLDS(markring_node_image_size(host_node(pair[0].host), &size) == MARKRING_OK && size < 30000);
     HOLDS(host_ended(pair[0].host) == HOST_RUNS && host_ended(pair[1].host) == HOST_RUNS);
     for (int i = 0; i < 20; i++) {
-        accept(1, state_of(1).letters);
+        accept(1, state_of(&pair[1]).letters);
         go_on(30, 10);
     }
-    HOLDS(state_of(1).letters == 0 && ask_gets(number) == MARKRING_OK);
+    HOLDS(state_of(&pair[1]).letters == 0 && ask_gets(number) == MARKRING_OK);
     options.letters_most = 0;
     drop_pair();
 }
 
 // A process waits for a letter, and then another one opens its program: the first one is answered.
-static void test_waiting(void)
+TEST(test_waiting)
 {
     for (uint8_t program = 0; program < 2; program++) {
         answer_head head;
         make_pair();
-        go_on(20, 10);
         HOLDS(ask(&pair[1], (request_head){REQUEST_OPEN, program, 100, 1, 0}, -1, &head) == 1);
         HOLDS(ask(&pair[1], (request_head){REQUEST_WAIT, program, 100, 7, 0}, -1, &head) == 0);
         HOLDS(ask(&pair[1], (request_head){REQUEST_OPEN, program, 200, 2, 0}, -1, &head) == 1);
@@ -2612,61 +2031,6 @@ static void test_waiting(void)
 
 int main(void)
 {
-    test_sizes();
-    test_leaving();
-    test_lies();
-    test_ages();
-    test_snapshots();
-    test_line();
-    test_long_line();
-    test_meeting();
-    test_old_folder();
-    test_taken_over();
-    test_telling();
-    test_requests();
-    test_order();
-    test_taken_over_program();
-    test_greatest_numbers();
-    test_restarts();
-    test_held();
-    test_apart();
-    test_forgetting();
-    test_image();
-    test_wide();
-    test_wide_growth();
-    test_wide_size();
-    test_reclaims();
-    test_old_reclaims();
-    test_large_marking();
-    test_large_churn();
-    test_large_reclaims();
-    test_large_limit();
-    test_large_tight();
-    test_size_by_rewrite();
-    test_bytes();
-    test_byte_refusals();
-    test_byte_requests();
-    test_cut_readings();
-    test_most_bytes();
-    test_bytes_wait();
-    test_held_bytes();
-    test_bytes_growth();
-    test_rewrite();
-    test_rewrites_given_up();
-    test_rewrite_refused();
-    test_results();
-    test_pace();
-    test_absence();
-    test_losses();
-    test_cycle();
-    test_letters();
-    test_tight();
-    test_acknowledged_size();
-    test_room();
-    test_gets();
-    test_waiting();
-    test_swept_bytes();
-    test_work_that_is_left();
-    printf("%lu passed, %lu failed\n", passed, failed);
-    return failed != 0 || passed == 0;
+    run_tests();
+    return report_checks();
 }

@@ -2,26 +2,13 @@
 // out. What it leaves behind is a leak, which ends it with another status.
 //
 //     leaks PROGRAM-URL OPERATOR-URL
+#include "check.h"
+
 #include <markring_remote.h>
 
-#include <stdbool.h>
-#include <stdio.h>
 #include <string.h>
 
 enum { REQUESTS = 200, WORDS = 20, TIME = 60000, SHORT = 30 };
-
-static unsigned long passed, failed;
-
-static void check(bool holds, const char *text, int line)
-{
-    if (holds) {
-        passed++;
-    } else if (failed++ < 20) {
-        printf("FAILED: leaks.c:%d: %s\n", line, text);
-    }
-}
-
-#define HOLDS(condition) check((condition), #condition, __LINE__)
 
 static markring_result results[MARKRING_REMOTE_EVENTS];
 
@@ -74,7 +61,5 @@ int main(int count, char **words)
     }
     markring_remote_options wrong = {"nats://127.0.0.1:1", "no file", NULL, NULL, NULL};
     HOLDS(markring_remote_connect(&space, &wrong, "test") == MARKRING_REMOTE_CARRIER);
-    printf("%lu passed, %lu failed\n", passed, failed);
-    fflush(stdout);
-    return failed != 0 || passed == 0;
+    return report_checks();
 }

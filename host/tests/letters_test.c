@@ -1,10 +1,8 @@
-// Letters with bytes and several references, and what is fetched: with the stations of host_test.c,
+// Letters with bytes and several references, and what is fetched: with the stations of station.h,
 // whose packets, saves and time are the test's.
 //
 //     letters_test
-#define main host_test_main
-#include "host_test.c"
-#undef main
+#include "station.h"
 
 enum {
     LABEL = 7,
@@ -18,14 +16,9 @@ enum {
 // The program 3 of each has the registers from 1 on, and an object with these bytes in register 1.
 static void make_wide_pair(uint32_t object_bytes)
 {
-    registers = LETTER_REGISTERS;
-    wide_places = 255;
-    wide_bytes = MARKRING_LETTER_BYTES;
+    next = (host_shape){
+        .registers = LETTER_REGISTERS, .places = 255, .bytes = MARKRING_LETTER_BYTES};
     make_pair();
-    registers = 8;
-    wide_places = 0;
-    wide_bytes = 0;
-    go_on(20, 10);
     for (int own = 0; own < 2; own++) {
         HOLDS(open_apart(&pair[own], 3, 103, 1, LETTER_REGISTERS - 1) == VERDICT_DONE);
         markring_event alloc = {.kind = MARKRING_EVENT_ALLOC, .reg = 1, .place = 1};
@@ -90,7 +83,7 @@ static bool brought(int own, uint32_t kind, uint32_t length)
 
 // Letters of all lengths about those at which frames, packets and letters end, with and without
 // references.
-static void test_lengths(void)
+TEST(test_lengths)
 {
     static const uint32_t lengths[] = {0, 1, 255, 256, 1000, UINT16_MAX - LETTER_FRAME - 1,
         UINT16_MAX - LETTER_FRAME, UINT16_MAX - LETTER_FRAME + 1, MARKRING_LETTER_BYTES};
@@ -115,7 +108,7 @@ static void test_lengths(void)
 }
 
 // A letter without bytes, of a Give: its answer has a letter without bytes.
-static void test_give(void)
+TEST(test_give)
 {
     make_wide_pair(10);
     give(0, LABEL);
@@ -127,7 +120,7 @@ static void test_give(void)
 
 // A window that isn't acknowledged has at most a mebibyte, and one message at least. All arrives in
 // the end, in order.
-static void test_windows(void)
+TEST(test_windows)
 {
     enum { COUNT = 40, LENGTH = 60000 };
     make_wide_pair(10);
@@ -155,7 +148,7 @@ static void test_windows(void)
 
 // More bytes than a window has go without a pause, as the receiver acknowledges them: none is sent
 // again.
-static void test_stream(void)
+TEST(test_stream)
 {
     enum { COUNT = 40, LENGTH = 60000 };
     make_wide_pair(10);
@@ -170,7 +163,7 @@ static void test_stream(void)
 }
 
 // A program can't post to a node that has many bytes to acknowledge; but it can give.
-static void test_byte_limit(void)
+TEST(test_byte_limit)
 {
     for (int way = 0; way < 2; way++) {
         // The limit of the folder, or that of the process.
@@ -197,7 +190,7 @@ static void test_byte_limit(void)
 }
 
 // While letters with many bytes wait, a node takes no messages, and asks for none.
-static void test_letter_bytes(void)
+TEST(test_letter_bytes)
 {
     options.letter_bytes_most = 10000;
     make_wide_pair(10);
@@ -211,20 +204,20 @@ static void test_letter_bytes(void)
         HOLDS(post(0, 1, 0, i, 1000) == MARKRING_OK);
     }
     go_on(300, 10);
-    uint64_t letters = state_of(1).letters;
+    uint64_t letters = state_of(&pair[1]).letters;
     HOLDS(letters >= 9 && letters <= 10 + WINDOW && host_counted(pair[1].host)->full > 0);
     HOLDS(number_of(&pair[1], "letter_bytes") >= 10000);
     HOLDS(fetch(1, 2, 0, 10) == MARKRING_CONGESTED);
     uint32_t accepted = 0;
-    for (; state_of(1).letters > 5; accepted++) {
+    for (; state_of(&pair[1]).letters > 5; accepted++) {
         HOLDS(accept_into(1, 3, 1000) == MARKRING_OK && brought(1, accepted, 1000));
     }
     // It has room again, before the last one is accepted.
     go_on(300, 10);
-    HOLDS(state_of(1).letters > 5);
+    HOLDS(state_of(&pair[1]).letters > 5);
     for (; accepted < 100; accepted++) {
         HOLDS(accept_into(1, 3, 1000) == MARKRING_OK && brought(1, accepted, 1000));
-        go_on(state_of(1).letters == 0 ? 300 : 1, 10);
+        go_on(state_of(&pair[1]).letters == 0 ? 300 : 1, 10);
     }
     HOLDS(number_of(&pair[1], "letter_bytes") == 0 && fetch(1, 2, 0, 10) == MARKRING_OK);
     drop_pair();
@@ -232,7 +225,7 @@ static void test_letter_bytes(void)
 }
 
 // A Fetch gives the word and the bytes that were asked for; the word, if they aren't there.
-static void test_fetches(void)
+TEST(test_fetches)
 {
     make_wide_pair(MARKRING_LETTER_BYTES);
     HOLDS(perform_one(&pair[0], 3, 103,
@@ -267,7 +260,7 @@ static void test_fetches(void)
 }
 
 // A node that has many bytes for another one answers it now and then only.
-static void test_fetch_pause(void)
+TEST(test_fetch_pause)
 {
     make_wide_pair(900);
     HOLDS(post(1, 1, 1, 1, 0) == MARKRING_OK);
@@ -289,12 +282,12 @@ static void test_fetch_pause(void)
     pair[1].other = &pair[0];
     host_connected(pair[1].host, pair[1].now);
     go_on(2000, 10);
-    HOLDS(state_of(0).letters == 10 && number_of(&pair[1], "queued_bytes") == 0);
+    HOLDS(state_of(&pair[0]).letters == 10 && number_of(&pair[1], "queued_bytes") == 0);
     drop_pair();
 }
 
 // A Fetch that comes again is acknowledged again, however many bytes wait for the node that asks.
-static void test_fetch_again(void)
+TEST(test_fetch_again)
 {
     make_wide_pair(900);
     HOLDS(post(1, 1, 1, 1, 0) == MARKRING_OK);
@@ -310,7 +303,7 @@ static void test_fetch_again(void)
 }
 
 // A letter for which the event has too little room, or the program too few registers, stays.
-static void test_letters_that_stay(void)
+TEST(test_letters_that_stay)
 {
     reader behind;
     make_wide_pair(10);
@@ -334,7 +327,7 @@ static void test_letters_that_stay(void)
 }
 
 // Registers of another program: none is sent, and none is written.
-static void test_apart_letters(void)
+TEST(test_apart_letters)
 {
     make_wide_pair(10);
     for (int own = 0; own < 2; own++) {
@@ -386,7 +379,7 @@ static reader open_with(uint8_t kind, answer_head *head)
 
 // What a program accepted last, with its bytes, is there after restarts: also from entries, and for
 // programs that know no letters without them.
-static void test_last_letters(void)
+TEST(test_last_letters)
 {
     make_wide_pair(10);
     HOLDS(post(0, 1, 2, 6, 5000) == MARKRING_OK);
@@ -426,7 +419,7 @@ static void test_last_letters(void)
 }
 
 // Several events of a request: each letter is that of its result. The rooms of all are limited.
-static void test_several(void)
+TEST(test_several)
 {
     static uint8_t bytes[REQUEST_BYTES];
     answer_head head = {0};
@@ -463,19 +456,6 @@ static void test_several(void)
 int main(void)
 {
     folder_byte_limit = BYTE_LIMIT;
-    test_lengths();
-    test_give();
-    test_windows();
-    test_stream();
-    test_byte_limit();
-    test_letter_bytes();
-    test_fetches();
-    test_fetch_pause();
-    test_fetch_again();
-    test_letters_that_stay();
-    test_apart_letters();
-    test_last_letters();
-    test_several();
-    printf("%lu passed, %lu failed\n", passed, failed);
-    return failed != 0 || passed == 0;
+    run_tests();
+    return report_checks();
 }

@@ -1,8 +1,9 @@
 #include "nats_model.h"
+#include "models.h"
 
-#include <stdio.h>
-#include <stdlib.h>
 #include <string.h>
+
+#pragma GCC diagnostic ignored "-Wunused-parameter"
 
 nats_model model = {.max_payload = 1048576};
 
@@ -32,13 +33,9 @@ struct __natsSubscription {
 
 static natsSubscription *subscription;
 
-static void *need(void *block)
+static char *copied(const char *text)
 {
-    if (block == NULL) {
-        fputs("the test itself ran out of memory\n", stderr);
-        exit(2);
-    }
-    return block;
+    return strcpy(resized(NULL, strlen(text)), text);
 }
 
 // Waits for the lock of a connection.
@@ -53,7 +50,7 @@ static void lock(void)
 static void *made(size_t size)
 {
     model.alive++;
-    return need(calloc(1, size));
+    return memset(resized(NULL, size), 0, size);
 }
 
 static void destroyed(void *it)
@@ -77,13 +74,11 @@ void natsOptions_Destroy(natsOptions *it)
 
 natsStatus natsOptions_SetURL(natsOptions *it, const char *url)
 {
-    (void)it;
     return url != NULL ? NATS_OK : NATS_INVALID_ARG;
 }
 
 natsStatus natsOptions_SetName(natsOptions *it, const char *name)
 {
-    (void)it;
     return name != NULL ? NATS_OK : NATS_INVALID_ARG;
 }
 
@@ -117,85 +112,24 @@ natsStatus natsOptions_SetRetryOnFailedConnect(
     return NATS_OK;
 }
 
-natsStatus natsOptions_SetSecure(natsOptions *it, bool secure)
-{
-    (void)it;
-    (void)secure;
-    return NATS_OK;
-}
+// What the model doesn't look at.
+#define IGNORED(option, ...) \
+    natsStatus natsOptions_##option(natsOptions *it, __VA_ARGS__) \
+    { \
+        return NATS_OK; \
+    }
 
-natsStatus natsOptions_LoadCATrustedCertificates(natsOptions *it, const char *file)
-{
-    (void)it;
-    (void)file;
-    return NATS_OK;
-}
-
-natsStatus natsOptions_LoadCertificatesChain(natsOptions *it, const char *file, const char *key)
-{
-    (void)it;
-    (void)file;
-    (void)key;
-    return NATS_OK;
-}
-
-natsStatus natsOptions_SetUserCredentialsFromFiles(
-    natsOptions *it, const char *file, const char *seed)
-{
-    (void)it;
-    (void)file;
-    (void)seed;
-    return NATS_OK;
-}
-
-natsStatus natsOptions_SetSendAsap(natsOptions *it, bool asap)
-{
-    (void)it;
-    (void)asap;
-    return NATS_OK;
-}
-
-natsStatus natsOptions_SetTimeout(natsOptions *it, int64_t time)
-{
-    (void)it;
-    (void)time;
-    return NATS_OK;
-}
-
-natsStatus natsOptions_SetWriteDeadline(natsOptions *it, int64_t time)
-{
-    (void)it;
-    (void)time;
-    return NATS_OK;
-}
-
-natsStatus natsOptions_SetPingInterval(natsOptions *it, int64_t time)
-{
-    (void)it;
-    (void)time;
-    return NATS_OK;
-}
-
-natsStatus natsOptions_SetMaxReconnect(natsOptions *it, int most)
-{
-    (void)it;
-    (void)most;
-    return NATS_OK;
-}
-
-natsStatus natsOptions_SetReconnectWait(natsOptions *it, int64_t time)
-{
-    (void)it;
-    (void)time;
-    return NATS_OK;
-}
-
-natsStatus natsOptions_SetReconnectBufSize(natsOptions *it, int size)
-{
-    (void)it;
-    (void)size;
-    return NATS_OK;
-}
+IGNORED(SetSecure, bool secure)
+IGNORED(LoadCATrustedCertificates, const char *file)
+IGNORED(LoadCertificatesChain, const char *file, const char *key)
+IGNORED(SetUserCredentialsFromFiles, const char *file, const char *seed)
+IGNORED(SetSendAsap, bool asap)
+IGNORED(SetTimeout, int64_t time)
+IGNORED(SetWriteDeadline, int64_t time)
+IGNORED(SetPingInterval, int64_t time)
+IGNORED(SetMaxReconnect, int most)
+IGNORED(SetReconnectWait, int64_t time)
+IGNORED(SetReconnectBufSize, int size)
 
 // ## Connections
 
@@ -259,7 +193,6 @@ natsConnStatus natsConnection_Status(natsConnection *it)
 
 natsStatus natsConnection_GetLastError(natsConnection *it, const char **text)
 {
-    (void)it;
     *text = model.text;
     return NATS_OK;
 }
@@ -278,7 +211,6 @@ int64_t natsConnection_GetMaxPayload(natsConnection *it)
 
 natsStatus natsConnection_FlushTimeout(natsConnection *it, int64_t time)
 {
-    (void)time;
     lock();
     return it != NULL ? NATS_OK : NATS_INVALID_ARG;
 }
@@ -369,10 +301,10 @@ void natsSubscription_Destroy(natsSubscription *it)
 void model_deliver(const char *subject, const char *reply, const void *bytes, size_t length)
 {
     natsMsg *it = made(sizeof *it);
-    it->subject = need(strdup(subject));
-    it->reply = reply != NULL ? need(strdup(reply)) : NULL;
+    it->subject = copied(subject);
+    it->reply = reply != NULL ? copied(reply) : NULL;
     // Exactly as many bytes as there are, so that reading beyond is noticed.
-    it->bytes = need(malloc(length + (length == 0)));
+    it->bytes = resized(NULL, length + (length == 0));
     if (length > 0) {
         memcpy(it->bytes, bytes, length);
     }
@@ -418,7 +350,6 @@ void natsMsg_Destroy(natsMsg *it)
 
 void nats_Sleep(int64_t time)
 {
-    (void)time;
 }
 
 const char *natsStatus_GetText(natsStatus status)

@@ -2,37 +2,12 @@
 // what it makes of connections that end and come late, and of saves that fail.
 //
 //     node_test
-#ifndef NODE
-#define NODE "../node.c"
-#endif
-#define main node_main
-#include NODE
-#undef main
+#include "running.h"
+#include "said.h"
 
-#include "nats_model.h"
-
-#include <fcntl.h>
 #include <sys/stat.h>
-#include <unistd.h>
 
-enum { PATH = 64, CYCLE = 10, HEARD = 64 };
-
-static unsigned long passed, failed;
-
-static void check(bool holds, const char *text, int line)
-{
-    if (holds) {
-        passed++;
-    } else if (failed++ < 20) {
-        printf("FAILED: node_test.c:%d: %s\n", line, text);
-    }
-}
-
-#define HOLDS(condition) check((condition), #condition, __LINE__)
-
-static char place[PATH] = "/tmp/node-XXXXXX";
-static running at;
-static carrier_options carrier = {"nats://none", NULL, NULL, NULL, NULL};
+enum { CYCLE = 10, HEARD = 64 };
 
 // What was published since the last call of `listen`, except packets; and all of it.
 static char heard[HEARD][SUBJECT];
@@ -69,24 +44,6 @@ static bool was_heard(const char *subject)
     return false;
 }
 
-// Rounds, until this time is over. Returns the last one's state.
-static carrier_state go_on(uint64_t time)
-{
-    uint64_t end = now_ms() + time;
-    carrier_state state;
-    do {
-        state = go_round(&at);
-    } while (now_ms() < end && host_ended(at.host) == HOST_RUNS);
-    return state;
-}
-
-// Rounds, until this is so. A machine that is busy has 20 seconds for it, a wrong node no more than
-// twice.
-#define GO_ON_UNTIL(condition) \
-    for (uint64_t end = now_ms() + 20000; !(condition) && failed < 2 && now_ms() < end;) { \
-        (void)go_round(&at); \
-    }
-
 // Rounds, until this was published. Returns whether it was.
 static bool hears(const char *subject)
 {
@@ -94,35 +51,7 @@ static bool hears(const char *subject)
     return was_heard(subject);
 }
 
-// ## What the node says on stderr
-
-static int said_before = -1;
-
-static void begin_hearing(void)
-{
-    char path[PATH + 8];
-    snprintf(path, sizeof path, "%s/said", place);
-    said_before = dup(2);
-    int file = open(path, O_RDWR | O_CREAT | O_TRUNC, 0600);
-    HOLDS(file >= 0 && dup2(file, 2) == 2);
-    close(file);
-}
-
-// How often this was said since.
-static int end_hearing(const char *text)
-{
-    static char said[65536];
-    int count = 0;
-    fflush(stderr);
-    ssize_t length = pread(2, said, sizeof said - 1, 0);
-    said[length > 0 ? length : 0] = 0;
-    dup2(said_before, 2);
-    close(said_before);
-    for (const char *it = strstr(said, text); it != NULL; it = strstr(it + 1, text)) {
-        count++;
-    }
-    return count;
-}
+// ## What the node prints
 
 // What is printed goes to what is heard, from here on until the other call.
 static int begin_prints(void)
@@ -142,12 +71,7 @@ static void end_prints(int out)
 
 // ## Tests
 
-static void ask_status(const char *reply)
-{
-    model_deliver("markring.test.node.0.control", reply, "status", 6);
-}
-
-static void test_addresses(void)
+TEST(test_addresses)
 {
     static const char *const wrong[] = {"_INBOX.", "_INBOX.a..b", "_INBOX.a.", "_INBOX..a",
         "_INBOX.*", "_INBOX.a.>", "_INBOX.*.a", "_INBOX", "_INBOXa.b", "_INBOX.a b", "_INBOX.a\tb",
@@ -177,7 +101,7 @@ static void test_addresses(void)
     HOLDS(host_counted(at.host)->foreign == 1);
 }
 
-static void test_denials(void)
+TEST(test_denials)
 {
     model.text = "Permissions Violation for Publish to \"_INBOX.a\"";
     model_error(model.last, NATS_NOT_PERMITTED);
@@ -198,7 +122,7 @@ static void test_denials(void)
 }
 
 // What an earlier connection says late changes nothing.
-static void test_late_calls(void)
+TEST(test_late_calls)
 {
     natsConnection *old = model.last;
     model_hold(old);
@@ -228,7 +152,7 @@ static void refuse(natsStatus status, int count)
 }
 
 // A server that refuses a connection for a while, for whatever reason.
-static void test_refusals(void)
+TEST(test_refusals)
 {
     static const natsStatus passing[] = {NATS_ERR, NATS_PROTOCOL_ERROR, NATS_IO_ERROR,
         NATS_CONNECTION_CLOSED, NATS_STALE_CONNECTION, NATS_SYS_ERROR, NATS_CONNECTION_AUTH_FAILED};
@@ -264,7 +188,7 @@ static void test_refusals(void)
 }
 
 // A server that doesn't take the longest answers: the node says so, once.
-static void test_payload(void)
+TEST(test_payload)
 {
     for (int less = 1; less < 3; less++) {
         begin_hearing();
@@ -287,7 +211,7 @@ static void test_payload(void)
 }
 
 // More messages than the loop takes: what finds no room is lost, and nothing else.
-static void test_floods(void)
+TEST(test_floods)
 {
     published = 0;
     for (int i = 1; i < INBOX_MOST + 100; i++) {
@@ -327,7 +251,7 @@ static bool takes_in_turns(int messages)
     return took < (uint64_t)messages * CYCLE / 2;
 }
 
-static void test_turns(void)
+TEST(test_turns)
 {
     bool is_quick = false;
     is_slow = true;
@@ -339,7 +263,7 @@ static void test_turns(void)
 }
 
 // Messages of the greatest size that a server takes: as many bytes as the node keeps, to the last.
-static void test_long_messages(void)
+TEST(test_long_messages)
 {
     static uint8_t bytes[1 << 20];
     int most = INBOX_BYTES / (int)sizeof bytes;
@@ -364,7 +288,7 @@ static void test_long_messages(void)
 
 // The statuses of folders that can't be used, and of failures that pass: a supervisor starts the
 // node again after these alone.
-static void test_openings(void)
+TEST(test_openings)
 {
     static const int passing[] = {EMFILE, ENFILE, EIO, ENOMEM, ENOSPC, EDQUOT, ENOLCK, EINTR};
     static const int staying[] = {EACCES, EPERM, EROFS, EISDIR, ELOOP, ENAMETOOLONG, EINVAL};
@@ -385,7 +309,7 @@ static void test_openings(void)
 }
 
 // Those of databases; tests/database has the others, which need a server.
-static void test_openings_of_databases(void)
+TEST(test_openings_of_databases)
 {
     static const keeper at = {.is_database = true};
     begin_hearing();
@@ -405,7 +329,7 @@ static void test_openings_of_databases(void)
 }
 
 // Each word of `create` at its limit, and one past it.
-static void test_words(void)
+TEST(test_words)
 {
     static const struct {
         int at;
@@ -452,7 +376,7 @@ static int show_as(const char *folder)
 }
 
 // The same for wide spaces.
-static void test_wide_words(void)
+TEST(test_wide_words)
 {
     static const struct {
         char *option;
@@ -489,7 +413,7 @@ static void test_wide_words(void)
 }
 
 // Each option of `create` comes at most once, with its number, in any order.
-static void test_create_options(void)
+TEST(test_create_options)
 {
     static char *const odd[][4] = {{"--places", "9", "--places", "9"},
         {"--limit", "1", "--limit", "1"}, {"--places", "9", "--limit", ""},
@@ -535,7 +459,7 @@ static void look_soon(void)
 
 // The node says once when the connection is lost and when it is there again, and when it is there
 // again without having been seen as lost.
-static void test_connection_lines(void)
+TEST(test_connection_lines)
 {
     for (int i = 0; i < 2; i++) {
         begin_hearing();
@@ -566,7 +490,7 @@ static void test_connection_lines(void)
 }
 
 // However little there is to do, the node turns and shows how it is.
-static void test_looks(void)
+TEST(test_looks)
 {
     HOLDS(at.service.is_ready && longest_wait(&at) <= LONGEST_WAIT);
     at.service.every = 1;
@@ -598,7 +522,7 @@ static bool parses(run_options *to, const char *first, const char *second)
     return parsed;
 }
 
-static void test_options(void)
+TEST(test_options)
 {
     run_options to;
     char *none[] = {"folder", "url"};
@@ -645,7 +569,7 @@ static int files_with(const char *folder, const char *id)
     return found;
 }
 
-static void test_restore(void)
+TEST(test_restore)
 {
     char folder[PATH + 8];
     char *words[] = {folder, "test", "0123456789abcdef", "1", "2", "8", "64", "--limit", "5"};
@@ -692,17 +616,8 @@ static int sync_or_fail(void *context, int file)
     return sync_error != 0 ? -sync_error : real.sync(context, file);
 }
 
-static void ask_to_open(uint64_t session, uint64_t number, const char *reply)
-{
-    uint8_t bytes[REQUEST_HEAD];
-    writer to = writer_of(bytes, sizeof bytes);
-    request_head head = {REQUEST_OPEN, 5, session, number, 0};
-    write_request_head(&to, &head);
-    model_deliver("markring.test.node.0.program", reply, bytes, to.length);
-}
-
 // While saves fail, nobody is answered. A failed sync ends the node.
-static void test_saves(void)
+TEST(test_saves)
 {
     real = at.keeper.folder.calls;
     at.keeper.folder.calls.write_at = write_or_fail;
@@ -734,7 +649,7 @@ static void test_saves(void)
 }
 
 // A signal saves all and ends the node, also in the next process.
-static void test_signal(void)
+TEST(test_signal)
 {
     run_options options;
     memset(&options, 0, sizeof options);
@@ -772,31 +687,19 @@ static void start(void)
     HOLDS(go_on(5 * CYCLE) == USABLE && published > 0);
 }
 
+// The connection, and the subscription.
+static void check_model(void)
+{
+    HOLDS(model.alive == 2);
+}
+
 int main(void)
 {
-    pthread_t saves, rewrites, signals;
     model.published = on_published;
     HOLDS(mkdtemp(place) != NULL);
-    HOLDS(start_threads(&at, &saves, &rewrites, &signals));
-    start();
-    static void (*const tests[])(void) = {test_addresses, test_denials, test_late_calls,
-        test_refusals, test_payload, test_floods, test_turns, test_long_messages, test_openings,
-        test_openings_of_databases, test_words,
-        test_wide_words, test_create_options, test_connection_lines, test_looks, test_options, test_restore, test_saves, test_signal};
-    for (size_t i = 0; i < sizeof tests / sizeof *tests; i++) {
-        tests[i]();
-        // The connection, and the subscription.
-        HOLDS(model.alive == 2);
-    }
-    end_saver(&at, saves, rewrites);
-    disconnect_node(&at);
-    host_free(at.host);
-    keeper_close(&at.keeper);
+    run_node(start, check_model);
     HOLDS(model.alive == 0);
     free((void *)(uintptr_t)at.keeper.place);
-    char command[PATH + 8];
-    snprintf(command, sizeof command, "rm -r %s", place);
-    HOLDS(system(command) == 0);
-    printf("%lu passed, %lu failed\n", passed, failed);
-    return failed != 0 || passed == 0;
+    remove_place();
+    return report_checks();
 }

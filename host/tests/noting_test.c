@@ -2,9 +2,7 @@
 // host_test.c, whose packets, saves and time are the test's.
 //
 //     noting_test
-#define main host_test_main
-#include "host_test.c"
-#undef main
+#include "station.h"
 
 enum { NOTED = 512, SECOND = 1000, MINUTE = 60000 };
 
@@ -41,7 +39,7 @@ static int notes_of(int own, host_note_kind kind, host_note *last)
 // Two nodes that have heard each other.
 static void make_heard_pair(void)
 {
-    make_pair();
+    open_pair();
     forget_notes();
     host_listen(pair[0].host, on_note, &pair[0]);
     host_listen(pair[1].host, on_note, &pair[1]);
@@ -68,7 +66,7 @@ static void begin(void)
 
 // ## Other nodes
 
-static void test_peers(void)
+TEST(test_peers)
 {
     host_note last;
     make_heard_pair();
@@ -100,7 +98,7 @@ static void test_peers(void)
 }
 
 // A node that is heard, but acknowledges nothing, isn't lost. It is late.
-static void test_late(void)
+TEST(test_late)
 {
     host_note last;
     host_view view;
@@ -138,7 +136,7 @@ static void make_objects(int own, int count)
     }
 }
 
-static void test_cycles(void)
+TEST(test_cycles)
 {
     host_note last;
     make_heard_pair();
@@ -172,7 +170,7 @@ static void test_cycles(void)
 }
 
 // A cycle waits for a node that is away: this is said once, after a minute.
-static void test_waiting_cycle(void)
+TEST(test_waiting_cycle)
 {
     host_note last;
     make_heard_pair();
@@ -193,24 +191,22 @@ static void test_waiting_cycle(void)
 }
 
 // A cycle waits for a node that has acknowledged all: it has more to sweep than a turn does.
-static void test_stuck_cycle(void)
+TEST(test_stuck_cycle)
 {
     host_note last;
-    slots = 20000;
+    next.slots = 20000;
     make_heard_pair();
-    slots = 64;
     make_objects(1, 15000);
     begin();
-    for (int i = 0; i < 1000 && state_of(1).ended == 0; i++) {
+    for (int i = 0; i < 1000 && state_of(&pair[1]).ended == 0; i++) {
         go_on(1, 10);
     }
     go_on(1, 10);
-    HOLDS(state_of(1).ended == 1 && state_of(1).swept == 0 && state_of(0).swept == 1);
+    HOLDS(state_of(&pair[1]).ended == 1 && state_of(&pair[1]).swept == 0);
+    HOLDS(state_of(&pair[0]).swept == 1);
     begin();
-    for (int i = 0; i < 5000; i++) {
-        turn(&pair[0], 100, STORE_OK);
-    }
-    HOLDS(acknowledged(0) > 0 && state_of(0).cycle == 1);
+    turns(&pair[0], 5000, 100);
+    HOLDS(acknowledged(0) > 0 && state_of(&pair[0]).cycle == 1);
     HOLDS(notes_of(0, NOTE_CYCLE_STUCK, &last) == 1 && last.cycle == 1 && last.time >= MINUTE);
     HOLDS(notes_of(0, NOTE_CYCLE_WAITS, &last) == 0 && notes_of(0, NOTE_PEER_LOST, &last) == 0);
     drop_pair();
@@ -218,7 +214,7 @@ static void test_stuck_cycle(void)
 
 // ## Limits
 
-static void test_message_limit(void)
+TEST(test_message_limit)
 {
     host_note last;
     markring_answer answer;
@@ -227,9 +223,7 @@ static void test_message_limit(void)
     make_heard_pair();
     options.has_limit = false;
     cut();
-    for (uint32_t label = 0; label < 15; label++) {
-        give(0, label);
-    }
+    give_many(0, 15);
     go_on(5, 10);
     HOLDS(notes_of(0, NOTE_LIMIT_REACHED, &last) == 0);
     give(0, 15);
@@ -247,14 +241,12 @@ static void test_message_limit(void)
     drop(&pair[0]);
     open_host(&pair[0]);
     HOLDS(limit_of(pair[0].host) == 0);
-    for (uint32_t label = 0; label < 100; label++) {
-        give(0, label);
-    }
+    give_many(0, 100);
     drop_pair();
 }
 
 // What the folder says counts, unless the process has a limit of its own.
-static void test_folder_limit(void)
+TEST(test_folder_limit)
 {
     station at;
     host_view view;
@@ -262,8 +254,7 @@ static void test_folder_limit(void)
         folder_limit = 7;
         options.has_limit = way > 0;
         options.limit = way == 1 ? 0 : 9;
-        make(&at);
-        settle(&at, STORE_OK);
+        make(&at, false);
         host_look(at.host, at.now, &view);
         HOLDS(view.limit == (way == 0 ? 7 : way == 1 ? 0 : 9));
         HOLDS(host_is(at.host)->limit == 7);
@@ -272,21 +263,18 @@ static void test_folder_limit(void)
         drop(&at);
         open_host(&at);
         HOLDS(limit_of(at.host) == 7);
-        drop(&at);
-        free(at.stored);
+        end(&at);
     }
     folder_limit = 0;
 }
 
-static void test_letter_limit(void)
+TEST(test_letter_limit)
 {
     host_note last;
     markring_answer answer;
     options.letters_most = 8;
     make_heard_pair();
-    for (uint32_t label = 0; label < 7; label++) {
-        give(0, label);
-    }
+    give_many(0, 7);
     go_on(300, 10);
     HOLDS(notes_of(1, NOTE_LIMIT_REACHED, &last) == 0);
     give(0, 8);
@@ -303,7 +291,7 @@ static void test_letter_limit(void)
     drop_pair();
 }
 
-static void test_image_limit(void)
+TEST(test_image_limit)
 {
     host_note last;
     size_t size = 0;
@@ -340,7 +328,7 @@ static void save_slowly(uint64_t time)
     finish_save(&pair[0], STORE_OK);
 }
 
-static void test_slow_saves(void)
+TEST(test_slow_saves)
 {
     host_note last;
     make_heard_pair();
@@ -350,13 +338,9 @@ static void test_slow_saves(void)
     HOLDS(notes_of(0, NOTE_SAVE_SLOW, &last) == 1);
     HOLDS(last.time >= SECOND && last.time <= 2 * SECOND);
     save_slowly(1000);
-    for (int i = 0; i < 590; i++) {
-        turn(&pair[0], 100, STORE_OK);
-    }
+    turns(&pair[0], 590, 100);
     HOLDS(notes_of(0, NOTE_SAVE_SLOW, &last) == 1 && notes_of(0, NOTE_SAVES_QUICK, &last) == 0);
-    for (int i = 0; i < 3000; i++) {
-        turn(&pair[0], 100, STORE_OK);
-    }
+    turns(&pair[0], 3000, 100);
     HOLDS(notes_of(0, NOTE_SAVES_QUICK, &last) == 1 && last.count == 2 && last.time == 5000);
     save_slowly(2000);
     HOLDS(notes_of(0, NOTE_SAVE_SLOW, &last) == 2);
@@ -370,7 +354,7 @@ static void test_slow_saves(void)
 
 // ## Numbers
 
-static void test_times(void)
+TEST(test_times)
 {
     static const uint64_t given[] = {0, 1, 2, 3, 299999, 300000, 300001, 1u << 30};
     static const int at[] = {0, 0, 1, 2, 15, 15, 16, 16};
@@ -387,26 +371,22 @@ static void test_times(void)
 }
 
 // A request counts once, from when it came until its answer leaves.
-static void test_request_times(void)
+TEST(test_request_times)
 {
     station at;
     answer_head head;
     host_view view;
-    make(&at);
-    settle(&at, STORE_OK);
+    make(&at, false);
     HOLDS(ask(&at, (request_head){REQUEST_OPEN, 3, 100, 1, 0}, -1, &head) == 1);
     HOLDS(ask(&at, (request_head){REQUEST_PERFORM, 3, 100, 1, 2}, -1, &head) == 1);
     host_look(at.host, at.now, &view);
     HOLDS(view.requests.counts[4] == 1 && view.requests.sum == 20);
     // Its save takes half a second; meanwhile it is asked again.
-    uint8_t bytes[REQUEST_BYTES] = {0};
-    writer to = writer_of(bytes, sizeof bytes);
     request_head request = {REQUEST_PERFORM, 3, 100, 2, 1};
-    write_request_head(&to, &request);
-    write_event(&to, &(markring_event){.kind = MARKRING_EVENT_ALLOC, .reg = 1, .place = 1});
-    host_request(at.host, at.now, bytes, to.length, "r");
+    say_request(&at, request, -1);
     host_turn(at.host, at.now += 10);
-    host_request(at.host, at.now += 480, bytes, to.length, "r");
+    at.now += 480;
+    say_request(&at, request, -1);
     finish_save(&at, STORE_OK);
     settle(&at, STORE_OK);
     host_look(at.host, at.now, &view);
@@ -415,17 +395,15 @@ static void test_request_times(void)
     HOLDS(ask(&at, request, -1, &head) == 1 && head.count == 1);
     host_look(at.host, at.now, &view);
     HOLDS(view.requests.sum == 530 && view.counts.repeated_requests == 2);
-    drop(&at);
-    free(at.stored);
+    end(&at);
 }
 
 // The status has each number, once.
-static void test_status(void)
+TEST(test_status)
 {
     station at;
     host_view view;
-    make(&at);
-    settle(&at, STORE_OK);
+    make(&at, false);
     host_look(at.host, at.now, &view);
     host_control(at.host, at.now, "status", 6, "r");
     at.text[at.told] = 0;
@@ -441,20 +419,18 @@ static void test_status(void)
     }
     HOLDS(strcmp(text + at.told - 13, ", \"late\": []}") == 0);
     HOLDS(view.save == 11 && view.run == 11 && view.counts.saves == 1 && view.image > 0);
-    drop(&at);
-    free(at.stored);
+    end(&at);
 }
 
 // ## Another id
 
-static void test_rename(void)
+TEST(test_rename)
 {
     static const uint8_t other[SPACE_ID] = {9, 9, 9, 9, 9, 9, 9, 1};
     answer_head head;
     for (int way = 0; way < 2; way++) {
         station at;
-        make_node(&at, 0, 3, way == 1);
-        settle(&at, STORE_OK);
+        make(&at, way == 1);
         deliver(&at, (process){9, 5, 7}, NONCE, 11);
         HOLDS(ask(&at, (request_head){REQUEST_OPEN, 3, 100, 1, 0}, -1, &head) == 1);
         HOLDS(ask(&at, (request_head){REQUEST_PERFORM, 3, 100, 1, 2}, -1, &head) == 1);
@@ -462,8 +438,7 @@ static void test_rename(void)
         open_host(&at);
         store_value value = {NULL, 0, 0, false, 0, 0};
         HOLDS(host_rename(at.host, other, &value) == MARKRING_OK && !value.is_entry);
-        drop(&at);
-        free(at.stored);
+        end(&at);
         at.stored = value.buffer;
         at.length = value.length;
         at.end = value.end;
@@ -474,27 +449,12 @@ static void test_rename(void)
         settle(&at, STORE_OK);
         HOLDS(ask(&at, (request_head){REQUEST_PERFORM, 3, 100, 1, 2}, -1, &head) == 1);
         HOLDS(head.verdict == VERDICT_DONE && head.last == 1 && live(&at) == 2);
-        drop(&at);
-        free(at.stored);
+        end(&at);
     }
 }
 
 int main(void)
 {
-    test_peers();
-    test_late();
-    test_cycles();
-    test_waiting_cycle();
-    test_stuck_cycle();
-    test_message_limit();
-    test_folder_limit();
-    test_letter_limit();
-    test_image_limit();
-    test_slow_saves();
-    test_times();
-    test_request_times();
-    test_status();
-    test_rename();
-    printf("%lu passed, %lu failed\n", passed, failed);
-    return failed != 0 || passed == 0;
+    run_tests();
+    return report_checks();
 }

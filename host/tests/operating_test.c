@@ -5,65 +5,19 @@
 #include "../metrics.h"
 #include "../reports.h"
 #include "../service.h"
+#include "said.h"
 
 #include <arpa/inet.h>
 #include <errno.h>
-#include <fcntl.h>
 #include <stdarg.h>
-#include <stdlib.h>
-#include <string.h>
 #include <sys/socket.h>
 #include <sys/stat.h>
 #include <sys/un.h>
 #include <time.h>
-#include <unistd.h>
 
-enum { PATH = 64, ROOM = 1 << 20, MINUTE = 60000, MOST = 64 };
-
-static unsigned long passed, failed;
-
-static void check(bool holds, const char *text, int line)
-{
-    if (holds) {
-        passed++;
-    } else if (failed++ < 20) {
-        printf("FAILED: operating_test.c:%d: %s\n", line, text);
-    }
-}
-
-#define HOLDS(condition) check((condition), #condition, __LINE__)
-
-static char place[PATH] = "/tmp/operating-XXXXXX";
-static char said[ROOM];
+enum { MINUTE = 60000, MOST = 64 };
 
 // ## Lines
-
-static int stderr_before = -1;
-
-static void listen_to_stderr(void)
-{
-    char path[PATH + 8];
-    fflush(stdout);
-    snprintf(path, sizeof path, "%s/said", place);
-    stderr_before = dup(2);
-    int file = open(path, O_RDWR | O_CREAT | O_TRUNC, 0600);
-    HOLDS(file >= 0 && dup2(file, 2) == 2);
-    close(file);
-}
-
-// How many lines were said since; they are in `said`.
-static int lines_said(void)
-{
-    int count = 0;
-    ssize_t length = pread(2, said, sizeof said - 1, 0);
-    said[length > 0 ? length : 0] = 0;
-    dup2(stderr_before, 2);
-    close(stderr_before);
-    for (const char *at = said; *at != 0; at++) {
-        count += *at == '\n';
-    }
-    return count;
-}
 
 static bool ends_with(const char *text, const char *end)
 {
@@ -86,14 +40,14 @@ static bool has_time(const char *text)
 static const char *say_as(log_form form, const char *folder, const char *text)
 {
     log_begin(form, folder);
-    listen_to_stderr();
+    begin_hearing();
     log_say(5, (log_line){LEVEL_WARNING, EVENT_PEER_LOST, {{"peer", 2}, {"seconds", 10.25}}}, "%s",
         text);
-    HOLDS(lines_said() == 1);
+    HOLDS(end_hearing("\n") == 1);
     return said;
 }
 
-static void test_forms(void)
+TEST(test_forms)
 {
     HOLDS(strcmp(say_as(LOG_BARE, "a/b", "some text"), "markring-node: a/b: some text\n") == 0);
     HOLDS(strcmp(say_as(LOG_JOURNAL, "a/b", "some text"), "<4>a/b: some text\n") == 0);
@@ -107,14 +61,14 @@ static void test_forms(void)
         == 0);
     log_begin(LOG_JSON, "f");
     log_name("ring", 3);
-    listen_to_stderr();
+    begin_hearing();
     log_say(5, (log_line){LEVEL_ERROR, EVENT_FAILED, {{0}}}, "%d", 7);
-    HOLDS(lines_said() == 1 && strstr(said, "\"level\": \"error\", \"event\": \"failed\"") != NULL);
+    HOLDS(end_hearing("\n") == 1 && strstr(said, "\"level\": \"error\", \"event\": \"failed\"") != NULL);
     HOLDS(ends_with(said, "\"f\", \"space\": \"ring\", \"node\": 3, \"text\": \"7\"}\n"));
 }
 
 // A text from elsewhere, such as a server's, is one line and in UTF-8, whatever it has.
-static void test_odd_texts(void)
+TEST(test_odd_texts)
 {
     HOLDS(ends_with(say_as(LOG_JOURNAL, "f", "a\n<3>b\r\x7f"), "f: a?<3>b??\n"));
     HOLDS(ends_with(say_as(LOG_JSON, "f\"", "\"\\\n\t"), "\"text\": \"\\\"\\\\??\"}\n"));
@@ -130,7 +84,7 @@ static void test_odd_texts(void)
     HOLDS(strlen(say_as(LOG_TIMED, text, text)) < 4096 && ends_with(said, "\"\"\n"));
 }
 
-static void test_form_names(void)
+TEST(test_form_names)
 {
     log_form form;
     struct stat found;
@@ -159,54 +113,54 @@ static void say(uint64_t now, log_event event)
 
 // Whatever comes and goes how often, the log has a bounded number of lines, and no begin without
 // its end.
-static void test_bounds(void)
+TEST(test_bounds)
 {
     log_begin(LOG_JOURNAL, "f");
-    listen_to_stderr();
+    begin_hearing();
     for (int i = 0; i < 1000; i++) {
         say(10, EVENT_SAVES_FAIL);
         say(10, EVENT_SAVES_AGAIN);
     }
-    int lines = lines_said();
+    int lines = end_hearing("\n");
     HOLDS(lines >= 2 * MOST && lines <= 3 * MOST);
-    listen_to_stderr();
+    begin_hearing();
     say(10, EVENT_CYCLE_ENDED);
-    HOLDS(lines_said() == 1);
+    HOLDS(end_hearing("\n") == 1);
     // An hour of the same, ten times a second.
-    listen_to_stderr();
+    begin_hearing();
     for (uint64_t time = 0; time < 60 * MINUTE; time += 100) {
         say(10 + time, time % 200 == 0 ? EVENT_SAVES_FAIL : EVENT_SAVES_AGAIN);
     }
-    lines = lines_said();
+    lines = end_hearing("\n");
     HOLDS(lines >= 110 && lines <= 125);
     HOLDS(strstr(said, "f: x (") != NULL);
     HOLDS(strstr(said, " lines like it were left out)\n") != NULL);
     // A begin that is logged has its end, also long after.
     log_begin(LOG_JOURNAL, "f");
-    listen_to_stderr();
+    begin_hearing();
     for (int i = 0; i < 3 * MOST; i++) {
         say(20, EVENT_PEER_SEEN);
     }
-    HOLDS(lines_said() == MOST);
-    listen_to_stderr();
+    HOLDS(end_hearing("\n") == MOST);
+    begin_hearing();
     for (int i = 0; i < 3 * MOST; i++) {
         say(20, EVENT_PEER_LOST);
     }
     for (int i = 0; i < 3 * MOST; i++) {
         say(20, EVENT_PEER_SEEN);
     }
-    HOLDS(lines_said() == 2 * MOST);
+    HOLDS(end_hearing("\n") == 2 * MOST);
     // Commands say everything.
     log_begin(LOG_BARE, "f");
-    listen_to_stderr();
+    begin_hearing();
     for (int i = 0; i < 3 * MOST; i++) {
         say(20, EVENT_FAILED);
     }
-    HOLDS(lines_said() == 3 * MOST);
+    HOLDS(end_hearing("\n") == 3 * MOST);
 }
 
 // Each note is one line, which names what it is about.
-static void test_reports(void)
+TEST(test_reports)
 {
     static const struct {
         host_note note;
@@ -246,15 +200,15 @@ static void test_reports(void)
     };
     log_begin(LOG_JOURNAL, "f");
     for (size_t i = 0; i < sizeof CASES / sizeof *CASES; i++) {
-        listen_to_stderr();
+        begin_hearing();
         report(7, &CASES[i].note);
-        HOLDS(lines_said() == 1 && strcmp(said, CASES[i].line) == 0);
+        HOLDS(end_hearing("\n") == 1 && strcmp(said, CASES[i].line) == 0);
     }
     log_begin(LOG_JSON, "f");
     for (size_t i = 0; i < sizeof CASES / sizeof *CASES; i++) {
-        listen_to_stderr();
+        begin_hearing();
         report(7, &CASES[i].note);
-        HOLDS(lines_said() == 1 && ends_with(said, "\"}\n"));
+        HOLDS(end_hearing("\n") == 1 && ends_with(said, "\"}\n"));
         HOLDS(CASES[i].note.cycle == 0 || strstr(said, "\"cycle\": 5, ") != NULL);
         HOLDS(CASES[i].note.node == 0 || strstr(said, "\"peer\": ") != NULL);
     }
@@ -336,7 +290,7 @@ static void test_standby(void)
     close(manager);
 }
 
-static void test_service(void)
+TEST(test_service)
 {
     char name[PATH + 16];
     for (int way = 0; way < 2; way++) {
@@ -422,7 +376,7 @@ static int dial(void)
 // What the server says to this, until it closes the connection.
 static const char *ask(const char *request)
 {
-    static char answer[ROOM];
+    static char answer[1 << 20];
     size_t done = 0;
     int it = dial();
     HOLDS(send(it, request, strlen(request), MSG_NOSIGNAL) == (ssize_t)strlen(request));
@@ -464,7 +418,7 @@ static host_view some_view(void)
     return view;
 }
 
-static void test_text(void)
+TEST(test_text)
 {
     host_view view = some_view();
     char *text = NULL;
@@ -495,7 +449,7 @@ static void test_text(void)
     free(text);
 }
 
-static void open_server(void)
+TEST(test_opening_server)
 {
     struct sockaddr_in at = {.sin_family = AF_INET};
     socklen_t length = sizeof at;
@@ -514,7 +468,7 @@ static void open_server(void)
     HOLDS(metrics_open(&served, address) == METRICS_OK);
 }
 
-static void test_metric_addresses(void)
+TEST(test_metric_addresses)
 {
     static const char *const wrong[] = {"", ":", "9464", ":9464", "127.0.0.1", "127.0.0.1:",
         "127.0.0.1:0", "127.0.0.1:65536", "127.0.0.1:99999999999", "127.0.0.1:94x", "127.0.0.1:-1",
@@ -528,7 +482,7 @@ static void test_metric_addresses(void)
     HOLDS(metrics_open(&none, "203.0.113.1:9464") == METRICS_FAILED && errno == EADDRNOTAVAIL);
 }
 
-static void test_health(void)
+TEST(test_health)
 {
     host_view view = some_view();
     HOLDS(is_status(get("/healthz"), 503) && is_status(get("/readyz"), 503));
@@ -549,7 +503,7 @@ static void test_health(void)
     HOLDS(strstr(get("/healthz"), "it doesn't turn\n") != NULL);
 }
 
-static void test_http(void)
+TEST(test_http)
 {
     host_view view = some_view();
     metrics_show(served, &view, true, now_ms());
@@ -637,25 +591,12 @@ int main(void)
     // Nothing here may wait for ever.
     alarm(100);
     HOLDS(mkdtemp(place) != NULL);
-    test_forms();
-    test_odd_texts();
-    test_form_names();
-    test_bounds();
-    test_reports();
-    test_service();
-    test_text();
-    test_metric_addresses();
-    open_server();
-    test_health();
-    test_http();
+    run_tests();
     // (it takes seconds, which a wrong host needn't)
     if (failed < 2) {
         test_slow_clients();
     }
     metrics_close(served);
-    char command[PATH + 8];
-    snprintf(command, sizeof command, "rm -r %s", place);
-    HOLDS(system(command) == 0);
-    printf("%lu passed, %lu failed\n", passed, failed);
-    return failed != 0 || passed == 0;
+    remove_place();
+    return report_checks();
 }

@@ -7,27 +7,15 @@
 // those of other versions; `reads` takes no changes, `lazy` has synchronous_commit off, `locked` is
 // closed to this user. The last line is `N passed, M failed`.
 #define _GNU_SOURCE
+#include "check.h"
+
 #include <markring_host.h>
 
-#include <stdio.h>
 #include <stdlib.h>
 #include <string.h>
 #include <time.h>
 
 enum { ROOM = 256, ADDRESS = 1024 };
-
-static int passed, failed;
-
-#define HOLDS(condition) count((condition), #condition, __LINE__)
-
-static void count(bool holds, const char *text, int line)
-{
-    passed += holds;
-    failed += !holds;
-    if (!holds) {
-        printf("FAILED: line %d: %s\n", line, text);
-    }
-}
 
 static const char *pattern;
 
@@ -212,6 +200,5 @@ int main(int count_of, char **words)
     keeps(node, whole);
     refuses();
     takes_over(node);
-    printf("%d passed, %d failed\n", passed, failed);
-    return failed != 0;
+    return report_checks();
 }

@@ -14,10 +14,8 @@
 //     sim SEEDS [FIRST [STEPS [CHECKPOINTS]]]
 #include "../inside.h"
 #include "disk.h"
+#include "models.h"
 #include "rows.h"
-
-#include <stdio.h>
-#include <stdlib.h>
 
 #define XXH_INLINE_ALL
 #include <xxhash.h>
@@ -54,10 +52,7 @@ static unsigned long failures, run_seed;
 
 static uint32_t below(uint32_t limit)
 {
-    seed ^= seed >> 12;
-    seed ^= seed << 25;
-    seed ^= seed >> 27;
-    return (uint32_t)((seed * UINT64_C(2685821657736338717) >> 32) * limit >> 32);
+    return below_number(&seed, limit);
 }
 
 static uint64_t random_nonce(void)
@@ -74,15 +69,6 @@ static bool check(bool holds, const char *text, int line)
 }
 
 #define HOLDS(condition) check((condition), #condition, __LINE__)
-
-static void *need(void *block)
-{
-    if (block == NULL) {
-        fputs("the test itself ran out of memory\n", stderr);
-        exit(2);
-    }
-    return block;
-}
 
 // ## Refused memory
 
@@ -172,26 +158,27 @@ static markring_ref name_of(uint32_t id)
     return id == 0 ? nothing : objects[id].name;
 }
 
-// The object with this name; 0 for nothing.
+// The object with this name; 0 for nothing, and for one that isn't known.
+static uint32_t known_object(markring_ref name)
+{
+    uint32_t id = name.generation != 0 ? object_count : 1;
+    while (--id > 0 && !same(objects[id].name, name)) {
+    }
+    return id;
+}
+
 static uint32_t object_named(markring_ref name)
 {
-    if (name.generation == 0) {
-        return 0;
-    }
-    for (uint32_t id = object_count; id-- > 1;) {
-        if (same(objects[id].name, name)) {
-            return id;
-        }
-    }
-    HOLDS(!"a reference to an object that was never made");
-    return 0;
+    uint32_t id = known_object(name);
+    HOLDS(id != 0 || name.generation == 0); // (of an object that was made)
+    return id;
 }
 
 static void remember(uint32_t id, uint8_t place, uint32_t content)
 {
     object *it = &objects[id];
     size_t length = it->lengths[place]++;
-    it->history[place] = need(realloc(it->history[place], (length + 1) * sizeof(uint32_t)));
+    it->history[place] = resized(it->history[place], (length + 1) * sizeof(uint32_t));
     it->history[place][length] = content;
 }
 
@@ -199,7 +186,7 @@ static void remember_bytes(uint32_t id, const uint8_t *bytes, uint32_t length)
 {
     object *it = &objects[id];
     size_t count = it->version_count++;
-    it->versions = need(realloc(it->versions, (count + 1) * sizeof *it->versions));
+    it->versions = resized(it->versions, (count + 1) * sizeof *it->versions);
     it->versions[count][0] = (uint8_t)length;
     memcpy(it->versions[count] + 1, bytes, length);
 }
@@ -208,7 +195,7 @@ static uint32_t new_object(uint8_t owner, markring_ref name)
 {
     if (object_count == object_room) {
         object_room = 2 * object_room + 64;
-        objects = need(realloc(objects, object_room * sizeof *objects));
+        objects = resized(objects, object_room * sizeof *objects);
     }
     HOLDS(object_count == 0 || object_count > 0);
     object *it = &objects[object_count];
@@ -226,7 +213,7 @@ static uint32_t new_letter(letter it)
 {
     if (letter_count == letter_room) {
         letter_room = 2 * letter_room + 64;
-        letters = need(realloc(letters, letter_room * sizeof *letters));
+        letters = resized(letters, letter_room * sizeof *letters);
     }
     letters[letter_count] = it;
     return letter_count++;
@@ -349,8 +336,6 @@ static void drop_packet(int at)
 static void put_in_net(uint8_t kind, uint8_t from, uint8_t to, const uint8_t *bytes, size_t length)
 {
     uint32_t copies = is_calm || below(20) > 0 ? 1 : 2;
-    bool was_in_host = in_host;
-    in_host = false;
     for (uint32_t i = 0; i < copies; i++) {
         if (!is_calm && below(12) == 0) {
             lost++;
@@ -362,11 +347,10 @@ static void put_in_net(uint8_t kind, uint8_t from, uint8_t to, const uint8_t *by
         uint64_t delay = is_calm ? 1
             : below(10) == 0     ? below(below(10) == 0 ? 20000 : 900)
                                  : below(8);
-        packet it = {now + delay, kind, from, to, length, need(malloc(length + 1))};
+        packet it = {now + delay, kind, from, to, length, resized(NULL, length)};
         memcpy(it.bytes, bytes, length);
         net[in_net++] = it;
     }
-    in_host = was_in_host;
 }
 
 static station *station_of(void *context)
@@ -429,13 +413,6 @@ static void on_rewrite(void *context)
     station *at = station_of(context);
     HOLDS(at->stage == REWRITE_NONE && at->job == NULL);
     at->stage = REWRITE_ASKED;
-}
-
-static uint64_t due_after(const station *at)
-{
-    bool was = in_host;
-    (void)was;
-    return host_wait(at->host, now);
 }
 
 // A process ends, and with it perhaps its machine.
@@ -760,7 +737,7 @@ static void take_turn(station *at)
     }
     rewrite(at);
     renew(at);
-    if (at->host == NULL || (!at->touched && due_after(at) > 0)) {
+    if (at->host == NULL || (!at->touched && host_wait(at->host, now) > 0)) {
         return;
     }
     at->touched = false;
@@ -892,6 +869,13 @@ static markring_event placed(markring_event it)
     return it;
 }
 
+static void send_bytes(part *it, const writer *to)
+{
+    HOLDS(to->ok);
+    it->asked_at = now;
+    put_in_net(1, (uint8_t)(10 * it->node + it->number), it->node, to->start, to->length);
+}
+
 static void send_request(part *it, uint8_t kind, uint64_t number)
 {
     uint8_t bytes[REQUEST_BYTES + OPERATIONS * (4 + BYTES + 1)];
@@ -907,9 +891,7 @@ static void send_request(part *it, uint8_t kind, uint64_t number)
         markring_remote_event event = {placed(it->events[i]), it->bytes[i], it->lengths[i]};
         write_remote_event(&to, &event);
     }
-    HOLDS(to.ok);
-    it->asked_at = now;
-    put_in_net(1, (uint8_t)(10 * it->node + it->number), it->node, bytes, to.length);
+    send_bytes(it, &to);
 }
 
 static bool is_opening(uint8_t kind)
@@ -963,8 +945,7 @@ static void ask_about_freed(part *it)
         write_number(&to, 1 + below(20), 4);
     }
     it->reading = it->reads;
-    it->asked_at = now;
-    put_in_net(1, (uint8_t)(10 * it->node + it->number), it->node, bytes, to.length);
+    send_bytes(it, &to);
 }
 
 // Asks what all registers hold, or for bytes of an object, or waits for a letter.
@@ -985,8 +966,7 @@ static void read_something(part *it)
         write_reading(it, &to);
     }
     it->reading = it->reads;
-    it->asked_at = now;
-    put_in_net(1, (uint8_t)(10 * it->node + it->number), it->node, bytes, to.length);
+    send_bytes(it, &to);
 }
 
 static void ask(part *it)
@@ -1000,6 +980,14 @@ static void ask(part *it)
     uint8_t opening = is_apart ? (knows ? REQUEST_OPEN_APART_LETTERS : REQUEST_OPEN_APART)
                                : (knows ? REQUEST_OPEN_LETTERS : REQUEST_OPEN);
     send_request(it, it->opened ? performing : opening, it->opened ? it->last + 1 : it->round);
+}
+
+// Asks for the request that is planned.
+static void ask_planned(part *it)
+{
+    it->asks = true;
+    requests++;
+    ask(it);
 }
 
 static void add_event(part *it, markring_event event)
@@ -1031,6 +1019,17 @@ static void plan_gives(part *it, uint16_t reg)
     }
 }
 
+static void plan_get(part *it, uint16_t reg)
+{
+    uint32_t id = it->registers[reg];
+    uint8_t place = (uint8_t)below(PLACES);
+    letter got = {
+        .from = objects[id].owner, .to = it->node, .is_get = true, .about = id, .place = place};
+    markring_event event = {.kind = MARKRING_EVENT_GET, .object = reg, .place = place};
+    event.label = new_letter(got);
+    add_event(it, event);
+}
+
 static void plan_far(part *it, uint16_t reg, uint16_t value)
 {
     uint32_t id = it->registers[reg];
@@ -1042,12 +1041,7 @@ static void plan_far(part *it, uint16_t reg, uint16_t value)
         add_event(it, event);
         return;
     }
-    place = (uint8_t)below(PLACES);
-    letter got = {
-        .from = objects[id].owner, .to = it->node, .is_get = true, .about = id, .place = place};
-    markring_event event = {.kind = MARKRING_EVENT_GET, .object = reg, .place = place};
-    event.label = new_letter(got);
-    add_event(it, event);
+    plan_get(it, reg);
 }
 
 // Sends a letter with what some registers hold, and bytes; now and then as many as there may be.
@@ -1235,8 +1229,6 @@ static void plan(part *it)
     } else {
         add_event(it, (markring_event){.kind = MARKRING_EVENT_LOAD, .object = reg, .reg = other});
     }
-    it->asks = true;
-    requests++;
 }
 
 // ## Answers
@@ -1519,17 +1511,6 @@ static void check_bytes(part *it, const answer_head *head, reader *from)
     readings++;
 }
 
-// The object with this name that this program knows; 0 if it doesn't know it yet.
-static uint32_t known_object(markring_ref name)
-{
-    for (uint32_t id = object_count; id-- > 1;) {
-        if (same(objects[id].name, name)) {
-            return id;
-        }
-    }
-    return 0;
-}
-
 // Whether a request of the node is under way, which may have made objects that nobody knows yet.
 static bool may_make(uint8_t node)
 {
@@ -1674,11 +1655,12 @@ static void take_answer(part *it, const packet *came)
     }
 }
 
-static uint64_t letters_at(uint8_t node)
+static markring_state state_of(uint8_t node)
 {
     markring_state state = {0};
-    HOLDS(markring_node_state(host_node(stations[node].host), &state) == MARKRING_OK);
-    return state.letters;
+    HOLDS(stations[node].host != NULL
+        && markring_node_state(host_node(stations[node].host), &state) == MARKRING_OK);
+    return state;
 }
 
 // A register of program 0 that may take a letter, with as many behind it as a letter may need.
@@ -1723,9 +1705,9 @@ static void work(part *it)
         ask_about_freed(it);
     } else if (!is_calm && below(3) == 0) {
         plan(it);
-        ask(it);
+        ask_planned(it);
     } else if (is_calm && !is_flood && it->number == 0 && options.image_most > 0
-        && stations[it->node].host != NULL && letters_at(it->node) > 0) {
+        && stations[it->node].host != NULL && state_of(it->node).letters > 0) {
         // A node with too many letters takes no messages until its program accepts some.
         it->count = 0;
         add_event(it, last_accept());
@@ -1755,7 +1737,7 @@ static void deliver(const packet *it)
         host_packet(to->host, now, it->from, it->bytes, it->length);
         full += host_counted(to->host)->full - before;
         // A window and what was early may come beyond the limit.
-        HOLDS(options.letters_most == 0 || letters_at(it->to) <= options.letters_most + 64);
+        HOLDS(options.letters_most == 0 || state_of(it->to).letters <= options.letters_most + 64);
     } else if (is_sure(to)) {
         host_request(to->host, now, it->bytes, it->length, reply);
     }
@@ -1893,7 +1875,7 @@ static void accept_all(void)
 {
     for (uint8_t node = 0; node < nodes && failures == 0; node++) {
         part *it = &parts[node][0];
-        while (failures == 0 && letters_at(node) > 0) {
+        while (failures == 0 && state_of(node).letters > 0) {
             if (!ask_and_settle(it, last_accept())) {
                 return;
             }
@@ -1919,18 +1901,23 @@ static void reach(uint32_t id, uint8_t *seen, uint32_t *counts)
     }
 }
 
-static uint32_t live_at(uint8_t node)
+// Which objects the programs reach, and how many of each node.
+static uint8_t *reach_all(uint32_t *counts)
 {
-    markring_state state = {0};
-    HOLDS(stations[node].host != NULL
-        && markring_node_state(host_node(stations[node].host), &state) == MARKRING_OK);
-    return state.live;
+    uint8_t *seen = resized(NULL, object_count);
+    memset(seen, 0, object_count);
+    for (uint8_t node = 0; node < nodes; node++) {
+        for (int reg = 0; reg < REGISTERS; reg++) {
+            reach(parts[node][reg >= FIRST].registers[reg], seen, counts);
+        }
+    }
+    return seen;
 }
 
 static void expect_objects(void)
 {
     uint32_t counts[MOST] = {0};
-    uint8_t *seen = need(calloc(object_count + 1, 1));
+    free(reach_all(counts));
     for (uint8_t node = 0; node < nodes; node++) {
         for (int reg = 0; reg < REGISTERS; reg++) {
             markring_ref held = {0, 0, 0};
@@ -1938,10 +1925,8 @@ static void expect_objects(void)
             int status = markring_node_register(
                 host_node(stations[node].host), (uint16_t)(first_register() + reg), &held);
             HOLDS(status == (id == 0 ? MARKRING_NOTHING : MARKRING_OK) && same(held, name_of(id)));
-            reach(id, seen, counts);
         }
     }
-    free(seen);
     bool equal = false;
     for (int i = 0; i < 5 && !equal && failures == 0; i++) {
         host_control(stations[0].host, now, "begin", 5, "c");
@@ -1956,13 +1941,13 @@ static void expect_objects(void)
         }
         equal = true;
         for (uint8_t node = 0; node < nodes; node++) {
-            equal = equal && live_at(node) == counts[node];
-            HOLDS(live_at(node) >= counts[node]);
+            equal = equal && state_of(node).live == counts[node];
+            HOLDS(state_of(node).live >= counts[node]);
         }
     }
     if (!HOLDS(equal)) {
         for (uint8_t node = 0; node < nodes; node++) {
-            printf("node %d: %u objects, %u reachable\n", node, live_at(node), counts[node]);
+            printf("node %d: %u objects, %u reachable\n", node, state_of(node).live, counts[node]);
         }
     }
 }
@@ -1971,12 +1956,7 @@ static void expect_objects(void)
 static void expect_tables(void)
 {
     uint32_t counts[MOST] = {0};
-    uint8_t *seen = need(calloc(object_count + 1, 1));
-    for (uint8_t node = 0; node < nodes; node++) {
-        for (int reg = 0; reg < REGISTERS; reg++) {
-            reach(parts[node][reg >= FIRST].registers[reg], seen, counts);
-        }
-    }
+    uint8_t *seen = reach_all(counts);
     for (uint8_t at = 0; at < nodes * PARTS && !is_apart; at++) {
         part *it = &parts[at / PARTS][at % PARTS];
         it->is_done = false;
@@ -2027,7 +2007,7 @@ static void drop_all(void)
         expect_objects();
     }
     for (uint8_t node = 0; node < nodes && failures == 0; node++) {
-        HOLDS(live_at(node) == 0);
+        HOLDS(state_of(node).live == 0);
     }
 }
 
@@ -2040,7 +2020,7 @@ static void leap(uint64_t most)
         const station *at = &stations[node];
         uint64_t wait = most;
         if (at->host != NULL) {
-            wait = at->touched || at->job != NULL ? 1 : due_after(at);
+            wait = at->touched || at->job != NULL ? 1 : host_wait(at->host, now);
         }
         most = wait < most ? wait : most;
     }
@@ -2266,9 +2246,7 @@ static void give_letters(part *it)
 {
     it->count = 0;
     plan_gives(it, random_register(it));
-    it->asks = true;
-    requests++;
-    ask(it);
+    ask_planned(it);
 }
 
 // Nothing is lost or late, so nothing is sent again.
@@ -2351,19 +2329,11 @@ static int far_register(const part *it)
 // The next request of a flood: as many Gets as fit.
 static void plan_flood(part *it, uint16_t reg)
 {
-    uint32_t id = it->registers[reg];
     it->count = 0;
     while (it->count < OPERATIONS) {
-        uint8_t place = (uint8_t)below(PLACES);
-        letter got = {
-        .from = objects[id].owner, .to = it->node, .is_get = true, .about = id, .place = place};
-        markring_event event = {.kind = MARKRING_EVENT_GET, .object = reg, .place = place};
-        event.label = new_letter(got);
-        add_event(it, event);
+        plan_get(it, reg);
     }
-    it->asks = true;
-    requests++;
-    ask(it);
+    ask_planned(it);
 }
 
 static void expect_small_images(void)
@@ -2556,9 +2526,7 @@ static void forget_all(void)
 {
     for (uint8_t node = 0; node < nodes; node++) {
         overtaken += stations[node].rows.overtaken;
-        host_free(ghosts[node].host);
-        rows_kill(&ghosts[node].client);
-        rows_kill(&ghosts[node].apart);
+        end_ghost(&ghosts[node]);
         rows_kill(&stations[node].client);
         rows_kill(&stations[node].apart);
         rows_free(&stations[node].rows);

@@ -1,10 +1,8 @@
-// Resolve, walks over the objects, and what was freed: with the stations of host_test.c, whose
+// Resolve, walks over the objects, and what was freed: with the stations of station.h, whose
 // packets, saves and time are the test's.
 //
 //     weak_test
-#define main host_test_main
-#include "host_test.c"
-#undef main
+#include "station.h"
 
 enum { SHARER = 4, READER = 5, APART = 3, MANY_SLOTS = 2 * OBJECTS_IN_ANSWER + 100 };
 
@@ -15,16 +13,8 @@ static station one;
 // A node of a wide space, in which programs SHARER and READER are open. It reclaims when it is told.
 static void make_one(bool has_entries)
 {
-    registers = 16;
-    slots = 1u << 20;
-    wide_places = 4;
-    wide_bytes = 100;
-    make_node(&one, 0, 3, has_entries);
-    registers = 8;
-    slots = 64;
-    wide_places = 0;
-    wide_bytes = 0;
-    settle(&one, STORE_OK);
+    next = (host_shape){.registers = 16, .slots = 1u << 20, .places = 4, .bytes = 100};
+    make(&one, has_entries);
     for (uint8_t number = SHARER; number <= READER; number++) {
         answer_head head;
         HOLDS(ask(&one, (request_head){REQUEST_OPEN, number, 100u + number, 1, 0}, -1, &head) == 1);
@@ -33,8 +23,7 @@ static void make_one(bool has_entries)
 
 static void drop_one(void)
 {
-    drop(&one);
-    free(one.stored);
+    end(&one);
 }
 
 // Its process ends, and another one begins.
@@ -256,7 +245,7 @@ static void test_entries(bool has_entries)
 }
 
 // To track again changes nothing. What is new is so until the program has asked for entries.
-static void test_tracking(void)
+TEST(test_tracking)
 {
     markring_remote_since since, again, other;
     bool is_new = false;
@@ -288,7 +277,7 @@ static void test_tracking(void)
 }
 
 // The next process of the node lists nothing, and says so; also if its list is as long.
-static void test_lives(void)
+TEST(test_lives)
 {
     markring_remote_since since, again;
     bool is_new = false;
@@ -318,7 +307,7 @@ static void test_lives(void)
 }
 
 // The next process of a program goes on with its list; the one before can't forget what that needs.
-static void test_next_process(void)
+TEST(test_next_process)
 {
     markring_remote_since since, again;
     bool is_new = false;
@@ -392,7 +381,7 @@ static void test_full_list(bool is_saved)
 }
 
 // More than one answer has; each answer that is lost is asked for again, or isn't.
-static void test_long_list(void)
+TEST(test_long_list)
 {
     enum { COUNT = FREED_IN_ANSWER + 2000 };
     markring_remote_since since;
@@ -567,7 +556,7 @@ static void test_resolve(bool has_entries)
 }
 
 // While the node marks, an object that it hasn't reached can't be told from garbage.
-static void test_resolve_while_marking(void)
+TEST(test_resolve_while_marking)
 {
     markring_answer answer;
     make_one(true);
@@ -633,7 +622,7 @@ static uint32_t walk(uint32_t most, markring_ref wanted, markring_object *of, ui
     return count;
 }
 
-static void test_walk(void)
+TEST(test_walk)
 {
     markring_object of = {.word = 1};
     uint32_t answers = 0;
@@ -667,7 +656,7 @@ static void test_walk(void)
 }
 
 // More slots than one answer looks at, most of them empty.
-static void test_long_walk(void)
+TEST(test_long_walk)
 {
     markring_object of = {.word = 1};
     markring_answer answer;
@@ -696,7 +685,7 @@ static void test_long_walk(void)
     drop_one();
 }
 
-static void test_places(void)
+TEST(test_places)
 {
     markring_result found;
     reader behind;
@@ -709,7 +698,7 @@ static void test_places(void)
     HOLDS(answer_of(&asked, &found, &behind) == VERDICT_DONE && found.status == MARKRING_OK);
     HOLDS(found.answer.count == 3 && behind.left == (size_t)3 * REFERENCE_RECORD);
     for (int i = 0; i < 3; i++) {
-        read_reference(&behind, &read);
+        read_reference_record(&behind, &read);
         HOLDS(is_same(read, i == 1 ? inner : (markring_ref){0, 0, 0}));
     }
     asked = ask_places(inner);
@@ -729,7 +718,7 @@ static void test_places(void)
 }
 
 // Answers that show objects wait until these are saved.
-static void test_walks_wait(void)
+TEST(test_walks_wait)
 {
     make_one(true);
     markring_ref made = make_object(1, 1, 3);
@@ -750,7 +739,7 @@ static void test_walks_wait(void)
 }
 
 // Requests that are cut off, or too long, or have another count.
-static void test_cut_questions(void)
+TEST(test_cut_questions)
 {
     static const struct {
         uint8_t kind;
@@ -776,7 +765,7 @@ static void test_cut_questions(void)
 }
 
 // Without memory for the list or for an answer none comes, and the next time all does.
-static void test_without_memory(void)
+TEST(test_without_memory)
 {
     markring_remote_since since;
     bool is_new = false;
@@ -806,17 +795,6 @@ int main(void)
         test_beside_apart(way == 1);
         test_resolve(way == 1);
     }
-    test_tracking();
-    test_lives();
-    test_next_process();
-    test_long_list();
-    test_resolve_while_marking();
-    test_walk();
-    test_long_walk();
-    test_places();
-    test_walks_wait();
-    test_cut_questions();
-    test_without_memory();
-    printf("%lu passed, %lu failed\n", passed, failed);
-    return failed != 0 || passed == 0;
+    run_tests();
+    return report_checks();
 }

@@ -104,9 +104,7 @@ impl CellHandle {
         requires { is_own event ≡ true }
         ensures { Through (CellActs event.entry) self.old.held self.new.held result }
     {
-        let Some(mut cell) = self.take(alloc) else {
-            return Err(Fault::NoHandle);
-        };
+        let mut cell = self.take(alloc).ok_or(Fault::NoHandle)?;
         let answered = cell.act(event);
         self.put(alloc, cell);
         answered
@@ -123,9 +121,7 @@ impl CellHandle {
         ensures { WorksIf (CellWorks scans slots) self.old.held self.new.held work.old work.new
             result }
     {
-        let Some(mut cell) = self.take(alloc) else {
-            return Err(Fault::NoHandle);
-        };
+        let mut cell = self.take(alloc).ok_or(Fault::NoHandle)?;
         let worked = cell.work(scans, slots, work);
         self.put(alloc, cell);
         worked
@@ -135,9 +131,7 @@ impl CellHandle {
     pub fn receive(&mut self, alloc: Global, from: u8) -> Result<Answer, Fault>
         ensures { Through (Received from) self.old.held self.new.held result }
     {
-        let Some(mut cell) = self.take(alloc) else {
-            return Err(Fault::NoHandle);
-        };
+        let mut cell = self.take(alloc).ok_or(Fault::NoHandle)?;
         let done = cell.receive(from);
         self.put(alloc, cell);
         done
@@ -147,9 +141,7 @@ impl CellHandle {
     pub fn send(&mut self, alloc: Global, to: u8) -> Result<bool, Fault>
         ensures { Through (Sent to) self.old.held self.new.held result }
     {
-        let Some(mut cell) = self.take(alloc) else {
-            return Err(Fault::NoHandle);
-        };
+        let mut cell = self.take(alloc).ok_or(Fault::NoHandle)?;
         let done = cell.send(to);
         self.put(alloc, cell);
         done
@@ -159,9 +151,7 @@ impl CellHandle {
     pub fn image_size(&mut self, alloc: Global) -> Result<usize, Fault>
         ensures { Through SizedSame self.old.held self.new.held result }
     {
-        let Some(cell) = self.take(alloc) else {
-            return Err(Fault::NoHandle);
-        };
+        let cell = self.take(alloc).ok_or(Fault::NoHandle)?;
         let done = cell.image_size(alloc);
         self.put(alloc, cell);
         done
@@ -172,9 +162,7 @@ impl CellHandle {
         ensures { HandleImaged self.old.held self.new.held result buffer.old buffer.new needed.old
             needed.new }
     {
-        let Some(mut cell) = self.take(alloc) else {
-            return Err(Fault::NoHandle);
-        };
+        let mut cell = self.take(alloc).ok_or(Fault::NoHandle)?;
         let mark = cell.image(alloc, buffer, needed);
         self.put(alloc, cell);
         mark
@@ -184,9 +172,7 @@ impl CellHandle {
     pub fn save(&mut self, alloc: Global, mark: u64) -> Result<(), Fault>
         ensures { Through (Saved mark) self.old.held self.new.held result }
     {
-        let Some(mut cell) = self.take(alloc) else {
-            return Err(Fault::NoHandle);
-        };
+        let mut cell = self.take(alloc).ok_or(Fault::NoHandle)?;
         let done = cell.save(mark);
         self.put(alloc, cell);
         done
@@ -196,9 +182,7 @@ impl CellHandle {
     pub fn reopen(&mut self, alloc: Global) -> Result<(), Fault>
         ensures { Through Reopened self.old.held self.new.held result }
     {
-        let Some(mut cell) = self.take(alloc) else {
-            return Err(Fault::NoHandle);
-        };
+        let mut cell = self.take(alloc).ok_or(Fault::NoHandle)?;
         let done = cell.reopen();
         self.put(alloc, cell);
         done
@@ -208,9 +192,7 @@ impl CellHandle {
     pub fn raise(&mut self, alloc: Global) -> Result<u64, Fault>
         ensures { Through Raised self.old.held self.new.held result }
     {
-        let Some(mut cell) = self.take(alloc) else {
-            return Err(Fault::NoHandle);
-        };
+        let mut cell = self.take(alloc).ok_or(Fault::NoHandle)?;
         let done = cell.raise();
         self.put(alloc, cell);
         done
@@ -221,9 +203,7 @@ impl CellHandle {
         ensures same { self.new.held ≡ self.old.held }
         ensures value { result ≡ read (λ c. Ok c.cell.unsaved) self.old.held }
     {
-        let Some(cell) = self.take(alloc) else {
-            return Err(Fault::NoHandle);
-        };
+        let cell = self.take(alloc).ok_or(Fault::NoHandle)?;
         let found = cell.is_unsaved();
         self.put(alloc, cell);
         Ok(found)
@@ -234,9 +214,7 @@ impl CellHandle {
         ensures same { self.new.held ≡ self.old.held }
         ensures value { result ≡ read (λ c. Ok (summary_of c.cell.node.core.local)) self.old.held }
     {
-        let Some(cell) = self.take(alloc) else {
-            return Err(Fault::NoHandle);
-        };
+        let cell = self.take(alloc).ok_or(Fault::NoHandle)?;
         let found = cell.state();
         self.put(alloc, cell);
         Ok(found)
@@ -248,9 +226,7 @@ impl CellHandle {
         ensures value { result
             ≡ read (λ c. register_of c.cell.node.core.local register) self.old.held }
     {
-        let Some(cell) = self.take(alloc) else {
-            return Err(Fault::NoHandle);
-        };
+        let cell = self.take(alloc).ok_or(Fault::NoHandle)?;
         let found = cell.register(register);
         self.put(alloc, cell);
         found
@@ -271,9 +247,7 @@ impl CellHandle {
             (read (λ c. object_bytes c.cell.node.core.local object offset count) self.old.held)
             result buffer.old buffer.new needed.old needed.new }
     {
-        let Some(cell) = self.take(alloc) else {
-            return Err(Fault::NoHandle);
-        };
+        let cell = self.take(alloc).ok_or(Fault::NoHandle)?;
         let wrote = cell.bytes(object, offset, count, buffer, needed);
         self.put(alloc, cell);
         wrote
@@ -285,9 +259,7 @@ impl CellHandle {
         ensures value { result
             ≡ read (λ c. object_len c.cell.node.core.local object) self.old.held }
     {
-        let Some(cell) = self.take(alloc) else {
-            return Err(Fault::NoHandle);
-        };
+        let cell = self.take(alloc).ok_or(Fault::NoHandle)?;
         let len = cell.bytes_len(object);
         self.put(alloc, cell);
         len
@@ -298,9 +270,7 @@ impl CellHandle {
         ensures same { self.new.held ≡ self.old.held }
         ensures value { result ≡ read (λ c. link_of c.cell.node.core peer) self.old.held }
     {
-        let Some(cell) = self.take(alloc) else {
-            return Err(Fault::NoHandle);
-        };
+        let cell = self.take(alloc).ok_or(Fault::NoHandle)?;
         let found = cell.link(peer);
         self.put(alloc, cell);
         found

@@ -176,9 +176,7 @@ impl NodeHandle {
         requires frees { frees event ≡ false }
         ensures { Through (NodeActs event.entry) self.old.held self.new.held result }
     {
-        let Some(mut node) = self.take(alloc) else {
-            return Err(Fault::NoHandle);
-        };
+        let mut node = self.take(alloc).ok_or(Fault::NoHandle)?;
         let answered = node.act_plain(event);
         self.put(alloc, node);
         answered
@@ -189,9 +187,7 @@ impl NodeHandle {
     pub fn act(&mut self, alloc: Global, event: Event) -> Result<Answer, Fault>
         ensures { Through (NodeActs event.entry) self.old.held self.new.held result }
     {
-        let Some(mut node) = self.take(alloc) else {
-            return Err(Fault::NoHandle);
-        };
+        let mut node = self.take(alloc).ok_or(Fault::NoHandle)?;
         let answered = node.act(event);
         self.put(alloc, node);
         answered
@@ -208,9 +204,7 @@ impl NodeHandle {
         ensures { WorksIf (NodeWorks scans slots) self.old.held self.new.held work.old work.new
             result }
     {
-        let Some(mut node) = self.take(alloc) else {
-            return Err(Fault::NoHandle);
-        };
+        let mut node = self.take(alloc).ok_or(Fault::NoHandle)?;
         let worked = node.work(scans, slots, work);
         self.put(alloc, node);
         worked
@@ -220,9 +214,7 @@ impl NodeHandle {
     pub fn take_frame(&mut self, alloc: Global, bytes: &[u8]) -> Result<Answer, Fault>
         ensures { Through (TookIn bytes.now) self.old.held self.new.held result }
     {
-        let Some(mut node) = self.take(alloc) else {
-            return Err(Fault::NoHandle);
-        };
+        let mut node = self.take(alloc).ok_or(Fault::NoHandle)?;
         let answered = node.take(alloc, bytes);
         self.put(alloc, node);
         answered
@@ -233,9 +225,7 @@ impl NodeHandle {
         ensures same { self.new.held ≡ self.old.held }
         ensures value { result ≡ read (λ n. Ok (summary_of n.node.core.local)) self.old.held }
     {
-        let Some(node) = self.take(alloc) else {
-            return Err(Fault::NoHandle);
-        };
+        let node = self.take(alloc).ok_or(Fault::NoHandle)?;
         let state = node.state();
         self.put(alloc, node);
         Ok(state)
@@ -246,9 +236,7 @@ impl NodeHandle {
         ensures same { self.new.held ≡ self.old.held }
         ensures value { result ≡ read (λ n. Ok n.is_unsaved) self.old.held }
     {
-        let Some(node) = self.take(alloc) else {
-            return Err(Fault::NoHandle);
-        };
+        let node = self.take(alloc).ok_or(Fault::NoHandle)?;
         let is_unsaved = node.is_unsaved();
         self.put(alloc, node);
         Ok(is_unsaved)
@@ -260,9 +248,7 @@ impl NodeHandle {
         ensures value { result
             ≡ read (λ n. register_of n.node.core.local register) self.old.held }
     {
-        let Some(node) = self.take(alloc) else {
-            return Err(Fault::NoHandle);
-        };
+        let node = self.take(alloc).ok_or(Fault::NoHandle)?;
         let found = node.register(register);
         self.put(alloc, node);
         found
@@ -283,9 +269,7 @@ impl NodeHandle {
             (read (λ n. object_bytes n.node.core.local object offset count) self.old.held) result
             buffer.old buffer.new needed.old needed.new }
     {
-        let Some(node) = self.take(alloc) else {
-            return Err(Fault::NoHandle);
-        };
+        let node = self.take(alloc).ok_or(Fault::NoHandle)?;
         let wrote = node.bytes(object, offset, count, buffer, needed);
         self.put(alloc, node);
         wrote
@@ -296,9 +280,7 @@ impl NodeHandle {
         ensures same { self.new.held ≡ self.old.held }
         ensures value { result ≡ read (λ n. object_len n.node.core.local object) self.old.held }
     {
-        let Some(node) = self.take(alloc) else {
-            return Err(Fault::NoHandle);
-        };
+        let node = self.take(alloc).ok_or(Fault::NoHandle)?;
         let len = node.bytes_len(object);
         self.put(alloc, node);
         len
@@ -309,9 +291,7 @@ impl NodeHandle {
         ensures same { self.new.held ≡ self.old.held }
         ensures value { result ≡ read (λ n. link_of n.node.core peer) self.old.held }
     {
-        let Some(node) = self.take(alloc) else {
-            return Err(Fault::NoHandle);
-        };
+        let node = self.take(alloc).ok_or(Fault::NoHandle)?;
         let found = node.link(peer);
         self.put(alloc, node);
         found
@@ -322,9 +302,7 @@ impl NodeHandle {
         ensures same { self.new.held ≡ self.old.held }
         ensures value { result ≡ read (λ n. waiting_number n.node from) self.old.held }
     {
-        let Some(node) = self.take(alloc) else {
-            return Err(Fault::NoHandle);
-        };
+        let node = self.take(alloc).ok_or(Fault::NoHandle)?;
         let found = node.waiting(from);
         self.put(alloc, node);
         found
@@ -343,9 +321,7 @@ impl NodeHandle {
         ensures wrote { HandleFrame self.old.held to place result buffer.old buffer.new needed.old
             needed.new }
     {
-        let Some(node) = self.take(alloc) else {
-            return Err(Fault::NoHandle);
-        };
+        let node = self.take(alloc).ok_or(Fault::NoHandle)?;
         let wrote = node.frame_at(alloc, to, place, buffer, needed);
         self.put(alloc, node);
         wrote
@@ -363,9 +339,7 @@ impl NodeHandle {
         ensures wrote { WroteIf (read (λ n. ack_bytes n.node.core from) self.old.held) result
             buffer.old buffer.new needed.old needed.new }
     {
-        let Some(node) = self.take(alloc) else {
-            return Err(Fault::NoHandle);
-        };
+        let node = self.take(alloc).ok_or(Fault::NoHandle)?;
         let wrote = node.ack_for(from, buffer, needed);
         self.put(alloc, node);
         wrote
@@ -384,9 +358,7 @@ impl NodeHandle {
         ensures packs { HandlePacks self.old.held to after result buffer.old buffer.new needed.old
             needed.new }
     {
-        let Some(node) = self.take(alloc) else {
-            return Err(Fault::NoHandle);
-        };
+        let node = self.take(alloc).ok_or(Fault::NoHandle)?;
         let packed = node.frames(alloc, to, after, buffer, needed);
         self.put(alloc, node);
         packed
@@ -396,9 +368,7 @@ impl NodeHandle {
     pub fn image_size(&mut self, alloc: Global) -> Result<usize, Fault>
         ensures { Through SizedSame self.old.held self.new.held result }
     {
-        let Some(node) = self.take(alloc) else {
-            return Err(Fault::NoHandle);
-        };
+        let node = self.take(alloc).ok_or(Fault::NoHandle)?;
         let size = node.image_size(alloc);
         self.put(alloc, node);
         size
@@ -409,9 +379,7 @@ impl NodeHandle {
         ensures { HandleImaged self.old.held self.new.held result buffer.old buffer.new needed.old
             needed.new }
     {
-        let Some(mut node) = self.take(alloc) else {
-            return Err(Fault::NoHandle);
-        };
+        let mut node = self.take(alloc).ok_or(Fault::NoHandle)?;
         let mark = node.image(alloc, buffer, needed);
         self.put(alloc, node);
         mark
@@ -421,9 +389,7 @@ impl NodeHandle {
     pub fn log(&mut self, alloc: Global, on: bool) -> Result<(), Fault>
         ensures { Through (Logs on) self.old.held self.new.held result }
     {
-        let Some(mut node) = self.take(alloc) else {
-            return Err(Fault::NoHandle);
-        };
+        let mut node = self.take(alloc).ok_or(Fault::NoHandle)?;
         node.log(on);
         self.put(alloc, node);
         Ok(())
@@ -434,9 +400,7 @@ impl NodeHandle {
         ensures same { self.new.held ≡ self.old.held }
         ensures value { result ≡ read (λ n. size_of (batch_of n)) self.old.held }
     {
-        let Some(node) = self.take(alloc) else {
-            return Err(Fault::NoHandle);
-        };
+        let node = self.take(alloc).ok_or(Fault::NoHandle)?;
         let size = node.batch_size();
         self.put(alloc, node);
         size
@@ -447,9 +411,7 @@ impl NodeHandle {
         ensures { HandleBatched self.old.held self.new.held result buffer.old buffer.new needed.old
             needed.new }
     {
-        let Some(mut node) = self.take(alloc) else {
-            return Err(Fault::NoHandle);
-        };
+        let mut node = self.take(alloc).ok_or(Fault::NoHandle)?;
         let mark = node.batch(alloc, buffer, needed);
         self.put(alloc, node);
         mark
@@ -459,9 +421,7 @@ impl NodeHandle {
     pub fn kept(&mut self, alloc: Global, mark: u64) -> Result<(), Fault>
         ensures { Through (Kept mark) self.old.held self.new.held result }
     {
-        let Some(mut node) = self.take(alloc) else {
-            return Err(Fault::NoHandle);
-        };
+        let mut node = self.take(alloc).ok_or(Fault::NoHandle)?;
         let kept = node.kept(mark);
         self.put(alloc, node);
         kept
@@ -471,9 +431,7 @@ impl NodeHandle {
     pub fn release(&mut self, alloc: Global) -> Result<(), Fault>
         ensures { Through Released self.old.held self.new.held result }
     {
-        let Some(mut node) = self.take(alloc) else {
-            return Err(Fault::NoHandle);
-        };
+        let mut node = self.take(alloc).ok_or(Fault::NoHandle)?;
         node.release();
         self.put(alloc, node);
         Ok(())

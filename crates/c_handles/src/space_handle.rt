@@ -104,9 +104,7 @@ impl SpaceHandle {
     pub fn give(&mut self, alloc: Global, node: u8, image: &[u8]) -> Result<(), Fault>
         ensures { Through (Given node image.now) self.old.held self.new.held result }
     {
-        let Some(mut space) = self.take(alloc) else {
-            return Err(Fault::NoHandle);
-        };
+        let mut space = self.take(alloc).ok_or(Fault::NoHandle)?;
         let done = space.give(alloc, node, image);
         self.put(alloc, space);
         done
@@ -116,9 +114,7 @@ impl SpaceHandle {
     pub fn open(&mut self, alloc: Global) -> Result<(), Fault>
         ensures { Through Opens self.old.held self.new.held result }
     {
-        let Some(mut space) = self.take(alloc) else {
-            return Err(Fault::NoHandle);
-        };
+        let mut space = self.take(alloc).ok_or(Fault::NoHandle)?;
         let done = space.open(alloc);
         self.put(alloc, space);
         done
@@ -133,9 +129,7 @@ impl SpaceHandle {
     ) -> Result<Box<SeatedSpace>, Fault>
         ensures { TakenTested tested self.old.held self.new.held result }
     {
-        let Some(space) = self.take(alloc) else {
-            return Err(Fault::NoHandle);
-        };
+        let space = self.take(alloc).ok_or(Fault::NoHandle)?;
         if let Err(fault) = tested {
             self.put(alloc, space);
             return Err(fault);

@@ -88,9 +88,7 @@ impl WatchHandle {
     pub fn look(&mut self, alloc: Global) -> Result<u64, Fault>
         ensures { Through Looks self.old.held self.new.held result }
     {
-        let Some(mut watch) = self.take(alloc) else {
-            return Err(Fault::NoHandle);
-        };
+        let mut watch = self.take(alloc).ok_or(Fault::NoHandle)?;
         let number = watch.look();
         self.put(alloc, watch);
         Ok(number)

@@ -13,9 +13,7 @@ impl CellHandle {
     pub fn track_freed(&mut self, alloc: Global, on: bool) -> Result<(), Fault>
         ensures { Through (CellTracks on) self.old.held self.new.held result }
     {
-        let Some(mut cell) = self.take(alloc) else {
-            return Err(Fault::NoHandle);
-        };
+        let mut cell = self.take(alloc).ok_or(Fault::NoHandle)?;
         cell.track(on);
         self.put(alloc, cell);
         Ok(())
@@ -25,9 +23,7 @@ impl CellHandle {
     pub fn freed(&mut self, alloc: Global, buffer: &mut [CFreed]) -> Result<usize, Fault>
         ensures { HandsOutIf CellHandsOut self.old.held self.new.held result buffer.old buffer.new }
     {
-        let Some(mut cell) = self.take(alloc) else {
-            return Err(Fault::NoHandle);
-        };
+        let mut cell = self.take(alloc).ok_or(Fault::NoHandle)?;
         let count = cell.freed(buffer);
         self.put(alloc, cell);
         Ok(count)

@@ -15,9 +15,7 @@ impl CellHandle {
         ensures same { self.new.held ≡ self.old.held }
         ensures value { result ≡ read (λ x. letter_of x.cell.node.core.local) self.old.held }
     {
-        let Some(cell) = self.take(alloc) else {
-            return Err(Fault::NoHandle);
-        };
+        let cell = self.take(alloc).ok_or(Fault::NoHandle)?;
         let letter = cell.letter();
         self.put(alloc, cell);
         letter
@@ -34,9 +32,7 @@ impl CellHandle {
         ensures wrote { WroteIf (read (λ x. letter_bytes x.cell.node.core.local) self.old.held)
             result buffer.old buffer.new needed.old needed.new }
     {
-        let Some(cell) = self.take(alloc) else {
-            return Err(Fault::NoHandle);
-        };
+        let cell = self.take(alloc).ok_or(Fault::NoHandle)?;
         let wrote = cell.letter_bytes(buffer, needed);
         self.put(alloc, cell);
         wrote

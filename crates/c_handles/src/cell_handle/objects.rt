@@ -15,9 +15,7 @@ impl CellHandle {
         ensures same { self.new.held ≡ self.old.held }
         ensures value { result ≡ read (λ c. Ok (slots_of c.cell.node.core.local)) self.old.held }
     {
-        let Some(cell) = self.take(alloc) else {
-            return Err(Fault::NoHandle);
-        };
+        let cell = self.take(alloc).ok_or(Fault::NoHandle)?;
         let slots = cell.slots();
         self.put(alloc, cell);
         Ok(slots)
@@ -28,9 +26,7 @@ impl CellHandle {
         ensures same { self.new.held ≡ self.old.held }
         ensures value { result ≡ read (λ c. object_of c.cell.node.core.local slot) self.old.held }
     {
-        let Some(cell) = self.take(alloc) else {
-            return Err(Fault::NoHandle);
-        };
+        let cell = self.take(alloc).ok_or(Fault::NoHandle)?;
         let found = cell.object(slot);
         self.put(alloc, cell);
         found
@@ -42,9 +38,7 @@ impl CellHandle {
         ensures value { result
             ≡ read (λ c. place_at c.cell.node.core.local slot place) self.old.held }
     {
-        let Some(cell) = self.take(alloc) else {
-            return Err(Fault::NoHandle);
-        };
+        let cell = self.take(alloc).ok_or(Fault::NoHandle)?;
         let found = cell.place(slot, place);
         self.put(alloc, cell);
         found
@@ -65,9 +59,7 @@ impl CellHandle {
             (read (λ c. bytes_at c.cell.node.core.local slot offset count) self.old.held) result
             buffer.old buffer.new needed.old needed.new }
     {
-        let Some(cell) = self.take(alloc) else {
-            return Err(Fault::NoHandle);
-        };
+        let cell = self.take(alloc).ok_or(Fault::NoHandle)?;
         let wrote = cell.bytes_at(slot, offset, count, buffer, needed);
         self.put(alloc, cell);
         wrote

@@ -13,9 +13,7 @@ impl NodeHandle {
     pub fn track_freed(&mut self, alloc: Global, on: bool) -> Result<(), Fault>
         ensures { Through (Tracks on) self.old.held self.new.held result }
     {
-        let Some(mut node) = self.take(alloc) else {
-            return Err(Fault::NoHandle);
-        };
+        let mut node = self.take(alloc).ok_or(Fault::NoHandle)?;
         node.track(on);
         self.put(alloc, node);
         Ok(())
@@ -25,9 +23,7 @@ impl NodeHandle {
     pub fn freed(&mut self, alloc: Global, buffer: &mut [CFreed]) -> Result<usize, Fault>
         ensures { HandsOutIf HandedOut self.old.held self.new.held result buffer.old buffer.new }
     {
-        let Some(mut node) = self.take(alloc) else {
-            return Err(Fault::NoHandle);
-        };
+        let mut node = self.take(alloc).ok_or(Fault::NoHandle)?;
         let count = node.freed(buffer);
         self.put(alloc, node);
         Ok(count)

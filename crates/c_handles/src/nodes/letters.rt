@@ -15,9 +15,7 @@ impl NodeHandle {
         ensures same { self.new.held ≡ self.old.held }
         ensures value { result ≡ read (λ x. letter_of x.node.core.local) self.old.held }
     {
-        let Some(node) = self.take(alloc) else {
-            return Err(Fault::NoHandle);
-        };
+        let node = self.take(alloc).ok_or(Fault::NoHandle)?;
         let letter = node.letter();
         self.put(alloc, node);
         letter
@@ -34,9 +32,7 @@ impl NodeHandle {
         ensures wrote { WroteIf (read (λ x. letter_bytes x.node.core.local) self.old.held) result
             buffer.old buffer.new needed.old needed.new }
     {
-        let Some(node) = self.take(alloc) else {
-            return Err(Fault::NoHandle);
-        };
+        let node = self.take(alloc).ok_or(Fault::NoHandle)?;
         let wrote = node.letter_bytes(buffer, needed);
         self.put(alloc, node);
         wrote

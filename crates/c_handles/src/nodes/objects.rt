@@ -15,9 +15,7 @@ impl NodeHandle {
         ensures same { self.new.held ≡ self.old.held }
         ensures value { result ≡ read (λ n. Ok (slots_of n.node.core.local)) self.old.held }
     {
-        let Some(node) = self.take(alloc) else {
-            return Err(Fault::NoHandle);
-        };
+        let node = self.take(alloc).ok_or(Fault::NoHandle)?;
         let slots = node.slots();
         self.put(alloc, node);
         Ok(slots)
@@ -28,9 +26,7 @@ impl NodeHandle {
         ensures same { self.new.held ≡ self.old.held }
         ensures value { result ≡ read (λ n. object_of n.node.core.local slot) self.old.held }
     {
-        let Some(node) = self.take(alloc) else {
-            return Err(Fault::NoHandle);
-        };
+        let node = self.take(alloc).ok_or(Fault::NoHandle)?;
         let found = node.object(slot);
         self.put(alloc, node);
         found
@@ -42,9 +38,7 @@ impl NodeHandle {
         ensures value { result
             ≡ read (λ n. place_at n.node.core.local slot place) self.old.held }
     {
-        let Some(node) = self.take(alloc) else {
-            return Err(Fault::NoHandle);
-        };
+        let node = self.take(alloc).ok_or(Fault::NoHandle)?;
         let found = node.place(slot, place);
         self.put(alloc, node);
         found
@@ -65,9 +59,7 @@ impl NodeHandle {
             (read (λ n. bytes_at n.node.core.local slot offset count) self.old.held) result
             buffer.old buffer.new needed.old needed.new }
     {
-        let Some(node) = self.take(alloc) else {
-            return Err(Fault::NoHandle);
-        };
+        let node = self.take(alloc).ok_or(Fault::NoHandle)?;
         let wrote = node.bytes_at(slot, offset, count, buffer, needed);
         self.put(alloc, node);
         wrote
