@@ -12,6 +12,7 @@ pub mod Short
 pub mod Given
 pub mod Lists
 pub mod Staying
+pub mod Swapping
 pub mod Sent
 pub mod Tries
 pub mod Entries
