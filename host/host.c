@@ -287,8 +287,8 @@ static void begin_links(host *it)
     for (uint8_t to = 0; to < it->shape.nodes; to++) {
         markring_link link;
         if (to != it->shape.own && markring_node_link(&it->node, to, &link) == MARKRING_OK) {
-            it->peers[to].saved = link.received_saved;
-            send_again(it, to);
+            markring_sending_begin(
+                &it->peers[to].sending, link.acknowledged, link.received_saved);
         }
     }
 }
@@ -595,10 +595,8 @@ static void note_saved_links(host *it)
 {
     for (uint8_t from = 0; from < it->shape.nodes; from++) {
         markring_link link;
-        if (from != it->shape.own && markring_node_link(&it->node, from, &link) == MARKRING_OK
-            && it->peers[from].saved != link.received_saved) {
-            it->peers[from].saved = link.received_saved;
-            it->peers[from].due = true;
+        if (from != it->shape.own && markring_node_link(&it->node, from, &link) == MARKRING_OK) {
+            markring_sending_received(&it->peers[from].sending, link.received_saved);
         }
     }
 }
@@ -655,7 +653,7 @@ static bool is_settled(const host *it)
 static void tell_all(host *it)
 {
     for (uint8_t to = 0; to < it->shape.nodes; to++) {
-        it->peers[to].due = it->peers[to].due || it->peers[to].told != it->stored;
+        markring_sending_tell(&it->peers[to].sending, it->stored);
     }
 }
 
@@ -722,12 +720,7 @@ uint64_t host_wait(host *it, uint64_t now)
         wait = sooner(wait, now, it->cycle_at);
     }
     for (uint8_t to = 0; to < it->shape.nodes; to++) {
-        if (it->peers[to].resend_at != 0) {
-            wait = sooner(wait, now, it->peers[to].resend_at);
-        }
-        if (it->peers[to].tell_at != 0) {
-            wait = sooner(wait, now, it->peers[to].tell_at);
-        }
+        wait = sooner(wait, now, markring_sending_until(&it->peers[to].sending));
     }
     return wait;
 }

@@ -6,16 +6,12 @@
 
 #include <markring_lineage.h>
 #include <markring_programs.h>
+#include <markring_sending.h>
 
 enum {
     NODES = 64,
-    // Milliseconds: the first resending, the longest pause between two, and how soon a failed save
-    // or a refused allocation is tried again.
-    FIRST_PAUSE = 50,
-    LONGEST_PAUSE = 1600,
+    // Milliseconds: how soon a failed save or a refused allocation is tried again.
     RETRY = 100,
-    // How soon another node is told of a save.
-    TELL = 1000,
     // How soon another Fetch of a node is taken that has too many letters to take.
     FETCH_PAUSE = 1000,
     // What the collector does in one turn, at most.
@@ -99,25 +95,15 @@ typedef struct load {
 
 typedef struct peer {
     process known, saved_known; // now, and in the last save
-    uint64_t sent;         // the last message that was sent since the window was last sent again
-    // The bytes of the messages that were sent since, of each by its number modulo WINDOW, and of
-    // all. `is_blocked`: the next one has to wait until some of them are acknowledged.
-    uint32_t sizes[WINDOW];
-    size_t flight;
-    bool is_blocked;
+    markring_sending sending;   // what is on its way to it, and what is due
     queue queue;
     load early[WINDOW]; // what came early, by its number modulo WINDOW
     uint64_t fetch_at;  // before this time, no Fetch is taken while too many bytes wait
-    uint64_t acknowledged; // as it was at the last turn
-    uint64_t saved;        // what was received and saved, at the last turn
-    uint64_t resend_at, pause; // 0: no timer runs
     uint32_t live;
     bool needs_cycle;
-    bool due; // a packet has to go, whether or not there are frames
     // Its last word on a process of this node that fits the folder, and whether it knows this one.
     uint64_t heard;
     bool knows_this;
-    uint64_t told, tell_at; // the last save that it was told of, and when it is told of another one
     peer_notes notes;
 } peer;
 
@@ -284,8 +270,6 @@ bool receive_all_early(host *it);
 // Frees private garbage of a node that is full. Returns whether it has slots again.
 bool reclaim_if_full(host *it);
 void send_packets(host *it, uint64_t now);
-// Sends the window to this node again, as soon as possible.
-void send_again(host *it, uint8_t to);
 void answer_programs(host *it, uint64_t now);
 // Gives the program its registers, if the node has them and no other program does.
 bool give_registers(host *it, uint8_t number, uint16_t first, uint16_t count);

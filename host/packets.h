@@ -16,7 +16,6 @@ enum {
     // enough for the longest one; and a window, this many.
     WINDOW_BYTES = 1920,
     WIDE_WINDOW_BYTES = 1 << 17,
-    FLIGHT_BYTES = 1 << 20,
     PACKET_HEAD = MARKRING_PACKETS_HEAD,
     PACKET_ACK = 2 + 11,
     PACKET_BYTES = PACKET_HEAD + PACKET_ACK + WINDOW_BYTES,

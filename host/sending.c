@@ -3,33 +3,12 @@
 
 enum { ACKNOWLEDGEMENT = 11, WINDOW_LENGTH = 4, NUMBER = 8, LEAST_REPORT = 64 };
 
-// What isn't acknowledged is sent from its begin on.
-static void go_back(peer *at)
-{
-    at->sent = at->acknowledged;
-    at->flight = 0;
-    at->is_blocked = false;
-}
-
-void send_again(host *it, uint8_t to)
-{
-    markring_link link;
-    peer *at = &it->peers[to];
-    if (markring_node_link(&it->node, to, &link) == MARKRING_OK) {
-        at->acknowledged = link.acknowledged;
-        go_back(at);
-    }
-    at->pause = FIRST_PAUSE;
-    at->resend_at = 0;
-    at->due = true;
-}
-
 void host_connected(host *it, uint64_t now)
 {
     (void)now;
     for (uint8_t to = 0; to < it->shape.nodes; to++) {
         if (to != it->shape.own) {
-            send_again(it, to);
+            markring_sending_again(&it->peers[to].sending);
         }
     }
 }
@@ -56,21 +35,6 @@ static void write_acknowledgement(host *it, uint8_t to, writer *packet)
     }
 }
 
-// Whether a frame of this length may be sent: not if too many bytes would be on their way. One may
-// always be.
-static bool may_send(const peer *at, size_t length)
-{
-    return at->flight == 0 || length <= FLIGHT_BYTES - at->flight;
-}
-
-// The frame was sent, or will be with this packet.
-static void note_sent(peer *at, uint64_t number, size_t length)
-{
-    at->sizes[number % WINDOW] = (uint32_t)length;
-    at->flight += length;
-    at->sent = number;
-}
-
 // Copies frames from a window, without their numbers, as long as they may be sent. Returns how many.
 static size_t write_frames(reader *window, size_t count, peer *at, writer *packet)
 {
@@ -78,12 +42,10 @@ static size_t write_frames(reader *window, size_t count, peer *at, writer *packe
         size_t length = (size_t)read_number(window, WINDOW_LENGTH);
         uint64_t number = read_number(window, NUMBER);
         const uint8_t *frame = read_bytes(window, length);
-        at->is_blocked = !may_send(at, length);
-        if (frame == NULL || at->is_blocked) {
+        if (frame == NULL || !markring_sending_offer(&at->sending, number, (uint32_t)length)) {
             return i;
         }
         write_frame(packet, frame, length);
-        note_sent(at, number, length);
     }
     return count;
 }
@@ -94,26 +56,25 @@ static bool send_packet(host *it, uint8_t to)
 {
     peer *at = &it->peers[to];
     size_t count = 0, needed = 0, written = 0;
-    bool has_frames = !at->is_blocked
+    bool is_due = markring_sending_is_due(&at->sending) != 0;
+    bool has_frames = markring_sending_is_open(&at->sending) != 0
         && markring_node_frames(
-               &it->node, to, at->sent, it->window, it->window_room, &count, &needed)
+               &it->node, to, at->sending.sent, it->window, it->window_room, &count, &needed)
             == MARKRING_OK;
-    if (!has_frames && !at->due) {
+    if (!has_frames && !is_due) {
         return false;
     }
     writer packet = writer_of(it->packet, it->packet_room);
     write_head(it, to, &packet);
-    if (at->due) {
+    if (is_due) {
         write_acknowledgement(it, to, &packet);
     }
     if (has_frames) {
         reader frames = reader_of(it->window, it->window_room);
         written = write_frames(&frames, count, at, &packet);
     }
-    if (packet.ok && (at->due || written > 0)) {
-        at->due = false;
-        at->told = it->stored;
-        at->tell_at = 0;
+    if (packet.ok && (is_due || written > 0)) {
+        markring_sending_left(&at->sending, it->stored);
         it->counts.frames_out += written;
         it->counts.packets_out++;
         it->counts.bytes_out += packet.length;
@@ -131,51 +92,23 @@ static void send_window(host *it, uint8_t to)
     }
 }
 
-// A node that hasn't heard of a save for a while is told of it, so that it would know an older
-// folder.
-static void tell_in_time(const host *it, peer *at, uint64_t now)
+// Messages after this one were acknowledged, and are gone.
+static void note_acknowledged(host *it, peer *at, uint64_t before)
 {
-    if (at->told != it->stored && at->tell_at == 0) {
-        at->tell_at = now + TELL;
-    }
-    at->due = at->due || (at->tell_at != 0 && now >= at->tell_at);
+    size_t count = (size_t)(at->sending.acknowledged - before), bytes = at->queue.bytes;
+    trim_queue(&at->queue, at->sending.acknowledged);
+    it->moved += MESSAGE_BYTES * count + bytes - at->queue.bytes;
+    note_loss(it, LEAST_MESSAGE * count);
 }
 
-// Messages up to this number aren't on their way any more, and are gone. (The window has at most
-// WINDOW that were sent.)
-static void note_acknowledged(host *it, peer *at, uint64_t number)
+// What was acknowledged is gone, and what wasn't for too long is sent again.
+static void look_at_link(host *it, peer *at, const markring_link *link, uint64_t now)
 {
-    size_t bytes = at->queue.bytes;
-    for (uint64_t sent = at->acknowledged + 1; sent <= number && sent <= at->sent; sent++) {
-        size_t length = at->sizes[sent % WINDOW];
-        at->flight -= length < at->flight ? length : at->flight;
-    }
-    at->is_blocked = false;
-    trim_queue(&at->queue, number);
-    it->moved += MESSAGE_BYTES * (size_t)(number - at->acknowledged) + bytes - at->queue.bytes;
-    note_loss(it, LEAST_MESSAGE * (size_t)(number - at->acknowledged));
-    at->acknowledged = number;
-}
-
-// Goes back to the window's begin if its time has come.
-static void run_timer(host *it, peer *at, const markring_link *link, uint64_t now)
-{
-    if (link->acknowledged != at->acknowledged) {
-        note_acknowledged(it, at, link->acknowledged);
-        at->pause = FIRST_PAUSE;
-        at->resend_at = 0;
-    }
-    if (at->sent < link->acknowledged) {
-        at->sent = link->acknowledged;
-    }
-    if (link->released == link->acknowledged) {
-        at->resend_at = 0;
-    } else if (at->resend_at != 0 && now >= at->resend_at) {
+    uint64_t before = at->sending.acknowledged;
+    if (markring_sending_turn(&at->sending, now, link->released, link->acknowledged, it->stored)) {
         it->counts.resends++;
-        go_back(at);
-        at->pause = 2 * at->pause < LONGEST_PAUSE ? 2 * at->pause : LONGEST_PAUSE;
-        at->resend_at = 0;
     }
+    note_acknowledged(it, at, before);
 }
 
 // Node 0 has to know roughly how many objects there are, and whether a node is full.
@@ -189,11 +122,11 @@ static void report_to_director(host *it)
         state.live > it->told_live ? state.live - it->told_live : it->told_live - state.live;
     uint32_t least = it->told_live / 4 > LEAST_REPORT ? it->told_live / 4 : LEAST_REPORT;
     if (apart > least) {
-        it->peers[0].due = true;
+        markring_sending_owe(&it->peers[0].sending);
     }
     if (it->needs_cycle && state.cycle > it->needed_in) {
         it->needs_cycle = false;
-        it->peers[0].due = true;
+        markring_sending_owe(&it->peers[0].sending);
     }
 }
 
@@ -205,14 +138,9 @@ void send_packets(host *it, uint64_t now)
         if (to == it->shape.own || markring_node_link(&it->node, to, &link) != MARKRING_OK) {
             continue;
         }
-        peer *at = &it->peers[to];
-        run_timer(it, at, &link, now);
-        tell_in_time(it, at, now);
+        look_at_link(it, &it->peers[to], &link, now);
         note_link(it, to, &link, now);
         send_window(it, to);
-        if (link.released != link.acknowledged && at->resend_at == 0) {
-            at->resend_at = now + at->pause;
-        }
     }
 }
 
@@ -249,7 +177,9 @@ void ask_for_cycle(host *it)
     if (markring_node_state(&it->node, &state) == MARKRING_OK && !it->needs_cycle) {
         it->needs_cycle = true;
         it->needed_in = state.cycle;
-        it->peers[0].due = it->shape.own != 0;
+        if (it->shape.own != 0) {
+            markring_sending_owe(&it->peers[0].sending);
+        }
     }
     it->asked = it->asked || it->shape.own == 0;
 }

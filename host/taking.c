@@ -61,10 +61,10 @@ static void note_word(host *it, const packet_head *head)
     const process known = {head->known_nonce, 0, head->known_saves};
     uint64_t word = markring_lineage_word(&known);
     if (from->heard != word && !from->knows_this) {
-        send_again(it, head->from);
+        markring_sending_again(&from->sending);
     }
     from->heard = word;
-    from->due = true;
+    markring_sending_owe(&from->sending);
 }
 
 // What another node knows of this one shows whether this process may go on.
@@ -102,13 +102,15 @@ static bool is_latest(host *it, const packet_head *head)
     case MARKRING_LINEAGE_LATEST: return true;
     case MARKRING_LINEAGE_BEHIND:
         // It has to hear of it. (Two that trust their folders don't answer each other for ever.)
-        from->due = from->due || !it->options.trusts_folder;
+        if (!it->options.trusts_folder) {
+            markring_sending_owe(&from->sending);
+        }
         return true;
-    case MARKRING_LINEAGE_LATER: send_again(it, head->from); return true;
+    case MARKRING_LINEAGE_LATER: markring_sending_again(&from->sending); return true;
     default:
         // The answer says to that process what is known.
         it->counts.outdated += head->sender.run <= from->known.saves;
-        from->due = true;
+        markring_sending_owe(&from->sending);
         return false;
     }
 }
@@ -191,7 +193,7 @@ static void note_taken(
             it->peers[from].early[what->number % WINDOW] = *what;
         } else if (answer->kind == MARKRING_ANSWER_REPEAT) {
             it->counts.repeats++;
-            it->peers[from].due = true;
+            markring_sending_owe(&it->peers[from].sending);
         }
         break;
     case MARKRING_MEMORY: it->counts.dropped++; break;

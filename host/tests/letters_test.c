@@ -130,12 +130,12 @@ TEST(test_windows)
     for (uint32_t i = 0; i < COUNT; i++) {
         HOLDS(post(0, 1, 1, i, LENGTH) == MARKRING_OK);
         // (no window is sent again before they are all posted)
-        pair[0].host->peers[1].resend_at = 0;
+        pair[0].host->peers[1].sending.again_at = 0;
     }
     bytes = host_counted(pair[0].host)->bytes_out - bytes;
     frames = host_counted(pair[0].host)->frames_out - frames;
-    HOLDS(frames == FLIGHT_BYTES / (LENGTH + LETTER_FRAME + 14));
-    HOLDS(bytes > FLIGHT_BYTES - 2 * LENGTH && bytes < FLIGHT_BYTES + LENGTH);
+    HOLDS(frames == MARKRING_SENDING_BYTES / (LENGTH + LETTER_FRAME + 14));
+    HOLDS(bytes > MARKRING_SENDING_BYTES - 2 * LENGTH && bytes < MARKRING_SENDING_BYTES + LENGTH);
     pair[0].other = &pair[1];
     host_connected(pair[0].host, pair[0].now);
     go_on(400, 10);
@@ -155,7 +155,7 @@ TEST(test_stream)
     for (uint32_t i = 0; i < COUNT; i++) {
         HOLDS(post(0, 1, 0, i, LENGTH) == MARKRING_OK);
         // (none is sent again before they are all posted)
-        pair[0].host->peers[1].resend_at = 0;
+        pair[0].host->peers[1].sending.again_at = 0;
     }
     go_on(100, 10);
     HOLDS(acknowledged(0) == COUNT && host_counted(pair[0].host)->resends == 0);

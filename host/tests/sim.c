@@ -2306,7 +2306,8 @@ static void expect_absence(void)
     at->touched = true;
     uint64_t soon = resends_within(at, 10000), later = resends_within(at, 3600000);
     HOLDS(soon >= 8 && soon <= 12);
-    HOLDS(later >= 3600000 / (LONGEST_PAUSE + 30) && later <= 3600000 / LONGEST_PAUSE + 1);
+    const uint64_t pause = MARKRING_SENDING_LONGEST_PAUSE;
+    HOLDS(later >= 3600000 / (pause + 30) && later <= 3600000 / pause + 1);
     away->starts_at = now;
     settle();
     is_calm = is_quick = false;
