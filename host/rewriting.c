@@ -119,7 +119,8 @@ static store_status follow(store_rewrite *it, uint64_t end, writing write)
     if (bytes == NULL) {
         return STORE_MEMORY;
     }
-    store_status status = store_read_all(from, from->slots[copy.from_slot], bytes, length, copy.from);
+    store_status status =
+        store_read_all(from, from->slots[copy.from_slot], bytes, length, copy.from);
     uint64_t old = it->state.from_seal, new = it->state.seal;
     if (status == STORE_OK && !store_seal_again(bytes, length, &old, &new)) {
         status = STORE_DAMAGED;

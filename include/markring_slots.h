@@ -7,7 +7,8 @@
 //
 // # What a store owes
 //
-// - It keeps a markring_slots and changes it by these calls alone. One process at a time has a folder.
+// - It keeps a markring_slots and changes it by these calls alone. One process at a time has a
+//   folder.
 // - A save writes what markring_slots_entry or markring_slots_whole says, there; then it syncs that
 //   file; then it calls markring_slots_stored. If a write fails, it calls markring_slots_failed in
 //   place of that; if a sync fails, markring_slots_doubt, and then nothing more.
@@ -15,19 +16,19 @@
 //   checksum of all of it, which for an entry begins with the seal before. No torn write may have a
 //   right seal.
 // - Marks and zeros are written to the places that these calls say. They need no sync.
-// - An opening syncs both files and reads them as the disk has them. It puts what it finds whole into
-//   a markring_slot_found each, in order, and asks markring_slots_choose.
-// - A rewrite writes and syncs a value without its head, and copies of entries with new seals behind
-//   one another, as these calls say. The save that ends it syncs what is left to be copied and its
-//   entry, then calls markring_slots_stored; then it writes and syncs the head, and calls that again.
-//   A save of a whole value ends each rewrite: whoever writes for it stops before.
+// - An opening syncs both files and reads them as the disk has them. It puts what it finds whole
+//   into a markring_slot_found each, in order, and asks markring_slots_choose.
+// - A rewrite writes and syncs a value without its head, and copies of entries with new seals
+//   behind one another, as these calls say. The save that ends it syncs what is left to be copied
+//   and its entry, then calls markring_slots_stored; then it writes and syncs the head, and calls
+//   that again. A save of a whole value ends each rewrite: whoever writes for it stops before.
 //
-// Then an opening finds the last save that was stored, or one that was begun after it; and it is never
-// said that a folder is damaged which a crash has left (`slots::laws`).
+// Then an opening finds the last save that was stored, or one that was begun after it; and it is
+// never said that a folder is damaged which a crash has left (`slots::laws`).
 //
-// These calls can't fail otherwise than they say, take any numbers, and take no memory. Each pointer
-// is valid and isn't null, and no two are the same. One thread at a time uses a markring_slots or a
-// markring_slot_rewrite. A slot is 0 or 1.
+// These calls can't fail otherwise than they say, take any numbers, and take no memory. Each
+// pointer is valid and isn't null, and no two are the same. One thread at a time uses a
+// markring_slots or a markring_slot_rewrite. A slot is 0 or 1.
 #ifndef MARKRING_SLOTS_H
 #define MARKRING_SLOTS_H
 
@@ -37,8 +38,9 @@
 extern "C" {
 #endif
 
-// The slots of an open folder: the number of the last save, also of one that failed. Of the slot that
-// counts: the end of its last entry, the seal of that, and the seal and the length of its value.
+// The slots of an open folder: the number of the last save, also of one that failed. Of the slot
+// that counts: the end of its last entry, the seal of that, and the seal and the length of its
+// value.
 typedef struct markring_slots {
     uint64_t number;
     uint64_t end;
@@ -62,8 +64,8 @@ typedef struct markring_slot_target {
     uint8_t slot;
 } markring_slot_target;
 
-// A mark: the number of a save that was synced, and the length and the seal of the value, with which
-// its own begins.
+// A mark: the number of a save that was synced, and the length and the seal of the value, with
+// which its own begins.
 typedef struct markring_slot_mark {
     uint64_t offset;
     uint64_t number;
@@ -75,9 +77,9 @@ typedef struct markring_slot_mark {
 // The slots of a new folder, whose first save has the number after this one. It is a whole value.
 void markring_slots_create(markring_slots *slots, uint64_t number);
 
-// An entry of this length is to be saved. Returns 1 and its place, or 0 and changes nothing. It is 0
-// if a save is under way; if one has failed and no whole value was stored since; if the value is of
-// version 1; if a sync has failed; or if a number would be too high.
+// An entry of this length is to be saved. Returns 1 and its place, or 0 and changes nothing. It is
+// 0 if a save is under way; if one has failed and no whole value was stored since; if the value is
+// of version 1; if a sync has failed; or if a number would be too high.
 int markring_slots_entry(markring_slots *slots, uint64_t length, markring_slot_target *place);
 
 // The same for a whole value, which may follow a save that failed.
@@ -87,8 +89,8 @@ int markring_slots_whole(markring_slots *slots, uint64_t length, markring_slot_t
 // ends a rewrite, its head is to be written now.
 void markring_slots_stored(markring_slots *slots, uint64_t seal);
 
-// A write of the save under way has failed. Returns 1 if what counted still does; 0 if nobody knows,
-// since it was that of a head. Then nothing is saved any more.
+// A write of the save under way has failed. Returns 1 if what counted still does; 0 if nobody
+// knows, since it was that of a head. Then nothing is saved any more.
 int markring_slots_failed(markring_slots *slots);
 
 // A sync has failed: nobody knows what counts, and nothing is saved any more.
@@ -104,8 +106,9 @@ int markring_slots_mark(const markring_slots *slots, markring_slot_mark *mark);
 // # Rewrites
 
 // A rewrite: the number of the save that its value holds. In the slot that counts: the offset up to
-// which it has copied, and the seal before that. In the other slot: the seals of the value and of the
-// last copy, the length of the value, and the offset of the next copy (0 before the value is written).
+// which it has copied, and the seal before that. In the other slot: the seals of the value and of
+// the last copy, the length of the value, and the offset of the next copy (0 before the value is
+// written).
 typedef struct markring_slot_rewrite {
     uint64_t turn;
     uint64_t number;
@@ -168,8 +171,8 @@ typedef struct markring_slot_found {
 // The slot has a whole value.
 void markring_slots_found_value(markring_slot_found *found, uint8_t version, uint64_t number);
 
-// Behind that is a whole entry, sealed over the seal before: 1 if it belongs there. If not, the slot
-// ends before it.
+// Behind that is a whole entry, sealed over the seal before: 1 if it belongs there. If not, the
+// slot ends before it.
 int markring_slots_found_entry(markring_slot_found *found, uint64_t number);
 
 // Behind that is a whole mark of this value.
@@ -189,11 +192,12 @@ enum markring_slots_choice {
 // Which slot counts: the one whose last save has the higher number.
 int markring_slots_choose(const markring_slot_found *first, const markring_slot_found *second);
 
-// How many saves have to be whole values, since a slot is of version 1, if the first of these counts.
+// How many saves have to be whole values, since a slot is of version 1, if the first of these
+// counts.
 int markring_slots_wholes_due(const markring_slot_found *counts, const markring_slot_found *other);
 
-// The slots of a folder in which this one counts: the end of what was found in it, its last seal, and
-// the seal and the length of its value.
+// The slots of a folder in which this one counts: the end of what was found in it, its last seal,
+// and the seal and the length of its value.
 void markring_slots_open(markring_slots *slots, uint8_t slot, const markring_slot_found *found,
     uint64_t end, uint64_t seal, uint64_t base, uint64_t length);
 

@@ -1,8 +1,9 @@
-// The calls of markring_slots.h, over random histories of folders on a model of a disk. Entries, whole
-// values and rewrites are saved; writes and syncs fail. The process or the machine ends at any moment,
-// and the folder is opened again. Each byte is known by what it is a byte of, and one that was written
-// since the last sync of its file may be lost or torn. What is found must be what was saved last, or
-// was being saved. Then come the choices between any two slots, against the rules of docs/FORMATS.md.
+// The calls of markring_slots.h, over random histories of folders on a model of a disk. Entries,
+// whole values and rewrites are saved; writes and syncs fail. The process or the machine ends at
+// any moment, and the folder is opened again. Each byte is known by what it is a byte of, and one
+// that was written since the last sync of its file may be lost or torn. What is found must be what
+// was saved last, or was being saved. Then come the choices between any two slots, against the
+// rules of docs/FORMATS.md.
 #include "check.h"
 
 #include "markring_slots.h"
@@ -15,7 +16,8 @@ enum { VALUE_AROUND = 28, ENTRY_AROUND = 24, NONE = -1 };
 typedef enum kind { VALUE, ENTRY, MARKED } kind;
 
 // What is written with a seal, which is its place in `items`: its bytes, its number, and the seal
-// before. Of an entry and a mark: the value that it is of. Which save it holds; an entry, since which.
+// before. Of an entry and a mark: the value that it is of. Which save it holds; an entry, since
+// which.
 typedef struct item {
     kind is;
     size_t size;
@@ -42,7 +44,8 @@ typedef struct file {
 static item items[ITEMS];
 static file files[2];
 static uint64_t drawn = 1, item_count, saves;
-static uint64_t stored, first_open; // the last save that is stored; all from this one on may be found
+// The last save that is stored; and the first one of those that were begun since.
+static uint64_t stored, first_open;
 static unsigned long opened, rewritten, refused;
 
 static uint32_t any(uint32_t limit)
@@ -87,7 +90,8 @@ static void settle(uint8_t slot, size_t sure)
             bool is_torn = way == 3 && any(3) == 0;
             byte *to = &of->synced[it->from + k];
             bool is_sure = i + sure >= of->count;
-            *to = is_sure ? it->bytes[k] : is_torn ? (byte){NONE, 0} : is_there ? it->bytes[k] : *to;
+            bool is_new = is_sure || (is_there && !is_torn);
+            *to = is_new ? it->bytes[k] : is_torn ? (byte){NONE, 0} : *to;
         }
         free(it);
     }
@@ -277,7 +281,8 @@ static void write_value(rewrite *it)
     }
 }
 
-// Writes copies of the entries up to this place, and what comes behind. They are synced, or not yet.
+// Writes copies of the entries up to this place, and what comes behind. They are synced, or not
+// yet.
 static bool write_copies(rewrite *it, uint64_t end, bool is_synced)
 {
     markring_slot_copying copy;
@@ -410,8 +415,8 @@ static void one_history(void)
 
 // ## Choices
 
-// Which slot counts, as docs/FORMATS.md has it: the whole one with the higher number, unless something
-// later was whole.
+// Which slot counts, as docs/FORMATS.md has it: the whole one with the higher number, unless
+// something later was whole.
 static int rule(const markring_slot_found *a, const markring_slot_found *b)
 {
     if ((a->version == 0 && b->version == 0)
@@ -441,7 +446,8 @@ static void choices(void)
     }
 }
 
-// Marks and what is behind show what was whole; an entry of a value of the first version doesn't count.
+// Marks and what is behind show what was whole; an entry of a value of the first version doesn't
+// count.
 static void findings(void)
 {
     markring_slot_found it = {0, 0, 0};
