@@ -21,19 +21,28 @@ kind-itself Value = refl
 kind-itself Entry = refl
 kind-itself Mark = refl
 
-both-same : (x y : Item) → x.kind ≡ y.kind → x.size ≡ y.size → x.number ≡ y.number
-    → x.seal ≡ y.seal → x.before ≡ y.before → x.base ≡ y.base → x.save ≡ y.save
-    → x.since ≡ y.since → x ≡ y
-both-same x y a b c d e f g h =
-    ap (λ (z : Kind). record x { kind = z }) a
-    ∙ ap (λ (z : ℕ). record x { kind = y.kind; size = z }) b
-    ∙ ap (λ (z : ℕ). record x { kind = y.kind; size = y.size; number = z }) c
+-- two items with the same fields
+record AreAlike (x y : Item) : Type 0 where
+  kind : x.kind ≡ y.kind
+  size : x.size ≡ y.size
+  number : x.number ≡ y.number
+  seal : x.seal ≡ y.seal
+  before : x.before ≡ y.before
+  base : x.base ≡ y.base
+  save : x.save ≡ y.save
+  since : x.since ≡ y.since
+
+both-same : (x y : Item) → AreAlike x y → x ≡ y
+both-same x y a =
+    ap (λ (z : Kind). record x { kind = z }) a.kind
+    ∙ ap (λ (z : ℕ). record x { kind = y.kind; size = z }) a.size
+    ∙ ap (λ (z : ℕ). record x { kind = y.kind; size = y.size; number = z }) a.number
     ∙ ap (λ (z : ℕ). record y
-    { seal = z; before = x.before; base = x.base; save = x.save; since = x.since }) d
-    ∙ ap (λ (z : ℕ). record y { before = z; base = x.base; save = x.save; since = x.since }) e
-    ∙ ap (λ (z : ℕ). record y { base = z; save = x.save; since = x.since }) f
-    ∙ ap (λ (z : ℕ). record y { save = z; since = x.since }) g
-    ∙ ap (λ (z : ℕ). record y { since = z }) h
+    { seal = z; before = x.before; base = x.base; save = x.save; since = x.since }) a.seal
+    ∙ ap (λ (z : ℕ). record y { before = z; base = x.base; save = x.save; since = x.since }) a.before
+    ∙ ap (λ (z : ℕ). record y { base = z; save = x.save; since = x.since }) a.base
+    ∙ ap (λ (z : ℕ). record y { save = z; since = x.since }) a.save
+    ∙ ap (λ (z : ℕ). record y { since = z }) a.since
 
 pub item-same : (x y : Item) → same_item x y ≡ true → x ≡ y
 item-same x y e =
@@ -44,9 +53,17 @@ item-same x y e =
     let b = and_parts _ _ first.1 in
     let c = and_parts _ _ second.0 in
     let d = and_parts _ _ second.1 in
-    both-same x y (kind-same x.kind y.kind a.0) (eqb-true _ _ a.1) (eqb-true _ _ b.0)
-    (eqb-true _ _ b.1) (eqb-true _ _ c.0) (eqb-true _ _ c.1) (eqb-true _ _ d.0)
-    (eqb-true _ _ d.1)
+    both-same x y
+    (record {
+      kind = kind-same x.kind y.kind a.0;
+      size = eqb-true _ _ a.1;
+      number = eqb-true _ _ b.0;
+      seal = eqb-true _ _ b.1;
+      before = eqb-true _ _ c.0;
+      base = eqb-true _ _ c.1;
+      save = eqb-true _ _ d.0;
+      since = eqb-true _ _ d.1;
+    })
 
 pub item-itself : (x : Item) → same_item x x ≡ true
 item-itself x =
@@ -171,11 +188,11 @@ put-makes w c k = go (covers w k) refl
 abbrev pub IsFree : Write → Item → Type 0
 IsFree w x = (k n : ℕ) → w.bytes k ≡ Of x n → ⊥
 
-byte-before : (w : Write) (old new : Cell) (k : ℕ) (x : Item) (n : ℕ) → IsFree w x
-    → MayBe w old new k
+byte-before : {w : Write} {old new : Cell} {k : ℕ} (x : Item) (n : ℕ) → MayBe w old new k
+    → IsFree w x
     → new ≡ Of x n
     → old ≡ Of x n
-byte-before w old new k x n free may is =
+byte-before {w} {old} {new} {k} x n may free is =
     ⊎_elim {C = old ≡ Of x n} (λ (same : new ≡ old). sym same ∙ is)
     (λ (other : (new ≡ w.bytes k) ⊎ (new ≡ Other)).
     ⊎_elim {C = old ≡ Of x n}
@@ -191,10 +208,8 @@ pub whole-before : (w : Write) (c d : Content) (at : ℕ) (x : Item) → Makes w
     → IsWhole d at x
     → IsWhole c at x
 whole-before w c d at x makes free whole = record {
-  head = byte-before w (c at) (d at) at x 0 free (makes at) whole.head;
-  all = λ n below.
-      byte-before w (c (at + n)) (d (at + n)) (at + n) x n free (makes (at + n))
-      (whole.all n below);
+  head = byte-before x 0 (makes at) free whole.head;
+  all = λ n below. byte-before x n (makes (at + n)) free (whole.all n below);
 }
 
 pub outside-below : (w : Write) (k : ℕ) → k < w.from → covers w k ≡ false
