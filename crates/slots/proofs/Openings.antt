@@ -9,7 +9,7 @@ use Rattle.slots.specs.Openings.{chosen, counts, is_expected, with_behind, with_
 use Rattle.slots.specs.Disk.{first_read, image, is_mark_of, looked, looked_all, marked, next_of, nothing_read, read, read_if, read_on, same_kind, shown, whole_at, with_item, Content, Entry, ForEntry, ForMark, Fates, Item, Kind, Look, Mark, Of, Reading, Value}
 use Rattle.slots.proofs.Disk.{kind-same, whole-alone, whole-complete, whole-sound, IsWhole}
 use Rattle.slots.proofs.Lists.{contains-head, contains-more}
-use Rattle.slots.proofs.Reading.{all_read, begins-together, chain-more, finds, next-is, next-sound, tail, tail-base, tail-more, tail-number, tail-seal, together-first, Begins, Chain, Finds, Fits, GoesTogether, IsBehind, IsKnown, IsNewer, More, Only, Same, Nothing}
+use Rattle.slots.proofs.Reading.{all_read, begins-together, chain-more, finds, next-is, next-sound, tail, tail-base, tail-more, tail-number, tail-seal, together-first, Begins, Chain, EndsThere, Finds, Fits, GoesTogether, IsBehind, IsKnown, IsNewer, More, Only, Same, Nothing}
 use Rattle.slots.proofs.Sound.{last_read, AreGood, Bounds, Good, IsAhead, IsBegun, IsBeside, IsPassed, Sound, View}
 
 -- ---- what shows that more was whole
@@ -273,7 +273,7 @@ pub record HasRead (z : View) (s : Sound z) (c : Content) : Type 0 where
 only-chain : (P : ℕ → Item → Type 0) (c : Content) (r : Reading) → Only P c r
     → r.found.version ≡ 2
     → r.found.number ≡ r.last.number
-    → ((y : Item) → next_of c r ≡ Some y → ⊥)
+    → EndsThere c r
     → Only Nothing c r
 only-chain P c r only two same none at y kind base whole =
     ⊎_elim {C = IsKnown r.last y ⊎ (IsNewer r at y × ⊥)}

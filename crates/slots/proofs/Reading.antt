@@ -164,11 +164,12 @@ chain-more c r (x ∷ ys) y chain b = (chain.0, chain-more c (with_item r x) ys 
 abbrev pub AreSame : ℕ → Content → Content → Type 0
 AreSame end c d = (k : ℕ) → k < end → d k ≡ c k
 
-pub whole-same : (c d : Content) (end at : ℕ) (x : Item) → AreSame end c d → 0 < x.size
+pub whole-same : {c : Content} {at : ℕ} {x : Item} (d : Content) (end : ℕ) → IsWhole c at x
+    → AreSame end c d
+    → 0 < x.size
     → at + x.size ≤ end
-    → IsWhole c at x
     → IsWhole d at x
-whole-same c d end at x same some within w = record {
+whole-same {at = at} d end w same some within = record {
   head = same at (omega (arith, some, within)) ∙ w.head;
   all = λ n below. same (at + n) (omega (arith, below, within)) ∙ w.all n below;
 }
@@ -182,7 +183,7 @@ chain-same c d end r (y ∷ ys) same within chain =
     let more = tail-end (with_item r y) ys in
     let b = chain.0 in (
       record {
-        whole = whole-same c d end r.end y same b.some (omega (arith, more, within)) b.whole;
+        whole = whole-same d end b.whole same b.some (omega (arith, more, within));
         fits = b.fits;
         since = b.since;
         newer = b.newer;
@@ -213,9 +214,11 @@ read-chain (suc n) m c r (y ∷ ys) chain count =
     read-next n c r y (next-is c r y chain.0.whole chain.0.fits)
     ∙ read-chain n m c (with_item r y) ys chain.1 (omega (arith, count))
 
-pub read-stops : (n : ℕ) (c : Content) (r : Reading)
-    → ((y : Item) → next_of c r ≡ Some y → ⊥)
-    → read_on n c r ≡ r
+-- no entry is next
+abbrev pub EndsThere : Content → Reading → Type 0
+EndsThere c r = (y : Item) → next_of c r ≡ Some y → ⊥
+
+pub read-stops : (n : ℕ) (c : Content) (r : Reading) → EndsThere c r → read_on n c r ≡ r
 read-stops zero c r none = refl
 read-stops (suc n) c r none = go (next_of c r) refl
   where
@@ -252,7 +255,7 @@ pub begins-same : (c d : Content) (end : ℕ) (v : Item) (ys : List Item) → Ar
 begins-same c d end v ys same within b =
     let more = tail-end (first_read v) ys in
     record {
-      value = whole-same c d end 0 v same b.some (omega (arith, more, within)) b.value;
+      value = whole-same d end b.value same b.some (omega (arith, more, within));
       kind = b.kind;
       own = b.own;
       some = b.some;
@@ -304,9 +307,7 @@ next-newer P c r y only e =
 pub none-behind : (P : ℕ → Item → Type 0) (c : Content) (r : Reading) (y : Item) → Only P c r
     → Fits r y
     → r.last.seal < y.seal
-    → (z : Item)
-    → next_of c (with_item r y) ≡ Some z
-    → ⊥
+    → EndsThere c (with_item r y)
 none-behind P c r y only fits newer z e =
     let sound = next-sound c (with_item r y) z e in
     let behind = sound.1.before in
@@ -322,7 +323,7 @@ none-behind P c r y only fits newer z e =
 
 -- What a reader finds: the chain, or the chain with one newer entry.
 pub data Finds (P : ℕ → Item → Type 0) (c : Content) (r : Reading) (is : Reading) : Type 0 where
-  Same : is ≡ r → ((y : Item) → next_of c r ≡ Some y → ⊥) → Finds P c r is
+  Same : is ≡ r → EndsThere c r → Finds P c r is
   More : (y : Item) → is ≡ with_item r y → IsBehind c r y → P r.end y → Finds P c r is
 
 pub finds : (P : ℕ → Item → Type 0) (n : ℕ) (c : Content) (v : Item) (ys : List Item)
