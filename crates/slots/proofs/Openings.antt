@@ -125,6 +125,10 @@ looks-show number fresh c r (look ∷ looks) good =
 
 -- ---- a slot that is passed
 
+-- Its value is passed, if it has one.
+abbrev pub IsPassedSlot : ℕ → Content → Type 0
+IsPassedSlot number c = (x : Item) → x.kind ≡ Value → IsWhole c 0 x → IsPassed number c x
+
 -- what a reader may have found in it
 pub record IsLow (number : ℕ) (r : Reading) : Type 0 where
   pub found : r.found.version ≢ 0 → r.found.number < number
@@ -165,8 +169,7 @@ low-on number (suc n) c r below synced entries =
 low-nothing : (number : ℕ) → IsLow number nothing_read
 low-nothing number = record { found = λ some. absurd (some refl); synced = refl }
 
-pub passed-read : (number n : ℕ) (c : Content)
-    → ((x : Item) → x.kind ≡ Value → IsWhole c 0 x → IsPassed number c x)
+pub passed-read : (number n : ℕ) (c : Content) → IsPassedSlot number c
     → IsLow number (read n c)
 passed-read number n c passed = go (whole_at c 0) refl
   where
@@ -386,8 +389,7 @@ pub record Chosen (z : View) (number : ℕ) (c d : Content) (r : Reading) : Type
   pub entries : List Item
   pub begins : Begins c value entries
   pub only : Only Nothing c (all_read value entries)
-  pub passed : (x : Item) → x.kind ≡ Value → IsWhole d 0 x
-      → IsPassed (all_read value entries).last.number d x
+  pub passed : IsPassedSlot (all_read value entries).last.number d
   pub most : number ≤ (all_read value entries).last.number
   pub save : Contains (z.stored ∷ z.begun) (all_read value entries).last.save
   pub version : r.found.version ≡ 2
@@ -405,14 +407,11 @@ Outcome z number c d r q =
 -- The value of the other slot is passed; or it is ahead.
 beside-cases : (b : Bounds) (number : ℕ) (begun : List ℕ) (d : Content)
     → IsBeside b number begun d
-    → ((x : Item) → x.kind ≡ Value → IsWhole d 0 x → IsPassed number d x)
-    ⊎ ((x : Item) × IsAhead b begun d x)
+    → IsPassedSlot number d ⊎ ((x : Item) × IsAhead b begun d x)
 beside-cases b number begun d beside = go (whole_at d 0) refl
   where
     Either : Type 0
-    Either =
-        ((x : Item) → x.kind ≡ Value → IsWhole d 0 x → IsPassed number d x)
-        ⊎ ((x : Item) × IsAhead b begun d x)
+    Either = IsPassedSlot number d ⊎ ((x : Item) × IsAhead b begun d x)
 
     go : (o : Option Item) → whole_at d 0 ≡ o → Either
     go None e =
@@ -455,10 +454,8 @@ passed-weaker less more d x within p =
 pub passed-chain : (number : ℕ) (c : Content) (v : Item) (ys : List Item) → Begins c v ys
     → Only Nothing c (all_read v ys)
     → (all_read v ys).last.number < number
-    → (x : Item)
-    → IsWhole c 0 x
-    → IsPassed number c x
-passed-chain number c v ys b only below x whole =
+    → IsPassedSlot number c
+passed-chain number c v ys b only below x kind whole =
     let is : v ≡ x = whole-alone c 0 v x b.value whole in
     let grows = tail-number c (first_read v) ys (together-first v) b.chain in
     subst (IsPassed number c) is
@@ -503,7 +500,7 @@ reads-all most read all r is g shows =
 chosen-from : (z : View) (most : ℕ) (c d : Content) (v : Item) (ys : List Item) (r : Reading)
     → Begins c v ys × Only Nothing c (all_read v ys) × (most ≤ (all_read v ys).last.number)
     × Contains (z.stored ∷ z.begun) (all_read v ys).last.save × Reads most r (all_read v ys)
-    × ((x : Item) → x.kind ≡ Value → IsWhole d 0 x → IsPassed (all_read v ys).last.number d x)
+    × IsPassedSlot (all_read v ys).last.number d
     → Chosen z most c d r
 chosen-from z most c d v ys r p = record {
   value = v;
@@ -544,7 +541,7 @@ pub outcome : (z : View) (s : Sound z) (f : Sights)
     (read_beside z f)
 outcome z s f =
     ⊎_elim {C = Outcome z most c d (read_here z f) (read_beside z f)}
-    (λ (passed : (x : Item) → x.kind ≡ Value → IsWhole d 0 x → IsPassed most d x).
+    (λ (passed : IsPassedSlot most d).
     let low = passed-read most z.fresh d passed in
     let none = low.synced in
     let here = reads_here in
@@ -597,9 +594,8 @@ outcome z s f =
         omega (arith, within, middle, above),
         contains-more z.stored (all_read x a.entries).last.save z.begun a.save,
         there,
-        λ y kind whole.
-            passed-chain (all_read x a.entries).last.number c s.value h.entries h.begins h.only
-            (omega (arith, middle, above)) y whole,
+        passed-chain (all_read x a.entries).last.number c s.value h.entries h.begins h.only
+            (omega (arith, middle, above)),
       ),
     ))
     (beside-cases s.bounds most z.begun d (s.beside f.beside))
