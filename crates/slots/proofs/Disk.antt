@@ -39,7 +39,8 @@ both-same x y a =
     ∙ ap (λ (z : ℕ). record x { kind = y.kind; size = y.size; number = z }) a.number
     ∙ ap (λ (z : ℕ). record y
     { seal = z; before = x.before; base = x.base; save = x.save; since = x.since }) a.seal
-    ∙ ap (λ (z : ℕ). record y { before = z; base = x.base; save = x.save; since = x.since }) a.before
+    ∙ ap (λ (z : ℕ). record y
+    { before = z; base = x.base; save = x.save; since = x.since }) a.before
     ∙ ap (λ (z : ℕ). record y { base = z; save = x.save; since = x.since }) a.base
     ∙ ap (λ (z : ℕ). record y { save = z; since = x.since }) a.save
     ∙ ap (λ (z : ℕ). record y { since = z }) a.since

@@ -1,6 +1,7 @@
 -- A mark that is seen shows that its save was whole.
 use Rattle.std.proofs.Common.{◌≡◌, ◌<◌, ◌≤◌, ◌-◌, ℕ, zero, suc, Bool, cond, true, false, List, [], ◌∷◌, Option, Some, None, get_or, length, refl, sym, ◌∙◌, subst, arith, ⊎_elim, ltb}
 use Rattle.std.proofs.lemmas.Bool.{and_parts, lt-ltb, ltb-false, ltb-true, not-true}
+use Rattle.std.specs.List.{Contains}
 use Rattle.slots.specs.declared.saving.TheConstants.{NUMBERS}
 use Rattle.slots.specs.declared.opening.Found.{Found}
 use Rattle.slots.specs.declared.opening.Choice.TheVariants as choice
@@ -70,13 +71,18 @@ looks-go c r (look ∷ looks) =
     goes-both r (looked c r look) (looked_all c (looked c r look) looks) (look-goes c r look)
     (looks-go c (looked c r look) looks)
 
+-- the mark at this place, of the value that was read
+record IsMarkAt (c : Content) (r : Reading) (at : ℕ) (m : Item) : Type 0 where
+  whole : whole_at c at ≡ Some m
+  of_value : is_mark_of r m ≡ true
+  number : m.number < NUMBERS
+
 -- a mark that is seen is counted
-sees-one : (c : Content) (r : Reading) (at : ℕ) (m : Item) → whole_at c at ≡ Some m
-    → is_mark_of r m ≡ true
-    → m.number < NUMBERS
+sees-one : (c : Content) (r : Reading) (at : ℕ) (m : Item) → IsMarkAt c r at m
     → m.number ≤ (looked c r (ForMark at)).found.synced
-sees-one c r at m whole of_value below =
-    rw (whole, of_value, lt-ltb m.number NUMBERS below) (go (ltb r.found.synced m.number) refl)
+sees-one c r at m is =
+    rw (is.whole, is.of_value, lt-ltb m.number NUMBERS is.number)
+    (go (ltb r.found.synced m.number) refl)
   where
     go : (b : Bool) → ltb r.found.synced m.number ≡ b
         → m.number ≤ (cond b (record (r.found) { synced = m.number }) r.found).synced
@@ -85,32 +91,34 @@ sees-one c r at m whole of_value below =
         let within = ltb-false r.found.synced m.number e in
         omega (arith, within)
 
-same-mark : (r s : Reading) (m : Item) → Goes r s → is_mark_of r m ≡ true
-    → is_mark_of s m ≡ true
-same-mark r s m g is = rw (g.version, g.base) is
+same-mark : (c : Content) (r s : Reading) (at : ℕ) (m : Item) → Goes r s → IsMarkAt c r at m
+    → IsMarkAt c s at m
+same-mark c r s at m g is = record {
+  whole = is.whole;
+  of_value = rw (g.version, g.base) is.of_value;
+  number = is.number;
+}
 
-sees-all : (c : Content) (r : Reading) (looks : List Look) (at k : ℕ) (m : Item)
-    → k < length looks
-    → get_or looks k (ForMark at) ≡ ForMark at
-    → whole_at c at ≡ Some m
-    → is_mark_of r m ≡ true
-    → m.number < NUMBERS
+sees-all : (c : Content) (r : Reading) (looks : List Look) (at : ℕ) (m : Item)
+    → Contains looks (ForMark at)
+    → IsMarkAt c r at m
     → m.number ≤ (looked_all c r looks).found.synced
-sees-all c r [] at k m inside is whole of_value below = absurd (omega (arith, inside))
-sees-all c r (look ∷ looks) at zero m inside is whole of_value below =
+sees-all c r [] at m (k, inside, same) is = absurd (omega (arith, inside))
+sees-all c r (look ∷ looks) at m (zero, inside, same) is =
     let one : m.number ≤ (looked c r look).found.synced =
-    subst (λ (l : Look). m.number ≤ (looked c r l).found.synced) (sym is)
-    (sees-one c r at m whole of_value below) in
+    subst (λ (l : Look). m.number ≤ (looked c r l).found.synced) (sym same)
+    (sees-one c r at m is) in
     let more = (looks-go c (looked c r look) looks).synced in
     omega (arith, one, more)
-sees-all c r (look ∷ looks) at (suc k) m inside is whole of_value below =
-    sees-all c (looked c r look) looks at k m (omega (arith, inside)) is whole
-    (same-mark r (looked c r look) m (look-goes c r look) of_value) below
+sees-all c r (look ∷ looks) at m (suc k, inside, same) is =
+    sees-all c (looked c r look) looks at m (k, omega (arith, inside), same)
+    (same-mark c r (looked c r look) at m (look-goes c r look) is)
 
 sees : (most : ℕ) (c : Content) (looks : List Look) (m : Item) → SeesMark most c looks m
     → m.number ≤ (reading_of most c looks).found.synced
 sees most c looks m s =
-    sees-all c (read most c) looks s.at s.look.0 m s.look.1 s.look.2 s.whole s.of_value s.number
+    sees-all c (read most c) looks s.at m s.look
+    (record { whole = s.whole; of_value = s.of_value; number = s.number })
 
 -- ---- the choice
 
