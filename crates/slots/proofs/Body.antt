@@ -159,12 +159,13 @@ body-first v c kind own large old = record {
 -- ---- entries behind it
 
 -- once these are written and synced
-pub body-more : (v : Item) (ys xs : List Item) (c e : Content) → HEAD < v.size
+pub body-more : {c : Content} {v : Item} {ys : List Item} (xs : List Item) (e : Content)
     → IsBody c v ys
+    → HEAD < v.size
     → AreNext (all_read v ys) xs
     → Makes (all_written xs (all_read v ys).end) c e
     → IsBody (put (all_written xs (all_read v ys).end) e) v (ys ++ xs)
-body-more v ys xs c e large body next makes = record {
+body-more {c} {v} {ys} xs e body large next makes = record {
   begins = record {
     value = still.value;
     kind = still.kind;
@@ -229,8 +230,7 @@ body-more v ys xs c e large body next makes = record {
         (λ (new : (d k ≡ w.bytes k) ⊎ (d k ≡ Other)).
         ⊎_elim {C = IsKnown (tail (all_read v ys) xs).last y}
         (λ (this : d k ≡ w.bytes k).
-        (written-known (all_read v ys) xs (all_read v ys).end k n y number next
-        (sym this ∙ is)).2)
+        (written-known (all_read v ys) xs (all_read v ys).end k number next (sym this ∙ is)).2)
         (λ (torn : d k ≡ Other). absurd (none-of n y (sym torn ∙ is))) new)
         (twice k).cases)
 

@@ -138,20 +138,20 @@ next-number r (x ∷ xs) same all =
         (next-true r x fits)
 
 -- what is written is known then
-pub written-known : (r : Reading) (xs : List Item) (at k n : ℕ) (y : Item)
+pub written-known : (r : Reading) (xs : List Item) (at k : ℕ) {n : ℕ} {y : Item}
     → r.found.number ≡ r.last.number
     → AreNext r xs
     → bytes_of at xs k ≡ Of y n
     → (y.kind ≡ Entry) × (y.base ≡ r.last.base) × IsKnown (tail r xs).last y
-written-known r [] at k n y same all is = absurd (none is)
+written-known r [] at k {n} {y} same all is = absurd (none is)
   where
     none : Other ≡ Of y n → ⊥
     none e = cc
-written-known r (x ∷ xs) at k n y same all is =
+written-known r (x ∷ xs) at k {n} {y} same all is =
     go (ltb k (at + x.size)) is
     (λ e.
     let more =
-    written-known (with_item r x) xs (at + x.size) k n y (taken r x all.0.fits) all.1 e in
+    written-known (with_item r x) xs (at + x.size) k (taken r x all.0.fits) all.1 e in
     (more.0, more.1 ∙ all.0.fits.base, more.2))
   where
     taken : (r : Reading) (x : Item) → Fits r x → (with_item r x).found.number ≡ x.number

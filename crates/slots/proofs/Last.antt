@@ -289,8 +289,7 @@ ends-all h s b bytes e = record {
         subst
         (λ (n : ℕ). IsBody (put (all_written xs n) (image f g)) b.value (b.copies ++ xs))
         (sym tied.end)
-        (body-more b.value b.copies xs (image f z.beside) (image f g) tied.large (e.ready.body f)
-        next
+        (body-more xs (image f g) (e.ready.body f) tied.large next
         (subst (λ (n : ℕ). Makes (all_written xs n) (image f z.beside) (image f g)) tied.end
         (makes f)))
 

@@ -539,7 +539,7 @@ items-bring z s b g xs R is tied facts makes headless = record {
   back = λ f. f;
   makes = makes;
   good = λ k n x e.
-      let known = written-known R xs b.state.end k n x facts.2 facts.0 e in
+      let known = written-known R xs b.state.end k facts.2 facts.0 e in
       let base = known.1 in
       let own = facts.1 in
       let first = facts.3 in
@@ -556,7 +556,7 @@ items-bring z s b g xs R is tied facts makes headless = record {
         mark = λ e. absurd (not-mark (sym kind ∙ e));
       };
   whose = λ k n x e.
-      (written-known R xs b.state.end k n x facts.2 facts.0 e).1 ∙ facts.1;
+      (written-known R xs b.state.end k facts.2 facts.0 e).1 ∙ facts.1;
   headless = λ f n x e.
       headless f n x
       (sym
@@ -641,8 +641,7 @@ copies-news h s b count is r ready leads with_it = record {
         write = ap (all_written xs) tied.end;
         next = C.next;
         soon = λ f.
-            body-more b.value b.copies xs (image f z.beside) (image f g) tied.large (ready.body f)
-            C.next
+            body-more xs (image f g) (ready.body f) tied.large C.next
             (subst (λ (n : ℕ). Makes (all_written xs n) (image f z.beside) (image f g)) tied.end
             (makes f));
         size = copies-size b.value.seal b.state.seal h.fresh es;

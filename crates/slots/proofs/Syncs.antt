@@ -128,7 +128,7 @@ copies-synced h s b fates is r c leads with_it = record {
     back = λ f. fates;
     makes = λ f. put-makes w (image fates z.beside);
     good = λ k n x e.
-        let known = written-known R b.next R.end k n x number c.next e in
+        let known = written-known R b.next R.end k number c.next e in
         let base = known.1 in
         let last = with_it.1 in
         let seal = known.2.seal in
@@ -148,7 +148,7 @@ copies-synced h s b fates is r c leads with_it = record {
           mark = λ e. absurd (not-mark (sym kind ∙ e));
         };
     whose = λ k n x e.
-        (written-known R b.next R.end k n x number c.next e).1 ∙ base_own;
+        (written-known R b.next R.end k number c.next e).1 ∙ base_own;
     headless = λ f n x e. (c.soon fates).headless n x e;
   };
   from = with_it.0;
