@@ -130,7 +130,7 @@ pub stored-entry : (h : Folder) (fates : Fates) → IsSound h → h.slots.phase 
 stored-entry h fates s is = record {
   two = s.two;
   all =
-      file-here P h.files h.slots.counts h.to (synced_after h.write fates (h.files h.to)) s.two
+      file-here P h.files h.slots.counts (synced_after h.write fates (h.files h.to)) s.two
       way.0
       (subst
       (λ (w : Write).
@@ -200,7 +200,7 @@ pub stored-whole : (h : Folder) (fates : Fates) → IsSound h → h.slots.phase 
 stored-whole h fates s is = record {
   two = other-two h.slots.counts s.two;
   all =
-      file-here P h.files (other h.slots.counts) h.to
+      file-here P h.files (other h.slots.counts)
       (synced_after h.write fates (h.files h.to)) (other-two h.slots.counts s.two)
       way.0
       (subst
@@ -247,14 +247,14 @@ stored-whole h fates s is = record {
 
 -- ---- a rewrite ends
 
-file-twice : (P : File → File → Type 0) (files : ℕ → File) (i slot : ℕ) (f : File) (w : Write)
+file-twice : (P : File → File → Type 0) (files : ℕ → File) (i : ℕ) {slot : ℕ} (f : File) (w : Write)
     → Two i
     → slot ≡ other i
     → P (files i) (with_write f w)
     → P
     (changed (changed files slot f) slot (with_write (changed files slot f slot) w) i)
     (changed (changed files slot f) slot (with_write (changed files slot f slot) w) (other i))
-file-twice P files i slot f w two is p =
+file-twice P files i f w two is p =
     subst
     (λ (s : ℕ).
     P (changed (changed files s f) s (with_write (changed files s f s) w) i)
@@ -295,7 +295,7 @@ tops-sound : (h : Folder) (fates : Fates) → IsSound h → h.slots.phase ≡ LA
 tops-sound h fates s is = record {
   two = s.two;
   all =
-      file-twice P h.files h.slots.counts h.to (synced_after h.write fates (h.files h.to))
+      file-twice P h.files h.slots.counts (synced_after h.write fates (h.files h.to))
       (head_of h.headless) s.two e.makes.to
       (subst
       (λ (t : ℕ).
@@ -334,7 +334,7 @@ stored-top : (h : Folder) (fates : Fates) → IsSound h → h.slots.phase ≡ TO
 stored-top h fates s is = record {
   two = other-two h.slots.counts s.two;
   all =
-      file-here P h.files (other h.slots.counts) h.to
+      file-here P h.files (other h.slots.counts)
       (synced_after h.write fates (h.files h.to)) (other-two h.slots.counts s.two)
       t.makes.to
       (subst
@@ -520,7 +520,7 @@ mark-sound h s = go (is_idle h.slots) refl
         record {
           two = s.two;
           all =
-              file-here P h.files h.slots.counts h.slots.counts
+              file-here P h.files h.slots.counts
               (with_write (h.files h.slots.counts) (written (new_mark m) h.slots.end)) s.two refl
               (marks-holds h s.all is m refl);
           entry = s.entry;
@@ -614,7 +614,7 @@ zeros-sound h count s = go (eqb h.slots.phase ENTRY) refl
         record {
           two = s.two;
           all =
-              file-here P h.files h.slots.counts h.slots.counts
+              file-here P h.files h.slots.counts
               (with_write (h.files h.slots.counts) (zeros h.slots.next_end count)) s.two refl
               (zeros-holds h count s.all is);
           entry = s.entry;

@@ -309,7 +309,7 @@ ends-sound h s b bytes e = record {
         begun = (h.fresh + length b.rest) ∷ h.begun;
       })
       (under_of (ends_with h b bytes)))
-      h.files h.slots.counts (other h.slots.counts)
+      h.files h.slots.counts
       (with_write (h.files (other h.slots.counts))
       (all_written (last_items h b bytes (last_at h b)) b.state.end))
       s.two refl (ends-all h s b bytes e);

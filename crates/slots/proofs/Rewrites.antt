@@ -107,7 +107,7 @@ news-sound h s old b is n slot there = record {
       (λ (x y : File).
       All (record (view_of h) { here = x; beside = y; fresh = n.fresh })
       (record (under_of h) { beside = Some b }))
-      h.files h.slots.counts slot n.file s.two there (news-all h s old b is n);
+      h.files h.slots.counts n.file s.two there (news-all h s old b is n);
   entry = s.entry;
   whole = λ e. absurd (none-some h.beside old (s.whole e).2 is);
 }

@@ -38,19 +38,19 @@ abbrev pub changed : (ℕ → File) → ℕ → File → ℕ → File
 changed files slot f i = cond (eqb i slot) f (files i)
 
 -- what holds of two files, the first of which is replaced
-pub file-here : (P : File → File → Type 0) (files : ℕ → File) (i slot : ℕ) (f : File) → Two i
+pub file-here : (P : File → File → Type 0) (files : ℕ → File) (i : ℕ) {slot : ℕ} (f : File) → Two i
     → slot ≡ i
     → P f (files (other i))
     → P (changed files slot f i) (changed files slot f (other i))
-file-here P files i slot f two is p =
+file-here P files i f two is p =
     subst (λ (s : ℕ). P (changed files s f i) (changed files s f (other i))) (sym is)
     (rw (eq-eqb i i refl, (other-apart i two).0) p)
 
-pub file-beside : (P : File → File → Type 0) (files : ℕ → File) (i slot : ℕ) (f : File) → Two i
+pub file-beside : (P : File → File → Type 0) (files : ℕ → File) (i : ℕ) {slot : ℕ} (f : File) → Two i
     → slot ≡ other i
     → P (files i) f
     → P (changed files slot f i) (changed files slot f (other i))
-file-beside P files i slot f two is p =
+file-beside P files i f two is p =
     subst (λ (s : ℕ). P (changed files s f i) (changed files s f (other i))) (sym is)
     (rw ((other-apart i two).1, eq-eqb (other i) (other i) refl) p)
 
@@ -267,7 +267,7 @@ adds-sound h bytes s idle = record {
         begun = h.fresh ∷ h.begun;
       })
       (under_of (adds h bytes)))
-      h.files h.slots.counts h.slots.counts
+      h.files h.slots.counts
       (with_write (h.files h.slots.counts)
       (written (new_entry h bytes (place_here h)) h.slots.end))
       s.two refl (adds-holds h bytes s.all idle);
@@ -487,7 +487,7 @@ replaces-sound h bytes s may = record {
         begun = h.fresh ∷ h.begun;
       })
       (under_of (replaces h bytes)))
-      h.files h.slots.counts (other h.slots.counts)
+      h.files h.slots.counts
       (with_write (h.files (other h.slots.counts))
       (written (new_whole h bytes (place_beside h)) 0))
       s.two refl (replaces-holds h bytes s.all may);
