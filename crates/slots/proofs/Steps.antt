@@ -46,7 +46,8 @@ file-here P files i f two is p =
     subst (λ (s : ℕ). P (changed files s f i) (changed files s f (other i))) (sym is)
     (rw (eq-eqb i i refl, (other-apart i two).0) p)
 
-pub file-beside : (P : File → File → Type 0) (files : ℕ → File) (i : ℕ) {slot : ℕ} (f : File) → Two i
+pub file-beside : (P : File → File → Type 0) (files : ℕ → File) (i : ℕ) {slot : ℕ} (f : File)
+    → Two i
     → slot ≡ other i
     → P (files i) f
     → P (changed files slot f i) (changed files slot f (other i))
@@ -57,12 +58,11 @@ file-beside P files i f two is p =
 -- ---- an entry begins
 
 -- An item of which there is no byte is whole at no other place than the one it is written to.
-place-of : (x : Item) (from at number fresh : ℕ) (c d : Content) → AreGood number fresh c
-    → x.seal ≡ fresh
+place-of : (x : Item) (from at : ℕ) (c d : Content) → ((k n : ℕ) → c k ≡ Of x n → ⊥)
     → Makes (written x from) c d
     → IsWhole d at x
     → at ≡ from
-place-of x from at number fresh c d good is makes whole =
+place-of x from at c d none makes whole =
     ⊎_elim {C = at ≡ from}
     (λ (inside : covers (written x from) at ≡ true).
     ⊎_elim {C = at ≡ from} (λ (same : d at ≡ c at). absurd (old same))
@@ -84,9 +84,7 @@ place-of x from at number fresh c d good is makes whole =
     apart e = cc
 
     old : d at ≡ c at → ⊥
-    old same =
-        let below = (good at 0 x (sym same ∙ whole.head)).seal in
-        omega (arith, below, is)
+    old same = none at 0 (sym same ∙ whole.head)
 
 abbrev place_here : Folder → Target
 place_here h = record {
@@ -218,8 +216,10 @@ adds-holds h bytes all idle = record {
         subst (λ (i : Item). IsWhole (image f (with_write z.here (written x z.end))) at i) (sym is)
         whole in
         let place =
-        place-of x z.end at (last_read s).last.number z.fresh (image f z.here)
-        (image f (with_write z.here (written x z.end))) (s.good_here f) refl
+        place-of x z.end at (image f z.here) (image f (with_write z.here (written x z.end)))
+        (λ k n e.
+        let low = (s.good_here f k n x e).seal in
+        omega (arith, low))
         (image-makes f z.here.synced (written x z.end) z.here.writes) whole_x in
         inr
         (subst
