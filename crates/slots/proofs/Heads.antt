@@ -8,7 +8,7 @@ use Rattle.slots.specs.Disk.{first_read, image, put, same_item, synced_after, wi
 use Rattle.slots.proofs.Body.{body-only, outside-head, put-behind, put-there, IsBody}
 use Rattle.slots.proofs.Disk.{image-makes, item-itself, item-same, put-makes, whole-before, IsFree, IsWhole, Makes}
 use Rattle.slots.proofs.Reading.{all_read, begins-same, tail-base, Begins, IsKnown, IsNewer, Nothing, Only}
-use Rattle.slots.proofs.Saves.{all-good-more, good-after, passed-here, sound-body}
+use Rattle.slots.proofs.Saves.{all-good-more, good-after, passed-here, sound-body, WritesGood}
 use Rattle.slots.proofs.Sound.{last_read, AreGood, Ends, Good, IsAhead, IsBegun, IsBeside, IsPassed, Sound, Tops, Under, View}
 
 -- ---- the same bytes
@@ -101,10 +101,7 @@ topped z u fates =
     }
 
 head-good : (number fresh : ℕ) (v : Item) → v.kind ≡ Value → v.base ≡ v.seal → v.seal < fresh
-    → (k n : ℕ)
-    → (x : Item)
-    → Of v k ≡ Of x n
-    → Good number fresh x
+    → WritesGood number fresh (head_of v)
 head-good number fresh v kind own below k n x e =
     subst (Good number fresh) same
     (record {
