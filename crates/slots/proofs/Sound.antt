@@ -255,6 +255,10 @@ pub record Works (z : View) (s : Sound z) (counts : ℕ) (b : Beside) : Type 0 w
   -- (whatever is left)
   pub part : Part z.beside counts (record b { rest = [] }) reached
 
+-- the rewrite that is under way, if any, is sound
+abbrev pub AnyWorks : (z : View) → Sound z → ℕ → Option Beside → Type 0
+AnyWorks z s counts o = (b : Beside) → o ≡ Some b → Works z s counts b
+
 -- the value and the entries that the save which ends a rewrite makes count
 pub record Leaves (u : Under) (entries : List Item) : Type 0 where
   pub last : (all_read u.headless entries).last ≡ u.item
@@ -292,7 +296,7 @@ pub record Tops (z : View) (s : Sound z) (u : Under) : Type 0 where
 
 pub record All (z : View) (u : Under) : Type 0 where
   pub holds : Holds z u.phase u.next_end u.item
-  pub works : (b : Beside) → u.beside ≡ Some b → Works z holds.sound u.counts b
+  pub works : AnyWorks z holds.sound u.counts u.beside
   pub last : u.phase ≡ LAST → Ends z holds.sound u
   pub top : u.phase ≡ TOP → Tops z holds.sound u
 

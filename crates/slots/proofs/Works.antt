@@ -4,7 +4,7 @@ use Rattle.slots.specs.Disk.{Fates, File, Item}
 use Rattle.slots.specs.Runs.{with_rest, Beside}
 use Rattle.slots.proofs.Copies.{go-more, last-number-more, last-save-more, size-more}
 use Rattle.slots.proofs.Saves.{added-last, sound-added, with_added}
-use Rattle.slots.proofs.Sound.{last_read, Adds, LeadsTo, Sound, View, Works}
+use Rattle.slots.proofs.Sound.{last_read, Adds, AnyWorks, LeadsTo, Sound, View, Works}
 
 -- what a save that begins changes of a view
 pub record Change : Type 0 where
@@ -72,10 +72,8 @@ works-one z s x a fates counts b w =
 pub works-stored : (z : View) (s : Sound z) (x : Item) (a : Adds z s x) (fates : Fates)
     → (counts : ℕ)
     → (o : Option Beside)
-    → ((b : Beside) → o ≡ Some b → Works z s counts b)
-    → (b : Beside)
-    → with_rest x o ≡ Some b
-    → Works (with_added z x fates) (sound-added z s x a fates) counts b
+    → AnyWorks z s counts o
+    → AnyWorks (with_added z x fates) (sound-added z s x a fates) counts (with_rest x o)
 works-stored z s x a fates counts None all b e = absurd cc
 works-stored z s x a fates counts (Some c) all b e =
     let same : record c { rest = c.rest ++ x ∷ [] } ≡ b = cc in
