@@ -62,14 +62,14 @@ under_in h slot phase = record {
   beside = None;
 }
 
-reopened-holds : (h : Folder) (number : ℕ) (c d : Content) (r : Reading)
+reopened-holds : (h : Folder) {number : ℕ} {c d : Content} {r : Reading}
     → Chosen (view_of h) number c d r
     → AreGood number h.fresh c
     → AreGood number h.fresh d
     → (slot : ℕ)
     → All (reopened (view_of h) c d r)
     (under_in h slot (cond (eqb r.found.version 2) IDLE DUE))
-reopened-holds h number c d r chosen good_c good_d slot =
+reopened-holds h {number} {c} {d} {r} chosen good_c good_d slot =
     subst (λ (phase : ℕ). All (reopened (view_of h) c d r) (under_in h slot phase))
     (sym (ap (λ (b : Bool). cond b IDLE DUE) (eq-eqb r.found.version 2 chosen.version)))
     (record {
@@ -89,10 +89,10 @@ not-saving : (b : Bool) → (cond b IDLE DUE ≡ 1 → ⊥) × (cond b IDLE DUE 
 not-saving true = (λ e. absurd cc, λ e. absurd cc)
 not-saving false = (λ e. absurd cc, λ e. absurd cc)
 
-found-in : (h : Folder) (number : ℕ) (c d : Content) (r : Reading)
+found-in : (h : Folder) {number : ℕ} {c d : Content} {r : Reading}
     → Chosen (view_of h) number c d r
     → Contains (h.stored ∷ h.begun) r.holds
-found-in h number c d r chosen =
+found-in h chosen =
     subst (Contains (h.stored ∷ h.begun)) (sym chosen.holds) chosen.save
 
 opens-first : (h : Folder) (s : Sight) (number : ℕ)
@@ -103,14 +103,11 @@ opens-first : (h : Folder) (s : Sight) (number : ℕ)
 opens-first h s number chosen good_c good_d = record {
   sound = record {
     two = inl refl;
-    all =
-        reopened-holds h number (content h s.first 0) (content h s.second 1) (reading_first h s)
-        chosen good_c good_d 0;
+    all = reopened-holds h chosen good_c good_d 0;
     entry = λ e. absurd ((not-saving (eqb (reading_first h s).found.version 2)).0 e);
     whole = λ e. absurd ((not-saving (eqb (reading_first h s).found.version 2)).1 e);
   };
-  finds =
-      found-in h number (content h s.first 0) (content h s.second 1) (reading_first h s) chosen;
+  finds = found-in h chosen;
   right = λ e. absurd cc;
 }
 
@@ -122,24 +119,21 @@ opens-second : (h : Folder) (s : Sight) (number : ℕ)
 opens-second h s number chosen good_c good_d = record {
   sound = record {
     two = inr refl;
-    all =
-        reopened-holds h number (content h s.second 1) (content h s.first 0)
-        (reading_second h s) chosen good_c good_d 1;
+    all = reopened-holds h chosen good_c good_d 1;
     entry = λ e. absurd ((not-saving (eqb (reading_second h s).found.version 2)).0 e);
     whole = λ e. absurd ((not-saving (eqb (reading_second h s).found.version 2)).1 e);
   };
-  finds =
-      found-in h number (content h s.second 1) (content h s.first 0) (reading_second h s) chosen;
+  finds = found-in h chosen;
   right = λ e. absurd cc;
 }
 
 -- a choice depends only on what was saved
-chosen-of : (z y : View) (number : ℕ) (c d : Content) (r : Reading)
+chosen-of : (z y : View) {number : ℕ} {c d : Content} {r : Reading}
     → z.stored ≡ y.stored
     → z.begun ≡ y.begun
     → Chosen z number c d r
     → Chosen y number c d r
-chosen-of z y number c d r a b chosen = record {
+chosen-of z y a b chosen = record {
   value = chosen.value;
   entries = chosen.entries;
   begins = chosen.begins;
@@ -183,8 +177,7 @@ open-first h s k =
     opened-by h s choice.First
     (chooses-first (reading_first h s).found (reading_second h s).found o.0)
     (opens-first h s number
-    (chosen-of (view_at h 0) (view_of h) number (content h s.first 0) (content h s.second 1)
-    (reading_first h s) refl refl o.1)
+    (chosen-of (view_at h 0) (view_of h) refl refl o.1)
     (k.good_here s.first) (k.good_beside s.second)))
     (λ (o : Counts (reading_second h s).found (reading_first h s).found
     × Chosen (view_at h 0) number (content h s.second 1) (content h s.first 0)
@@ -192,8 +185,7 @@ open-first h s k =
     opened-by h s choice.Second
     (chooses-second (reading_first h s).found (reading_second h s).found o.0)
     (opens-second h s number
-    (chosen-of (view_at h 0) (view_of h) number (content h s.second 1) (content h s.first 0)
-    (reading_second h s) refl refl o.1)
+    (chosen-of (view_at h 0) (view_of h) refl refl o.1)
     (k.good_beside s.second) (k.good_here s.first)))
     (outcome (view_at h 0) k (first_sights s))
   where
@@ -209,8 +201,7 @@ open-second h s k =
     opened-by h s choice.Second
     (chooses-second (reading_first h s).found (reading_second h s).found o.0)
     (opens-second h s number
-    (chosen-of (view_at h 1) (view_of h) number (content h s.second 1) (content h s.first 0)
-    (reading_second h s) refl refl o.1)
+    (chosen-of (view_at h 1) (view_of h) refl refl o.1)
     (k.good_here s.second) (k.good_beside s.first)))
     (λ (o : Counts (reading_first h s).found (reading_second h s).found
     × Chosen (view_at h 1) number (content h s.first 0) (content h s.second 1)
@@ -218,8 +209,7 @@ open-second h s k =
     opened-by h s choice.First
     (chooses-first (reading_first h s).found (reading_second h s).found o.0)
     (opens-first h s number
-    (chosen-of (view_at h 1) (view_of h) number (content h s.first 0) (content h s.second 1)
-    (reading_first h s) refl refl o.1)
+    (chosen-of (view_at h 1) (view_of h) refl refl o.1)
     (k.good_beside s.first) (k.good_here s.second)))
     (outcome (view_at h 1) k (second_sights s))
   where
