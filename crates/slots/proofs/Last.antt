@@ -225,18 +225,24 @@ ends-all h s b bytes e = record {
           begun = (h.fresh + length b.rest) ∷ h.begun;
         })
     s1 =
-        sound-begin z k0 k0.bounds (h.slots.number + 1) (h.fresh + length b.rest) fresh
-        (omega arith) (omega arith) middle (omega (arith, top))
-        (λ c y ahead. record {
-          entries = ahead.entries;
-          begins = ahead.begins;
-          only = ahead.only;
-          middle = ahead.middle;
-          top = ahead.top;
-          save =
-              contains-more (h.fresh + length b.rest) (all_read y ahead.entries).last.save h.begun
-              ahead.save;
-          short = ahead.short;
+        sound-begin z k0 (h.slots.number + 1) (h.fresh + length b.rest) fresh
+        (record {
+          bounds = k0.bounds;
+          older = omega arith;
+          more = omega arith;
+          within = middle;
+          most = omega (arith, top);
+          ahead = λ c y ahead. record {
+            entries = ahead.entries;
+            begins = ahead.begins;
+            only = ahead.only;
+            middle = ahead.middle;
+            top = ahead.top;
+            save =
+                contains-more (h.fresh + length b.rest) (all_read y ahead.entries).last.save
+                h.begun ahead.save;
+            short = ahead.short;
+          };
         })
 
     makes : (f : Fates) → Makes (all_written xs b.state.end) (image f z.beside) (image f g)

@@ -312,25 +312,31 @@ sound-body z s g seal short b = record {
 
 -- ---- a save begins
 
-unfoldable pub sound-begin : (z : View) (s : Sound z) (b : Bounds) (number save fresh : ℕ)
-    → z.fresh ≤ fresh
-    → s.bounds.middle ≤ b.middle
-    → b.middle ≤ b.top
-    → b.top ≤ number
-    → ((c : Content) (x : Item) → IsAhead s.bounds z.begun c x
-    → IsAhead b (save ∷ z.begun) c x)
+-- A save may begin: with these bounds, all that was ahead still is.
+pub record MayBegin (z : View) (s : Sound z) (number save fresh : ℕ) : Type 0 where
+  pub bounds : Bounds
+  pub older : z.fresh ≤ fresh
+  pub more : s.bounds.middle ≤ bounds.middle
+  pub within : bounds.middle ≤ bounds.top
+  pub most : bounds.top ≤ number
+  pub ahead : (c : Content) (x : Item) → IsAhead s.bounds z.begun c x
+      → IsAhead bounds (save ∷ z.begun) c x
+
+unfoldable pub sound-begin : (z : View) (s : Sound z) (number save fresh : ℕ)
+    → MayBegin z s number save fresh
     → Sound (record z { number = number; fresh = fresh; begun = save ∷ z.begun })
-sound-begin z s b number save fresh older more within most ahead = record {
+sound-begin z s number save fresh may = record {
   value = s.value;
   entries = s.entries;
-  bounds = b;
+  bounds = may.bounds;
   here = s.here;
   only = λ f at y kind base whole.
       ⊎_elim {C = IsKnown (last_read s).last y
-      ⊎ (IsNewer (last_read s) at y × IsBegun b.middle (save ∷ z.begun) at y)}
+      ⊎ (IsNewer (last_read s) at y × IsBegun may.bounds.middle (save ∷ z.begun) at y)}
       (λ (known : IsKnown (last_read s).last y). inl known)
       (λ (newer : IsNewer (last_read s) at y × IsBegun s.bounds.middle z.begun at y).
       let below = newer.1.number in
+      let more = may.more in
       inr (
         newer.0,
         record {
@@ -341,25 +347,26 @@ sound-begin z s b number save fresh older more within most ahead = record {
       (s.only f at y kind base whole);
   beside = λ f x kind whole.
       ⊎_elim {C = IsPassed (last_read s).last.number (image f z.beside) x
-      ⊎ IsAhead b (save ∷ z.begun) (image f z.beside) x}
+      ⊎ IsAhead may.bounds (save ∷ z.begun) (image f z.beside) x}
       (λ (passed : IsPassed (last_read s).last.number (image f z.beside) x). inl passed)
-      (λ (a : IsAhead s.bounds z.begun (image f z.beside) x). inr (ahead (image f z.beside) x a))
+      (λ (a : IsAhead s.bounds z.begun (image f z.beside) x). inr (may.ahead (image f z.beside) x a))
       (s.beside f x kind whole);
   good_here = λ f.
       all-good-more (last_read s).last.number (last_read s).last.number z.fresh fresh
-      (image f z.here) (omega arith) older (s.good_here f);
+      (image f z.here) (omega arith) may.older (s.good_here f);
   good_beside = λ f.
       all-good-more (last_read s).last.number (last_read s).last.number z.fresh fresh
-      (image f z.beside) (omega arith) older (s.good_beside f);
+      (image f z.beside) (omega arith) may.older (s.good_beside f);
   end = s.end;
   seal = s.seal;
   base = s.base;
   stored = s.stored;
   low =
       let first = s.low in
+      let more = may.more in
       omega (arith, first, more);
-  middle = within;
-  top = most;
+  middle = may.within;
+  top = may.most;
 }
 
 -- ---- a save is stored

@@ -158,29 +158,29 @@ adds-holds h bytes all idle = record {
     number : ℕ
     number = h.slots.number + 1
 
-    b : Bounds
-    b = record { middle = number; top = number; long = false }
-
     x : Item
     x = new_entry h bytes (place_here h)
 
-    grown : s.bounds.middle ≤ number
-    grown =
-        let middle = s.middle in
-        let top = s.top in
-        omega (arith, middle, top)
-
     s1 : Sound (record z { number = number; fresh = z.fresh + 1; begun = z.fresh ∷ z.begun })
     s1 =
-        sound-begin z s b number z.fresh (z.fresh + 1) (omega arith) grown (omega arith)
-        (omega arith)
-        (λ c y ahead.
-        let above = ahead.middle in
-        let below = ahead.top in
-        let low = s.low in
-        let top = s.top in
-        let same = rest in
-        absurd (omega (arith, above, below, low, top, same)))
+        sound-begin z s number z.fresh (z.fresh + 1)
+        (record {
+          bounds = record { middle = number; top = number; long = false };
+          older = omega arith;
+          more =
+              let middle = s.middle in
+              let top = s.top in
+              omega (arith, middle, top);
+          within = omega arith;
+          most = omega arith;
+          ahead = λ c y ahead.
+              let above = ahead.middle in
+              let below = ahead.top in
+              let low = s.low in
+              let top = s.top in
+              let same = rest in
+              absurd (omega (arith, above, below, low, top, same));
+        })
 
     last : Good (last_read s).last.number z.fresh (last_read s).last
     last =
@@ -366,19 +366,25 @@ replaces-holds h bytes all may = record {
 
     s1 : Sound (record z { number = number; fresh = z.fresh + 1; begun = z.fresh ∷ z.begun })
     s1 =
-        sound-begin z s b number z.fresh (z.fresh + 1) (omega arith) (omega arith)
-        (omega (arith, middle)) (omega arith)
-        (λ c y a. record {
-          entries = a.entries;
-          begins = a.begins;
-          only = a.only;
-          middle = a.middle;
-          top =
-              let below = a.top in
-              let top = s.top in
-              omega (arith, below, top);
-          save = contains-more z.fresh (all_read y a.entries).last.save z.begun a.save;
-          short = λ e. a.short short;
+        sound-begin z s number z.fresh (z.fresh + 1)
+        (record {
+          bounds = b;
+          older = omega arith;
+          more = omega arith;
+          within = omega (arith, middle);
+          most = omega arith;
+          ahead = λ c y a. record {
+            entries = a.entries;
+            begins = a.begins;
+            only = a.only;
+            middle = a.middle;
+            top =
+                let below = a.top in
+                let top = s.top in
+                omega (arith, below, top);
+            save = contains-more z.fresh (all_read y a.entries).last.save z.begun a.save;
+            short = λ e. a.short short;
+          };
         })
 
     value-entry : (k n : ℕ) (y : Item) → Of x k ≡ Of y n → y.kind ≡ Entry → ⊥
