@@ -12,7 +12,7 @@ use Rattle.slots.specs.Disk as disk
 use Rattle.slots.specs.Runs.{new_beside, new_copies, rests, step, value_of, with_file, writes_copies, writes_value, Beside, Folder, GiveUp, StartRewrite, WritesCopies, WritesValue}
 use Rattle.slots.proofs.Body.{body-first, body-more, value-of-bytes, IsBody}
 use Rattle.slots.proofs.Copies.{copied, copies-size, next-seal, parts, tail-both, written-known, AreNext, Copied, GoOn, Parts, last_number, last_save}
-use Rattle.slots.proofs.Disk.{image-makes, outside-below, Makes}
+use Rattle.slots.proofs.Disk.{image-makes, outside-below, Makes, MayBe}
 use Rattle.slots.proofs.Openings.{last-good}
 use Rattle.slots.proofs.Reading.{all_read, begins-together, tail, tail-base, tail-end, tail-seal, GoesTogether}
 use Rattle.slots.proofs.Saves.{sound-body, sound-fresh, BringsBody}
@@ -271,42 +271,40 @@ value-not-mark e = cc
 pub none-of : (n : ℕ) (x : Item) → Other ≡ Of x n → ⊥
 none-of n x e = cc
 
--- no byte of a value that is new is there
-value-cell : (v : Item) (number fresh k n : ℕ) (c d : Content) (x : Item)
-    → Makes (without_head v) c d
-    → ((k n : ℕ) (x : Item) → c k ≡ Of x n → Good number fresh x)
-    → d k ≡ Of x n
-    → (Good number fresh x) ⊎ (v ≡ x)
-value-cell v number fresh k n c d x makes old is =
-    ⊎_elim {C = Good number fresh x ⊎ (v ≡ x)}
-    (λ (same : d k ≡ c k). inl (old k n x (sym same ∙ is)))
-    (λ (new : (d k ≡ (without_head v).bytes k) ⊎ (d k ≡ Other)).
-    ⊎_elim {C = Good number fresh x ⊎ (v ≡ x)}
-    (λ (this : d k ≡ (without_head v).bytes k). inr (value-of-bytes v k n x (sym this ∙ is)))
-    (λ (torn : d k ≡ Other). absurd (none-of n x (sym torn ∙ is))) new)
-    (makes k).cases
+-- what the byte is of once a value is written: of something that was there, or of that value
+value-cell : (v : Item) {old new : Cell} {k : ℕ} (n : ℕ) (x : Item)
+    → MayBe (without_head v) old new k
+    → new ≡ Of x n
+    → (old ≡ Of x n) ⊎ (v ≡ x)
+value-cell v {old} {new} {k} n x may is =
+    ⊎_elim {C = (old ≡ Of x n) ⊎ (v ≡ x)} (λ (same : new ≡ old). inl (sym same ∙ is))
+    (λ (other : (new ≡ (without_head v).bytes k) ⊎ (new ≡ Other)).
+    ⊎_elim {C = (old ≡ Of x n) ⊎ (v ≡ x)}
+    (λ (this : new ≡ (without_head v).bytes k). inr (value-of-bytes v k n x (sym this ∙ is)))
+    (λ (torn : new ≡ Other). absurd (none-of n x (sym torn ∙ is))) other)
+    may.cases
 
-value-news : (h : Folder) (s : IsSound h) (b : Beside) (bytes : ℕ) (place : Target)
-    → h.beside ≡ Some b
-    → (r : Reached)
-    → IsStarted (record b { rest = [] }) r
-    → LeadsTo h.stored (last_read s.all.holds.sound).last.number h.slots.end r b.rest
-    → (b.state.from ≡ h.slots.counts) × (leb bytes MOST ≡ true)
-    × (place ≡ record {
-      offset = 0;
-      number = b.state.number;
-      before = 0;
-      slot = other b.state.from;
-    })
+abbrev value_target : Beside → Target
+value_target b = record {
+  offset = 0;
+  number = b.state.number;
+  before = 0;
+  slot = other b.state.from;
+}
+
+value-news : (h : Folder) (s : IsSound h) (b : Beside) (bytes : ℕ)
+    → (w : Works (view_of h) s.all.holds.sound h.slots.counts b)
+    → IsStarted (record b { rest = [] }) w.reached
+    → leb bytes MOST ≡ true
     → News h s
     (record b {
-      value = value_of h b bytes place;
+      value = value_of h b bytes (value_target b);
       doing = WritesValue bytes;
-      write = without_head (value_of h b bytes place);
-      to = place.slot;
+      write = without_head (value_of h b bytes (value_target b));
+      to = other b.state.from;
     })
 unfolding sound-fresh
-value-news h s b bytes place is r started leads with_it = record {
+value-news h s b bytes works started fits = record {
   file = with_write z.beside w;
   fresh = h.fresh + 1;
   older = omega arith;
@@ -319,9 +317,19 @@ value-news h s b bytes place is r started leads with_it = record {
     whose = λ k n x e. ap (λ (i : Item). i.base) (sym (value-of-bytes v k n x e));
     headless = λ f n x e. headless f n x e;
   };
-  from = with_it.0;
-  reached = record { save = r.save; number = r.number; from = r.from; seal = h.fresh };
-  leads = record { on = leads.on; save = leads.save; last = leads.last; size = leads.size };
+  from = works.from;
+  reached = record {
+    save = works.reached.save;
+    number = works.reached.number;
+    from = works.reached.from;
+    seal = h.fresh;
+  };
+  leads = record {
+    on = works.leads.on;
+    save = works.leads.save;
+    last = works.leads.last;
+    size = works.leads.size;
+  };
   below = omega arith;
   part =
       AtValue
@@ -330,8 +338,8 @@ value-news h s b bytes place is r started leads with_it = record {
         none = started.none;
         doing = refl;
         end = started.end;
-        fits = with_it.1;
-        to = ap (λ (t : Target). t.slot) with_it.2 ∙ ap other with_it.0;
+        fits = fits;
+        to = ap other works.from;
         write = refl;
         own = refl;
         kind = refl;
@@ -340,14 +348,13 @@ value-news h s b bytes place is r started leads with_it = record {
             body-first v (image f (with_write z.beside w)) refl refl large
             (λ k n y e kind base.
             ⊎_elim {C = ⊥}
-            (λ (g : Good number h.fresh y).
-            let low = g.base in
+            (λ (was : image f z.beside k ≡ Of y n).
+            let low = (k0.good_beside f k n y was).base in
             omega (arith, low, base))
             (λ (it : v ≡ y). value-not-entry (ap (λ (i : Item). i.kind) it ∙ kind))
-            (value-cell v number h.fresh k n (image f z.beside) (image f (with_write z.beside w)) y
-            (makes f) (k0.good_beside f) e));
+            (value-cell v n y (makes f k) e));
         save = started.save;
-        number = started.number ∙ ap (λ (t : Target). t.number) (sym with_it.2);
+        number = started.number;
         from = started.from;
         seal = refl;
       });
@@ -363,7 +370,7 @@ value-news h s b bytes place is r started leads with_it = record {
     number = (last_read k0).last.number
 
     v : Item
-    v = value_of h b bytes place
+    v = value_of h b bytes (value_target b)
 
     w : Write
     w = without_head v
@@ -424,7 +431,7 @@ unfolding value-news
 value-sound h s b bytes is rest = go (may_write b.state bytes) refl
   where
     place : Target
-    place = record { offset = 0; number = b.state.number; before = 0; slot = other b.state.from }
+    place = value_target b
 
     w : Works (view_of h) s.all.holds.sound h.slots.counts b
     w = s.all.works b is
@@ -445,7 +452,7 @@ value-sound h s b bytes is rest = go (may_write b.state bytes) refl
         → Part (view_of h).beside h.slots.counts (record b { rest = [] }) w.reached
         → P
     by-part first fits (AtStart started) =
-        let n = value-news h s b bytes place is w.reached started w.leads (w.from, fits, refl) in
+        let n = value-news h s b bytes w started fits in
         let there = ap other w.from in
         subst (λ (f : File). IsSound (with_news h place.slot f new (h.fresh + 1)))
         (ap (λ (i : ℕ). with_write (h.files i) (without_head (value_of h b bytes place)))

@@ -349,7 +349,8 @@ sound-begin z s number save fresh may = record {
       ⊎_elim {C = IsPassed (last_read s).last.number (image f z.beside) x
       ⊎ IsAhead may.bounds (save ∷ z.begun) (image f z.beside) x}
       (λ (passed : IsPassed (last_read s).last.number (image f z.beside) x). inl passed)
-      (λ (a : IsAhead s.bounds z.begun (image f z.beside) x). inr (may.ahead (image f z.beside) x a))
+      (λ (a : IsAhead s.bounds z.begun (image f z.beside) x).
+      inr (may.ahead (image f z.beside) x a))
       (s.beside f x kind whole);
   good_here = λ f.
       all-good-more (last_read s).last.number (last_read s).last.number z.fresh fresh
