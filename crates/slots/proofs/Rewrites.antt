@@ -583,12 +583,9 @@ items-bring z s b g xs R is tied facts makes headless = record {
         omega (arith, large, end, above)
 
 copies-news : (h : Folder) (s : IsSound h) (b : Beside) (count : ℕ)
-    → h.beside ≡ Some b
-    → (r : Reached)
-    → IsReady (view_of h).beside (record b { rest = [] }) r
-    → LeadsTo h.stored (last_read s.all.holds.sound).last.number h.slots.end r b.rest
-    → (b.state.from ≡ h.slots.counts) × (r.seal < h.fresh)
-    × (may_copy b.state (b.state.from_end + size_of (take count b.rest)) ≡ true)
+    → (w : Works (view_of h) s.all.holds.sound h.slots.counts b)
+    → IsReady (view_of h).beside (record b { rest = [] }) w.reached
+    → may_copy b.state (b.state.from_end + size_of (take count b.rest)) ≡ true
     → News h s
     (record b {
       doing = WritesCopies;
@@ -599,7 +596,7 @@ copies-news : (h : Folder) (s : IsSound h) (b : Beside) (count : ℕ)
       next_of = take count b.rest;
     })
 unfolding sound-fresh
-copies-news h s b count is r ready leads with_it = record {
+copies-news h s b count w ready fits = record {
   file = g;
   fresh = fresh;
   older = omega arith;
@@ -610,7 +607,7 @@ copies-news h s b count is r ready leads with_it = record {
       (C.next, a.base, a.together.number, a.value, C.below, number_low)
       makes
       (λ f n x e. (ready.body f).headless n x e);
-  from = with_it.0;
+  from = w.from;
   reached = record {
     save = T.last.save;
     number = T.last.number;
@@ -620,14 +617,14 @@ copies-news h s b count is r ready leads with_it = record {
   leads = record {
     on =
         subst (λ (n : ℕ). GoOn n T.last.number (drop count b.rest)) (sym save)
-        (subst (λ (n : ℕ). GoOn (last_save r.save es) n (drop count b.rest)) (sym number)
+        (subst (λ (n : ℕ). GoOn (last_save w.reached.save es) n (drop count b.rest)) (sym number)
         p.rest_on);
     save =
-        ap (λ (n : ℕ). last_save n (drop count b.rest)) save ∙ p.save_is ∙ leads.save;
+        ap (λ (n : ℕ). last_save n (drop count b.rest)) save ∙ p.save_is ∙ w.leads.save;
     last =
-        ap (λ (n : ℕ). last_number n (drop count b.rest)) number ∙ p.number_is ∙ leads.last;
+        ap (λ (n : ℕ). last_number n (drop count b.rest)) number ∙ p.number_is ∙ w.leads.last;
     size =
-        let whole = leads.size in
+        let whole = w.leads.size in
         let sum = p.size in
         let from = ready.from in
         omega (arith, whole, sum, from);
@@ -643,8 +640,8 @@ copies-news h s b count is r ready leads with_it = record {
           base = tied.base;
           large = tied.large;
         };
-        fits = with_it.2;
-        to = ap other with_it.0;
+        fits = fits;
+        to = ap other w.from;
         write = ap (all_written xs) tied.end;
         next = C.next;
         soon = λ f.
@@ -687,11 +684,14 @@ copies-news h s b count is r ready leads with_it = record {
     T : Reading
     T = tail R xs
 
+    r : Reached
+    r = w.reached
+
     p : Parts r.save r.number es (drop count b.rest) b.rest
-    p = parts count r.save r.number b.rest leads.on
+    p = parts count r.save r.number b.rest w.leads.on
 
     a : Ahead h s b es
-    a = ahead-of h s b es r ready with_it.1 p.first_on
+    a = ahead-of h s b es r ready w.below p.first_on
 
     C : Copied R h.fresh es xs
     C = a.copies
@@ -717,7 +717,7 @@ copies-news h s b count is r ready leads with_it = record {
     number_low =
         let grows = go-grows (last_save r.save es) (last_number r.number es) (drop count b.rest)
         p.rest_on in
-        let last = leads.last in
+        let last = w.leads.last in
         let same = p.number_is in
         omega (arith, grows, last, same, number)
 
@@ -770,7 +770,7 @@ copies-sound h s b count is rest = go (may_copy b.state end) refl
         (not-true (eqb b.state.end 0) (and_parts _ _ (and_parts _ _ fits).0).0) in
         absurd (some started.end)
     by-part fits (AtRest ready) =
-        let n = copies-news h s b count is w.reached ready w.leads (w.from, w.below, fits) in
+        let n = copies-news h s b count w ready fits in
         let there = ap other w.from in
         subst
         (λ (f : File). IsSound
