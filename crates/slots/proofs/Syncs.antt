@@ -19,25 +19,20 @@ use Rattle.slots.proofs.Rewrites.{go-grows, news-sound, value-not-entry, value-n
 -- ---- what was written is synced
 
 value-synced : (h : Folder) (s : IsSound h) (b : Beside) (fates : Fates)
-    → h.beside ≡ Some b
-    → (r : Reached)
-    → IsValue (view_of h).beside h.slots.counts (record b { rest = [] }) r
-    → LeadsTo h.stored (last_read s.all.holds.sound).last.number h.slots.end r b.rest
-    → (b.state.from ≡ h.slots.counts) × (r.seal < h.fresh)
-    → (length : ℕ)
-    → b.value.size ≡ value_size length
+    → (works : Works (view_of h) s.all.holds.sound h.slots.counts b)
+    → (v : IsValue (view_of h).beside h.slots.counts (record b { rest = [] }) works.reached)
     → News h s
     (record b {
       state = record (b.state) {
         base = b.value.seal;
         seal = b.value.seal;
-        length = length;
-        end = value_size length;
+        length = v.length;
+        end = value_size v.length;
       };
       doing = Rests;
     })
 unfolding sound-fresh
-value-synced h s b fates is r v leads with_it length size = record {
+value-synced h s b fates works v = record {
   file = synced_after w fates z.beside;
   fresh = h.fresh;
   older = omega arith;
@@ -51,19 +46,21 @@ value-synced h s b fates is r v leads with_it length size = record {
         ap (λ (i : Item). i.base) (sym (value-of-bytes b.value k n x e)) ∙ v.own;
     headless = λ f n x e. (v.soon fates).headless n x e;
   };
-  from = with_it.0;
-  reached = r;
-  leads = leads;
-  below = with_it.1;
+  from = works.from;
+  reached = works.reached;
+  leads = works.leads;
+  below = works.below;
   part =
       AtRest
       (record {
         rests = refl;
         tied = record {
-          end = sym size ∙ ap (λ (ys : List Item). (all_read b.value ys).end) (sym v.none);
+          end = sym v.size ∙ ap (λ (ys : List Item). (all_read b.value ys).end) (sym v.none);
           seal = ap (λ (ys : List Item). (all_read b.value ys).last.seal) (sym v.none);
           base = refl;
-          large = omega (arith, size);
+          large =
+              let size = v.size in
+              omega (arith, size);
         };
         body = λ f.
             subst (IsBody (put w (image fates z.beside)) b.value) (sym v.none) (v.soon fates);
@@ -88,7 +85,7 @@ value-synced h s b fates is r v leads with_it length size = record {
 
     good : Good number h.fresh b.value
     good =
-        let below = with_it.1 in
+        let below = works.below in
         let seal = v.seal in
         let own = v.own in
         let kind = v.kind in
@@ -100,11 +97,8 @@ value-synced h s b fates is r v leads with_it length size = record {
         }
 
 copies-synced : (h : Folder) (s : IsSound h) (b : Beside) (fates : Fates)
-    → h.beside ≡ Some b
-    → (r : Reached)
-    → IsCopying (view_of h).beside h.slots.counts (record b { rest = [] }) r
-    → LeadsTo h.stored (last_read s.all.holds.sound).last.number h.slots.end r b.rest
-    → (b.state.from ≡ h.slots.counts) × (r.seal < h.fresh)
+    → (works : Works (view_of h) s.all.holds.sound h.slots.counts b)
+    → IsCopying (view_of h).beside h.slots.counts (record b { rest = [] }) works.reached
     → News h s
     (record b {
       state = record (b.state) {
@@ -118,7 +112,7 @@ copies-synced : (h : Folder) (s : IsSound h) (b : Beside) (fates : Fates)
       doing = Rests;
     })
 unfolding sound-fresh
-copies-synced h s b fates is r c leads with_it = record {
+copies-synced h s b fates works c = record {
   file = synced_after w fates z.beside;
   fresh = h.fresh;
   older = omega arith;
@@ -130,7 +124,7 @@ copies-synced h s b fates is r c leads with_it = record {
     good = λ k n x e.
         let known = written-known R b.next R.end k number c.next e in
         let base = known.1 in
-        let last = with_it.1 in
+        let last = works.below in
         let seal = known.2.seal in
         let low = known.2.number in
         let kind = known.0 in
@@ -151,10 +145,10 @@ copies-synced h s b fates is r c leads with_it = record {
         (written-known R b.next R.end k number c.next e).1 ∙ base_own;
     headless = λ f n x e. (c.soon fates).headless n x e;
   };
-  from = with_it.0;
-  reached = r;
-  leads = leads;
-  below = with_it.1;
+  from = works.from;
+  reached = works.reached;
+  leads = works.leads;
+  below = works.below;
   part =
       AtRest
       (record {
@@ -213,10 +207,10 @@ copies-synced h s b fates is r c leads with_it = record {
         (together (put (head_of b.value) d0) (first_read b.value) b.copies
         (together-first b.value) chain).number
 
-    number_low : r.number ≤ (last_read s.all.holds.sound).last.number + 1
+    number_low : works.reached.number ≤ (last_read s.all.holds.sound).last.number + 1
     number_low =
-        let grows = go-grows r.save r.number b.rest leads.on in
-        let last = leads.last in
+        let grows = go-grows works.reached.save works.reached.number b.rest works.leads.on in
+        let last = works.leads.last in
         omega (arith, grows, last)
 
 pub settle-sound : (h : Folder) (s : IsSound h) (b : Beside) (fates : Fates) → h.beside ≡ Some b
@@ -234,12 +228,12 @@ settle-sound h s b fates is = by-part w.part
           beside = Some (done_by b d);
         })
 
-    of-value : (length : ℕ) → (eqb b.state.end 0 && leb length MOST ≡ true)
-        → (v : IsValue (view_of h).beside h.slots.counts (record b { rest = [] }) w.reached)
-        → b.value.size ≡ value_size length
-        → IsSound (F (WritesValue length))
-    of-value length fits v size =
-        let n = value-synced h s b fates is w.reached v w.leads (w.from, w.below) length size in
+    of-value : (v : IsValue (view_of h).beside h.slots.counts (record b { rest = [] }) w.reached)
+        → IsSound (F (WritesValue v.length))
+    of-value v =
+        let n = value-synced h s b fates w v in
+        let fits = and_from (eqb b.state.end 0) (leb v.length MOST)
+        (eq-eqb b.state.end 0 v.end) v.fits in
         subst
         (λ (t : Bool).
         IsSound
@@ -250,8 +244,8 @@ settle-sound h s b fates is = by-part w.part
                     (record (b.state) {
                       base = b.value.seal;
                       seal = b.value.seal;
-                      length = length;
-                      end = value_size length;
+                      length = v.length;
+                      end = value_size v.length;
                     })
                     b.state;
                 doing = Rests;
@@ -261,23 +255,23 @@ settle-sound h s b fates is = by-part w.part
         (subst
         (λ (x : Write).
         IsSound
-        (with_news h b.to (synced_after x fates (h.files b.to)) (value_after length) h.fresh))
+        (with_news h b.to (synced_after x fates (h.files b.to)) new h.fresh))
         (sym v.write)
         (subst
         (λ (i : ℕ).
         IsSound
-        (with_news h b.to (synced_after (without_head b.value) fates (h.files i))
-        (value_after length) h.fresh))
-        (sym v.to) (news-sound h s b (value_after length) is n b.to v.to)))
+        (with_news h b.to (synced_after (without_head b.value) fates (h.files i)) new
+        h.fresh))
+        (sym v.to) (news-sound h s b new is n b.to v.to)))
       where
-        value_after : ℕ → Beside
-        value_after length =
+        new : Beside
+        new =
             record b {
               state = record (b.state) {
                 base = b.value.seal;
                 seal = b.value.seal;
-                length = length;
-                end = value_size length;
+                length = v.length;
+                end = value_size v.length;
               };
               doing = Rests;
             }
@@ -285,7 +279,7 @@ settle-sound h s b fates is = by-part w.part
     of-copies : (c : IsCopying (view_of h).beside h.slots.counts (record b { rest = [] }) w.reached)
         → IsSound (F WritesCopies)
     of-copies c =
-        let n = copies-synced h s b fates is w.reached c w.leads (w.from, w.below) in
+        let n = copies-synced h s b fates w c in
         subst
         (λ (t : Bool).
         IsSound
@@ -327,8 +321,5 @@ settle-sound h s b fates is = by-part w.part
     by-part (AtStart started) = subst (λ (d : Doing). IsSound (F d)) (sym started.rests) s
     by-part (AtRest ready) = subst (λ (d : Doing). IsSound (F d)) (sym ready.rests) s
     by-part (AtValue v) =
-        subst (λ (d : Doing). IsSound (F d)) (sym v.doing)
-        (of-value v.length
-        (and_from (eqb b.state.end 0) (leb v.length MOST) (eq-eqb b.state.end 0 v.end) v.fits) v
-        v.size)
+        subst (λ (d : Doing). IsSound (F d)) (sym v.doing) (of-value v)
     by-part (AtCopies c) = subst (λ (d : Doing). IsSound (F d)) (sym c.doing) (of-copies c)
