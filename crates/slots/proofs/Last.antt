@@ -262,15 +262,18 @@ ends-all h s b bytes e = record {
           fresh = fresh;
           begun = (h.fresh + length b.rest) ∷ h.begun;
         })
-        s1 b g xs R refl tied (
-          next,
-          a.base,
-          a.together.number,
-          a.value,
-          subst (λ (r : Reading). r.last.seal < fresh) (sym last) (omega arith),
-          subst (λ (r : Reading). r.last.number ≤ (last_read k0).last.number + 1) (sym last)
-              (omega (arith, idle)),
-        )
+        s1 b g xs
+        (record {
+          tied = tied;
+          next = next;
+          base = a.base;
+          number = a.together.number;
+          value = a.value;
+          seal = subst (λ (r : Reading). r.last.seal < fresh) (sym last) (omega arith);
+          last =
+              subst (λ (r : Reading). r.last.number ≤ (last_read k0).last.number + 1) (sym last)
+              (omega (arith, idle));
+        })
         makes (λ f n y is. (e.ready.body f).headless n y is)
 
     t : Sound

@@ -529,32 +529,36 @@ ahead-of h s b es r ready below on = record {
     together : GoesTogether R
     together = begins-together (put (head_of b.value) c) b.value b.copies body.begins
 
--- what brings items that go on behind a rewrite's copies
+-- items that go on behind a rewrite's copies
+pub record GoBehind (z : View) (s : Sound z) (b : Beside) (xs : List Item) : Type 0 where
+  pub tied : IsTied b
+  pub next : AreNext (all_read b.value b.copies) xs
+  pub base : (all_read b.value b.copies).last.base ≡ b.value.seal
+  pub number : (all_read b.value b.copies).found.number ≡ (all_read b.value b.copies).last.number
+  pub value : b.value.seal ≤ (all_read b.value b.copies).last.seal
+  pub seal : (tail (all_read b.value b.copies) xs).last.seal < z.fresh
+  pub last : (tail (all_read b.value b.copies) xs).last.number ≤ (last_read s).last.number + 1
+
+-- what brings them
 unfoldable pub items-bring : (z : View) (s : Sound z) (b : Beside) (g : File) (xs : List Item)
-    → (R : Reading)
-    → R ≡ all_read b.value b.copies
-    → IsTied b
-    → (AreNext R xs) × (R.last.base ≡ b.value.seal) × (R.found.number ≡ R.last.number)
-    × (b.value.seal ≤ R.last.seal)
-    × ((tail R xs).last.seal < z.fresh)
-    × ((tail R xs).last.number ≤ (last_read s).last.number + 1)
+    → GoBehind z s b xs
     → ((f : Fates) → Makes (all_written xs b.state.end) (image f z.beside) (image f g))
     → ((f : Fates) (n : ℕ) (x : Item) → image f z.beside 0 ≡ Of x n → x.base ≢ b.value.seal)
     → BringsBody z s g b.value.seal
-items-bring z s b g xs R is tied facts makes headless = record {
+items-bring z s b g xs behind makes headless = record {
   write = all_written xs b.state.end;
   back = λ f. f;
   makes = makes;
   good = λ k n x e.
-      let known = written-known R xs b.state.end k facts.2 facts.0 e in
+      let known = written-known R xs b.state.end k behind.number behind.next e in
       let base = known.1 in
-      let own = facts.1 in
-      let first = facts.3 in
-      let last = facts.4 in
-      let number = facts.5 in
+      let own = behind.base in
+      let first = behind.value in
+      let last = behind.seal in
+      let number = behind.last in
       let seal = known.2.seal in
       let low = known.2.number in
-      let newer = next-seal R xs facts.0 in
+      let newer = next-seal R xs behind.next in
       let kind = known.0 in
       record {
         seal = omega (arith, seal, last);
@@ -563,7 +567,7 @@ items-bring z s b g xs R is tied facts makes headless = record {
         mark = λ e. absurd (not-mark (sym kind ∙ e));
       };
   whose = λ k n x e.
-      (written-known R xs b.state.end k facts.2 facts.0 e).1 ∙ facts.1;
+      (written-known R xs b.state.end k behind.number behind.next e).1 ∙ behind.base;
   headless = λ f n x e.
       headless f n x
       (sym
@@ -572,13 +576,16 @@ items-bring z s b g xs R is tied facts makes headless = record {
       ∙ e);
 }
   where
+    R : Reading
+    R = all_read b.value b.copies
+
     not-mark : Entry ≡ disk.Mark → ⊥
     not-mark e = cc
 
     some : 0 < b.state.end
     some =
-        let large = tied.large in
-        let end = tied.end in
+        let large = behind.tied.large in
+        let end = behind.tied.end in
         let above = tail-end (first_read b.value) b.copies in
         omega (arith, large, end, above)
 
@@ -602,9 +609,16 @@ copies-news h s b count w ready fits = record {
   older = omega arith;
   seal = b.value.seal;
   brings =
-      items-bring (record z { fresh = fresh }) (sound-fresh z k0 fresh (omega arith)) b g xs R refl
-      tied
-      (C.next, a.base, a.together.number, a.value, C.below, number_low)
+      items-bring (record z { fresh = fresh }) (sound-fresh z k0 fresh (omega arith)) b g xs
+      (record {
+        tied = tied;
+        next = C.next;
+        base = a.base;
+        number = a.together.number;
+        value = a.value;
+        seal = C.below;
+        last = number_low;
+      })
       makes
       (λ f n x e. (ready.body f).headless n x e);
   from = w.from;
