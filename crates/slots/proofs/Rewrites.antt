@@ -318,12 +318,7 @@ value-news h s b bytes works started fits = record {
     headless = λ f n x e. headless f n x e;
   };
   from = works.from;
-  reached = record {
-    save = works.reached.save;
-    number = works.reached.number;
-    from = works.reached.from;
-    seal = h.fresh;
-  };
+  reached = record (works.reached) { seal = h.fresh };
   leads = record {
     on = works.leads.on;
     save = works.leads.save;
@@ -430,22 +425,19 @@ pub value-sound : (h : Folder) (s : IsSound h) (b : Beside) (bytes : ℕ) → h.
 unfolding value-news
 value-sound h s b bytes is rest = go (may_write b.state bytes) refl
   where
-    place : Target
-    place = value_target b
-
     w : Works (view_of h) s.all.holds.sound h.slots.counts b
     w = s.all.works b is
 
     P : Type 0
-    P = IsSound (writes_value h b bytes (Some place))
+    P = IsSound (writes_value h b bytes (Some (value_target b)))
 
     new : Beside
     new =
         record b {
-          value = value_of h b bytes place;
+          value = value_of h b bytes (value_target b);
           doing = WritesValue bytes;
-          write = without_head (value_of h b bytes place);
-          to = place.slot;
+          write = without_head (value_of h b bytes (value_target b));
+          to = other b.state.from;
         }
 
     by-part : (eqb b.state.end 0 ≡ true) → (leb bytes MOST ≡ true)
@@ -454,10 +446,9 @@ value-sound h s b bytes is rest = go (may_write b.state bytes) refl
     by-part first fits (AtStart started) =
         let n = value-news h s b bytes w started fits in
         let there = ap other w.from in
-        subst (λ (f : File). IsSound (with_news h place.slot f new (h.fresh + 1)))
-        (ap (λ (i : ℕ). with_write (h.files i) (without_head (value_of h b bytes place)))
-        (sym there))
-        (news-sound h s b new is n place.slot there)
+        subst (λ (f : File). IsSound (with_news h (other b.state.from) f new (h.fresh + 1)))
+        (ap (λ (i : ℕ). with_write (h.files i) new.write) (sym there))
+        (news-sound h s b new is n (other b.state.from) there)
     by-part first fits (AtRest ready) =
         let none = eqb-true b.state.end 0 first in
         let some = tied-end (view_of h).beside (record b { rest = [] }) w.reached ready in
@@ -466,7 +457,7 @@ value-sound h s b bytes is rest = go (may_write b.state bytes) refl
     by-part first fits (AtCopies c) = absurd ((resting b rest 0).1 c.doing)
 
     go : (t : Bool) → may_write b.state bytes ≡ t
-        → IsSound (writes_value h b bytes (cond t (Some place) None))
+        → IsSound (writes_value h b bytes (cond t (Some (value_target b)) None))
     go true e =
         let both = and_parts (eqb b.state.end 0) (leb bytes MOST) e in
         by-part both.0 both.1 w.part
