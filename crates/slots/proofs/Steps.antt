@@ -13,7 +13,7 @@ use Rattle.slots.proofs.Openings.{last-good}
 use Rattle.slots.proofs.Reading.{all_read, IsNewer}
 use Rattle.slots.proofs.Saves.{item-written, sound-begin, sound-beside, sound-here, this-or-free, BringsEntries, BringsValues}
 use Rattle.slots.proofs.Works.{works-keep}
-use Rattle.slots.proofs.Sound.{last_read, under_of, view_of, All, AreGood, Bounds, Good, Holds, IsAhead, IsBegun, IsSound, Sound, View}
+use Rattle.slots.proofs.Sound.{last_read, under_of, view_of, All, Bounds, Good, Holds, IsAhead, IsBegun, IsSound, Sound, View}
 
 -- ---- files by their slots
 

@@ -1,5 +1,5 @@
 -- What a rewrite has written is synced, and it ends with an entry.
-use Rattle.std.proofs.Common.{◌≡◌, ◌<◌, ◌≤◌, ◌+◌, ◌-◌, ℕ, Bool, cond, true, ◌&&◌, List, [], ◌++◌, Some, length, refl, sym, ap, ◌∙◌, subst, arith, eqb, leb}
+use Rattle.std.proofs.Common.{◌≡◌, ◌≤◌, ◌+◌, ◌-◌, ℕ, Bool, cond, List, [], ◌++◌, Some, refl, sym, ap, ◌∙◌, subst, arith, eqb, leb}
 use Rattle.std.proofs.lemmas.Bool.{and_from, eq-eqb}
 use Rattle.slots.specs.declared.saving.TheConstants.{MOST}
 use Rattle.slots.specs.declared.rewrite.Rewrite.{Rewrite}
@@ -13,7 +13,7 @@ use Rattle.slots.proofs.Copies.{chain-first, next-seal, tail-both, tail-size, wr
 use Rattle.slots.proofs.Disk.{put-makes}
 use Rattle.slots.proofs.Reading.{all_read, tail, tail-base, tail-seal, together, together-first, Chain}
 use Rattle.slots.proofs.Saves.{sound-fresh}
-use Rattle.slots.proofs.Sound.{last_read, view_of, AtCopies, AtRest, AtStart, AtValue, Good, IsCopying, IsSound, IsValue, LeadsTo, Part, Reached, View, Works}
+use Rattle.slots.proofs.Sound.{last_read, view_of, AtCopies, AtRest, AtStart, AtValue, Good, IsCopying, IsSound, IsValue, Part, View, Works}
 use Rattle.slots.proofs.Rewrites.{go-grows, news-sound, value-not-entry, value-not-mark, with_news, News}
 
 -- ---- what was written is synced
