@@ -106,7 +106,7 @@ ends-all h s b bytes e = record {
         omega (arith, large);
     whose = λ k n x is. (brings.whose k n x is, brings.good k n x is);
     seal =
-        let first = a.value in
+        let first = a.fit.value in
         let below = C.below in
         let more = next-seal R cs C.next in
         omega (arith, first, below, more);
@@ -148,12 +148,7 @@ ends-all h s b bytes e = record {
     T = tail R cs
 
     tied : IsTied b
-    tied = record {
-      end = e.ready.tied.end;
-      seal = e.ready.tied.seal;
-      base = e.ready.tied.base;
-      large = e.ready.tied.large;
-    }
+    tied = a.fit.tied
 
     x : Item
     x = last_entry h b bytes (last_at h b)
@@ -174,7 +169,7 @@ ends-all h s b bytes e = record {
         let found = C.together.number in
         record {
           kind = refl;
-          base = sym (next-base R cs C.next ∙ a.base);
+          base = sym (next-base R cs C.next ∙ a.fit.base);
           before =
               ap (λ (n : ℕ). last_seal n cs) tied.seal ∙ sym C.seal;
           version = C.together.version;
@@ -264,11 +259,8 @@ ends-all h s b bytes e = record {
         })
         s1 b g xs
         (record {
-          tied = tied;
+          fit = a.fit;
           next = next;
-          base = a.base;
-          number = a.together.number;
-          value = a.value;
           seal = subst (λ (r : Reading). r.last.seal < fresh) (sym last) (omega arith);
           last =
               subst (λ (r : Reading). r.last.number ≤ (last_read k0).last.number + 1) (sym last)

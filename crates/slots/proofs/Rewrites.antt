@@ -473,13 +473,17 @@ go-grows save number (x ∷ xs) all =
     let first = all.0.more in
     omega (arith, more, first)
 
--- what a rewrite that is ready knows of its copies
-pub record Ahead (h : Folder) (s : IsSound h) (b : Beside) (es : List Item) : Type 0 where
-  pub copies : Copied (all_read b.value b.copies) h.fresh es (new_copies h b es)
+-- A rewrite's copies go together behind its value.
+pub record CopiesFit (b : Beside) : Type 0 where
+  pub tied : IsTied b
   pub base : (all_read b.value b.copies).last.base ≡ b.value.seal
   pub together : GoesTogether (all_read b.value b.copies)
   pub value : b.value.seal ≤ (all_read b.value b.copies).last.seal
-  pub above : b.value.size ≤ (all_read b.value b.copies).end
+
+-- what a rewrite that is ready knows of its copies, and of more copies
+pub record Ahead (h : Folder) (s : IsSound h) (b : Beside) (es : List Item) : Type 0 where
+  pub fit : CopiesFit b
+  pub copies : Copied (all_read b.value b.copies) h.fresh es (new_copies h b es)
 
 pub ahead-of : (h : Folder) (s : IsSound h) (b : Beside) (es : List Item) (r : Reached)
     → IsReady (view_of h).beside (record b { rest = [] }) r
@@ -487,6 +491,20 @@ pub ahead-of : (h : Folder) (s : IsSound h) (b : Beside) (es : List Item) (r : R
     → GoOn r.save r.number es
     → Ahead h s b es
 ahead-of h s b es r ready below on = record {
+  fit = record {
+    tied = record {
+      end = ready.tied.end;
+      seal = ready.tied.seal;
+      base = ready.tied.base;
+      large = ready.tied.large;
+    };
+    base = base;
+    together = together;
+    value =
+        let grows = tail-seal (put (head_of b.value) c) (first_read b.value) b.copies
+        body.begins.chain in
+        omega (arith, grows);
+  };
   copies =
       subst (λ (seal : ℕ). Copied R h.fresh es (copies_of b.value.seal seal h.fresh es))
       (sym ready.tied.seal)
@@ -494,13 +512,6 @@ ahead-of h s b es r ready below on = record {
       (copied R h.fresh es together (subst (λ (n : ℕ). n < h.fresh) ready.seal below)
       (subst (λ (n : ℕ). GoOn R.last.save n es) ready.number
       (subst (λ (n : ℕ). GoOn n r.number es) ready.save on))));
-  base = base;
-  together = together;
-  value =
-      let grows = tail-seal (put (head_of b.value) c) (first_read b.value) b.copies
-      body.begins.chain in
-      omega (arith, grows);
-  above = tail-end (first_read b.value) b.copies;
 }
   where
     R : Reading
@@ -522,15 +533,12 @@ ahead-of h s b es r ready below on = record {
 
 -- items that go on behind a rewrite's copies
 pub record GoBehind (z : View) (s : Sound z) (b : Beside) (xs : List Item) : Type 0 where
-  pub tied : IsTied b
+  pub fit : CopiesFit b
   pub next : AreNext (all_read b.value b.copies) xs
-  pub base : (all_read b.value b.copies).last.base ≡ b.value.seal
-  pub number : (all_read b.value b.copies).found.number ≡ (all_read b.value b.copies).last.number
-  pub value : b.value.seal ≤ (all_read b.value b.copies).last.seal
   pub seal : (tail (all_read b.value b.copies) xs).last.seal < z.fresh
   pub last : (tail (all_read b.value b.copies) xs).last.number ≤ (last_read s).last.number + 1
 
--- what brings them
+-- what brings such items
 unfoldable pub items-bring : (z : View) (s : Sound z) (b : Beside) (g : File) (xs : List Item)
     → GoBehind z s b xs
     → ((f : Fates) → Makes (all_written xs b.state.end) (image f z.beside) (image f g))
@@ -541,10 +549,10 @@ items-bring z s b g xs behind makes headless = record {
   back = λ f. f;
   makes = makes;
   good = λ k n x e.
-      let known = written-known R xs b.state.end k behind.number behind.next e in
+      let known = written-known R xs b.state.end k fit.together.number behind.next e in
       let base = known.1 in
-      let own = behind.base in
-      let first = behind.value in
+      let own = fit.base in
+      let first = fit.value in
       let last = behind.seal in
       let number = behind.last in
       let seal = known.2.seal in
@@ -558,7 +566,7 @@ items-bring z s b g xs behind makes headless = record {
         mark = λ e. absurd (not-mark (sym kind ∙ e));
       };
   whose = λ k n x e.
-      (written-known R xs b.state.end k behind.number behind.next e).1 ∙ behind.base;
+      (written-known R xs b.state.end k fit.together.number behind.next e).1 ∙ fit.base;
   headless = λ f n x e.
       headless f n x
       (sym
@@ -570,13 +578,16 @@ items-bring z s b g xs behind makes headless = record {
     R : Reading
     R = all_read b.value b.copies
 
+    fit : CopiesFit b
+    fit = behind.fit
+
     not-mark : Entry ≡ disk.Mark → ⊥
     not-mark e = cc
 
     some : 0 < b.state.end
     some =
-        let large = behind.tied.large in
-        let end = behind.tied.end in
+        let large = fit.tied.large in
+        let end = fit.tied.end in
         let above = tail-end (first_read b.value) b.copies in
         omega (arith, large, end, above)
 
@@ -601,15 +612,7 @@ copies-news h s b count w ready fits = record {
   seal = b.value.seal;
   brings =
       items-bring (record z { fresh = fresh }) (sound-fresh z k0 fresh (omega arith)) b g xs
-      (record {
-        tied = tied;
-        next = C.next;
-        base = a.base;
-        number = a.together.number;
-        value = a.value;
-        seal = C.below;
-        last = number_low;
-      })
+      (record { fit = a.fit; next = C.next; seal = C.below; last = number_low })
       makes
       (λ f n x e. (ready.body f).headless n x e);
   from = w.from;
@@ -702,12 +705,7 @@ copies-news h s b count w ready fits = record {
     C = a.copies
 
     tied : IsTied b
-    tied = record {
-      end = ready.tied.end;
-      seal = ready.tied.seal;
-      base = ready.tied.base;
-      large = ready.tied.large;
-    }
+    tied = a.fit.tied
 
     both : all_read b.value (b.copies ++ xs) ≡ T
     both = tail-both (first_read b.value) b.copies xs
