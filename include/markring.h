@@ -641,7 +641,9 @@ int markring_node_frames(markring_node *node, uint8_t to, uint64_t after, uint8_
 // acknowledged: those that the image holds. Events may happen between the two calls; a later image
 // holds them. After a crash, continue from the last image that was stored.
 
-// The number of bytes that the node's image has now.
+// The number of bytes that the node's image has now. It takes no memory, and no image is made: its
+// time is linear in the registers, the letters that wait, and the messages that aren't acknowledged,
+// and doesn't depend on how many objects there are.
 // MARKRING_IMAGE_TOO_LARGE.
 int markring_node_image_size(markring_node *node, size_t *size);
 
@@ -931,7 +933,7 @@ int markring_cell_send(markring_cell *cell, uint8_t to, uint8_t *sent);
 // happen between the two calls. A crash between storing and saving is a crash after the save. After
 // a crash, open a new space with the images of all nodes that were stored last.
 
-// The number of bytes that the node's image has now.
+// The number of bytes that the node's image has now; see markring_node_image_size.
 // MARKRING_IMAGE_TOO_LARGE.
 int markring_cell_image_size(markring_cell *cell, size_t *size);
 

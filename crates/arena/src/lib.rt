@@ -234,6 +234,15 @@ impl<T> Arena<T> {
         self.entries.get(slot as usize).held()
     }
 
+    /// The value that is now in `slot`, which was used, if there is one.
+    #[inline(always)]
+    pub fn value_in(&self, slot: u32) -> Option<&T>
+        requires { slot < length self.now.slots }
+        ensures { option_copied result ≡ value_at self.now slot }
+    {
+        self.entries.get(slot as usize).held()
+    }
+
     /// The key of the value that is now in `slot`, if there is one.
     pub fn key_at(&self, slot: u32) -> Option<Key>
         ensures { result ≡ key_at self.now slot }
@@ -342,7 +351,7 @@ impl<T> Arena<T> {
 
     // Drops the value in a slot that was used, if there is one, and returns whether there was.
     #[inline(always)]
-    fn empty(&mut self, slot: u32) -> bool
+    pub fn empty(&mut self, slot: u32) -> bool
     where
         T: Drop,
         requires { slot < length self.old.slots }

@@ -39,3 +39,4 @@ pub mod Entered
 pub mod Went
 pub mod Quiet
 pub mod Garbage
+mod Sizes

@@ -114,12 +114,12 @@ impl SeatedCell {
         }
     }
 
-    /// The number of bytes of the node's image. Fails with `ImageTooLarge`, and with `Memory`.
+    /// The number of bytes of the node's image, which isn't made. Fails with `ImageTooLarge`, and
+    /// with `Memory`.
     pub fn image_size(&self, alloc: Global) -> Result<usize, Fault>
         ensures { Sized self.now.cell.node.core result }
     {
-        let bytes = to_bytes(alloc, self.cell.node())?;
-        Ok(bytes.len())
+        Ok(image::size(alloc, self.cell.node())?)
     }
 
     /// Writes the node's image and returns its mark. Fails with `ImageTooLarge`, with `Memory`, and

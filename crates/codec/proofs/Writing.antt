@@ -39,6 +39,11 @@ so follows w = record {
   known = λ is. follows (w.known is);
 }
 
+-- one text after another, whatever is known
+pub counted_both : {a b c : Writer} {x y : List ℕ} {P Q : Type 0} → Writes a b x P
+    → Writes b c y Q → Writes a c (x ++ y) ⊤
+counted_both first second = so (λ _. tt) (both first second)
+
 -- ---- one more of a list
 
 all_append : {A : Type 0} (P : A → Type 0) (xs ys : List A) → AllByRecursion P xs

@@ -10,6 +10,7 @@ ghost use Rattle.ids.specs.declared.refusal.Refusal.TheVariants.{Memory, ImageTo
 
 use crate::piece::Piece;
 use ids::Refusal;
+use std::alloc::Global;
 use std::mem;
 
 /// What happened to the bytes that a writer was given.
@@ -17,8 +18,8 @@ use std::mem;
 pub(crate) enum Kept {
     /// All are there. They may be more than the limit.
     All,
-    /// None are there, because an allocation failed. This is their number, which is within the
-    /// limit.
+    /// None are there, because an allocation failed or they are only counted. This is their number,
+    /// which is within the limit.
     Counted(usize),
     /// None are there, because they are more than the limit. Without a limit they are more than
     /// memory has room for, or values of a list are too many to be counted.
@@ -65,6 +66,55 @@ impl Writer {
             bytes,
             limit,
             kept: Kept::All,
+        }
+    }
+
+    /// A writer that only counts the bytes that it is given, and keeps none of them.
+    pub fn counting(alloc: Global, limit: Option<u32>) -> Writer
+        ensures limit { result.limit ≡ limit }
+        ensures empty { Says result [] }
+    {
+        Writer {
+            bytes: Vec::new(alloc),
+            limit,
+            kept: Kept::Counted(0),
+        }
+    }
+
+    /// Counts as many bytes as if they were given. From then on the writer keeps none.
+    pub fn skip(&mut self, more: usize)
+        ensures { (text : List ℕ) → length text ≡ more → Writes self.old self.new text ⊤ }
+    {
+        let count = match self.kept {
+            Kept::All => self.bytes.len(),
+            Kept::Counted(count) => count,
+            Kept::TooMany => return,
+        };
+        if allows(self.limit, count, more) {
+            self.lose(count, more);
+        } else {
+            self.give_up(Kept::TooMany);
+        }
+    }
+
+    /// How many bytes it was given. It fails as [`finish`](Writer::finish) does, but not for lack
+    /// of memory for the bytes.
+    pub fn length(self) -> Result<usize, Refusal>
+        ensures counted { (text : List ℕ) → Says self text → IfOk result (λ n. n ≡ length text) }
+        ensures fits { (text : List ℕ) → Says self text
+            → OnOk result (IsUpTo self.limit (length text)) }
+        ensures refused { (text : List ℕ) → Says self text → IfErr result (λ e. e ≢ Memory
+            → (e ≡ ImageTooLarge) × IsOver self.limit (length text)) }
+        ensures last { (text : List ℕ) → Says self text → IfErr result (λ e. e ≡ Memory
+            → IsUpTo self.limit (length text)) }
+    {
+        let Writer { bytes, limit, kept } = self;
+        match (kept, limit) {
+            (Kept::All, None) => Ok(bytes.len()),
+            (Kept::All, Some(limit)) if bytes.len() <= limit as usize => Ok(bytes.len()),
+            (Kept::Counted(count), _) => Ok(count),
+            (Kept::All | Kept::TooMany, Some(_)) => Err(Refusal::ImageTooLarge),
+            (Kept::TooMany, None) => Err(Refusal::Memory),
         }
     }
 
@@ -209,7 +259,7 @@ impl Writer {
         false
     }
 
-    // Drops all bytes, since memory ran out. They are counted if there is a limit.
+    // Drops all bytes, and counts them.
     fn lose(&mut self, count: usize, more: usize)
         requires { IsUpTo self.old.limit (count + more) }
         ensures limit { self.new.limit ≡ self.old.limit }
@@ -218,7 +268,10 @@ impl Writer {
     {
         match self.limit {
             Some(_limit) => self.give_up(Kept::Counted(count + more)),
-            None => self.give_up(Kept::TooMany),
+            None => match count.checked_add(more) {
+                Some(count) => self.give_up(Kept::Counted(count)),
+                None => self.give_up(Kept::TooMany),
+            },
         }
     }
 

@@ -25,6 +25,8 @@ use Rattle.heap.specs.Stored.{IsHeap, view_of}
 use Rattle.heap.specs.declared.blocks.Blocks.{Blocks}
 use Rattle.heap.specs.declared.heap.Heap.TheInside.{Inside}
 use Rattle.heap.proofs.Flags.{unflagged, covers-written}
+use Rattle.heap.specs.Weights.{object_weight}
+use Rattle.heap.proofs.Weights.{kept-weighs}
 use Rattle.heap.proofs.Writes.{IsStored, found}
 
 -- ---- an object is remembered before or after a place is written
@@ -194,6 +196,7 @@ aged-is {h} {key = key} {o = o} x at made is =
     record {
       limit = is.limit;
       registers = is.registers;
+      weight = kept-weighs {r = r} x there (ap object_weight made) is.weight;
       shared = covers-written {r = r} x there is.shared (λ g now. inl (shared ∙ now));
       recent = covers-written {r = r} x there is.recent
           (λ g now. absurd (both_ways (not (is_old x.age)) old now));

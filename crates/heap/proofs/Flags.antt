@@ -1,5 +1,5 @@
 -- The blocks with shared objects stay flagged, and those with objects that aren't old.
-use Rattle.std.proofs.Common.{◌≡◌, ◌==◌, ℕ, zero, suc, ◌+◌, if◌then◌else◌, Bool, true, false, not, List, [], ◌∷◌, ◌++◌, length, map, set, get_or, Option, Some, None, Result, Ok, Err, OnOk, OnErr, ◌⊎◌, ⊎_elim, inl, inr, refl, sym, subst, ap, ◌∙◌, arith}
+use Rattle.std.proofs.Common.{◌≡◌, ◌==◌, ℕ, zero, suc, ◌+◌, ◌-◌, ◌<◌, ◌^◌, if◌then◌else◌, Bool, true, false, not, List, [], ◌∷◌, ◌++◌, length, map, set, get_or, Option, Some, None, Result, Ok, Err, OnOk, OnErr, ◌⊎◌, ⊎_elim, inl, inr, refl, sym, subst, ap, ◌∙◌, arith}
 use Rattle.std.proofs.lemmas.Bool.{cases_Bool, both_ways}
 use Rattle.std.proofs.lemmas.List.{map-set}
 use Rattle.std.proofs.Math.ListN.{get_or-map}
@@ -23,6 +23,8 @@ use Rattle.heap.specs.declared.blocks.Blocks.{Blocks}
 use Rattle.heap.specs.declared.heap.Heap.TheInside.{Inside}
 use Rattle.heap.proofs.Writes.{IsStored, found}
 use Rattle.heap.proofs.Allocation.{inserts}
+use Rattle.heap.specs.Weights.{object_weight, slot_weight}
+use Rattle.heap.proofs.Weights.{kept-weighs, written-weighs, discarded-weighs, slot-part}
 
 -- ---- any kind of slot
 
@@ -133,14 +135,31 @@ status_of o = (o.shared, o.age)
 
 -- an object is written, and its status is as before
 pub written-is : {h : Inside} {r : Ref} {key : Key} {o : Object} (x : Object) → IsStored h r key o
-    → status_of x ≡ status_of o → IsHeap h
+    → status_of x ≡ status_of o → object_weight x ≡ object_weight o → IsHeap h
     → IsHeap (record h { objects = with_value h.objects key x })
-written-is x there same is =
+written-is x there same weight is =
     let shared = ap (λ (s : Bool × Age). s.0) (sym same) in
     let age = ap (λ (s : Bool × Age). not (is_old s.1)) (sym same) in
     record {
       limit = is.limit;
       registers = is.registers;
+      weight = kept-weighs x there weight is.weight;
+      shared = covers-written x there is.shared (λ g now. inl (shared ∙ now));
+      recent = covers-written x there is.recent (λ g now. inl (age ∙ now));
+    }
+
+-- an object is written, its status is as before, and the sum changes by as much as its weight
+pub reweighed-is : {h : Inside} {r : Ref} {key : Key} {o : Object} (x : Object) (w : ℕ)
+    → IsStored h r key o → status_of x ≡ status_of o
+    → w + object_weight o ≡ h.weight + object_weight x → object_weight x < 2 ^ 25 → IsHeap h
+    → IsHeap (record h { objects = with_value h.objects key x; weight = w })
+reweighed-is x w there same changes few is =
+    let shared = ap (λ (s : Bool × Age). s.0) (sym same) in
+    let age = ap (λ (s : Bool × Age). not (is_old s.1)) (sym same) in
+    record {
+      limit = is.limit;
+      registers = is.registers;
+      weight = written-weighs x w there is.weight changes few;
       shared = covers-written x there is.shared (λ g now. inl (shared ∙ now));
       recent = covers-written x there is.recent (λ g now. inl (age ∙ now));
     }
@@ -154,6 +173,7 @@ shared-is {o = o} x there made flags is =
     record {
       limit = is.limit;
       registers = is.registers;
+      weight = kept-weighs x there (ap object_weight made) is.weight;
       shared = covers-written x there (covers-more is.shared flags.keeps)
           (λ g now. inr flags.noted);
       recent = covers-written x there is.recent (λ g now. inl (age ∙ now));
@@ -174,6 +194,7 @@ remembered-is {o = o} x there made is =
     record {
       limit = is.limit;
       registers = is.registers;
+      weight = kept-weighs x there (ap object_weight made) is.weight;
       shared = covers-written x there is.shared (λ g now. inl (shared ∙ now));
       recent = covers-written x there is.recent (λ g now. inl (age ∙ now));
     }
@@ -194,13 +215,16 @@ limit-emptied None a = refl
 limit-emptied (Some key) a = limit-vacated a key (key.generation == GREATEST_GENERATION)
 
 -- what is in a slot is dropped
-pub discarded-is : {h : Inside} (slot : ℕ) → IsHeap h
-    → IsHeap (record h { objects = discarded h.objects slot })
-discarded-is {h} slot is =
+pub discarded-is : {h : Inside} (slot weight : ℕ)
+    → weight ≡ slot_weight (get_or (map slot_of h.objects.slots) slot Retired) → IsHeap h
+    → IsHeap (record h { objects = discarded h.objects slot; weight = h.weight - weight })
+discarded-is {h} slot weight same is =
     let limit = limit-emptied (arena.key_at h.objects slot) h.objects in
+    let part = slot-part slot is.weight in
     record {
       limit = omega (arith, limit, is.limit);
       registers = is.registers;
+      weight = discarded-weighs h slot (h.weight - weight) is.weight (omega (arith, part, same));
       shared = covers-emptied h (arena.key_at h.objects slot) is.shared refl (λ g. refl);
       recent = covers-emptied h (arena.key_at h.objects slot) is.recent refl (λ g. refl);
     }

@@ -10,3 +10,4 @@ mod Settles
 mod Shades
 mod Taking
 mod Writes
+pub mod Weights

@@ -6,3 +6,4 @@ pub mod Objects
 pub mod Payload
 pub mod Stored
 pub mod Tests
+pub mod Weights

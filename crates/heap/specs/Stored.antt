@@ -10,6 +10,7 @@ use Rattle.model.specs.State as state
 use Rattle.model.specs.Reclaiming.{is_shared, is_recent}
 use Rattle.heap.specs.Blocks.{Covers}
 use Rattle.heap.specs.Heap.{HeapView, slot_of}
+use Rattle.heap.specs.Weights.{Weighs}
 use Rattle.heap.specs.declared.heap.Heap.TheInside.{Inside}
 
 -- the heap of these parts
@@ -39,10 +40,11 @@ object_in (Occupied g o) = Some o
 object_in Retired = None
 
 -- The limit of the slots and the number of registers are within the limits. The blocks with shared
--- objects are flagged, and those with objects that aren't old.
+-- objects are flagged, and those with objects that aren't old. The weight of all objects is kept.
 pub record IsHeap (h : Inside) : Type 0 where
   pub limit : h.objects.limit ≤ GREATEST_SLOTS
   -- a register's number has two bytes
   pub registers : length h.registers.items < 2 ^ 16
+  pub weight : Weighs h.weight (map slot_of h.objects.slots)
   pub shared : Covers is_shared h.shared (map slot_of h.objects.slots)
   pub recent : Covers is_recent h.recent (map slot_of h.objects.slots)

@@ -30,6 +30,8 @@ use std::marker::Model;
 /// letters that wait for the program, and the marked objects that are still to be scanned.
 pub struct Heap {
     objects: Arena<Object>,
+    // The weight of all objects.
+    weight: u64,
     // The blocks of slots that may have shared objects.
     shared: Blocks,
     // Those that may have objects which aren't old.
@@ -46,6 +48,7 @@ impl Drop for Heap {
     fn drop(self) {
         let Heap {
             objects: _,
+            weight: _,
             shared: _,
             recent: _,
             registers: _,
@@ -85,6 +88,7 @@ impl Heap {
         };
         Ok(Heap {
             objects: Arena::with_limit(alloc, shape.slots()),
+            weight: 0,
             shared,
             recent: Blocks::none(alloc),
             registers: vec![in alloc; None; shape.registers() as usize]?,

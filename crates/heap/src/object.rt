@@ -1,9 +1,9 @@
 //! An object: the program's word, its bytes, its places, the cycle that marked it, whether it is
 //! shared, and its age. The mark is a cycle's number, so a new cycle makes all objects white
 //! without touching any.
-ghost use Rattle.std.specs.Prelude.{◌≡◌, ℕ, ◌≤◌, ◌==◌, not, [], ◌∷◌, nat_lt, length};
+ghost use Rattle.std.specs.Prelude.{◌≡◌, ℕ, ◌<◌, ◌≤◌, ◌^◌, ◌==◌, not, [], ◌∷◌, nat_lt, length};
 ghost use Rattle.std.specs.Prelude.{slice_index_or, slice_set};
-ghost use Rattle.std.specs.Prelude.{OnOk, OnErr, IfOk, IfErr, None, IsSome, IfSome, ◌↔◌};
+ghost use Rattle.std.specs.Prelude.{OnOk, OnErr, IfOk, IfErr, None, is_some, IsSome, IfSome, ◌↔◌};
 ghost use Rattle.ids.specs.declared.limits.TheConstants.{GREATEST_BYTES, GREATEST_PLACES};
 ghost use Rattle.ids.specs.declared.refusal.Refusal.TheVariants.{Memory, NoField};
 ghost use Rattle.model.specs.Checks.{guarded};
@@ -11,6 +11,7 @@ ghost use Rattle.model.specs.Heaps.{new_object, filling, patching, sharing, is_o
 ghost use Rattle.model.specs.Reclaiming.{aging, is_young};
 ghost use Rattle.model.specs.Shading.{with_mark};
 ghost use Rattle.heap.specs.Objects.{IsBounded};
+ghost use Rattle.heap.specs.Weights.{object_weight};
 
 use crate::payload::{Payload, Status};
 use ids::{GREATEST_BYTES, GREATEST_PLACES, Ref, Refusal};
@@ -43,9 +44,9 @@ impl Model for Object {
       age = (status_in o.payload).age;
     } };
 
-    ghost use Rattle.heap.specs.Objects.{IsBounded};
+    ghost use Rattle.heap.specs.Objects.{IsObject};
 
-    ghost invariant = { λ o. IsBounded (bytes_in o.payload) (held_in o.payload) };
+    ghost invariant = { λ o. IsObject o.payload };
 }
 
 impl Object {
@@ -95,10 +96,20 @@ impl Object {
         ensures made { IfOk result (λ o. o ≡ new_object shared cycle places) }
         ensures refused { IfErr result (λ e. e ≡ Memory) }
     {
-        let age = if shared { Age::Old } else { Age::Young };
+        let status = if shared {
+            Status {
+                shared: true,
+                age: Age::Old,
+            }
+        } else {
+            Status {
+                shared: false,
+                age: Age::Young,
+            }
+        };
         Ok(Object {
             word: 0,
-            payload: Payload::empty(alloc, Status { shared, age }, places)?,
+            payload: Payload::empty(alloc, status, places)?,
             mark: cycle,
         })
     }
@@ -116,6 +127,14 @@ impl Object {
         ensures { result ≡ self.now.mark }
     {
         self.mark
+    }
+
+    /// How many bytes its places and its bytes take in an image.
+    pub(crate) fn weight(&self) -> u32
+        ensures value { result ≡ object_weight self.now }
+        ensures light { result < 2 ^ 25 }
+    {
+        self.payload.weight()
     }
 
     /// Whether other nodes may know it.
@@ -239,20 +258,17 @@ impl Object {
         }
     }
 
-    /// Sets the place.
-    ///
-    /// It fails with [`Refusal::NoField`] if there is no such place. The object is then as it was.
+    /// Sets the place, and returns whether there was a reference in it. `None` if there is no such
+    /// place. The object is then as it was.
     #[inline(always)]
-    pub(crate) fn set_place(&mut self, place: u8, value: Option<Ref>) -> Result<(), Refusal>
+    pub(crate) fn set_place(&mut self, place: u8, value: Option<Ref>) -> Option<bool>
         ensures done { self.new
             ≡ record self.old { places = slice_set self.old.places place value } }
-        ensures answer { result
-            ≡ guarded ((nat_lt place (length self.old.places), NoField) ∷ []) tt }
+        ensures there { is_some result ≡ nat_lt place (length self.old.places) }
+        ensures was { IfSome result
+            (λ was. was ≡ is_some (slice_index_or self.old.places place None)) }
+        ensures light { object_weight self.new < 2 ^ 25 }
     {
-        if self.payload.set_place(place, value) {
-            Ok(())
-        } else {
-            Err(Refusal::NoField)
-        }
+        self.payload.set_place(place, value)
     }
 }

@@ -3,17 +3,24 @@
 //! with bytes. Most objects of a program are small and have no bytes (pairs, list cells, boxes), so
 //! an allocation is spared for each, and a load follows one pointer less.
 //!
-//! Whether the object is shared, and its age, are kept here too, since they take no memory beside
-//! the variant.
-ghost use Rattle.std.specs.Prelude.{◌≡◌, ◌<◌, ◌^◌, true, [], length, nat_lt, slice_set};
+//! Whether the object is shared, its age, and what it takes in an image are kept here too, since
+//! they take no memory beside the variant.
+ghost use Rattle.std.specs.Prelude.{◌≡◌, ◌<◌, ◌≤◌, ◌^◌, true, [], length, nat_lt};
+ghost use Rattle.std.specs.Prelude.{None, is_some, IfSome, slice_index_or, slice_set};
 ghost use Rattle.std.specs.Prelude.{OnOk, OnErr, IfOk, IfErr};
+ghost use Rattle.ids.specs.declared.limits.TheConstants.{GREATEST_PLACES};
 ghost use Rattle.ids.specs.declared.refusal.Refusal.TheVariants.{Memory};
 ghost use Rattle.model.specs.Heaps.{overwritten};
-ghost use Rattle.heap.specs.Payload.{held_in, bytes_in, status_in, all_empty};
+ghost use Rattle.heap.specs.Objects.{IsBounded, IsObject};
+ghost use Rattle.heap.specs.Payload.{held_in, bytes_in, status_in, weight_in, all_empty};
+ghost use Rattle.heap.specs.Weights.{place_weight, places_weight, weight_of};
 
 use ids::{Ref, Refusal};
 use model::Age;
 use std::alloc::Global;
+
+// What a reference takes in an image beside the byte of its place.
+pub(crate) const FILLING: u32 = 13;
 
 /// Whether an object is shared, and its age.
 #[derive(Clone, Copy)]
@@ -22,19 +29,23 @@ pub(crate) struct Status {
     pub(crate) age: Age,
 }
 
-/// What the places of an object hold, in order, its bytes, and its status.
+/// What the places of an object hold, in order, its bytes, its status, and its weight: how many
+/// bytes its places and its bytes take in an image.
 #[derive(Drop)]
 pub(crate) enum Payload {
     One {
         status: Status,
+        weight: u32,
         held: [Option<Ref>; 1],
     },
     Two {
         status: Status,
+        weight: u32,
         held: [Option<Ref>; 2],
     },
     Any {
         status: Status,
+        weight: u32,
         held: Vec<Option<Ref>>,
         bytes: Vec<u8>,
     },
@@ -49,19 +60,23 @@ impl Payload {
         ensures made { IfOk result (λ p. held_in p ≡ all_empty count) }
         ensures bytes { IfOk result (λ p. bytes_in p ≡ []) }
         ensures status { IfOk result (λ p. status_in p ≡ status) }
+        ensures weight { IfOk result (λ p. weight_in p ≡ count) }
         ensures refused { IfErr result (λ e. e ≡ Memory) }
     {
         match count {
             1 => Ok(Payload::One {
                 status,
+                weight: 1,
                 held: [None],
             }),
             2 => Ok(Payload::Two {
                 status,
+                weight: 2,
                 held: [None, None],
             }),
             _ => Ok(Payload::Any {
                 status,
+                weight: u32::from(count),
                 held: vec![in alloc; None; count as usize]?,
                 bytes: Vec::new(alloc),
             }),
@@ -71,13 +86,17 @@ impl Payload {
     /// Places that hold these, and these bytes.
     #[inline(always)]
     pub(crate) fn of(status: Status, held: Vec<Option<Ref>>, bytes: Vec<u8>) -> Payload
+        requires { IsBounded bytes.items held.items }
         ensures held { held_in result ≡ held.items }
         ensures bytes { bytes_in result ≡ bytes.items }
         ensures status { status_in result ≡ status }
+        ensures weight { weight_in result ≡ weight_of bytes.items held.items }
     {
+        let weight = bytes.len() as u32 + weight_of_places(&held);
         if !bytes.is_empty() {
             return Payload::Any {
                 status,
+                weight,
                 held,
                 bytes,
             };
@@ -85,14 +104,17 @@ impl Payload {
         match held.as_slice() {
             [one] => Payload::One {
                 status,
+                weight,
                 held: [*one],
             },
             [one, two] => Payload::Two {
                 status,
+                weight,
                 held: [*one, *two],
             },
             _ => Payload::Any {
                 status,
+                weight,
                 held,
                 bytes,
             },
@@ -110,11 +132,38 @@ impl Payload {
         }
     }
 
+    /// The weight that is kept.
+    pub(crate) fn weight(&self) -> u32
+        ensures { result ≡ weight_in self.now }
+    {
+        match self {
+            Payload::One { weight, .. } => *weight,
+            Payload::Two { weight, .. } => *weight,
+            Payload::Any { weight, .. } => *weight,
+        }
+    }
+
+    // This weight is kept.
+    #[inline(always)]
+    fn set_weight(&mut self, weight: u32)
+        ensures done { weight_in self.new ≡ weight }
+        ensures places { held_in self.new ≡ held_in self.old }
+        ensures bytes { bytes_in self.new ≡ bytes_in self.old }
+        ensures status { status_in self.new ≡ status_in self.old }
+    {
+        match self {
+            Payload::One { weight: kept, .. } => *kept = weight,
+            Payload::Two { weight: kept, .. } => *kept = weight,
+            Payload::Any { weight: kept, .. } => *kept = weight,
+        }
+    }
+
     /// The object becomes shared.
     pub(crate) fn share(&mut self)
         ensures done { status_in self.new ≡ record (status_in self.old) { shared = true } }
         ensures places { held_in self.new ≡ held_in self.old }
         ensures bytes { bytes_in self.new ≡ bytes_in self.old }
+        ensures weight { weight_in self.new ≡ weight_in self.old }
     {
         match self {
             Payload::One { status, .. } => status.shared = true,
@@ -128,6 +177,7 @@ impl Payload {
         ensures done { status_in self.new ≡ record (status_in self.old) { age = age } }
         ensures places { held_in self.new ≡ held_in self.old }
         ensures bytes { bytes_in self.new ≡ bytes_in self.old }
+        ensures weight { weight_in self.new ≡ weight_in self.old }
     {
         match self {
             Payload::One { status, .. } => status.age = age,
@@ -157,32 +207,54 @@ impl Payload {
         }
     }
 
-    /// Sets a place, and returns whether it is there.
+    /// Sets a place, and returns whether there was a reference in it. `None` if there is no such
+    /// place.
     #[inline(always)]
-    pub(crate) fn set_place(&mut self, place: u8, value: Option<Ref>) -> bool
+    pub(crate) fn set_place(&mut self, place: u8, value: Option<Ref>) -> Option<bool>
+        requires { IsObject self.old }
         ensures done { held_in self.new ≡ slice_set (held_in self.old) place value }
         ensures bytes { bytes_in self.new ≡ bytes_in self.old }
         ensures status { status_in self.new ≡ status_in self.old }
-        ensures there { result ≡ nat_lt place (length (held_in self.old)) }
+        ensures weight { weight_in self.new ≡ weight_of (bytes_in self.new) (held_in self.new) }
+        ensures there { is_some result ≡ nat_lt place (length (held_in self.old)) }
+        ensures was { IfSome result
+            (λ was. was ≡ is_some (slice_index_or (held_in self.old) place None)) }
     {
-        match self {
+        let weight = self.weight();
+        let was = match self {
             Payload::One { held, .. } => set(held, place, value),
             Payload::Two { held, .. } => set(held, place, value),
             Payload::Any { held, .. } => set(held, place, value),
+        };
+        if let Some(was) = was {
+            if was != value.is_some() {
+                self.set_weight(if was {
+                    weight - FILLING
+                } else {
+                    weight + FILLING
+                });
+            }
         }
+        was
     }
 
     /// Replaces the bytes. It fails with [`Refusal::Memory`] if there is no memory for them, and
     /// nothing has changed then.
     pub(crate) fn set_bytes(&mut self, alloc: Global, bytes: &[u8]) -> Result<(), Refusal>
+        requires is { IsObject self.old }
+        requires few { IsBounded bytes.now (held_in self.old) }
         ensures done { OnOk result (bytes_in self.new ≡ bytes.now) }
         ensures places { held_in self.new ≡ held_in self.old }
         ensures status { status_in self.new ≡ status_in self.old }
         ensures refused { IfErr result (λ e. e ≡ Memory) }
         ensures unchanged { OnErr result (bytes_in self.new ≡ bytes_in self.old) }
+        ensures weight { weight_in self.new ≡ weight_of (bytes_in self.new) (held_in self.new) }
     {
+        let weight = self.weight() - self.bytes().len() as u32 + bytes.len() as u32;
         if let Payload::Any { bytes: old, .. } = self {
-            return replace(old, bytes);
+            replace(old, bytes)?;
+            self.set_weight(weight);
+            return Ok(());
         }
         if bytes.is_empty() {
             return Ok(());
@@ -192,6 +264,7 @@ impl Payload {
         let bytes = Vec::from_slice(alloc, bytes)?;
         *self = Payload::Any {
             status,
+            weight,
             held,
             bytes,
         };
@@ -203,6 +276,7 @@ impl Payload {
         ensures done { bytes_in self.new ≡ overwritten (bytes_in self.old) offset bytes.now }
         ensures places { held_in self.new ≡ held_in self.old }
         ensures status { status_in self.new ≡ status_in self.old }
+        ensures weight { weight_in self.new ≡ weight_in self.old }
     {
         if let Payload::Any { bytes: old, .. } = self {
             overwrite(old, offset as usize, bytes);
@@ -210,15 +284,40 @@ impl Payload {
     }
 }
 
-fn set(held: &mut [Option<Ref>], place: u8, value: Option<Ref>) -> bool
+// Sets a place, and returns whether there was a reference in it. `None` if there is no such place.
+#[inline(always)]
+fn set(held: &mut [Option<Ref>], place: u8, value: Option<Ref>) -> Option<bool>
     ensures done { held.new ≡ slice_set held.old place value }
-    ensures there { result ≡ nat_lt place (length held.old) }
+    ensures there { is_some result ≡ nat_lt place (length held.old) }
+    ensures was { IfSome result (λ was. was ≡ is_some (slice_index_or held.old place None)) }
 {
-    let is_there = (place as usize) < held.len();
-    if is_there {
+    if (place as usize) < held.len() {
+        let was = held[place as usize].is_some();
         held[place as usize] = value;
+        Some(was)
+    } else {
+        None
     }
-    is_there
+}
+
+// What a place takes in an image.
+#[inline(always)]
+fn place_weight(place: Option<Ref>) -> u32
+    ensures { result ≡ place_weight place }
+{
+    if place.is_some() { 1 + FILLING } else { 1 }
+}
+
+fn weight_of_places(held: &[Option<Ref>]) -> u32
+    requires { length held.now ≤ GREATEST_PLACES }
+    ensures value { result ≡ places_weight held.now }
+    ensures light { result < 2 ^ 16 }
+{
+    let mut weight = 0;
+    for place in held {
+        weight += place_weight(*place);
+    }
+    weight
 }
 
 // Replaces the bytes. They stay in the same memory if that is neither too small nor more than four

@@ -6,3 +6,4 @@ mod Rows
 pub mod Logged
 pub mod Saved
 pub mod Spelled
+mod Sizes

@@ -12,4 +12,4 @@ mod writing;
 
 pub use law::{nodes_saved, nodes_spelled};
 pub use restoring::{core_from_bytes, from_any_bytes, from_bytes};
-pub use saving::{to_bytes, to_bytes_behind, to_bytes_over, to_logged_behind};
+pub use saving::{size, to_bytes, to_bytes_behind, to_bytes_over, to_logged_behind};

@@ -8,9 +8,9 @@ ghost use Rattle.ids.specs.declared.refusal.Refusal.TheVariants.{ImageTooLarge, 
 ghost use Rattle.model.specs.View.{kept_view};
 ghost use Rattle.image.specs.Images.{IsTooLarge};
 ghost use Rattle.image.specs.Logged.{IsLoggedOf, logged_image};
-ghost use Rattle.image.specs.Saving.{WritesImage};
+ghost use Rattle.image.specs.Saving.{SizesImage, WritesImage};
 
-use crate::writing::put_node;
+use crate::writing::{count_node, put_node};
 use codec::Writer;
 use ids::{GREATEST_IMAGE, Refusal, Shape};
 use image_parts::{LOGGED, WIDE_LOGGED};
@@ -110,4 +110,21 @@ fn with_version(bytes: Vec<u8>, at: usize, number: u8) -> Vec<u8>
         bytes[at + 2] = number;
     }
     bytes
+}
+
+/// The number of bytes of the node's image. It is counted, and no image is made.
+///
+/// # Errors
+///
+/// [`Refusal::ImageTooLarge`] as [`to_bytes`]. Otherwise [`Refusal::Memory`] if the node's space is
+/// wide, and the image has more bytes than a `usize` can say, or a list has 2^32 elements or more.
+pub fn size(alloc: Global, node: &Node) -> Result<usize, Refusal>
+    ensures { SizesImage node.now.core result }
+{
+    let core = node.core();
+    // (its contract brings the core's invariant into scope)
+    let limit = limit_behind(core.state().shape, 0);
+    let mut out = Writer::counting(alloc, limit);
+    count_node(&mut out, core);
+    out.length()
 }

@@ -6,3 +6,4 @@ pub mod Readings
 pub mod Letters
 pub mod Logs
 pub mod Registers
+pub mod Sizes

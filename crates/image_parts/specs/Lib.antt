@@ -5,3 +5,4 @@ pub mod Numbers
 pub mod Parts
 pub mod Stored
 pub mod Logs
+pub mod Sizes

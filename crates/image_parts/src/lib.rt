@@ -5,6 +5,7 @@
 //! of the table in docs/FORMATS.md ("Images"). `specs/Grammar.antt` has their spelling.
 #![tactic(auto)]
 
+mod counting;
 mod law;
 mod layout;
 mod links;
@@ -15,6 +16,7 @@ mod slots;
 mod tags;
 mod writing;
 
+pub use counting::{count_others, count_registers, count_slots};
 pub use law::spellings;
 pub use layout::Layout;
 pub use lists::put_registers;

@@ -20,7 +20,7 @@ use msg::Message;
 // ---- messages
 
 // How many messages to the node are kept.
-fn message_count(links: &Links, to: u8) -> u64
+pub(crate) fn message_count(links: &Links, to: u8) -> u64
     requires { to < length links.now.links }
     ensures value { result ≡ length (link_at links.now to).unacknowledged }
     ensures sound { IsLinks links.now }
@@ -29,7 +29,7 @@ fn message_count(links: &Links, to: u8) -> u64
 }
 
 // The kept message to the node in this place; the oldest is in place 0.
-fn message_at(links: &Links, to: u8, place: u64) -> &Message
+pub(crate) fn message_at(links: &Links, to: u8, place: u64) -> &Message
     requires there { to < length links.now.links }
     requires sound { IsLinks links.now }
     requires kept { place < length (link_at links.now to).unacknowledged }

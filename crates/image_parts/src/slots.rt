@@ -173,7 +173,7 @@ pub(crate) fn put_free_list(out: &mut Writer, heap: &Heap)
 
 // ---- letters
 
-fn letter_at(heap: &Heap, number: usize) -> &Letter
+pub(crate) fn letter_at(heap: &Heap, number: usize) -> &Letter
     requires { number < length heap.now.heap.letters }
     ensures { result.now ≡ slice_index_or heap.now.heap.letters number result.now }
 {

@@ -64,12 +64,12 @@ impl LoneNode {
         Images::to_bytes(alloc, self.logged.logs, &self.logged.node)
     }
 
-    /// The number of bytes of the node's image. Fails with `ImageTooLarge`, and with `Memory`.
+    /// The number of bytes of the node's image, which isn't made. Fails with `ImageTooLarge`, and
+    /// with `Memory`.
     pub fn image_size(&self, alloc: Global) -> Result<usize, Fault>
         ensures { SizedAs self.now.node.core (image_in self.now) result }
     {
-        let bytes = self.image_behind(alloc)?;
-        Ok(bytes.len() - HEAD)
+        Ok(image::size(alloc, &self.logged.node)?)
     }
 
     /// Writes the node's image and returns its mark. Fails with `ImageTooLarge`, with `Memory`, and

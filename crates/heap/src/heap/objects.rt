@@ -1,6 +1,6 @@
 //! Objects, found by a register or a reference. If the generation of a reference isn't that of the
 //! object in its slot, nothing is found.
-ghost use Rattle.std.specs.Prelude.{◌≡◌, ℕ, ◌<◌, ◌≤◌, length, count_by, is_some, IsTrue, option_copied};
+ghost use Rattle.std.specs.Prelude.{◌≡◌, ℕ, ◌<◌, ◌≤◌, ◌^◌, length, count_by, is_some, IsTrue, option_copied};
 ghost use Rattle.std.specs.Prelude.{true, false, cond, [], take, drop};
 ghost use Rattle.std.specs.Prelude.{Ok, Err, OnOk, OnErr, IfOk, IfErr, IfSome};
 ghost use Rattle.ids.specs.Limits.{reference_fits};
@@ -18,9 +18,11 @@ ghost use Rattle.model.specs.Reclaiming.{is_occupied};
 ghost use Rattle.heap.specs.Heap.{KeepsRoom, IsSlotted, IsBorn};
 ghost use Rattle.heap.specs.Stored.{object_in};
 ghost use Rattle.heap.specs.Tests.{place_tests, object_tests};
+ghost use Rattle.heap.specs.Weights.{slots_weight};
 
 use super::Heap;
 use crate::object::Object;
+use crate::payload::FILLING;
 use arena::Key;
 use ids::{Ref, Refusal, Shape};
 use msg::Frozen;
@@ -69,8 +71,16 @@ impl Heap {
         // From here on it can fail only for lack of memory.
         let shared = !shape.is_wide();
         let object = Object::new(*self.registers.allocator(), shared, cycle, places)?;
-        let Ok(key) = self.objects.insert(object) else {
-            return Err(Refusal::Memory);
+        // (The sum needs what holds of every arena, which this call states. It changes first, since
+        // that takes fewer instructions.)
+        self.objects.len();
+        self.weight += u64::from(places);
+        let key = match self.objects.insert(object) {
+            Ok(key) => key,
+            Err((object, _)) => {
+                self.weight -= u64::from(object.weight());
+                return Err(Refusal::Memory);
+            }
         };
         self.shared.note_if(shared, key.slot);
         self.recent.note_if(!shared, key.slot);
@@ -318,6 +328,16 @@ impl Heap {
         self.objects.len()
     }
 
+    /// How many bytes the places and the bytes of all objects take in an image.
+    pub fn weight(&self) -> u64
+        ensures value { result ≡ slots_weight self.now.heap.slots }
+        ensures small { result < 2 ^ 60 }
+    {
+        // (The clause `small` needs what holds of every arena, which this call states.)
+        self.objects.len();
+        self.weight
+    }
+
     /// Whether an object of this heap is still there. The reference's node isn't checked.
     pub fn is_live(&self, object: Ref) -> bool
         ensures { result ≡ is_some (object_at self.now.heap object) }
@@ -459,8 +479,23 @@ impl Heap {
         ensures answer { result ≡ guarded (place_tests self.old.heap object place) tt }
         ensures unchanged { OnErr result (self.new ≡ self.old) }
     {
+        // (The sum needs what holds of every arena, which this call states.)
+        self.objects.len();
         match self.objects.get_mut(key(object)) {
-            Some(object) => object.set_place(place, value),
+            Some(object) => match object.set_place(place, value) {
+                Some(was) => {
+                    if was != value.is_some() {
+                        let filling = u64::from(FILLING);
+                        self.weight = if was {
+                            self.weight - filling
+                        } else {
+                            self.weight + filling
+                        };
+                    }
+                    Ok(())
+                }
+                None => Err(Refusal::NoField),
+            },
             None => Err(Refusal::NoField),
         }
     }
@@ -490,8 +525,15 @@ impl Heap {
         ensures unchanged { OnErr result (self.new ≡ self.old) }
     {
         let alloc = *self.registers.allocator();
+        // (The sum needs what holds of every arena, which this call states.)
+        self.objects.len();
         match self.objects.get_mut(key(object)) {
-            Some(object) => object.set_bytes(alloc, bytes),
+            Some(object) => {
+                let before = object.weight();
+                let answer = object.set_bytes(alloc, bytes);
+                self.weight = self.weight - u64::from(before) + u64::from(object.weight());
+                answer
+            }
             None => unreachable!(),
         }
     }

@@ -1,6 +1,6 @@
 //! Makes a heap from its parts, and reads it part by part. Parts are refused only if no heap has
 //! them, so each saved heap can be made again.
-ghost use Rattle.std.specs.Prelude.{◌≡◌, length, map, option_copied, slice_index_or, slice_get};
+ghost use Rattle.std.specs.Prelude.{◌≡◌, ◌<◌, ◌^◌, length, map, option_copied, slice_index_or, slice_get};
 ghost use Rattle.std.specs.Prelude.{OnOk, IfOk, IfErr};
 ghost use Rattle.ids.specs.declared.refusal.Refusal.TheVariants.{BadImage};
 ghost use Rattle.arena_slot.specs.Slot.{slot_read};
@@ -9,6 +9,7 @@ ghost use Rattle.model.specs.Reclaiming.{is_shared, is_recent};
 ghost use Rattle.heap.specs.Blocks.{Covers};
 ghost use Rattle.heap.specs.Heap.{Holds, IsHeapFor, slot_of};
 ghost use Rattle.heap.specs.Parts.{heap_given};
+ghost use Rattle.heap.specs.Weights.{slot_weight, Weighs};
 
 use super::Heap;
 use crate::blocks::Blocks;
@@ -64,6 +65,7 @@ impl Heap {
                 Ok(Heap {
                     shared: shared_blocks(alloc, shape, &objects),
                     recent: recent_blocks(alloc, &objects),
+                    weight: weight_of(&objects),
                     objects,
                     registers,
                     letters,
@@ -159,5 +161,27 @@ fn is_recent(objects: &Arena<Object>, slot: u32) -> bool
     match objects.value_at(slot) {
         Some(object) => !object.is_old(),
         None => false,
+    }
+}
+
+// The weight of all objects.
+fn weight_of(objects: &Arena<Object>) -> u64
+    ensures { Weighs result (map slot_of objects.now.slots) }
+{
+    let mut weight = 0;
+    for slot in 0..objects.high() {
+        weight += weight_in(objects, slot);
+    }
+    weight
+}
+
+fn weight_in(objects: &Arena<Object>, slot: u32) -> u64
+    ensures value { result
+        ≡ slot_weight (slice_index_or (map slot_of objects.now.slots) slot Retired) }
+    ensures light { result < 2 ^ 25 }
+{
+    match objects.value_at(slot) {
+        Some(object) => u64::from(object.weight()),
+        None => 0,
     }
 }

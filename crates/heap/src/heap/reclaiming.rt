@@ -7,7 +7,7 @@
 //! followed becomes old at once, while the processor still has it at hand. A search for young
 //! garbage goes only through blocks that may have recent objects. It passes over old objects, and
 //! begins with the recent ones that are shared or remembered.
-ghost use Rattle.std.specs.Prelude.{◌≡◌, ℕ, ◌+◌, ◌<◌, ◌≤◌, [], ◌∷◌, cond, true, false, length, map, slice_index_or, is_some, Ok, Err, IfOk, IfErr, OnOk, OnErr};
+ghost use Rattle.std.specs.Prelude.{◌≡◌, ℕ, ◌+◌, ◌<◌, ◌≤◌, [], ◌∷◌, cond, true, false, length, map, slice_index_or, is_some, Ok, Err, IfOk, IfErr, IfSome, OnOk, OnErr};
 ghost use Rattle.std.specs.List.{list_any};
 ghost use Rattle.ids.specs.declared.refusal.Refusal.TheVariants.{Memory};
 ghost use Rattle.model.specs.Checks.{IsFirstRefusal};
@@ -18,6 +18,7 @@ ghost use Rattle.model.specs.Collecting.{free_one, places_in};
 ghost use Rattle.model.specs.Reclaiming.{is_shared, is_recent, is_in_scope, is_occupied, left_grey};
 ghost use Rattle.model.specs.Searching.{Begins, Finds, Rooted, Tells, is_found, is_new, new_search, sought, is_sought, is_missed};
 ghost use Rattle.heap.specs.Growing.{AllWait, IsGrown};
+ghost use Rattle.heap.specs.Weights.{slot_weight};
 ghost use Rattle.heap.specs.Heap.{KeepsRoom, freed_unless, heap_reclaim, slot_of};
 
 use super::Heap;
@@ -203,6 +204,20 @@ impl Heap {
             ≡ record self.old { heap = (freed_unless scope needed.now self.old.heap).heap } }
         ensures freed { result ≡ (freed_unless scope needed.now self.old.heap).freed }
     {
+        match scope {
+            Scope::All => self.free_each(Scope::All, needed),
+            Scope::Young => self.free_each(Scope::Young, needed),
+        }
+    }
+
+    // The same, inlined for each scope.
+    #[inline(always)]
+    fn free_each(&mut self, scope: Scope, needed: &[bool]) -> u32
+        requires { length needed.now ≡ length self.old.heap.slots }
+        ensures done { self.new
+            ≡ record self.old { heap = (freed_unless scope needed.now self.old.heap).heap } }
+        ensures freed { result ≡ (freed_unless scope needed.now self.old.heap).freed }
+    {
         let end = self.slots();
         let mut freed = 0;
         let mut slot = self.next_sought(scope, 0, end);
@@ -219,6 +234,7 @@ impl Heap {
     // whether it did.
     #[inline(always)]
     fn free_lost(&mut self, scope: Scope, needed: bool, slot: u32) -> bool
+        requires { slot < length self.old.heap.slots }
         ensures done { (freed : ℕ) → free_one (is_missed scope (λ _. needed)) slot
             (record { heap = self.old.heap; freed = freed })
             ≡ record { heap = self.new.heap; freed = cond result (freed + 1) freed } }
@@ -231,7 +247,27 @@ impl Heap {
         if !self.is_sought(scope, slot) {
             return false;
         }
-        self.objects.discard(slot)
+        let Some(weight) = self.weight_in(slot) else {
+            return false;
+        };
+        // (The sum changes last, since that takes fewer instructions.)
+        let freed = self.objects.empty(slot);
+        self.weight -= u64::from(weight);
+        freed
+    }
+
+    // The weight of the object in a slot, if there is one.
+    #[inline(always)]
+    fn weight_in(&self, slot: u32) -> Option<u32>
+        requires { slot < length self.now.heap.slots }
+        ensures there { is_some result ≡ is_occupied (slot_at self.now.heap slot) }
+        ensures weight { IfSome result
+            (λ weight. weight ≡ slot_weight (slot_at self.now.heap slot)) }
+    {
+        match self.objects.value_in(slot) {
+            Some(object) => Some(object.weight()),
+            None => None,
+        }
     }
 
     // Freed objects leave the list of the grey ones.

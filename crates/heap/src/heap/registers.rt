@@ -103,6 +103,7 @@ impl Heap {
     }
 
     // What the register holds; nothing if there is no such register.
+    #[inline(always)]
     pub(super) fn held(&self, register: u16) -> Option<Ref>
         ensures { result ≡ register_at self.now.heap register }
     {
@@ -113,6 +114,7 @@ impl Heap {
     }
 
     // The reference in a register, or one that names no object.
+    #[inline(always)]
     pub(super) fn named(&self, register: u16) -> Ref
         ensures { result ≡ named self.now.heap register }
     {

@@ -7,10 +7,11 @@
 //! are marked, so they stay, before the cursor and behind it. A sweep may therefore be done in
 //! steps of any size. Only unreachable objects can still have an old reference, and the generation
 //! keeps it from naming the slot's next object.
-ghost use Rattle.std.specs.Prelude.{◌≡◌, ℕ, ◌+◌, ◌≤◌, cond, length};
+ghost use Rattle.std.specs.Prelude.{◌≡◌, ℕ, ◌+◌, ◌<◌, ◌≤◌, cond, is_some, length, IfSome};
 ghost use Rattle.model.specs.State.{slot_at};
 ghost use Rattle.model.specs.Collecting.{is_garbage, sweep_one};
 ghost use Rattle.heap.specs.Heap.{swept};
+ghost use Rattle.heap.specs.Weights.{slot_weight};
 
 use super::Heap;
 
@@ -44,23 +45,35 @@ impl Heap {
 
     // Frees the object in a slot, if there is one that the cycle hasn't marked, and returns whether
     // there was.
+    #[inline(always)]
     fn free_unmarked(&mut self, cycle: u64, slot: u32) -> bool
+        requires { slot < length self.old.heap.slots }
         ensures done { (freed : ℕ) → sweep_one cycle slot
             (record { heap = self.old.heap; freed = freed })
             ≡ record { heap = self.new.heap; freed = cond result (freed + 1) freed } }
         ensures rest { self.new ≡ record self.old { heap = self.new.heap } }
         ensures slots { length self.new.heap.slots ≡ length self.old.heap.slots }
     {
-        self.is_garbage(cycle, slot) && self.objects.discard(slot)
+        let Some(weight) = self.garbage(cycle, slot) else {
+            return false;
+        };
+        // (The sum changes last, since that takes fewer instructions.)
+        let freed = self.objects.empty(slot);
+        self.weight -= u64::from(weight);
+        freed
     }
 
-    // Whether there is an object in the slot that the cycle hasn't marked.
-    fn is_garbage(&self, cycle: u64, slot: u32) -> bool
-        ensures { result ≡ is_garbage cycle (slot_at self.now.heap slot) }
+    // The weight of the object in a slot, if there is one that the cycle hasn't marked.
+    #[inline(always)]
+    fn garbage(&self, cycle: u64, slot: u32) -> Option<u32>
+        requires { slot < length self.now.heap.slots }
+        ensures there { is_some result ≡ is_garbage cycle (slot_at self.now.heap slot) }
+        ensures weight { IfSome result
+            (λ weight. weight ≡ slot_weight (slot_at self.now.heap slot)) }
     {
-        match self.stored(slot) {
-            Some(object) => !object.is_marked(cycle),
-            None => false,
+        match self.objects.value_in(slot) {
+            Some(object) if !object.is_marked(cycle) => Some(object.weight()),
+            _ => None,
         }
     }
 }

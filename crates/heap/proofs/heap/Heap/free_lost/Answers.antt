@@ -1,3 +1,4 @@
+use Rattle.std.proofs.Common.{sym, ◌∙◌}
 use Rattle.model.specs.State.{slot_at}
 use Rattle.model.specs.Searching.{is_missed}
 use Rattle.heap.specs.Stored.{view_of}
@@ -20,8 +21,19 @@ returns-then-not-is_sought-clause-done c freed =
     (passed-stays a.scope (λ _. a.needed) a.slot (slot_at h a.slot)
     (c.is_sought.ensures.over c.if-not-is_sought.true))
 
+pub returns-in_default-clause-done : goal.returns-in_default-clause-done
+returns-in_default-clause-done c freed =
+    let a = c.args in
+    let h = a.self.now.heap in
+    freed-none (is_missed a.scope (λ _. a.needed)) h a.slot freed
+    (passed-stays a.scope (λ _. a.needed) a.slot (slot_at h a.slot)
+    (c.is_sought.ensures.through c.if-not-is_sought.false ∙ sym c.in_default.ensures.there))
+
 pub invariant_of-self : goal.invariant_of-self
-invariant_of-self c = rw c.discard.ensures.done (discarded-is c.args.slot c.self.invariant)
+invariant_of-self c =
+    rw (c.empty-freed.ensures.done, c.from.ensures)
+    (discarded-is c.args.slot c.in-Some.weight (rw (← c.self.view_is) at c.in-Some.ensures.weight)
+    c.self.invariant)
 
 pub returns-clause-done : goal.returns-clause-done
 returns-clause-done c freed =
@@ -30,5 +42,5 @@ returns-clause-done c freed =
     let through = rw (← c.self.view_is) at (c.is_sought.ensures.through c.if-not-is_sought.false) in
     let goes = other-goes a.scope c.if-needed.false a.slot (slot_at (view_of h).heap a.slot) through
     in
-    rw (c.discard.ensures.done, c.discard.ensures.there, ← c.self.view_is)
+    rw (c.empty-freed.ensures.done, c.empty-freed.ensures.there, ← c.self.view_is)
     (discards (is_missed a.scope (λ _. a.needed)) h a.slot freed goes)

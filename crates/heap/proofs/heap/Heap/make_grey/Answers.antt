@@ -3,6 +3,7 @@ use Rattle.heap.proofs.Writes.{IsStored}
 use Rattle.heap.proofs.Greys.{IsPushed, turns-grey, stays-marked, stays-absent}
 use Rattle.heap.specs.Stored.{IsHeap}
 use Rattle.heap.proofs.Flags.{status_of, written-is}
+use Rattle.heap.specs.Weights.{object_weight}
 use Rattle.std.proofs.Common.{ap}
 use Rattle.heap.proofs.heap.Heap.make_grey.Goals.{in-Some, in-None}
 use Rattle.heap.proofs.heap.Heap.make_grey.Goals as goal
@@ -47,10 +48,17 @@ invariant_of-self c =
           let stored : IsStored c.self.inside c.args.object c.key.result w.in-Some.object.now =
           record { name = c.key.ensures; there = w.in-Some.ensures.value } in
           rw (w.self-inside-is)
-          (written-is _ stored (ap status_of w.mark-marked.ensures.done) c.self.invariant)
+          (written-is _ stored (ap status_of w.mark-marked.ensures.done)
+          (ap object_weight w.mark-marked.ensures.done) c.self.invariant)
       | in-None w ↦ rw (w.self-inside-is) c.self.invariant
     ] in
-    record { limit = is.limit; registers = is.registers; shared = is.shared; recent = is.recent }
+    record {
+      limit = is.limit;
+      registers = is.registers;
+      weight = is.weight;
+      shared = is.shared;
+      recent = is.recent;
+    }
 
 pub invariant_of-self-else-marked : goal.invariant_of-self-else-marked
 invariant_of-self-else-marked c =
@@ -59,6 +67,7 @@ invariant_of-self-else-marked c =
           let stored : IsStored c.self.inside c.args.object c.key.result w.in-Some.object.now =
           record { name = c.key.ensures; there = w.in-Some.ensures.value } in
           rw (w.self-inside-is)
-          (written-is _ stored (ap status_of w.mark-marked.ensures.done) c.self.invariant)
+          (written-is _ stored (ap status_of w.mark-marked.ensures.done)
+          (ap object_weight w.mark-marked.ensures.done) c.self.invariant)
       | in-None w ↦ rw (w.self-inside-is) c.self.invariant
     ]

@@ -1,7 +1,9 @@
 use Rattle.model.specs.Heaps.{patching}
 use Rattle.heap.proofs.Writes.{IsStored, rewritten-stored, absent-stored}
 use Rattle.heap.proofs.Flags.{status_of, written-is}
-use Rattle.std.proofs.Common.{ap}
+use Rattle.heap.specs.Weights.{object_weight}
+use Rattle.heap.proofs.Weights.{patched-weight}
+use Rattle.std.proofs.Common.{ap, ◌∙◌}
 use Rattle.heap.proofs.heap.Heap.overwrite.Goals.{in-Some, in-None}
 use Rattle.heap.proofs.heap.Heap.overwrite.Goals as goal
 
@@ -29,6 +31,7 @@ invariant_of-self c =
           let stored : IsStored c.self.inside c.args.object c.key.result w.in-Some.object.now =
           record { name = c.key.ensures; there = w.in-Some.ensures.value } in
           rw (w.self-inside-is) (written-is _ stored (ap status_of w.patch.ensures)
+          (ap object_weight w.patch.ensures ∙ patched-weight c.args.offset c.args.bytes.now w.in-Some.object.now)
           c.self.invariant)
       | in-None w ↦ rw (w.self-inside-is) c.self.invariant
     ]

@@ -1,6 +1,7 @@
 use Rattle.model.specs.State.{Object}
 use Rattle.heap.proofs.Writes.{IsStored, rewritten-stored, absent-stored}
 use Rattle.heap.proofs.Flags.{status_of, written-is}
+use Rattle.heap.specs.Weights.{object_weight}
 use Rattle.std.proofs.Common.{ap}
 use Rattle.heap.proofs.heap.Heap.write_word.Goals.{in-Some, in-None}
 use Rattle.heap.proofs.heap.Heap.write_word.Goals as goal
@@ -29,6 +30,7 @@ invariant_of-self c =
           let stored : IsStored c.self.inside c.args.object c.key.result w.in-Some.object.now =
           record { name = c.key.ensures; there = w.in-Some.ensures.value } in
           rw (w.self-inside-is) (written-is _ stored (ap status_of w.set_word.ensures)
+          (ap object_weight w.set_word.ensures)
           c.self.invariant)
       | in-None w ↦ rw (w.self-inside-is) c.self.invariant
     ]

@@ -4,8 +4,8 @@ use Rattle.model.specs.Searching.{is_missed}
 use Rattle.model.specs.State.{slot_at}
 use Rattle.heap.specs.Heap.{HeapView}
 use Rattle.heap.proofs.Frees.{freed-jump, freed-next, lost-here, passed-stays}
-use Rattle.heap.proofs.heap.Heap.free_all.Goals.{then-free_lost, else-free_lost}
-use Rattle.heap.proofs.heap.Heap.free_all.Goals as goal
+use Rattle.heap.proofs.heap.Heap.free_each.Goals.{then-free_lost, else-free_lost}
+use Rattle.heap.proofs.heap.Heap.free_each.Goals as goal
 
 pub loop-slot-init : goal.loop-slot-init
 loop-slot-init c =

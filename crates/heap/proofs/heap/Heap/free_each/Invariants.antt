@@ -2,7 +2,7 @@ use Rattle.std.proofs.Common.{◌≡◌, ◌-◌, ◌≤◌, false, length, get_
 use Rattle.model.specs.Collecting.{free_some}
 use Rattle.model.specs.Searching.{is_missed}
 use Rattle.heap.specs.Heap.{freed_unless}
-use Rattle.heap.proofs.heap.Heap.free_all.Given as goal
+use Rattle.heap.proofs.heap.Heap.free_each.Given as goal
 
 -- freeing in what is left now gives the same as freeing everything at the start
 abbrev pub invariant-loop-slot : goal.invariant-loop-slot
