@@ -453,6 +453,23 @@ TEST(test_requests)
     end(&at);
 }
 
+// What begins with no head of a request is dropped, and counted.
+TEST(test_strangers)
+{
+    station at;
+    make(&at, false);
+    for (size_t i = 0; i < 4; i++) {
+        uint8_t bytes[REQUEST_HEAD];
+        writer to = writer_of(bytes, sizeof bytes);
+        write_request_head(&to, &(request_head){REQUEST_OPEN, 3, 100, 1, 0});
+        bytes[i] ^= 1;
+        host_request(at.host, at.now, bytes, to.length, "r");
+        settle(&at, STORE_OK);
+        HOLDS(at.answers == 0 && host_counted(at.host)->foreign == i + 1);
+    }
+    end(&at);
+}
+
 // No answer comes before what it shows is stored, and one save is made at a time.
 TEST(test_order)
 {
