@@ -291,8 +291,8 @@ fn add_answer_head(piece: &mut Piece, head: &AnswerHead)
     add_answer_fields(piece, head);
 }
 
-/// Puts the head of an answer at the front of these bytes, and returns how many it has. Without room
-/// for it, nothing changes, and the result is 0.
+/// Puts the head of an answer at the front of these bytes, and returns how many it has. Without
+/// room for it, nothing changes, and the result is 0.
 pub fn put_answer_head(to: &mut [u8], head: &AnswerHead) -> usize
     ensures { Laid (head_format.spell head.now) to.old to.new result }
 {
